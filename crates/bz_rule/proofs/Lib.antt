@@ -6,6 +6,7 @@ mod ArgumentValues
 mod Arguments
 mod Aside
 mod AsideTargets
+mod Below
 mod CallArguments
 pub mod Commands
 mod Comment

@@ -6,17 +6,16 @@ ghost use Rattle.bz_tree.specs.Tree.{Statement};
 ghost use Rattle.bz_tree.specs.Rows.{part_view};
 ghost use Rattle.bz_attribute.specs.Comment.{comment_args, comment_done};
 ghost use Rattle.bz_attribute.specs.Effects.{done, has};
-ghost use Rattle.bz_attribute.specs.RowEdits.{IsRowEdit};
+ghost use Rattle.bz_attribute.specs.RowEdits.{IsRowEdit, IsWithin};
 ghost use Rattle.bz_attribute.specs.RowPlaces.{IsRuleRow};
-ghost use Rattle.bz_attribute.specs.Rules.{Rule, first_named};
+ghost use Rattle.bz_attribute.specs.Rules.{Rule, first_named, rule_of};
 ghost use Rattle.bz_attribute.specs.Set.{set, set_if_absent, sets};
 ghost use Rattle.bz_command.specs.Labels as labels;
 ghost use Rattle.bz_rule.specs.Commands as commands;
 ghost use Rattle.bz_rule.specs.declared.command.Action.TheVariants.{Set};
-ghost use Rattle.bz_rule.specs.private.RowEdits.{IsEditOf, IsPlaceFor, KeepsHead, edits_arguments, is_edit, one_attribute, rule_after};
+ghost use Rattle.bz_rule.specs.private.RowEdits.{HasKindAndParts, HasMore, IsEditFor, IsEditOf, IsPlaceFor, KeepsHead, edits_arguments, is_edit, one_attribute, rule_after};
 
 use crate::command::{Action, Command, in_args};
-use bumpalo::Bump;
 use bz_attribute::{
     Done, Edit, Env, Parts, Place, all_arguments, place_of, read_arguments, write_arguments,
 };
@@ -32,6 +31,8 @@ use std::alloc::{AllocError, Global};
 #[derive(Clone, Copy)]
 pub(crate) struct RuleParts<'p, 'a> {
     pub(crate) kind: &'p str,
+    /// How many comments they begin with at least.
+    pub(crate) comments: usize,
     pub(crate) parts: &'p [Part<'a>],
 }
 
@@ -69,7 +70,6 @@ fn place_for(command: &Command, parts: &[Part<'_>]) -> Place
 // What a command makes of the arguments of a rule, by a tree of those that it looks at.
 fn edit_by_tree<'a>(
     env: Env<'_>,
-    bump: &'a Bump,
     command: &Command,
     parts: &[Part<'a>],
     new: &mut Parts<'a>,
@@ -84,6 +84,7 @@ fn edit_by_tree<'a>(
     if !done.changed {
         return Ok(Edit::none(done));
     }
+    let bump = *new.allocator();
     write_arguments(bump, &args, new)?;
     Ok(Edit { done, place })
 }
@@ -193,7 +194,6 @@ fn edit_in_row<'a>(
 // What a command makes of the arguments of a rule.
 fn edit_arguments<'a>(
     env: Env<'_>,
-    bump: &'a Bump,
     command: &Command,
     parts: &[Part<'a>],
     new: &mut Parts<'a>,
@@ -205,29 +205,71 @@ fn edit_arguments<'a>(
     if let Some(edit) = edit_in_row(env, command, parts, new)? {
         return Ok(edit);
     }
-    edit_by_tree(env, bump, command, parts, new)
+    edit_by_tree(env, command, parts, new)
 }
 
-/// What a command makes of a rule. The new parts go into a list. `Err`: memory was refused, and the list is of no use.
-pub(crate) fn edit_rule<'a>(
+// What a command makes of a rule of this kind. The new parts go into a list.
+fn edit_parts<'a>(
     env: Env<'_>,
-    bump: &'a Bump,
     command: &Command,
-    rule: RuleParts<'_, 'a>,
+    kind: &str,
+    parts: &[Part<'a>],
     new: &mut Parts<'a>,
 ) -> Result<Edit, AllocError>
     requires { is_edit command.now ≡ true }
-    ensures { IfOk result (IsEditOf command.now env.entry.home.now rule.entry.kind.now
-        (map part_view rule.entry.parts.now) (map part_view new.new.items)) }
+    ensures { IfOk result (IsEditOf command.now env.entry.home.now kind.now (map part_view parts.now)
+        (map part_view new.new.items)) }
 {
-    let RuleParts { kind, parts } = rule;
     match &command.action {
         Action::Set(Setting::ToKind(new_kind)) => set_kind(new_kind.as_str(), kind, parts, new),
         Action::Comment(Commented::Rule, text) => {
             comment_rule(env.alloc, text.as_str(), parts, new)
         }
         Action::Rename(old, to) => rename(env.alloc, old.as_str(), to.as_str(), parts, new),
-        _ => edit_arguments(env, bump, command, parts, new),
+        _ => edit_arguments(env, command, parts, new),
+    }
+}
+
+/// What a command makes of a rule. The new parts go into a list. `Err`: memory was refused, and the list is of no use.
+pub(crate) fn edit_rule<'a>(
+    env: Env<'_>,
+    command: &Command,
+    rule: RuleParts<'_, 'a>,
+    new: &mut Parts<'a>,
+) -> Result<Edit, AllocError>
+    requires edits { is_edit command.now ≡ true }
+    requires fits { rule.comments ≤ length rule.parts.now }
+    ensures within { IfOk result (λ e. IsWithin e.place (map part_view rule.entry.parts.now)) }
+    ensures edit { IfOk result (λ e. (s : Statement) (r : Rule) → HasKindAndParts rule.entry s
+        → rule_of s.nodes ≡ Some r → IsEditFor command.now env.entry.home.now s
+        (map part_view rule.entry.parts.now) (map part_view new.new.items) e) }
+{
+    // The comments that commands have added are many, if anything is: nobody has to go over them.
+    let RuleParts {
+        kind,
+        comments,
+        parts,
+    } = rule;
+    let edit = edit_parts(env, command, kind, &parts[comments..], new)?;
+    let place = Place {
+        from: comments + edit.place.from,
+        to: comments + edit.place.to,
+    };
+    Ok(Edit {
+        done: edit.done,
+        place,
+    })
+}
+
+/// How many comments more the rule has above it after the command, at least.
+#[tactic(auto, using(crate::proofs::RowEdited::none_above, crate::proofs::RowEdited::one_above))]
+pub(crate) fn new_comments(command: &Command) -> usize
+    ensures { (home : labels.Package) (s : Statement) (r : Rule) → rule_of s.nodes ≡ Some r
+        → HasMore result s (rule_after command.now home s) }
+{
+    match &command.action {
+        Action::Comment(Commented::Rule, _) => 1,
+        _ => 0,
     }
 }
 

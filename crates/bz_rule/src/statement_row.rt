@@ -15,10 +15,10 @@ ghost use Rattle.bz_attribute_commands.specs.Print.{prints};
 ghost use Rattle.bz_layout.specs.Layout.{layout_text};
 ghost use Rattle.bz_rule.specs.Commands as commands;
 ghost use Rattle.bz_attribute.specs.RowEdits.{IsWithin, replaced_at};
-ghost use Rattle.bz_rule.specs.private.RowEdits.{HasKindAndParts, IsNextOf, KeepsHead, is_edit, rule_after};
+ghost use Rattle.bz_rule.specs.private.RowEdits.{HasKindAndParts, HasMore, IsNextOf, KeepsHead, is_edit, rule_after};
 
 use crate::command::{Action, Command};
-use crate::row_edit::{RuleParts, edit_rule, keeps_head};
+use crate::row_edit::{RuleParts, edit_rule, keeps_head, new_comments};
 use crate::row_parts::{RowParts, with_others};
 use bumpalo::Bump;
 use bz_attribute::{Done, Env, Executed, Head, Parts, Place, call_at, push_stmt};
@@ -41,6 +41,8 @@ pub struct StatementRow<'a> {
     pub(crate) end: u64,
     // None: it is no rule.
     pub(crate) head: Option<Head<'a>>,
+    // Its parts begin with so many comments at least: those that commands have added.
+    pub(crate) comments: usize,
     // Where its lists stand, and texts that commands make.
     pub(crate) bump: &'a Bump,
 }
@@ -58,7 +60,7 @@ impl<'a> Model for StatementRow<'a> {
 
     ghost view = { λ l. row_statement (row_value (parts_in l.parts) l.class l.start l.end) };
 
-    ghost invariant = { λ l. HasItsHead (row_value (parts_in l.parts) l.class l.start l.end) l.head };
+    ghost invariant = { λ l. HasItsHead (row_value (parts_in l.parts) l.class l.start l.end) l.head l.comments };
 }
 
 impl<'a> StatementRow<'a> {
@@ -87,6 +89,7 @@ impl<'a> StatementRow<'a> {
             start: row.start,
             end: row.end,
             head,
+            comments: 0,
             bump,
         }
     }
@@ -109,6 +112,7 @@ impl<'a> StatementRow<'a> {
             start: stmt.start,
             end: stmt.end,
             head,
+            comments: 0,
             bump,
         })
     }
@@ -204,6 +208,7 @@ impl<'a> StatementRow<'a> {
     {
         RuleParts {
             kind: self.kind(),
+            comments: self.comments,
             parts: self.parts.as_slice(),
         }
     }
@@ -220,16 +225,23 @@ impl<'a> StatementRow<'a> {
         Ok(())
     }
 
-    // Puts others in a place of its parts, with which its head stays. `Err`: memory was refused, and all is as it was.
-    fn put_beside(&mut self, place: Place, new: &[Part<'a>]) -> Result<(), AllocError>
+    // Puts others in a place of its parts, among them so many comments above it. Its head stays. `Err`: memory was
+    // refused, and all is as it was.
+    fn put_beside(
+        &mut self,
+        place: Place,
+        new: &[Part<'a>],
+        comments: usize,
+    ) -> Result<(), AllocError>
         requires within { IsWithin place (parts_of self.old) }
         requires next { (s : Statement) × (IsNextOf self.old (replaced_at place (map part_view new.now) (parts_of self.old)) s
-            × KeepsHead self.old s) }
+            × (KeepsHead self.old s × HasMore comments self.old s)) }
         ensures taken { OnOk result ((s : Statement)
             → IsNextOf self.old (replaced_at place (map part_view new.now) (parts_of self.old)) s → self.new ≡ s) }
         ensures err { OnErr result (self.new ≡ self.old) }
     {
         self.parts.put(self.bump, place, new)?;
+        self.comments = self.comments.saturating_add(comments);
         Ok(())
     }
 
@@ -249,7 +261,7 @@ impl<'a> StatementRow<'a> {
         ensures err { OnErr result (self.new ≡ self.old) }
     {
         if keeps_head(command) {
-            return self.put_beside(place, new);
+            return self.put_beside(place, new, new_comments(command));
         }
         let list = with_others(self.bump, self.parts.as_slice(), place, new)?;
         self.take(env.alloc, list)
@@ -264,7 +276,7 @@ impl<'a> StatementRow<'a> {
         ensures err { OnErr result (self.new ≡ self.old) }
     {
         let mut new = mem::replace(&mut self.spare, Vec::new(self.bump));
-        let edit = edit_rule(env, self.bump, command, self.rule(), &mut new)?;
+        let edit = edit_rule(env, command, self.rule(), &mut new)?;
         if !edit.done.changed {
             self.spare = new;
             return Ok(edit.done);

@@ -1,5 +1,5 @@
 -- For private clauses: where the arguments stand that a command looks at, and a row with its head.
-use Rattle.std.specs.Prelude.{◌≡◌, ℕ, ◌-◌, List, ◌∷◌, ◌++◌, Bool, true, false, Option, Some, None, map, take, drop}
+use Rattle.std.specs.Prelude.{◌≡◌, ℕ, ◌-◌, List, ◌∷◌, ◌++◌, Bool, true, false, Option, Some, None, map, take, drop, ◌≤◌, ◌+◌, length}
 use Rattle.bz_tree.specs.Statement.{class_of}
 use Rattle.bz_tree.specs.declared.stmt.Class.TheVariants.{Rule as RuleClass}
 use Rattle.bz_tree.specs.Tree.{Segment, Statement, segs_of}
@@ -23,12 +23,19 @@ use Rattle.bz_attribute.specs.declared.head.Head.{Head}
 use Rattle.bz_rule.specs.RowViews.{RowValue, row_statement}
 
 -- a row is of its statement, and that has this head
-pub record HasItsHead (row : RowValue) (head : Option Head) : Type 0 where
+pub record HasItsHead (row : RowValue) (head : Option Head) (comments : ℕ) : Type 0 where
   pub are : row.parts ≡ parts_of (row_statement row)
   pub has : HasHead head (row_statement row)
+  -- at least so many comments stand above it
+  pub below : comments ≤ length (row_statement row).before
 
--- the parts of a rule, beside its kind
+-- without the first of the comments above it
+abbrev pub below : ℕ → Statement → Statement
+below comments s = record s { before = drop comments s.before }
+
+-- the parts of a rule, beside its kind, and how many comments they begin with at least
 pub record HasKindAndParts (rule : RuleParts) (s : Statement) : Type 0 where
+  pub fits : rule.comments ≤ length s.before
   pub are : map part_view rule.parts.now ≡ parts_of s
   pub kind : (r : Rule) → rule_of s.nodes ≡ Some r → kind_text r.kind ≡ rule.kind.now
 
@@ -36,6 +43,7 @@ pub record HasKindAndParts (rule : RuleParts) (s : Statement) : Type 0 where
 pub record IsNextOf (old : Statement) (parts : List RowPart) (s : Statement) : Type 0 where
   pub are : parts ≡ parts_of s
   pub rule : class_of s.nodes ≡ RuleClass
+  pub before : length old.before ≤ length s.before
   pub same : s.class ≡ old.class
   pub start : s.start ≡ old.start
   pub end : s.end ≡ old.end
@@ -81,8 +89,17 @@ one_attribute (Comment (Attribute attr) text) = Some attr
 one_attribute (Comment (Value attr value) text) = Some attr
 one_attribute _ = None
 
+-- it has at least so many comments more above it
+abbrev pub HasMore : ℕ → Statement → Statement → Type 0
+HasMore comments s after = length s.before + comments ≤ length after.before
+
 -- What a command makes of the parts of a rule of this kind: the new ones, in their place, make the rule after it.
 pub record IsEditOf (c : Command) (home : Package) (kind : List ℕ) (ps new : List RowPart) (e : Edit) : Type 0 where
   pub within : IsWithin e.place ps
   pub parts : (s : Statement) (r : Rule) → IsRuleRow s r ps → kind_text r.kind ≡ kind → e.done.changed ≡ true → replaced_at e.place new ps ≡ parts_of (rule_after c home s)
   pub done : (s : Statement) (r : Rule) → IsRuleRow s r ps → kind_text r.kind ≡ kind → e.done ≡ done_of c home (Some s)
+
+-- what it makes of the parts of this rule
+pub record IsEditFor (c : Command) (home : Package) (s : Statement) (ps new : List RowPart) (e : Edit) : Type 0 where
+  pub parts : e.done.changed ≡ true → replaced_at e.place new ps ≡ parts_of (rule_after c home s)
+  pub done : e.done ≡ done_of c home (Some s)

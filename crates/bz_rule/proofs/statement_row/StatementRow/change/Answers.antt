@@ -17,7 +17,7 @@ put_beside-requires-clause-next c =
     let command = c.args.command.now in
     let home = c.args.env.home.now in
     let r = some_rule (rule_of old.nodes) c.requires.rule in
-    (rule_after command home old, (next_of command home old r.0 (replaced_at c.args.place (map part_view c.args.new.now) (parts_of old)) r.1 c.requires.next, c.keeps_head.ensures c.if-keeps_head.true home old))
+    (rule_after command home old, (next_of command home old r.0 (replaced_at c.args.place (map part_view c.args.new.now) (parts_of old)) r.1 c.requires.next, (c.keeps_head.ensures c.if-keeps_head.true home old, c.new_comments.ensures home old r.0 r.1)))
 
 pub returns-then-keeps_head-clause-changed : goal.returns-then-keeps_head-clause-changed
 returns-then-keeps_head-clause-changed c =

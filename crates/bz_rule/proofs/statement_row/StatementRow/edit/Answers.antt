@@ -1,4 +1,5 @@
-use Rattle.std.proofs.Common.{◌≡◌, ◌∙◌, List, Some, false, true, ap, is_some, map, subst, sym, arith, tests}
+use Rattle.std.proofs.Common.{◌≡◌, ◌∙◌, List, Some, false, true, ap, is_some, length, map, subst, sym, arith, tests}
+use Rattle.std.proofs.lemmas.List.{length-map}
 use Rattle.bz_tree.specs.Tree.{Statement}
 use Rattle.bz_tree.specs.declared.row.Part.{Part}
 use Rattle.bz_tree.specs.Rows.{RowPart, part_view, parts_of}
@@ -8,6 +9,7 @@ use Rattle.bz_attribute.specs.declared.done.Done.{Done}
 use Rattle.bz_rule.specs.Commands.{after, done_of}
 use Rattle.bz_rule.specs.RowViews.{row_statement, row_value}
 use Rattle.bz_rule.specs.private.PartsOf.{parts_in}
+use Rattle.bz_rule.proofs.Below.{comments_fit}
 use Rattle.bz_rule.proofs.RowEdited.{after_edit, edit_stays, some_rule}
 use Rattle.bz_rule.proofs.statement_row.StatementRow.edit.Goals as goal
 
@@ -19,7 +21,7 @@ returns-then-not-edit-clause-done c =
     let home = c.args.env.home.now in
     let r = some_rule (rule_of s.nodes) (ap (λ (z : Statement). is_some (rule_of z.nodes)) c.self.view_is ∙ c.requires.rule) in
     let kp = c.rule.ensures in
-    c.in_ok-edit.ensures.done s r.0 (record { are = kp.are; rule = r.1 }) (kp.kind r.0 r.1) ∙ ap (λ (z : Statement). done_of command home (Some z)) c.self.view_is
+    (c.in_ok-edit.ensures.edit s r.0 kp r.1).done ∙ ap (λ (z : Statement). done_of command home (Some z)) c.self.view_is
 
 pub returns-then-not-edit-clause-slot : goal.returns-then-not-edit-clause-slot
 returns-then-not-edit-clause-slot c =
@@ -29,7 +31,7 @@ returns-then-not-edit-clause-slot c =
     let home = c.args.env.home.now in
     let r = some_rule (rule_of s.nodes) (ap (λ (z : Statement). is_some (rule_of z.nodes)) c.self.view_is ∙ c.requires.rule) in
     let kp = c.rule.ensures in
-    let told = c.in_ok-edit.ensures.done s r.0 (record { are = kp.are; rule = r.1 }) (kp.kind r.0 r.1) in
+    let told = (c.in_ok-edit.ensures.edit s r.0 kp r.1).done in
     let quiet : c.in_ok-edit.edit.done.changed ≡ false = grind (arith, tests, c.if-not-edit.true) in
     edit_stays command home s c.requires.edits (ap (λ (d : Done). d.changed) (sym told) ∙ quiet) ∙ ap (λ (z : Statement). after command home (Some z)) c.self.view_is
 
@@ -49,7 +51,7 @@ change-requires-clause-next c =
     let changed : c.in_ok-edit.edit.done.changed ≡ true = grind (arith, tests, c.if-not-edit.false) in
     ap (λ (new : List Part). replaced_at place (map part_view new) (parts_of s)) c.deref.ensures.value
     ∙ ap (replaced_at place (map part_view c.edit_rule.new.new.items)) (sym kp.are)
-    ∙ c.in_ok-edit.ensures.parts s r.0 (record { are = kp.are; rule = r.1 }) (kp.kind r.0 r.1) changed
+    ∙ (c.in_ok-edit.ensures.edit s r.0 kp r.1).parts changed
 
 pub returns-clause-done : goal.returns-clause-done
 returns-clause-done c =
@@ -59,7 +61,7 @@ returns-clause-done c =
     let home = c.args.env.home.now in
     let r = some_rule (rule_of s.nodes) (ap (λ (z : Statement). is_some (rule_of z.nodes)) c.self.view_is ∙ c.requires.rule) in
     let kp = c.rule.ensures in
-    c.in_ok-edit.ensures.done s r.0 (record { are = kp.are; rule = r.1 }) (kp.kind r.0 r.1) ∙ ap (λ (z : Statement). done_of command home (Some z)) c.self.view_is
+    (c.in_ok-edit.ensures.edit s r.0 kp r.1).done ∙ ap (λ (z : Statement). done_of command home (Some z)) c.self.view_is
 
 pub returns-clause-slot : goal.returns-clause-slot
 returns-clause-slot c =
@@ -69,3 +71,10 @@ returns-clause-slot c =
     let home = c.args.env.home.now in
     ap (λ (z : Statement). Some z) (c.self-2.view_is ∙ c.in_ok-change.ensures.changed) ∙ sym (after_edit command home s c.requires.edits)
     ∙ ap (λ (z : Statement). after command home (Some z)) c.self.view_is
+
+pub edit_rule-requires-clause-fits : goal.edit_rule-requires-clause-fits
+edit_rule-requires-clause-fits c =
+    let i = c.self.inside in
+    let s = row_statement (row_value (parts_in i.parts) i.class i.start i.end) in
+    let kp = c.rule.ensures in
+    omega (arith, comments_fit c.rule.result.comments s kp.fits, ap length kp.are, length-map c.rule.result.parts.now part_view)

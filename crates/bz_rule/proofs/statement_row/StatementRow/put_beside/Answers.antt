@@ -1,4 +1,4 @@
-use Rattle.std.proofs.Common.{◌≡◌, ◌∙◌, ap, map, subst, sym}
+use Rattle.std.proofs.Common.{◌≡◌, ◌∙◌, ap, length, map, subst, sym, arith}
 use Rattle.bz_tree.specs.Tree.{Statement}
 use Rattle.bz_tree.specs.Rows.{part_view, parts_of}
 use Rattle.bz_attribute.specs.Heads.{HasHead}
@@ -13,12 +13,13 @@ invariant_of-self-2 c =
     let old = c.args.self.now in
     let s = c.requires.next.0 in
     let next = c.requires.next.1.0 in
-    has_head s (parts_in c.put.new.self) _ _ _ i.head (record {
+    has_head s (parts_in c.put.new.self) _ _ _ i.head _ (record {
       are = of_next c.args.place (parts_in i.parts) c.args.new.now (parts_in c.put.new.self) old s c.in_ok-put.ensures.ok (c.self.invariant.are ∙ ap parts_of c.self.view_is) next.are;
       is = ap (λ (z : Statement). z.class) c.self.view_is ∙ sym next.same;
       begins = ap (λ (z : Statement). z.start) c.self.view_is ∙ sym next.start;
       ends = ap (λ (z : Statement). z.end) c.self.view_is ∙ sym next.end;
-    }) (c.requires.next.1.1 i.head (subst (HasHead i.head) c.self.view_is c.self.invariant.has))
+    }) (c.requires.next.1.1.0 i.head (subst (HasHead i.head) c.self.view_is c.self.invariant.has))
+    (grind (arith, c.saturating_add-self-inside.ensures, c.self.invariant.below, ap (λ (z : Statement). length z.before) c.self.view_is, c.requires.next.1.1.1))
 
 pub returns-clause-taken : goal.returns-clause-taken
 returns-clause-taken c s next =
