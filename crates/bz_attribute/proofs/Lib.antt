@@ -8,10 +8,14 @@ pub mod FoundArgs
 pub mod Fresh
 pub mod Groups
 pub mod Headed
+pub mod ItemParts
 pub mod KindPlaced
 pub mod LabelSets
 pub mod LastBytes
 pub mod Lengths
+pub mod ListEdits
+pub mod ListElements
+pub mod ListWalk
 pub mod Mapped
 pub mod NameTexts
 pub mod NextArguments

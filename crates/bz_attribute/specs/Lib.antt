@@ -1,6 +1,7 @@
 pub mod Add
 pub mod Comment
 pub mod Effects
+pub mod Elements
 pub mod Finder
 pub mod Heads
 pub mod KindPlaces

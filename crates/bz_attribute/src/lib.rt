@@ -4,6 +4,7 @@
 mod apart;
 mod chosen;
 mod done;
+mod elements;
 mod env;
 pub mod equals;
 mod finder;
@@ -23,6 +24,7 @@ mod word_set;
 
 pub use chosen::{Chosen, any_chosen, drop_in, is_any_chosen, is_chosen, loses_all};
 pub use done::{Done, Executed, Note};
+pub use elements::{Element, first_list, next_element, next_list, value_place};
 pub use env::Env;
 pub use finder::find_argument;
 pub use head::Head;
