@@ -23,6 +23,7 @@ pub mod NextPart
 pub mod Passed
 pub mod PlaceFound
 pub mod RowArgs
+pub mod RowEdits
 pub mod RuleNodes
 pub mod RuleParts
 pub mod Slices

@@ -4,6 +4,7 @@
 mod apart;
 mod chosen;
 mod done;
+mod edit;
 mod elements;
 mod env;
 pub mod equals;
@@ -24,6 +25,7 @@ mod word_set;
 
 pub use chosen::{Chosen, any_chosen, drop_in, is_any_chosen, is_chosen, loses_all};
 pub use done::{Done, Executed, Note};
+pub use edit::Edit;
 pub use elements::{Element, first_list, next_element, next_list, value_place};
 pub use env::Env;
 pub use finder::find_argument;
@@ -35,7 +37,7 @@ pub use make::{
 };
 pub use next_argument::next_place;
 pub use place::{Place, all_arguments, place_of};
-pub use row_args::{Parts, push_stmt, read_arguments, splice};
+pub use row_args::{Parts, push_stmt, read_arguments, write_arguments};
 pub use row_kind::kind_place;
 pub use rule::{
     Rule, call_at, find, first_named, ident_of, is_named, is_string, name_of, only_text, rule_of,
