@@ -4,6 +4,7 @@ pub mod EditedAt
 pub mod EndsBack
 pub mod FinderSteps
 pub mod First
+pub mod FirstArguments
 pub mod FoundArgs
 pub mod Fresh
 pub mod Groups

@@ -3,6 +3,7 @@ pub mod Comment
 pub mod Effects
 pub mod Elements
 pub mod Finder
+pub mod FirstArguments
 pub mod Heads
 pub mod KindPlaces
 pub mod Lists

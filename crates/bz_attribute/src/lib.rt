@@ -2,6 +2,7 @@
 #![tactic(auto)]
 
 mod apart;
+mod arguments;
 mod chosen;
 mod done;
 mod edit;
@@ -23,6 +24,7 @@ mod string_list;
 mod texts;
 mod word_set;
 
+pub use arguments::{FirstArgument, first_argument};
 pub use chosen::{Chosen, any_chosen, drop_in, is_any_chosen, is_chosen, loses_all};
 pub use done::{Done, Executed, Note};
 pub use edit::Edit;

@@ -4,11 +4,12 @@ ghost use Rattle.std.specs.Prelude.{◌≡◌, ℕ, List, IfOk};
 ghost use Rattle.std.specs.List.{list_any};
 ghost use Rattle.std.proofs.Props.{props};
 ghost use Rattle.bz_tree.specs.View.{seg_view};
-ghost use Rattle.bz_attribute.specs.Lists.{equals_any, same};
+ghost use Rattle.bz_attribute.specs.Lists.{equals_any, same, same_value};
 ghost use Rattle.bz_command.specs.LabelSetViews.{holds};
+ghost use Rattle.bz_command.specs.Values as values;
 
-use crate::equals::{equals, string_of};
-use bz_command::{Package, SortedLabels, Text};
+use crate::equals::{equals, string_of, text_equals};
+use bz_command::{Package, SortedLabels, Text, value_of};
 use bz_tree::Seg;
 use std::alloc::{AllocError, Global};
 
@@ -44,6 +45,22 @@ impl<'a> WordSet<'a> {
                 .any(|word| equals(home, element, word.as_str()));
         }
         match string_of(element) {
+            None => false,
+            Some(value) => self.labels.contains(value),
+        }
+    }
+
+    /// The same of an element that is one string token of this text.
+    pub fn has_text(&self, home: &Package, text: &str) -> bool
+        ensures { result ≡ list_any (λ word. same_value home.now word (values.value_of text.now)) self.now.words.now }
+    {
+        if !self.labels.are_of(home) {
+            return self
+                .words
+                .iter()
+                .any(|word| text_equals(home, text, word.as_str()));
+        }
+        match value_of(text) {
             None => false,
             Some(value) => self.labels.contains(value),
         }

@@ -1,11 +1,13 @@
-pub mod ArgEdits
+pub mod ArgumentEdits
 pub mod Arriving
-pub mod AttributesGone
+pub mod ElementEdits
+pub mod EmptiedLists
 pub mod FirstFiltered
 pub mod Flags
 pub mod Known
 pub mod Leaving
+pub mod Meanings
+pub mod PlaceEdits
 pub mod Replaced
-pub mod RowLists
-pub mod Strings
 pub mod Written
+pub mod WrittenParts
