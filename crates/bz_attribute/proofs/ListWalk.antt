@@ -1,18 +1,17 @@
 -- A walk over the items of a value, by their parts, from one list part to the next.
-use Rattle.std.proofs.Common.{◌≡◌, ℕ, ◌+◌, ◌<◌, ◌≤◌, List, [], ◌∷◌, ◌++◌, Bool, true, false, ◌&&◌, map, length, drop, get_or, refl, ap, sym, ◌∙◌, subst, arith, append_assoc, append-nil, length-append, drop-drop}
+use Rattle.std.proofs.Common.{◌≡◌, ℕ, ◌+◌, ◌<◌, ◌≤◌, List, [], ◌∷◌, ◌++◌, Bool, true, false, ◌&&◌, map, length, drop, get_or, refl, ap, sym, ◌∙◌, subst, arith, append_assoc, length-append, drop-drop}
 use Rattle.std.specs.List.{list_all}
 use Rattle.std.specs.Prelude.{Option, Some, None, IfSome, IfNone}
 use Rattle.bz_tree.specs.declared.row.Part.{Part}
 use Rattle.bz_tree.specs.declared.stmt.GroupKind.TheVariants.{List as ListKind}
-use Rattle.bz_tree.specs.Tree.{Item, leaf, group, Segs, Segment, items_of, segs_of, segments}
+use Rattle.bz_tree.specs.Tree.{Item, leaf, group, Segs, Segment, items_of, segments}
 use Rattle.bz_tree.specs.Rows.{RowPart, part_view, opening, closing, segment_end, above, item_parts, items_parts, segs_parts}
 use Rattle.bz_attribute.specs.Elements.{HasNoList, IsListIn, ListRest, edit_in, edit_one_in, list_item, lists_in, rest_parts, value_parts}
 use Rattle.bz_attribute.specs.Lists.{edit_from, edit_list, edit_one_from, is_list, parts_from}
 use Rattle.bz_attribute.specs.Lists as lists
-use Rattle.bz_attribute.specs.Rules.{elements}
 use Rattle.bz_attribute.specs.private.HeadParts.{is_end}
-use Rattle.bz_attribute.specs.private.ListParts.{AreJoints, HasJoints, HasWalked, IsWalked, KeepsOthers, ends_piece, is_joint, is_plus, item_len, opens_list}
-use Rattle.bz_attribute.proofs.ItemParts.{IsItemAt, item_at, none_after, none_at, piece_told}
+use Rattle.bz_attribute.specs.private.ListParts.{HasJoints, HasWalked, IsWalked, KeepsOthers, ends_piece, is_joint, is_plus, item_len, opens_list}
+use Rattle.bz_attribute.proofs.ItemParts.{item_at, none_after, none_at, piece_told}
 use Rattle.bz_attribute.proofs.RuleNodes.{segs_back}
 
 -- joints

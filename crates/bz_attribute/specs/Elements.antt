@@ -1,11 +1,10 @@
 -- The list parts of a value and the elements of each, among the parts of its rule.
-use Rattle.std.specs.Prelude.{◌≡◌, ℕ, ◌+◌, ◌-◌, List, [], ◌∷◌, ◌++◌, Bool, true, false, Option, Some, length, map, take, drop}
-use Rattle.std.specs.List.{list_all}
+use Rattle.std.specs.Prelude.{◌≡◌, ℕ, ◌+◌, List, [], ◌∷◌, ◌++◌, Bool, true, false, Option, Some, length, map, take, drop}
 use Rattle.bz_tree.specs.declared.stmt.GroupKind.TheVariants.{List as ListKind}
 use Rattle.bz_tree.specs.Tree.{Item, group, Segment, Statement, items_of, segs_of}
-use Rattle.bz_tree.specs.Rows.{RowPart, above, closing, opening, segment_end, items_parts, parts_of, segs_parts}
+use Rattle.bz_tree.specs.Rows.{RowPart, above, closing, segment_end, items_parts, parts_of, segs_parts}
 use Rattle.bz_attribute.specs.Rules.{Rule, first_named, is_named, only_text, value}
-use Rattle.bz_attribute.specs.Lists.{edit_first_part, edit_from, edit_one_from, edit_parts, ends, is_joint, parts, parts_from, with_value}
+use Rattle.bz_attribute.specs.Lists.{edit_first_part, edit_from, edit_one_from, edit_parts, ends, parts, parts_from, with_value}
 use Rattle.bz_attribute.specs.Effects.{edit_first, with_args}
 use Rattle.bz_attribute.specs.Move.{joined}
 

@@ -2,9 +2,9 @@
 use Rattle.std.specs.Prelude.{◌≡◌, ℕ, zero, suc, ◌+◌, List, [], ◌∷◌, ◌++◌, Bool, true, false, ◌||◌, if◌then◌else◌, Option, None, length, drop}
 use Rattle.std.specs.List.{list_all}
 use Rattle.bz_tree.specs.declared.stmt.GroupKind.TheVariants.{List as ListKind}
-use Rattle.bz_tree.specs.Tree.{Item, leaf, Segment, items_of}
+use Rattle.bz_tree.specs.Tree.{Item, leaf, items_of}
 use Rattle.bz_tree.specs.Rows.{RowPart, a_token, closing, opening, items_parts}
-use Rattle.bz_attribute.specs.Elements.{HasNoList, IsListIn, value_parts}
+use Rattle.bz_attribute.specs.Elements.{value_parts}
 use Rattle.bz_attribute.specs.Lists as lists
 use Rattle.bz_attribute.specs.private.HeadParts.{is_end, text_of}
 
