@@ -12,6 +12,7 @@ pub mod ItemParts
 pub mod KindPlaced
 pub mod LabelSets
 pub mod LastBytes
+pub mod LabelsFound
 pub mod Lengths
 pub mod ListEdits
 pub mod ListElements
@@ -28,4 +29,5 @@ pub mod RuleNodes
 pub mod RuleParts
 pub mod Slices
 pub mod StringLists
+pub mod ValueElements
 pub mod Views

@@ -5,6 +5,7 @@ mod apart;
 mod chosen;
 mod done;
 mod edit;
+mod element_labels;
 mod elements;
 mod env;
 pub mod equals;
@@ -26,7 +27,10 @@ mod word_set;
 pub use chosen::{Chosen, any_chosen, drop_in, is_any_chosen, is_chosen, loses_all};
 pub use done::{Done, Executed, Note};
 pub use edit::Edit;
-pub use elements::{Element, first_list, next_element, next_list, value_place};
+pub use element_labels::labels_of;
+pub use elements::{
+    Element, elements_end, first_list, next_element, next_list, next_of_value, value_place,
+};
 pub use env::Env;
 pub use finder::find_argument;
 pub use head::Head;
