@@ -1,3 +1,4 @@
+pub mod Adding
 pub mod ArgEdits
 pub mod Arriving
 pub mod AttributesGone
@@ -6,6 +7,7 @@ pub mod Flags
 pub mod Known
 pub mod Leaving
 pub mod Replaced
+pub mod Named
 pub mod RowLists
 pub mod Strings
 pub mod Written

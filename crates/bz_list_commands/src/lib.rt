@@ -2,9 +2,9 @@
 #![tactic(auto)]
 
 pub mod add;
-pub mod add_in_row;
 mod arrivals;
 pub mod moving;
+mod new_attribute;
 pub mod remove;
 pub mod remove_attribute;
 pub mod remove_in_row;
