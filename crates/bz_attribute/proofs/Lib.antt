@@ -28,6 +28,5 @@ pub mod RowEdits
 pub mod RuleNodes
 pub mod RuleParts
 pub mod Slices
-pub mod StringLists
 pub mod ValueElements
 pub mod Views

@@ -20,7 +20,6 @@ mod place;
 mod row_args;
 mod row_kind;
 mod rule;
-mod string_list;
 mod texts;
 mod word_set;
 
@@ -47,6 +46,5 @@ pub use rule::{
     Rule, call_at, find, first_named, ident_of, is_named, is_string, name_of, only_text, rule_of,
     value_of,
 };
-pub use string_list::{StringElement, is_list_end, list_start, next_string};
 pub use texts::{label, push_home};
 pub use word_set::WordSet;

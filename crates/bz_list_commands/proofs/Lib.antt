@@ -8,6 +8,5 @@ pub mod Known
 pub mod Leaving
 pub mod Replaced
 pub mod Named
-pub mod RowLists
 pub mod Strings
 pub mod Written

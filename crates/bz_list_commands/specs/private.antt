@@ -2,5 +2,4 @@ pub mod AddSteps
 pub mod EditSteps
 pub mod MoveSteps
 pub mod ReplaceSteps
-pub mod RowSteps
 pub mod TakingSteps

@@ -7,7 +7,5 @@ pub mod moving;
 mod new_attribute;
 pub mod remove;
 pub mod remove_attribute;
-pub mod remove_in_row;
 pub mod replace;
-pub mod replace_in_row;
 mod taking;
