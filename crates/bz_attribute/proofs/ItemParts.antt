@@ -8,7 +8,7 @@ use Rattle.bz_tree.specs.declared.row.Part.{Part}
 use Rattle.bz_tree.specs.declared.stmt.GroupKind.{GroupKind}
 use Rattle.bz_tree.specs.declared.stmt.GroupKind.TheVariants.{List as ListKind}
 use Rattle.bz_tree.specs.Tree.{Item, leaf, group, Items, no_items, item, Segs, no_segs, seg, items_of}
-use Rattle.bz_tree.specs.Rows.{RowPart, part_view, a_token, opening, closing, segment_end, above, beside, beside_part, item_parts, items_parts, segs_parts}
+use Rattle.bz_tree.specs.Rows.{RowPart, part_view, a_token, opening, closing, segment_end, above, beside_part, item_parts, items_parts, segs_parts}
 use Rattle.bz_attribute.specs.Elements.{value_parts}
 use Rattle.bz_attribute.specs.Lists as lists
 use Rattle.bz_attribute.specs.private.HeadParts.{is_end}

@@ -13,6 +13,7 @@ pub mod ItemParts
 pub mod KindPlaced
 pub mod LabelSets
 pub mod LastBytes
+pub mod LabelsFound
 pub mod Lengths
 pub mod ListEdits
 pub mod ListElements
@@ -28,5 +29,5 @@ pub mod RowEdits
 pub mod RuleNodes
 pub mod RuleParts
 pub mod Slices
-pub mod StringLists
+pub mod ValueElements
 pub mod Views

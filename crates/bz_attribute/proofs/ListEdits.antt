@@ -1,5 +1,5 @@
 -- A walk over the elements of a value: what an edit of them, one by one, makes of its parts.
-use Rattle.std.proofs.Common.{◌≡◌, ℕ, ◌+◌, ◌-◌, ◌≤◌, List, [], ◌∷◌, ◌++◌, Bool, true, false, Option, map, length, take, drop, refl, ap, sym, ◌∙◌, subst, arith, append_assoc, append-nil, length-append, drop-drop}
+use Rattle.std.proofs.Common.{◌≡◌, ℕ, ◌+◌, ◌-◌, List, [], ◌∷◌, ◌++◌, Bool, true, false, Option, map, length, take, drop, refl, ap, sym, ◌∙◌, arith, append_assoc, append-nil, length-append, drop-drop}
 use Rattle.std.proofs.lemmas.List.{length-map}
 use Rattle.std.proofs.Math.Seq.{drop-append_seam, take-append_seam}
 use Rattle.bz_tree.specs.declared.stmt.GroupKind.TheVariants.{List as ListKind}

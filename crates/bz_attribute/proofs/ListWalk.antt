@@ -1,18 +1,17 @@
 -- A walk over the items of a value, by their parts, from one list part to the next.
-use Rattle.std.proofs.Common.{◌≡◌, ℕ, ◌+◌, ◌<◌, ◌≤◌, List, [], ◌∷◌, ◌++◌, Bool, true, false, ◌&&◌, map, length, drop, get_or, refl, ap, sym, ◌∙◌, subst, arith, append_assoc, append-nil, length-append, drop-drop}
+use Rattle.std.proofs.Common.{◌≡◌, ℕ, ◌+◌, ◌<◌, ◌≤◌, List, [], ◌∷◌, ◌++◌, Bool, true, false, ◌&&◌, map, length, drop, get_or, refl, ap, sym, ◌∙◌, subst, arith, append_assoc, length-append, drop-drop}
 use Rattle.std.specs.List.{list_all}
-use Rattle.std.specs.Prelude.{Option, Some, None, IfSome, IfNone}
+use Rattle.std.specs.Prelude.{Option, Some, None, IfSome, IfNone, Result, Ok, Err, IfOk}
 use Rattle.bz_tree.specs.declared.row.Part.{Part}
 use Rattle.bz_tree.specs.declared.stmt.GroupKind.TheVariants.{List as ListKind}
-use Rattle.bz_tree.specs.Tree.{Item, leaf, group, Segs, Segment, items_of, segs_of, segments}
+use Rattle.bz_tree.specs.Tree.{Item, leaf, group, Segs, Segment, items_of, segments}
 use Rattle.bz_tree.specs.Rows.{RowPart, part_view, opening, closing, segment_end, above, item_parts, items_parts, segs_parts}
 use Rattle.bz_attribute.specs.Elements.{HasNoList, IsListIn, ListRest, edit_in, edit_one_in, list_item, lists_in, rest_parts, value_parts}
 use Rattle.bz_attribute.specs.Lists.{edit_from, edit_list, edit_one_from, is_list, parts_from}
 use Rattle.bz_attribute.specs.Lists as lists
-use Rattle.bz_attribute.specs.Rules.{elements}
 use Rattle.bz_attribute.specs.private.HeadParts.{is_end}
-use Rattle.bz_attribute.specs.private.ListParts.{AreJoints, HasJoints, HasWalked, IsWalked, KeepsOthers, ends_piece, is_joint, is_plus, item_len, opens_list}
-use Rattle.bz_attribute.proofs.ItemParts.{IsItemAt, item_at, none_after, none_at, piece_told}
+use Rattle.bz_attribute.specs.private.ListParts.{HasJoints, HasWalked, IsWalked, KeepsOthers, ends_piece, is_joint, is_plus, item_len, opens_list}
+use Rattle.bz_attribute.proofs.ItemParts.{item_at, none_after, none_at, piece_told}
 use Rattle.bz_attribute.proofs.RuleNodes.{segs_back}
 
 -- joints
@@ -168,10 +167,14 @@ pub not_joined : (nodes : List Item) → list_all lists.is_joint nodes ≡ false
 not_joined nodes h = record { none = rw h refl; same = λ f. rw h refl }
 
 -- an answer that tells more
-pub some_as : (P Q : ℕ → Type 0) (o : Option ℕ) → ((n : ℕ) → P n → Q n) → IfSome o P → IfSome o Q
+pub some_as : {A : Type 0} (P Q : A → Type 0) (o : Option A) → ((n : A) → P n → Q n) → IfSome o P → IfSome o Q
 some_as P Q None f h = h
 some_as P Q (Some n) f h = f n h
 
-pub none_as : (P Q : Type 0) (o : Option ℕ) → (P → Q) → IfNone o P → IfNone o Q
+pub none_as : {A : Type 0} (P Q : Type 0) (o : Option A) → (P → Q) → IfNone o P → IfNone o Q
 none_as P Q None f h = f h
 none_as P Q (Some n) f h = h
+
+pub ok_as : {A E : Type 0} (P Q : A → Type 0) (r : Result A E) → ((a : A) → P a → Q a) → IfOk r P → IfOk r Q
+ok_as P Q (Ok a) f h = f a h
+ok_as P Q (Err e) f h = h

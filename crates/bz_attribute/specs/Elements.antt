@@ -1,11 +1,10 @@
 -- The list parts of a value and the elements of each, among the parts of its rule.
-use Rattle.std.specs.Prelude.{◌≡◌, ℕ, ◌+◌, ◌-◌, List, [], ◌∷◌, ◌++◌, Bool, true, false, Option, Some, length, map, take, drop}
-use Rattle.std.specs.List.{list_all}
+use Rattle.std.specs.Prelude.{◌≡◌, ℕ, ◌+◌, List, [], ◌∷◌, ◌++◌, Bool, true, false, Option, None, Some, length, map, take, drop}
 use Rattle.bz_tree.specs.declared.stmt.GroupKind.TheVariants.{List as ListKind}
 use Rattle.bz_tree.specs.Tree.{Item, group, Segment, Statement, items_of, segs_of}
-use Rattle.bz_tree.specs.Rows.{RowPart, above, closing, opening, segment_end, items_parts, parts_of, segs_parts}
+use Rattle.bz_tree.specs.Rows.{RowPart, above, closing, segment_end, items_parts, parts_of, segs_parts}
 use Rattle.bz_attribute.specs.Rules.{Rule, first_named, is_named, only_text, value}
-use Rattle.bz_attribute.specs.Lists.{edit_first_part, edit_from, edit_one_from, edit_parts, ends, is_joint, parts, parts_from, with_value}
+use Rattle.bz_attribute.specs.Lists.{edit_first_part, edit_from, edit_one_from, edit_parts, ends, parts, parts_from, with_value}
 use Rattle.bz_attribute.specs.Effects.{edit_first, with_args}
 use Rattle.bz_attribute.specs.Move.{joined}
 
@@ -98,3 +97,32 @@ pub record IsEditedTo (f : List Segment → List Segment) (nodes : List Item) (a
   pub read : drop at ps ≡ rest_parts rest after
   pub elements : joined (parts nodes) ≡ seen ++ (rest.elements ++ joined (parts_from false rest.items))
   pub edited : value_parts (edit_parts f nodes) after ≡ new ++ rest_parts (edited_rest f rest) after
+
+-- all elements that are left of the value
+abbrev pub elements_left : ListRest → List Segment
+elements_left l = l.elements ++ joined (parts_from false l.items)
+
+-- the next of them ends at `to`
+pub record IsNextElement (l : ListRest) (after ps : List RowPart) (to : ℕ) (string : Option (List ℕ)) : Type 0 where
+  pub element : Segment
+  pub left : ListRest
+  pub are : elements_left l ≡ element ∷ elements_left left
+  pub read : drop to ps ≡ rest_parts left after
+  pub text : string ≡ only_text element.nodes
+
+-- the elements of a list part end at `end`
+pub record AreElementsTo (l : ListRest) (ps : List RowPart) (from end : ℕ) : Type 0 where
+  pub are : drop from ps ≡ segs_parts (segs_of l.elements) ++ drop end ps
+  pub size : end ≡ from + length (segs_parts (segs_of l.elements))
+
+-- the list parts of a value, where the elements of the first begin at a place
+pub record AreListsAt (ps : List RowPart) (from : ℕ) (lists : List (List Segment)) : Type 0 where
+  pub rest : ListRest
+  pub after : List RowPart
+  pub read : drop from ps ≡ rest_parts rest after
+  pub are : lists ≡ rest.elements ∷ parts_from false rest.items
+
+-- there may be none
+abbrev pub AreLists : List RowPart → Option ℕ → List (List Segment) → Type 0
+AreLists ps None lists = lists ≡ []
+AreLists ps (Some from) lists = AreListsAt ps from lists

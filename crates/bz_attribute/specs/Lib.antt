@@ -18,6 +18,5 @@ pub mod RowEdits
 pub mod RowPlaces
 pub mod RuleViews
 pub mod Set
-pub mod StringLists
 pub mod Texts
 pub mod private

@@ -5,4 +5,3 @@ pub mod HeadParts
 pub mod ListParts
 pub mod NextPart
 pub mod Places
-pub mod StringParts

@@ -4,7 +4,7 @@ ghost use Rattle.std.specs.Prelude.{◌≡◌, ◌≤◌, ◌<◌, ◌+◌, List
 ghost use Rattle.std.specs.List.{list_all};
 ghost use Rattle.bz_tree.specs.Tree.{Item, Statement};
 ghost use Rattle.bz_tree.specs.Rows.{RowPart, part_view};
-ghost use Rattle.bz_attribute.specs.Elements.{HasNoList, IsElementOf, IsListIn, IsValueAt, ListRest, rest_parts, value_parts};
+ghost use Rattle.bz_attribute.specs.Elements.{AreElementsTo, HasNoList, IsElementOf, IsListIn, IsNextElement, IsValueAt, ListRest, elements_left, rest_parts, value_parts};
 ghost use Rattle.bz_attribute.specs.Lists as lists;
 ghost use Rattle.bz_attribute.specs.Effects.{has};
 ghost use Rattle.bz_attribute.specs.Rules.{Rule};
@@ -236,4 +236,44 @@ pub fn next_element<'a>(parts: &[Part<'a>], at: usize) -> Option<Element<'a>>
         to: token + segment_len(rest),
         string: string_in(rest),
     })
+}
+
+/// Where the elements of a list part end, which begin at a place.
+pub fn elements_end(parts: &[Part<'_>], from: usize) -> usize
+    requires { from ≤ length parts.now }
+    ensures elements { (rest : ListRest) (after : List RowPart)
+        → drop from (map part_view parts.now) ≡ rest_parts rest after
+        → AreElementsTo rest (map part_view parts.now) from result }
+    ensures within { (from ≤ result) × (result ≤ length parts.now) }
+{
+    let mut at = from;
+    while let Some(element) = next_element(parts, at) {
+        at = element.to;
+    }
+    at
+}
+
+/// The next element of a value, from a place in a list part of it on. None: no element is left in any.
+pub fn next_of_value<'a>(parts: &[Part<'a>], at: usize) -> Option<Element<'a>>
+    requires { at ≤ length parts.now }
+    ensures some { IfSome result (λ e. (rest : ListRest) (after : List RowPart)
+        → drop at (map part_view parts.now) ≡ rest_parts rest after → IsNextElement rest after
+        (map part_view parts.now) e.to (option_map (λ text. text.now) e.string)) }
+    ensures none { IfNone result ((rest : ListRest) (after : List RowPart)
+        → drop at (map part_view parts.now) ≡ rest_parts rest after → elements_left rest ≡ []) }
+    ensures within { IfSome result (λ e. (at < e.to) × (e.to ≤ length parts.now)) }
+{
+    let element = next_element(parts, at);
+    if element.is_some() {
+        return element;
+    }
+    let mut end = at;
+    while let Some(from) = next_list(parts, end) {
+        let element = next_element(parts, from);
+        if element.is_some() {
+            return element;
+        }
+        end = from;
+    }
+    None
 }

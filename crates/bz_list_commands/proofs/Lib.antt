@@ -1,3 +1,4 @@
+pub mod Adding
 pub mod ArgumentEdits
 pub mod Arriving
 pub mod ElementEdits
@@ -7,7 +8,7 @@ pub mod Flags
 pub mod Known
 pub mod Leaving
 pub mod Meanings
+pub mod Named
 pub mod PlaceEdits
-pub mod Replaced
 pub mod Written
 pub mod WrittenParts

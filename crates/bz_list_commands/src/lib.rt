@@ -7,6 +7,7 @@ mod arrivals;
 mod element_edits;
 mod emptied;
 pub mod moving;
+mod new_attribute;
 mod place_edits;
 pub mod remove;
 pub mod replace;

@@ -2,9 +2,9 @@
 use Rattle.std.specs.Prelude.{◌≡◌, ℕ, zero, suc, ◌+◌, List, [], ◌∷◌, ◌++◌, Bool, true, false, ◌||◌, if◌then◌else◌, Option, None, length, drop}
 use Rattle.std.specs.List.{list_all}
 use Rattle.bz_tree.specs.declared.stmt.GroupKind.TheVariants.{List as ListKind}
-use Rattle.bz_tree.specs.Tree.{Item, leaf, Segment, items_of}
-use Rattle.bz_tree.specs.Rows.{RowPart, a_token, closing, opening, items_parts}
-use Rattle.bz_attribute.specs.Elements.{HasNoList, IsListIn, value_parts}
+use Rattle.bz_tree.specs.Tree.{Item, leaf, Segment, items_of, segs_of}
+use Rattle.bz_tree.specs.Rows.{RowPart, a_token, closing, opening, items_parts, segs_parts}
+use Rattle.bz_attribute.specs.Elements.{ListRest, elements_left, rest_parts, value_parts}
 use Rattle.bz_attribute.specs.Lists as lists
 use Rattle.bz_attribute.specs.private.HeadParts.{is_end, text_of}
 
@@ -75,3 +75,25 @@ pub record AreJoints (nodes : List Item) (after ps : List RowPart) (at : ℕ) : 
 
 abbrev pub HasJoints : List RowPart → ℕ → ℕ → Type 0
 HasJoints ps from at = (nodes : List Item) (after : List RowPart) → drop from ps ≡ value_parts nodes after → AreJoints nodes after ps at
+
+-- the elements of a list part up to a place
+pub record IsPassedTo (l : ListRest) (after ps : List RowPart) (from at : ℕ) : Type 0 where
+  pub seen : List Segment
+  pub left : ListRest
+  pub elements : l.elements ≡ seen ++ left.elements
+  pub own : drop from ps ≡ segs_parts (segs_of seen) ++ drop at ps
+  pub size : at ≡ from + length (segs_parts (segs_of seen))
+  pub read : drop at ps ≡ rest_parts left after
+
+abbrev pub HasPassedTo : List RowPart → ℕ → ℕ → Type 0
+HasPassedTo ps from at = (l : ListRest) (after : List RowPart) → drop from ps ≡ rest_parts l after → IsPassedTo l after ps from at
+
+-- no element is left of the list part that `at` is in, and of the value what was left before
+pub record IsEmptiedTo (l : ListRest) (after ps : List RowPart) (at : ℕ) : Type 0 where
+  pub left : ListRest
+  pub none : left.elements ≡ []
+  pub same : elements_left l ≡ elements_left left
+  pub read : drop at ps ≡ rest_parts left after
+
+abbrev pub HasEmptied : List RowPart → ℕ → ℕ → Type 0
+HasEmptied ps from at = (l : ListRest) (after : List RowPart) → drop from ps ≡ rest_parts l after → IsEmptiedTo l after ps at

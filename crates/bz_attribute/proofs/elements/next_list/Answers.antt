@@ -1,8 +1,8 @@
-use Rattle.std.proofs.Common.{ℕ, ◌+◌, ◌≡◌, List, [], Option, false, ap, arith, drop, length, map, refl, subst, sym, ◌∙◌}
+use Rattle.std.proofs.Common.{ℕ, ◌+◌, false, ap, arith, map, subst, ◌∙◌}
 use Rattle.std.proofs.lemmas.Bool.{false≢true}
 use Rattle.std.proofs.lemmas.List.{length-map}
-use Rattle.bz_tree.specs.Rows.{RowPart, part_view}
-use Rattle.bz_attribute.specs.Elements.{HasNoList, IsListIn, ListRest, rest_parts}
+use Rattle.bz_tree.specs.Rows.{part_view}
+use Rattle.bz_attribute.specs.Elements.{IsListIn}
 use Rattle.bz_attribute.specs.private.Ends.{above_len}
 use Rattle.bz_attribute.proofs.ListElements.{closed_there}
 use Rattle.bz_attribute.proofs.ListWalk.{none_as, some_as}

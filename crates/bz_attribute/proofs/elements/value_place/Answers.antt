@@ -1,4 +1,4 @@
-use Rattle.std.proofs.Common.{ℕ, ◌+◌, arith, map, refl, sym, ◌∙◌}
+use Rattle.std.proofs.Common.{◌+◌, arith, map, refl, sym, ◌∙◌}
 use Rattle.std.proofs.lemmas.List.{length-map}
 use Rattle.bz_tree.specs.Rows.{part_view}
 use Rattle.bz_attribute.proofs.ListElements.{value_there, value_within}
