@@ -150,7 +150,8 @@ pub fn edit_arguments<'a>(
     ensures within { IfOk result (λ next. IsWithin next (length parts.now)) }
     ensures all { IfOk result (λ next. next.at ≡ length parts.now) }
     ensures edited { IfOk result (λ next. (args : List Segment) → map part_view parts.now ≡ segs_parts (segs_of args)
-        → spec.HasEditedAll (spec.edit_by edit.entry) (spec.changes_by edit.entry) args next (map part_view parts.now) (map part_view out.new.items)) }
+        → spec.HasEditedAll (spec.edit_by edit.entry) (spec.changes_by edit.entry) args next
+        (map part_view parts.now) (map part_view out.new.items)) }
 {
     out.clear();
     let mut next = Written::nothing();

@@ -44,7 +44,8 @@ fn put_element<'a>(
     out: &mut Parts<'a>,
 ) -> Result<Written, AllocError>
     requires within { IsWithin written (length parts.now) }
-    requires order { (written.at ≤ element.token) × ((element.token + 1 ≤ element.to) × (element.to ≤ length parts.now)) }
+    requires order { (written.at ≤ element.token)
+        × ((element.token + 1 ≤ element.to) × (element.to ≤ length parts.now)) }
     ensures within { IfOk result (λ next. IsWithin next (length parts.now)) }
     ensures put { IfOk result (λ next. spec.HasPutElement (means edit.entry) (literal_of edit.entry) written next
         element.entry.token element.entry.to (option_map (λ text. text.now) element.entry.string)
@@ -76,7 +77,8 @@ fn edit_element<'a>(
     out: &mut Parts<'a>,
 ) -> Result<Written, AllocError>
     requires within { IsWithin written (length parts.now) }
-    requires order { (written.at ≤ element.token) × ((element.token + 1 ≤ element.to) × (element.to ≤ length parts.now)) }
+    requires order { (written.at ≤ element.token)
+        × ((element.token + 1 ≤ element.to) × (element.to ≤ length parts.now)) }
     ensures within { IfOk result (λ next. IsWithin next (length parts.now)) }
     ensures edited { IfOk result (λ next. spec.HasEditedElement (means edit.entry) (literal_of edit.entry)
         written next element.entry.token element.entry.to (option_map (λ text. text.now) element.entry.string)
