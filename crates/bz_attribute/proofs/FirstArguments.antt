@@ -1,11 +1,9 @@
 -- The first of some arguments among their parts.
-use Rattle.std.proofs.Common.{◌≡◌, ℕ, ◌+◌, ◌-◌, ◌<◌, ◌≤◌, List, [], ◌∷◌, ◌++◌, Bool, true, false, Option, length, map, drop, get_or, refl, ap, sym, ◌∙◌, arith, append_assoc, append-nil, length-append}
-use Rattle.std.proofs.lemmas.List.{drop_more, length-map}
+use Rattle.std.proofs.Common.{◌≡◌, ℕ, ◌+◌, List, [], ◌∷◌, ◌++◌, true, false, Option, length, map, drop, refl, ap, sym, ◌∙◌, arith, length-append}
+use Rattle.std.proofs.lemmas.List.{length-map}
 use Rattle.std.proofs.Math.Seq.{drop-append_seam}
-use Rattle.bz_tree.specs.declared.row.Part.{Part}
 use Rattle.bz_tree.specs.Tree.{Segment, items_of, segs_of}
-use Rattle.bz_tree.specs.Rows.{RowPart, a_token, opening, closing, segment_end, above, beside, beside_part, items_parts, part_view, segs_parts}
-use Rattle.bz_attribute.specs.Rules.{name_of}
+use Rattle.bz_tree.specs.Rows.{RowPart, a_token, opening, closing, segment_end, above, beside, beside_part, items_parts, segs_parts}
 use Rattle.bz_attribute.specs.Finder.{flat_name}
 use Rattle.bz_attribute.specs.FirstArguments.{IsFirstArgument, argument_parts}
 use Rattle.bz_attribute.specs.private.Ends.{above_len, end_len, is_above, segment_len}

@@ -1,10 +1,8 @@
-use Rattle.std.proofs.Common.{◌≡◌, ◌<◌, ◌≤◌, ℕ, ◌+◌, map, length, drop, ap, sym, ◌∙◌, arith, length-drop}
-use Rattle.std.proofs.lemmas.List.{length-map}
+use Rattle.std.proofs.Common.{ℕ, ◌+◌, map, ap, ◌∙◌}
 use Rattle.bz_tree.specs.Rows.{part_view}
 use Rattle.bz_attribute.specs.Finder.{flat_name}
 use Rattle.bz_attribute.specs.private.Ends.{segment_len}
 use Rattle.bz_attribute.proofs.FirstArguments.{is_first}
-use Rattle.bz_attribute.proofs.NextArguments.{some_segment}
 use Rattle.bz_attribute.proofs.Slices.{rest_seen}
 use Rattle.bz_attribute.proofs.arguments.first_argument.Goals as goal
 
