@@ -4,14 +4,20 @@ pub mod EditedAt
 pub mod EndsBack
 pub mod FinderSteps
 pub mod First
+pub mod FirstArguments
 pub mod FoundArgs
 pub mod Fresh
 pub mod Groups
 pub mod Headed
+pub mod ItemParts
 pub mod KindPlaced
 pub mod LabelSets
 pub mod LastBytes
+pub mod LabelsFound
 pub mod Lengths
+pub mod ListEdits
+pub mod ListElements
+pub mod ListWalk
 pub mod Mapped
 pub mod NameTexts
 pub mod NextArguments
@@ -23,5 +29,5 @@ pub mod RowEdits
 pub mod RuleNodes
 pub mod RuleParts
 pub mod Slices
-pub mod StringLists
+pub mod ValueElements
 pub mod Views
