@@ -102,11 +102,11 @@ no_beside_node no_items rest = refl
 no_beside_node (item (leaf kind text) xs) rest = refl
 no_beside_node (item (group kind segs one_comma end) xs) rest = refl
 
-no_beside_argument : (before : List (List ℕ)) (xs : Items) (rest : List RowPart) → end_len (segment_end ∷ (map above before ++ (items_parts xs ++ segment_end ∷ rest))) ≡ 1
+pub no_beside_argument : (before : List (List ℕ)) (xs : Items) (rest : List RowPart) → end_len (segment_end ∷ (map above before ++ (items_parts xs ++ segment_end ∷ rest))) ≡ 1
 no_beside_argument [] xs rest = no_beside_node xs rest
 no_beside_argument (text ∷ texts) xs rest = refl
 
-no_beside_end : (texts : List (List ℕ)) (one_comma : Bool) (rest : List RowPart) → end_len (segment_end ∷ ((map above texts ++ closing one_comma ∷ []) ++ rest)) ≡ 1
+pub no_beside_end : (texts : List (List ℕ)) (one_comma : Bool) (rest : List RowPart) → end_len (segment_end ∷ ((map above texts ++ closing one_comma ∷ []) ++ rest)) ≡ 1
 no_beside_end [] one_comma rest = refl
 no_beside_end (text ∷ texts) one_comma rest = refl
 

@@ -22,7 +22,7 @@ pub or_false : (a : Bool) → (a || false) ≡ a
 or_false true = refl
 or_false false = refl
 
-or_swap : (a b c : Bool) → (b || (a || c)) ≡ ((a || b) || c)
+pub or_swap : (a b c : Bool) → (b || (a || c)) ≡ ((a || b) || c)
 or_swap true true c = refl
 or_swap true false c = refl
 or_swap false b c = refl

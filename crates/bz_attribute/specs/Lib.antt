@@ -1,7 +1,9 @@
 pub mod Add
 pub mod Comment
 pub mod Effects
+pub mod Elements
 pub mod Finder
+pub mod FirstArguments
 pub mod Heads
 pub mod KindPlaces
 pub mod Lists
@@ -16,6 +18,5 @@ pub mod RowEdits
 pub mod RowPlaces
 pub mod RuleViews
 pub mod Set
-pub mod StringLists
 pub mod Texts
 pub mod private

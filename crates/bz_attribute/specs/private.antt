@@ -2,6 +2,6 @@ pub mod ChosenViews
 pub mod ElementSets
 pub mod Ends
 pub mod HeadParts
+pub mod ListParts
 pub mod NextPart
 pub mod Places
-pub mod StringParts

@@ -9,7 +9,7 @@ use crate::head_parts::{ident_of, is_equals};
 use bz_tree::Part;
 
 // The name of the argument that the parts begin with.
-fn name_in<'a>(parts: &[Part<'a>]) -> Option<&'a str>
+pub(crate) fn name_in<'a>(parts: &[Part<'a>]) -> Option<&'a str>
     ensures { option_map (λ text. text.now) result ≡ spec.flat_name (map part_view parts.now) }
 {
     match parts {

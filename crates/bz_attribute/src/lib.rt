@@ -2,8 +2,12 @@
 #![tactic(auto)]
 
 mod apart;
+mod arguments;
 mod chosen;
 mod done;
+mod edit;
+mod element_labels;
+mod elements;
 mod env;
 pub mod equals;
 mod finder;
@@ -17,12 +21,17 @@ mod place;
 mod row_args;
 mod row_kind;
 mod rule;
-mod string_list;
 mod texts;
 mod word_set;
 
+pub use arguments::{FirstArgument, first_argument};
 pub use chosen::{Chosen, any_chosen, drop_in, is_any_chosen, is_chosen, loses_all};
 pub use done::{Done, Executed, Note};
+pub use edit::Edit;
+pub use element_labels::labels_of;
+pub use elements::{
+    Element, elements_end, first_list, next_element, next_list, next_of_value, value_place,
+};
 pub use env::Env;
 pub use finder::find_argument;
 pub use head::Head;
@@ -33,12 +42,11 @@ pub use make::{
 };
 pub use next_argument::next_place;
 pub use place::{Place, all_arguments, place_of};
-pub use row_args::{Parts, push_stmt, read_arguments, splice};
+pub use row_args::{Parts, push_stmt, read_arguments, write_arguments};
 pub use row_kind::kind_place;
 pub use rule::{
     Rule, call_at, find, first_named, ident_of, is_named, is_string, name_of, only_text, rule_of,
     value_of,
 };
-pub use string_list::{StringElement, is_list_end, list_start, next_string};
 pub use texts::{label, push_home};
 pub use word_set::WordSet;

@@ -86,7 +86,7 @@ fn is_stop(part: Part<'_>) -> bool
 }
 
 #[inline(always)]
-pub(crate) fn besides(parts: &[Part<'_>]) -> usize
+fn besides(parts: &[Part<'_>]) -> usize
     ensures { result ≡ spec.besides (map part_view parts.now) }
 {
     match parts {

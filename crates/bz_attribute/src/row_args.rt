@@ -7,14 +7,10 @@ ghost use Rattle.bz_tree.specs.declared.stmt.GroupKind.TheVariants.{List as List
 ghost use Rattle.bz_attribute.specs.Rules.{elements};
 ghost use Rattle.bz_tree.specs.Rows.{above, beside_part, closing, opening, item_parts, items_parts, part_view, parts_of, segs_parts};
 
-use crate::place::Place;
 use bumpalo::Bump;
 use bz_tree::{Group, GroupKind, Node, Part, Seg, Stmt, nodes_of_parts};
 use std::alloc::{AllocError, Global};
 use std::borrow::CowStr;
-
-// Most commands add no more parts.
-const ROOM: usize = 16;
 
 /// A list of parts in the arena of a chunk.
 pub type Parts<'a> = Vec<Part<'a>, &'a Bump>;
@@ -172,23 +168,14 @@ pub fn push_stmt<'a>(
     push_beside(bump, &stmt.suffix, parts)
 }
 
-/// Writes the parts of a rule with these arguments in a place of it, in place of what the list holds. `Err`: memory was
-/// refused, and the list is of no use.
-pub fn splice<'a>(
+/// Writes the parts of arguments, in place of what the list holds. `Err`: memory was refused, and the list is of no use.
+pub fn write_arguments<'a>(
     bump: &'a Bump,
-    parts: &[Part<'a>],
-    place: Place,
     args: &[Seg<'a>],
     new: &mut Parts<'a>,
 ) -> Result<(), AllocError>
-    requires { (place.from ≤ place.to) × (place.to ≤ length parts.now) }
-    ensures { OnOk result (map part_view new.new.items ≡ take place.from (map part_view parts.now)
-        ++ (segs_parts (segs_of (segs_view args.now)) ++ drop place.to (map part_view parts.now))) }
+    ensures { OnOk result (map part_view new.new.items ≡ segs_parts (segs_of (segs_view args.now))) }
 {
     new.clear();
-    new.reserve(parts.len().saturating_add(ROOM))?;
-    new.extend_from_slice(&parts[..place.from])?;
-    push_arguments(bump, args, new)?;
-    new.extend_from_slice(&parts[place.to..])?;
-    Ok(())
+    push_arguments(bump, args, new)
 }

@@ -1,14 +1,16 @@
 //! The words of a command, and the labels that they are in its package.
 
-ghost use Rattle.std.specs.Prelude.{◌≡◌, ℕ, List, IfOk};
+ghost use Rattle.std.specs.Prelude.{◌≡◌, ℕ, List, IfOk, IsTrue};
 ghost use Rattle.std.specs.List.{list_any};
 ghost use Rattle.std.proofs.Props.{props};
 ghost use Rattle.bz_tree.specs.View.{seg_view};
-ghost use Rattle.bz_attribute.specs.Lists.{equals_any, same};
+ghost use Rattle.bz_attribute.specs.Lists.{equals_any, same, same_value};
 ghost use Rattle.bz_command.specs.LabelSetViews.{holds};
+ghost use Rattle.bz_command.specs.Values as values;
+ghost use Rattle.bz_command.specs.private.ByteSteps.{left, is_good};
 
-use crate::equals::{equals, string_of};
-use bz_command::{Package, SortedLabels, Text};
+use crate::equals::string_of;
+use bz_command::{Bytes, Package, SortedLabels, Text, same_label, value_of};
 use bz_tree::Seg;
 use std::alloc::{AllocError, Global};
 
@@ -33,19 +35,43 @@ impl<'a> WordSet<'a> {
         Ok(WordSet { words, labels })
     }
 
-    /// The element equals one of the words. In a package that is not theirs they are compared one by one.
+    /// The element equals one of the words.
     pub fn equals_any(&self, home: &Package, element: &Seg<'_>) -> bool
         ensures { result ≡ equals_any home.now self.now.words.now (seg_view element.now) }
     {
-        if !self.labels.are_of(home) {
-            return self
-                .words
-                .iter()
-                .any(|word| equals(home, element, word.as_str()));
-        }
         match string_of(element) {
             None => false,
-            Some(value) => self.labels.contains(value),
+            Some(value) => self.has(home, value),
         }
     }
+
+    /// The same of an element that is one string token of this text.
+    pub fn has_text(&self, home: &Package, text: &str) -> bool
+        ensures { result ≡ list_any (λ word. same_value home.now word (values.value_of text.now)) self.now.words.now }
+    {
+        match value_of(text) {
+            None => false,
+            Some(value) => self.has(home, value),
+        }
+    }
+
+    /// The value is the same label as one of the words. In a package that is not theirs they are compared one by one.
+    pub fn has(&self, home: &Package, value: Bytes<'_>) -> bool
+        requires { IsTrue (is_good value) }
+        ensures { result ≡ list_any (same home.now (left value.entry)) self.now.words.now }
+    {
+        if self.labels.are_of(home) {
+            return self.labels.contains(value);
+        }
+        self.words
+            .iter()
+            .any(|word| is_same(home, value, word.as_str()))
+    }
+}
+
+fn is_same(home: &Package, value: Bytes<'_>, word: &str) -> bool
+    requires { IsTrue (is_good value) }
+    ensures { result ≡ same home.now (left value.entry) word.now }
+{
+    same_label(home, value, Bytes::Plain(word.as_bytes()))
 }

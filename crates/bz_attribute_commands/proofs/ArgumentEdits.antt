@@ -137,11 +137,8 @@ begins name (x ∷ []) h = absurd cc
 begins name (leaf k text ∷ y ∷ xs) h = record { token = a_token k text; after = items_parts (items_of (y ∷ xs)); are = refl; put = λ new. refl }
 begins name (group k segs one_comma end ∷ y ∷ xs) h = absurd (no_text name _ (group_name k segs one_comma end y xs) h)
 
-set_at : (xs ys : List RowPart) (p q : RowPart) → set (xs ++ p ∷ ys) (length xs) q ≡ xs ++ q ∷ ys
-set_at [] ys p q = refl
-set_at (x ∷ xs) ys p q = ap (λ (zs : List RowPart). x ∷ zs) (set_at xs ys p q)
-
-name_written : (old new : List ℕ) (s : Statement) (r : Rule) (ps : List RowPart) (at : ℕ) → IsAt old s r ps at → set ps at (a_token Identifier new) ≡ parts_of (with_args (edit_first (is_named old) (λ a. rename_to new a ∷ [])) s)
+name_written : (old new : List ℕ) (s : Statement) (r : Rule) (ps : List RowPart) (at : ℕ) → IsAt old s r ps at
+    → take at ps ++ a_token Identifier new ∷ drop (at + 1) ps ≡ parts_of (with_args (edit_first (is_named old) (λ a. rename_to new a ∷ [])) s)
 name_written old new s r ps at p =
     let b = begins old p.arg.nodes p.is in
     let first : List RowPart = front_parts s r p.front in
@@ -149,7 +146,11 @@ name_written old new s r ps at p =
     let rest : List RowPart = segment_end ∷ (beside_part p.arg.suffix ++ back_parts s r p.back) in
     let all : ps ≡ (first ++ comments) ++ b.token ∷ (b.after ++ rest) =
     p.parts ∙ ap (λ (qs : List RowPart). first ++ (comments ++ (qs ++ rest))) b.are ∙ sym (append_assoc first comments (b.token ∷ (b.after ++ rest))) in
-    (λ i. set (all i) (p.place i) (a_token Identifier new)) ∙ set_at (first ++ comments) (b.after ++ rest) b.token (a_token Identifier new)
+    let taken : take at ps ≡ first ++ comments = (λ i. take (p.place i) (all i)) ∙ take-append_seam (first ++ comments) (b.token ∷ (b.after ++ rest)) in
+    let past : ps ≡ ((first ++ comments) ++ b.token ∷ []) ++ (b.after ++ rest) = all ∙ sym (append_assoc (first ++ comments) (b.token ∷ []) (b.after ++ rest)) in
+    let next : at + 1 ≡ length ((first ++ comments) ++ b.token ∷ []) = omega (arith, p.place, length-append (first ++ comments) (b.token ∷ [])) in
+    let left : drop (at + 1) ps ≡ b.after ++ rest = (λ i. drop (next i) (past i)) ∙ drop-append_seam ((first ++ comments) ++ b.token ∷ []) (b.after ++ rest) in
+    (λ i. taken i ++ a_token Identifier new ∷ left i)
     ∙ append_assoc first comments (a_token Identifier new ∷ (b.after ++ rest))
     ∙ sym (ap (λ (qs : List RowPart). first ++ (comments ++ (qs ++ rest))) (b.put new)) ∙ sym (p.edited (rename_to new))
 
@@ -163,7 +164,7 @@ pub no_note : (old new : List ℕ) (args : List Segment) → has old args ≡ tr
 no_note old new args a b = rw (a, b) refl
 
 pub argument_renamed : (old new : List ℕ) (s : Statement) (r : Rule) (ps : List RowPart) (at : ℕ) → IsRuleRow s r ps → find_from old 0 false ps ≡ Some at → has new r.args ≡ false
-    → set ps at (a_token Identifier new) ≡ parts_of (with_args (rename old new) s)
+    → take at ps ++ a_token Identifier new ∷ drop (at + 1) ps ≡ parts_of (with_args (rename old new) s)
 argument_renamed old new s r ps at h is free =
     let p = argument_at old s r ps at h is in
     let edit : List Segment → List Segment = edit_first (is_named old) (λ a. rename_to new a ∷ []) in

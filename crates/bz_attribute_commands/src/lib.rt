@@ -4,6 +4,7 @@
 pub mod argument;
 pub mod comment;
 pub mod line;
+pub mod new_argument;
 pub mod print;
 pub mod rename;
 pub mod set;

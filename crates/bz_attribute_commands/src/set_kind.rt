@@ -3,46 +3,45 @@
 ghost use Rattle.std.specs.Prelude.{◌≡◌, ◌++◌, IfOk, IsOk, OnOk, Some, bytes_eq, map, true};
 ghost use Rattle.bz_tree.specs.Tree.{Statement, items_of};
 ghost use Rattle.bz_tree.specs.Rows.{items_parts, part_view, parts_of};
+ghost use Rattle.bz_attribute.specs.RowEdits.{IsWithin, replaced_at};
 ghost use Rattle.bz_attribute.specs.RowPlaces.{IsRuleRow};
 ghost use Rattle.bz_attribute.specs.Rules.{Rule, kind_text};
 ghost use Rattle.bz_attribute.specs.Set as spec;
 
-use bumpalo::Bump;
-use bz_attribute::{Done, Executed, kind_place};
+use bz_attribute::{Done, Edit, Parts, kind_place};
 use bz_command::cut;
 use bz_token::Kind;
 use bz_tree::Part;
 use std::alloc::AllocError;
 
-/// Sets the kind of the rule that has these parts, where it has another one. The parts that it then has go into `out`.
+/// Sets the kind of the rule that has these parts, where it has another one. Its tokens go into `new`.
 pub fn set_kind<'a>(
     kind: &str,
     old_kind: &str,
     parts: &[Part<'a>],
-    out: &mut Vec<Part<'a>, &'a Bump>,
-) -> Executed
-    ensures parts { IfOk result (λ done. done.changed ≡ true
+    new: &mut Parts<'a>,
+) -> Result<Edit, AllocError>
+    ensures within { IfOk result (λ e. IsWithin e.place (map part_view parts.now)) }
+    ensures parts { IfOk result (λ e. e.done.changed ≡ true
         → (s : Statement) (r : Rule) → IsRuleRow s r (map part_view parts.now) → kind_text r.kind ≡ old_kind.now
-        → map part_view out.new.items ≡ parts_of (spec.with_kind kind.now s)) }
-    ensures done { IfOk result (λ done. (s : Statement) (r : Rule) → IsRuleRow s r (map part_view parts.now)
-        → kind_text r.kind ≡ old_kind.now → done ≡ spec.sets_kind_of kind.now (Some s)) }
+        → replaced_at e.place (map part_view new.new.items) (map part_view parts.now)
+        ≡ parts_of (spec.with_kind kind.now s)) }
+    ensures done { IfOk result (λ e. (s : Statement) (r : Rule) → IsRuleRow s r (map part_view parts.now)
+        → kind_text r.kind ≡ old_kind.now → e.done ≡ spec.sets_kind_of kind.now (Some s)) }
     ensures unchanged { bytes_eq old_kind.now kind.now ≡ true → IsOk result }
 {
     if old_kind == kind {
-        return Ok(Done::quiet(false));
+        return Ok(Edit::none(Done::quiet(false)));
     }
-    let bump = *out.allocator();
+    let bump = *new.allocator();
     let kind = bump.try_alloc_str(kind)?;
-    let place = kind_place(parts);
-    out.clear();
-    out.extend_from_slice(&parts[..place.from])?;
-    push_kind(kind, out)?;
-    out.extend_from_slice(&parts[place.to..])?;
-    Ok(Done::quiet(true))
+    new.clear();
+    push_kind(kind, new)?;
+    Ok(Edit::at(kind_place(parts)))
 }
 
 // Appends the tokens of a kind.
-fn push_kind<'a>(mut kind: &'a str, out: &mut Vec<Part<'a>, &'a Bump>) -> Result<(), AllocError>
+fn push_kind<'a>(mut kind: &'a str, out: &mut Parts<'a>) -> Result<(), AllocError>
     ensures { OnOk result (map part_view out.new.items
         ≡ map part_view out.old.items ++ items_parts (items_of (spec.kind_items kind.now))) }
 {

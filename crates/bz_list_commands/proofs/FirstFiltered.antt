@@ -6,12 +6,10 @@ use Rattle.bz_tree.specs.declared.stmt.Seg.{Seg}
 use Rattle.bz_tree.specs.Tree.{Segment}
 use Rattle.bz_tree.specs.View.{seg_view, segs_view}
 use Rattle.bz_attribute.specs.Rules.{first_named, is_named, value}
-use Rattle.bz_attribute.specs.Lists.{edit_parts, is_attribute, with_value}
+use Rattle.bz_attribute.specs.Lists.{edit_parts, with_value}
 use Rattle.bz_attribute.specs.Effects.{edit_first, filtered, loses_all}
 use Rattle.bz_attribute.specs.private.Places.{IsAbsent, IsFirst}
-use Rattle.bz_list_commands.specs.private.EditSteps.{left}
 use Rattle.bz_list_commands.proofs.Leaving.{remove-set}
-use Rattle.bz_list_commands.proofs.Replaced.{first_attribute}
 
 -- the arguments were read as a slice
 pub absent_stays : (attr : List ℕ) (f : Segment → List Segment) (read args : List Seg) → IsAbsent attr read → read ≡ args → segs_view args ≡ edit_first (is_named attr) f (segs_view args)
@@ -47,15 +45,3 @@ first_edited attr f read args i a b m first is at_a at_b stays made =
     ∙ ap (λ (s : Seg). with_value (edit_parts f (value (seg_view s))) (seg_view s) ∷ []) same
     ∙ ap (λ (s : Segment). s ∷ []) (sym made) in
     there.put (filtered f) m a edited
-
--- it stays as the attribute that it is
-pub first_stays : (attr : List ℕ) (f : List Segment → List Segment) (read args : List Seg) (i : ℕ) (a m : Seg) (b : Bool) → IsFirst attr read i → read ≡ args → a ≡ get_or args i a → (if b then seg_view m ∷ [] else []) ≡ left f (seg_view a) → b ≡ true
-    → segs_view (set args i m) ≡ edit_first (is_named attr) (filtered f) (segs_view args)
-first_stays attr f read args i a m b first is at made stays =
-    let there : IsFirst attr args i = subst (λ (ss : List Seg). IsFirst attr ss i) is first in
-    let named : is_attribute (seg_view a) ≡ true = ap (λ (z : Seg). is_attribute (seg_view z)) at ∙ first_attribute attr (segs_view args) (seg_view (get_or args i a)) (there.first a) in
-    there.put (filtered f) m a
-    (ap (λ (z : Seg). filtered f (seg_view z)) (sym at)
-    ∙ sym (ap (λ (b : Bool). if b then filtered f (seg_view a) else seg_view a ∷ []) named)
-    ∙ sym made
-    ∙ ap (λ (b : Bool). if b then seg_view m ∷ [] else []) stays)

@@ -6,9 +6,7 @@ use Rattle.std.proofs.lemmas.Cmp.{nat_list_eq_equiv}
 use Rattle.std.proofs.lemmas.List.{take_more, append-nil}
 use Rattle.std.proofs.lemmas.List.Folds.{list_any-append, list_any_at}
 use Rattle.bz_token.proofs.Classes.{same_bytes}
-use Rattle.bz_tree.specs.declared.stmt.Seg.{Seg}
 use Rattle.bz_tree.specs.Tree.{Segment}
-use Rattle.bz_tree.specs.View.{segs_view}
 use Rattle.bz_command.specs.Labels.{Package}
 use Rattle.bz_command.specs.Same.{completed}
 use Rattle.bz_command.specs.declared.arguments.Moved.TheVariants.{All, Values}
@@ -21,7 +19,6 @@ use Rattle.bz_attribute.specs.Add.{is_fresh}
 use Rattle.bz_attribute.specs.private.ElementSets.{is_in}
 use Rattle.bz_attribute.proofs.LabelSets.{or_false}
 use Rattle.bz_list_commands.specs.private.AddSteps.{Knows}
-use Rattle.bz_list_commands.proofs.Arriving.{some_more}
 
 and_false : (a : Bool) → (a && false) ≡ false
 and_false true = refl
@@ -82,17 +79,3 @@ knows_fresh home lists values i word set h at known =
     let among : list_any (same home word) values ≡ true = list_any_at (same home word) values i [] h itself in
     ap not (known.all word ∙ ap (λ (b : Bool). b || list_any (same home word) (take i values)) (among_chosen home values lists word among))
     ∙ ap (is_fresh home lists (take i values)) at
-
--- an element for a word that is fresh, and none for another
-pub fresh_pushed : (home : Package) (lists : List (List Segment)) (earlier : List (List ℕ)) (word : List ℕ) (new added : List Seg) → is_fresh home lists earlier word ≡ true → segs_view added ≡ segs_view new ++ string word ∷ []
-    → segs_view added ≡ segs_view new ++ map string (if is_fresh home lists earlier word then word ∷ [] else [])
-fresh_pushed home lists earlier word new added fresh made = rw fresh made
-
-pub known_passed : (home : Package) (lists : List (List Segment)) (earlier : List (List ℕ)) (word : List ℕ) (new added : List Seg) → is_fresh home lists earlier word ≡ false → added ≡ new
-    → segs_view added ≡ segs_view new ++ map string (if is_fresh home lists earlier word then word ∷ [] else [])
-known_passed home lists earlier word new added known same = rw known (ap segs_view same ∙ sym (append-nil (segs_view new)))
-
--- elements are added exactly where some are missing
-pub any_new : (new : List Seg) (ss : List Segment) → segs_view new ≡ ss → nat_lt 0 (length new) ≡ not (is_nil ss)
-any_new [] ss is = ap (λ (zs : List Segment). not (is_nil zs)) is
-any_new (s ∷ new) ss is = some_more (length new) ∙ ap (λ (zs : List Segment). not (is_nil zs)) is

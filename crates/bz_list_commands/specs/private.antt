@@ -1,6 +1,8 @@
 pub mod AddSteps
-pub mod EditSteps
+pub mod ArgumentEdits
+pub mod ElementEdits
 pub mod MoveSteps
-pub mod ReplaceSteps
-pub mod RowSteps
+pub mod PlaceEdits
+pub mod StringEdits
 pub mod TakingSteps
+pub mod WrittenParts

@@ -1,83 +1,102 @@
 //! `add`: values that are missing go to the end of a list.
 
-ghost use Rattle.std.specs.Prelude.{◌≡◌, ◌≤◌, ◌++◌, length, IfOk, OnOk, OnErr};
-ghost use Rattle.bz_tree.specs.View.{node_view, nodes_view, seg_view, segs_view};
+ghost use Rattle.std.specs.Prelude.{◌≡◌, ◌≤◌, ◌++◌, ◌∷◌, [], List, map, length, IfOk, IfSome, OnOk};
+ghost use Rattle.bz_tree.specs.Tree.{Segment, segs_of};
+ghost use Rattle.bz_tree.specs.Rows.{part_view, segs_parts};
+ghost use Rattle.bz_attribute.specs.Elements.{AreLists};
+ghost use Rattle.bz_attribute.specs.RowEdits.{IsRowEdit};
 ghost use Rattle.bz_attribute.specs.Rules.{first_named};
-ghost use Rattle.bz_attribute.specs.Lists.{edit_list, parts};
-ghost use Rattle.bz_list_commands.specs.private.AddSteps.{told};
 ghost use Rattle.bz_attribute.specs.Add as spec;
 ghost use Rattle.bz_attribute.specs.Effects as effects;
 
+use crate::new_attribute::{close_attribute, open_attribute};
 use bz_attribute::{
-    Chosen, Done, Env, Executed, WordSet, find, first_part, labels_in, list, push_argument,
-    push_string,
+    Done, Edit, Env, Parts, Place, WordSet, elements_end, first_list, labels_of, place_of,
+    value_place,
 };
-use bz_command::{Bytes, Text};
-use bz_tree::{Node, Seg};
-use std::alloc::AllocError;
+use bz_command::{Bytes, Text, quote};
+use bz_token::Kind;
+use bz_tree::Part;
+use std::alloc::{AllocError, Global};
 
-/// Adds the values that are missing to the first argument of a name, or a new one. An `Err` leaves all as it was.
-pub fn add(env: Env<'_>, attr: &str, values: &[Text], args: &mut Vec<Seg<'_>>) -> Executed
-    ensures args { OnOk result
-        (segs_view args.new.items ≡ spec.add env.entry.home.now attr.now values.now (segs_view args.old.items)) }
-    ensures done { IfOk result
-        (λ done. done ≡ effects.done (effects.not_a_list attr.now (first_named attr.now (segs_view args.old.items)))
-        (spec.adds env.entry.home.now values.now (first_named attr.now (segs_view args.old.items)))) }
-    ensures err { OnErr result (segs_view args.new.items ≡ segs_view args.old.items) }
-{
-    if let Some(i) = find(args, attr) {
-        return add_in(env, attr, values, &mut args[i]);
-    }
-    let elements = new_elements(env, &[], values)?;
-    push_argument(env.alloc, attr, list(env.alloc, elements), args)?;
-    Ok(Done::quiet(true))
-}
-
-fn add_in(env: Env<'_>, attr: &str, values: &[Text], arg: &mut Seg<'_>) -> Executed
-    requires { 2 ≤ length arg.old.nodes.items }
-    ensures arg { OnOk result (seg_view arg.new ≡ spec.with_added env.entry.home.now values.now (seg_view arg.old)) }
-    ensures done { IfOk result (λ done. done ≡ told env.entry.home.now attr.now values.now (seg_view arg.old)) }
-    ensures err { OnErr result (seg_view arg.new ≡ seg_view arg.old) }
-{
-    let value = &arg.nodes[2..];
-    let Some(part) = first_part(value) else {
-        return Done::not_a_list(env.alloc, attr);
-    };
-    let new = new_elements(env, value, values)?;
-    let changed = new.len() > 0;
-    append_in(&mut arg.nodes[2 + part], new)?;
-    Ok(Done::quiet(changed))
-}
-
-// The elements for the values that are missing in a value's list parts. Each is looked up in a set of the values before
-// it and of the elements that are among the values: no other element needs to be in it.
-fn new_elements<'a>(
+/// Adds the values that are missing to the first argument of a name of the rule that has these parts, or a new one. The
+/// new parts go into `written`.
+pub fn add<'a>(
     env: Env<'_>,
-    value: &[Node<'_>],
+    attr: &str,
     values: &[Text],
-) -> Result<Vec<Seg<'a>>, AllocError>
-    ensures { IfOk result
-        (λ new. segs_view new.items ≡ spec.new_elements env.entry.home.now (parts (nodes_view value.now)) values.now) }
+    parts: &[Part<'a>],
+    written: &mut Parts<'a>,
+) -> Result<Edit, AllocError>
+    ensures { IfOk result (IsRowEdit (spec.add env.entry.home.now attr.now values.now)
+        (λ args. effects.done (effects.not_a_list attr.now (first_named attr.now args))
+        (spec.adds env.entry.home.now values.now (first_named attr.now args)))
+        (map part_view parts.now) (map part_view written.new.items)) }
+{
+    written.clear();
+    let Some(value) = value_place(parts, attr) else {
+        write_attribute(env, attr, values, written)?;
+        return Ok(Edit::at(place_of(parts, attr)));
+    };
+    let Some(list) = first_list(parts, value) else {
+        return Ok(Edit::none(Done::not_a_list(env.alloc, attr)?));
+    };
+    write_missing(env, values, parts, Some(list), written)?;
+    if written.is_empty() {
+        return Ok(Edit::none(Done::quiet(false)));
+    }
+    let end = elements_end(parts, list);
+    Ok(Edit::at(Place { from: end, to: end }))
+}
+
+// A new argument whose value is a list of the values.
+fn write_attribute(
+    env: Env<'_>,
+    attr: &str,
+    values: &[Text],
+    written: &mut Parts<'_>,
+) -> Result<(), AllocError>
+    ensures { OnOk result (map part_view written.new.items ≡ map part_view written.old.items
+        ++ segs_parts (segs_of (effects.argument attr.now
+        (effects.list_item (spec.new_elements env.entry.home.now [] values.now) ∷ []) ∷ []))) }
+{
+    open_attribute(attr, written)?;
+    write_missing(env, values, &[], None, written)?;
+    close_attribute(written)
+}
+
+// The elements for the values that are missing in some list parts. Each is looked up in a set of the values before it and
+// of the elements that are among the values: no other element needs to be in it.
+fn write_missing<'s>(
+    env: Env<'s>,
+    values: &'s [Text],
+    parts: &[Part<'s>],
+    list: Option<usize>,
+    written: &mut Parts<'_>,
+) -> Result<(), AllocError>
+    requires { IfSome list (λ from. from ≤ length parts.now) }
+    ensures { OnOk result ((lists : List (List Segment)) → AreLists (map part_view parts.now) list lists
+        → map part_view written.new.items ≡ map part_view written.old.items
+        ++ segs_parts (segs_of (spec.new_elements env.entry.home.now lists values.now))) }
 {
     let words = WordSet::new(env.alloc, env.home, values)?;
-    let mut labels = labels_in(env.alloc, env.home, Chosen::Words(&words), value)?;
-    let mut new = Vec::new(env.alloc);
+    let mut labels = labels_of(env.alloc, env.home, Some(&words), parts, list)?;
     for word in values {
         if labels.insert(Bytes::Plain(word.as_str().as_bytes()))? {
-            push_string(env.alloc, word.as_str(), &mut new)?;
+            write_string(env.alloc, word.as_str(), written)?;
         }
     }
-    Ok(new)
+    Ok(())
 }
 
-// Adds elements at the end of a list. An `Err` leaves the node as it was.
-fn append_in<'a>(node: &mut Node<'a>, mut new: Vec<Seg<'a>>) -> Result<(), AllocError>
-    ensures ok { OnOk result
-        (node_view node.new ≡ edit_list (λ ss. ss ++ segs_view new.entry.items) (node_view node.old)) }
-    ensures err { OnErr result (node_view node.new ≡ node_view node.old) }
+// An element that is a new string.
+fn write_string(alloc: Global, value: &str, written: &mut Parts<'_>) -> Result<(), AllocError>
+    ensures { OnOk result (map part_view written.new.items
+        ≡ map part_view written.old.items ++ segs_parts (segs_of (effects.string value.now ∷ []))) }
 {
-    match node {
-        Node::Token(_) => Ok(()),
-        Node::Group(group) => Ok(group.segs.append(&mut new)?),
-    }
+    let bump = *written.allocator();
+    let literal = bump.try_alloc_str(quote(alloc, value)?.as_str())?;
+    written.push(Part::Token(Kind::String, literal))?;
+    written.push(Part::End)?;
+    Ok(())
 }

@@ -2,12 +2,15 @@
 #![tactic(auto)]
 
 pub mod add;
-pub mod add_in_row;
+mod argument_edits;
 mod arrivals;
+mod element_edits;
+mod emptied;
 pub mod moving;
+mod new_attribute;
+mod place_edits;
 pub mod remove;
-pub mod remove_attribute;
-pub mod remove_in_row;
 pub mod replace;
-pub mod replace_in_row;
+mod rewriting;
+mod string_edit;
 mod taking;

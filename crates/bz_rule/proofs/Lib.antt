@@ -6,6 +6,7 @@ mod ArgumentValues
 mod Arguments
 mod Aside
 mod AsideTargets
+mod Below
 mod CallArguments
 pub mod Commands
 mod Comment
@@ -13,6 +14,7 @@ mod Delete
 mod Found
 mod Gone
 mod GoodArguments
+mod HeadKept
 mod Kept
 mod KindFormed
 mod Lawful
@@ -21,6 +23,7 @@ mod ListParts
 mod Local
 mod Move
 mod NamesKept
+mod NewArgument
 mod NewTexts
 mod OwnComments
 mod PartLaws
@@ -40,5 +43,6 @@ mod RuleFormed
 mod Segments
 mod Set
 mod SetAgain
+mod Spliced
 mod Tests
 pub mod Utf8Commands

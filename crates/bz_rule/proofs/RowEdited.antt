@@ -1,5 +1,5 @@
 -- What a command makes of the row of a rule.
-use Rattle.std.proofs.Common.{◌≡◌, ℕ, List, Bool, true, false, Option, None, Some, is_some, refl, ap, sym, ◌∙◌, if◌then◌else◌, rules}
+use Rattle.std.proofs.Common.{◌≡◌, ◌+◌, ◌∷◌, [], ℕ, List, length, length-append, arith, Bool, true, false, Option, None, Some, is_some, refl, ap, sym, ◌∙◌, if◌then◌else◌, rules}
 use Rattle.std.specs.Prelude.{bytes_eq}
 use Rattle.std.proofs.lemmas.Bool.{false≢true}
 use Rattle.bz_tree.specs.Tree.{Item, Segment, Statement, segs_of}
@@ -9,6 +9,7 @@ use Rattle.bz_tree.specs.declared.stmt.Class.TheVariants.{Rule as RuleClass}
 use Rattle.bz_command.specs.Labels.{Package}
 use Rattle.bz_command.specs.declared.arguments.Commented.TheVariants.{Rule as Above, Attribute, Value}
 use Rattle.bz_command.specs.declared.arguments.Setting.TheVariants.{ToKind, ToValues}
+use Rattle.bz_attribute.specs.Comment.{comment_line, comments_above}
 use Rattle.bz_attribute.specs.Rules.{Rule, rule_of, kind_text}
 use Rattle.bz_attribute.specs.Effects.{done, done_in, holds_rule, nodes_of, slot_done, with_args}
 use Rattle.bz_attribute.specs.declared.done.Done.{Done}
@@ -16,7 +17,9 @@ use Rattle.bz_attribute.specs.RowPlaces.{alone, IsPlaceOf, IsPlaceOfAll}
 use Rattle.bz_attribute.specs.Set.{kind_after, kind_items, sets_kind, sets_kind_of, with_kind}
 use Rattle.bz_rule.specs.Commands.{Command, after, args_after, args_done, done_of}
 use Rattle.bz_rule.specs.declared.command.Action.TheVariants.{Add, Comment, Delete, Move, Print, Remove, Rename, Replace, Set, SetIfAbsent}
-use Rattle.bz_rule.specs.private.RowEdits.{IsNextOf, IsPlaceFor, edits_arguments, is_edit, rule_after}
+use Rattle.bz_attribute.specs.RowEdits.{IsRowEdit}
+use Rattle.bz_attribute.specs.declared.edit.Edit.{Edit}
+use Rattle.bz_rule.specs.private.RowEdits.{HasMore, IsEditOf, IsNextOf, IsPlaceFor, edits_arguments, is_edit, rule_after}
 use Rattle.bz_command.specs.declared.arguments.Field.{Field}
 use Rattle.bz_attribute_commands.specs.Print.{printed_of, prints}
 use Rattle.bz_rule.proofs.Commands.{lawful}
@@ -50,7 +53,7 @@ after_edit (Comment (Value attr value) text) home s h = refl
 after_edit (Print fields) home s h = absurd (false≢true h)
 
 next_args : (f : List Segment → List Segment) (s : Statement) (r : Rule) (ps : List RowPart) → rule_of s.nodes ≡ Some r → ps ≡ parts_of (with_args f s) → IsNextOf s ps (with_args f s)
-next_args f s r ps is are = record { are = are; rule = class_after f s r is; same = refl; start = refl; end = refl }
+next_args f s r ps is are = record { are = are; rule = class_after f s r is; before = omega arith; same = refl; start = refl; end = refl }
 
 kind_class : (kind : List ℕ) (s : Statement) (r : Rule) → rule_of s.nodes ≡ Some r → class_of (with_kind kind s).nodes ≡ RuleClass
 kind_class kind s r is =
@@ -62,14 +65,16 @@ kind_class kind s r is =
 pub next_of : (c : Command) (home : Package) (s : Statement) (r : Rule) (ps : List RowPart) → rule_of s.nodes ≡ Some r → ps ≡ parts_of (rule_after c home s) → IsNextOf s ps (rule_after c home s)
 next_of (Add attr values) home s r ps is are = next_args _ s r ps is are
 next_of (Remove attrs values) home s r ps is are = next_args _ s r ps is are
-next_of (Set (ToKind kind)) home s r ps is are = record { are = are; rule = kind_class kind s r is; same = refl; start = refl; end = refl }
+next_of (Set (ToKind kind)) home s r ps is are = record { are = are; rule = kind_class kind s r is; before = omega arith; same = refl; start = refl; end = refl }
 next_of (Set (ToValues attr values)) home s r ps is are = next_args _ s r ps is are
 next_of (SetIfAbsent attr values) home s r ps is are = next_args _ s r ps is are
 next_of Delete home s r ps is are = next_args _ s r ps is are
 next_of (Rename old new) home s r ps is are = next_args _ s r ps is are
 next_of (Move old new chosen) home s r ps is are = next_args _ s r ps is are
 next_of (Replace attrs old new) home s r ps is are = next_args _ s r ps is are
-next_of (Comment Above text) home s r ps is are = record { are = are; rule = rule_class s.nodes r is; same = refl; start = refl; end = refl }
+next_of (Comment Above text) home s r ps is are =
+    let more : length (comments_above s.before text (rule_of s.nodes)) ≡ length s.before + 1 = ap (λ (o : Option Rule). length (comments_above s.before text o)) is ∙ length-append s.before (comment_line text ∷ []) in
+    record { are = are; rule = rule_class s.nodes r is; before = omega (arith, more); same = refl; start = refl; end = refl }
 next_of (Comment (Attribute attr) text) home s r ps is are = next_args _ s r ps is are
 next_of (Comment (Value attr value) text) home s r ps is are = next_args _ s r ps is are
 next_of (Print fields) home s r ps is are = next_args _ s r ps is are
@@ -140,3 +145,27 @@ args_told (Comment Above text) home s r h is = absurd (false≢true h)
 args_told (Comment (Attribute attr) text) home s r h is = sym (ap (done_in (args_done (Comment (Attribute attr) text) home)) is)
 args_told (Comment (Value attr value) text) home s r h is = sym (ap (done_in (args_done (Comment (Value attr value) text) home)) is)
 args_told (Print fields) home s r h is = absurd (false≢true h)
+
+-- an edit of arguments, of a command that is one
+pub of_arguments : (c : Command) (home : Package) (kind : List ℕ) (ps new : List RowPart) (e : Edit) → ((s : Statement) → rule_after c home s ≡ with_args (args_after c home) s)
+    → ((s : Statement) (r : Rule) → rule_of s.nodes ≡ Some r → args_done c home r.args ≡ done_of c home (Some s)) → IsRowEdit (args_after c home) (args_done c home) ps new e → IsEditOf c home kind ps new e
+of_arguments c home kind ps new e rule told edit = record {
+  within = edit.within;
+  parts = λ s r h was changed. edit.parts s r h changed ∙ ap parts_of (sym (rule s));
+  done = λ s r h was. edit.done s r h ∙ told s r h.rule;
+}
+
+pub arguments_edited : (c : Command) (home : Package) (kind : List ℕ) (ps new : List RowPart) (e : Edit) → edits_arguments c ≡ true → IsRowEdit (args_after c home) (args_done c home) ps new e → IsEditOf c home kind ps new e
+arguments_edited c home kind ps new e edits edit = of_arguments c home kind ps new e (λ s. args_rule c home s edits) (λ s r is. args_told c home s r edits is) edit
+
+pub renamed : (old to : List ℕ) (home : Package) (kind : List ℕ) (ps new : List RowPart) (e : Edit) → IsRowEdit (args_after (Rename old to) home) (args_done (Rename old to) home) ps new e → IsEditOf (Rename old to) home kind ps new e
+renamed old to home kind ps new e edit = of_arguments (Rename old to) home kind ps new e (λ s. refl) (λ s r is. sym (ap (done_in (args_done (Rename old to) home)) is)) edit
+
+-- a comment more above the rule
+pub one_above : (text : List ℕ) (home : Package) (s : Statement) (r : Rule) → rule_of s.nodes ≡ Some r → HasMore 1 s (rule_after (Comment Above text) home s)
+one_above text home s r is =
+    let more : length (comments_above s.before text (rule_of s.nodes)) ≡ length s.before + 1 = ap (λ (o : Option Rule). length (comments_above s.before text o)) is ∙ length-append s.before (comment_line text ∷ []) in
+    omega (arith, more)
+
+pub none_above : (c : Command) (home : Package) (s : Statement) (r : Rule) → rule_of s.nodes ≡ Some r → HasMore 0 s (rule_after c home s)
+none_above c home s r is = let next = next_of c home s r (parts_of (rule_after c home s)) is refl in omega (arith, next.before)

@@ -1,5 +1,5 @@
 -- A row is of one statement, and what is known of that by its head.
-use Rattle.std.proofs.Common.{◌≡◌, ◌∙◌, ℕ, List, Bool, [], false, Option, None, Some, is_some, map, option_map, ap, refl, sym, subst}
+use Rattle.std.proofs.Common.{◌≡◌, ◌≤◌, ◌∙◌, ℕ, length, List, Bool, [], false, Option, None, Some, is_some, map, option_map, ap, refl, sym, subst}
 use Rattle.bz_tree.specs.Tree.{Item, Statement}
 use Rattle.bz_tree.specs.Rows.{RowPart, part_view, parts_of}
 use Rattle.bz_tree.specs.declared.row.Part.{Part}
@@ -26,13 +26,14 @@ statement_of s parts class start end is =
     statement_of_parts s (map part_view parts) (content_of (map part_view parts)) (last_beside (map part_view parts)) class start end is.are refl refl
     ∙ (λ i. record { before = s.before; nodes = s.nodes; suffix = s.suffix; class = is.is i; start = is.begins i; end = is.ends i })
 
-pub has_head : (s : Statement) (parts : List Part) (class : Class) (start end : ℕ) (head : Option Head) → IsOf s parts class start end → HasHead head s
-    → HasItsHead (row_value parts class start end) head
-has_head s parts class start end head is has =
+pub has_head : (s : Statement) (parts : List Part) (class : Class) (start end : ℕ) (head : Option Head) (comments : ℕ) → IsOf s parts class start end → HasHead head s → comments ≤ length s.before
+    → HasItsHead (row_value parts class start end) head comments
+has_head s parts class start end head comments is has below =
     let same = sym (statement_of s parts class start end is) in
     record {
       are = is.are ∙ ap parts_of same;
       has = subst (HasHead head) same has;
+      below = subst (λ (z : Statement). comments ≤ length z.before) same below;
     }
 
 -- of what is no rule

@@ -1,33 +1,29 @@
 //! Commands on the arguments of a rule, by its parts: those that a command looks at are read, edited and written in their
 //! place.
 
-ghost use Rattle.std.specs.Prelude.{◌≡◌, ◌≤◌, IfOk, IfSome, None, Some, length, map, true};
+ghost use Rattle.std.specs.Prelude.{◌≡◌, ◌≤◌, IfOk, IfSome, None, Some, length, map, not, true};
 ghost use Rattle.bz_tree.specs.Tree.{Statement};
-ghost use Rattle.bz_tree.specs.Rows.{part_view, parts_of};
-ghost use Rattle.bz_attribute.specs.Effects as effects;
-ghost use Rattle.bz_attribute.specs.Remove.{remove, removes};
-ghost use Rattle.bz_attribute.specs.Replace.{replace, replaces};
-ghost use Rattle.bz_attribute.specs.RowEdits.{IsRowEdit};
+ghost use Rattle.bz_tree.specs.Rows.{part_view};
+ghost use Rattle.bz_attribute.specs.Comment.{comment_args, comment_done};
+ghost use Rattle.bz_attribute.specs.Effects.{done, has};
+ghost use Rattle.bz_attribute.specs.RowEdits.{IsRowEdit, IsWithin};
 ghost use Rattle.bz_attribute.specs.RowPlaces.{IsRuleRow};
-ghost use Rattle.bz_attribute.specs.Rules.{Rule, kind_text};
+ghost use Rattle.bz_attribute.specs.Rules.{Rule, first_named, rule_of};
+ghost use Rattle.bz_attribute.specs.Set.{set, set_if_absent, sets};
 ghost use Rattle.bz_command.specs.Labels as labels;
 ghost use Rattle.bz_rule.specs.Commands as commands;
-ghost use Rattle.bz_rule.specs.private.RowEdits.{IsPlaceFor, edits_arguments, is_edit, one_attribute, rule_after};
+ghost use Rattle.bz_rule.specs.declared.command.Action.TheVariants.{Set};
+ghost use Rattle.bz_rule.specs.private.RowEdits.{HasKindAndParts, HasMore, IsEditFor, IsEditOf, IsPlaceFor, KeepsHead, edits_arguments, is_edit, one_attribute, rule_after};
 
 use crate::command::{Action, Command, in_args};
-use bumpalo::Bump;
 use bz_attribute::{
-    Done, Env, Executed, Parts, Place, all_arguments, place_of, read_arguments, splice,
+    Done, Edit, Env, Parts, Place, all_arguments, place_of, read_arguments, write_arguments,
 };
 use bz_attribute_commands::line::{comment_attribute, comment_rule};
+use bz_attribute_commands::new_argument::write_argument;
 use bz_attribute_commands::rename::rename;
 use bz_attribute_commands::set_kind::set_kind;
 use bz_command::{Attributes, Commented, Setting, Text};
-use bz_list_commands::add_in_row::add_in_row;
-use bz_list_commands::remove_attribute::remove_attribute;
-use bz_list_commands::remove_in_row::remove_in_row;
-use bz_list_commands::replace::Change;
-use bz_list_commands::replace_in_row::replace_in_row;
 use bz_tree::Part;
 use std::alloc::{AllocError, Global};
 
@@ -35,6 +31,8 @@ use std::alloc::{AllocError, Global};
 #[derive(Clone, Copy)]
 pub(crate) struct RuleParts<'p, 'a> {
     pub(crate) kind: &'p str,
+    /// How many comments they begin with at least.
+    pub(crate) comments: usize,
     pub(crate) parts: &'p [Part<'a>],
 }
 
@@ -69,151 +67,223 @@ fn place_for(command: &Command, parts: &[Part<'_>]) -> Place
     }
 }
 
-// Removes a named attribute, or values of it, straight on the parts. None: it takes the tree.
-fn remove_in_place<'a>(
-    env: Env<'_>,
-    attributes: &Attributes,
-    values: &[Text],
-    parts: &[Part<'a>],
-    new: &mut Parts<'a>,
-) -> Result<Option<Done>, AllocError>
-    ensures { IfOk result (λ told. IfSome told (IsRowEdit (remove env.entry.home.now attributes.now values.now)
-        (λ args. effects.done None (removes env.entry.home.now attributes.now values.now args))
-        (map part_view parts.now) (map part_view new.new.items))) }
-{
-    match attributes {
-        Attributes::Every => Ok(None),
-        Attributes::Named(attr) => {
-            if values.is_empty() {
-                return Ok(Some(remove_attribute(attr.as_str(), parts, new)?));
-            }
-            remove_in_row(env, attr.as_str(), values, parts, new)
-        }
-    }
-}
-
-// Replaces values of a named attribute straight on the parts. None: it takes the tree.
-fn replace_in_place<'a>(
-    alloc: Global,
-    change: Change<'_>,
-    attributes: &Attributes,
-    parts: &[Part<'a>],
-    new: &mut Parts<'a>,
-) -> Result<Option<Done>, AllocError>
-    ensures { IfOk result (λ told. IfSome told (IsRowEdit
-        (replace change.entry.home.now attributes.now change.entry.old.now change.entry.new.now)
-        (λ args. effects.done None
-        (replaces change.entry.home.now attributes.now change.entry.old.now change.entry.new.now args))
-        (map part_view parts.now) (map part_view new.new.items))) }
-{
-    match attributes {
-        Attributes::Every => Ok(None),
-        Attributes::Named(attr) => replace_in_row(alloc, change, attr.as_str(), parts, new),
-    }
-}
-
-// What a command makes of the arguments of a rule, straight on the parts. None: it takes a tree.
-fn edit_in_row<'a>(
-    env: Env<'_>,
-    command: &Command,
-    parts: &[Part<'a>],
-    new: &mut Parts<'a>,
-) -> Result<Option<Done>, AllocError>
-    ensures { IfOk result (λ told. IfSome told (IsRowEdit (commands.args_after command.now env.entry.home.now)
-        (commands.args_done command.now env.entry.home.now) (map part_view parts.now) (map part_view new.new.items))) }
-{
-    match &command.action {
-        Action::Add(attr, values) => add_in_row(env, attr.as_str(), values.as_slice(), parts, new),
-        Action::Remove(attributes, values) => {
-            remove_in_place(env, attributes, values.as_slice(), parts, new)
-        }
-        Action::Replace(attributes, old, word) => {
-            let change = Change {
-                home: env.home,
-                old: old.as_str(),
-                new: word.as_str(),
-            };
-            replace_in_place(env.alloc, change, attributes, parts, new)
-        }
-        _ => Ok(None),
-    }
-}
-
 // What a command makes of the arguments of a rule, by a tree of those that it looks at.
 fn edit_by_tree<'a>(
     env: Env<'_>,
-    bump: &'a Bump,
     command: &Command,
     parts: &[Part<'a>],
     new: &mut Parts<'a>,
-) -> Executed
+) -> Result<Edit, AllocError>
     requires { edits_arguments command.now ≡ true }
-    ensures parts { IfOk result (λ done. done.changed ≡ true
-        → (s : Statement) (r : Rule) → IsRuleRow s r (map part_view parts.now)
-        → map part_view new.new.items ≡ parts_of (rule_after command.now env.entry.home.now s)) }
-    ensures done { IfOk result (λ done. (s : Statement) (r : Rule) → IsRuleRow s r (map part_view parts.now)
-        → done ≡ commands.done_of command.now env.entry.home.now (Some s)) }
+    ensures { IfOk result (IsRowEdit (commands.args_after command.now env.entry.home.now)
+        (commands.args_done command.now env.entry.home.now) (map part_view parts.now) (map part_view new.new.items)) }
 {
     let place = place_for(command, parts);
     let mut args = read_arguments(env.alloc, &parts[place.from..place.to])?;
     let done = in_args(env.alloc, command, env.home, &mut args)?;
     if !done.changed {
-        return Ok(done);
+        return Ok(Edit::none(done));
     }
-    splice(bump, parts, place, &args, new)?;
-    Ok(done)
+    let bump = *new.allocator();
+    write_arguments(bump, &args, new)?;
+    Ok(Edit { done, place })
 }
 
-// Writes the parts that a command on arguments makes of those of a rule, where it changes something. `Err`: memory was
-// refused, and the new list is of no use.
-fn edit_arguments<'a>(
+// Sets an argument that the rule does not have. None: it has one of the name.
+fn set_new<'a>(
+    alloc: Global,
+    attr: &str,
+    words: &[Text],
+    parts: &[Part<'a>],
+    new: &mut Parts<'a>,
+) -> Result<Option<Edit>, AllocError>
+    ensures { IfOk result (λ told. IfSome told (IsRowEdit (set attr.now words.now)
+        (λ args. done None (sets attr.now words.now (first_named attr.now args)))
+        (map part_view parts.now) (map part_view new.new.items))) }
+{
+    let place = place_of(parts, attr);
+    if place.from < place.to {
+        return Ok(None);
+    }
+    write_argument(alloc, attr, words, new)?;
+    Ok(Some(Edit::at(place)))
+}
+
+// Sets an argument where the rule has none of the name.
+fn set_absent<'a>(
+    alloc: Global,
+    attr: &str,
+    words: &[Text],
+    parts: &[Part<'a>],
+    new: &mut Parts<'a>,
+) -> Result<Edit, AllocError>
+    ensures { IfOk result (IsRowEdit (set_if_absent attr.now words.now)
+        (λ args. done None (not (has attr.now args))) (map part_view parts.now) (map part_view new.new.items)) }
+{
+    let place = place_of(parts, attr);
+    if place.from < place.to {
+        return Ok(Edit::none(Done::quiet(false)));
+    }
+    write_argument(alloc, attr, words, new)?;
+    Ok(Edit::at(place))
+}
+
+// `set` of an argument that the rule does not have. None: it takes a tree, or sets the kind.
+fn set_in_row<'a>(
     env: Env<'_>,
-    bump: &'a Bump,
+    setting: &Setting,
+    parts: &[Part<'a>],
+    new: &mut Parts<'a>,
+) -> Result<Option<Edit>, AllocError>
+    ensures { IfOk result (λ told. IfSome told (IsRowEdit (commands.args_after (Set setting.now) env.entry.home.now)
+        (commands.args_done (Set setting.now) env.entry.home.now)
+        (map part_view parts.now) (map part_view new.new.items))) }
+{
+    match setting {
+        Setting::ToKind(_) => Ok(None),
+        Setting::ToValues(attr, words) => {
+            set_new(env.alloc, attr.as_str(), words.as_slice(), parts, new)
+        }
+    }
+}
+
+// `comment` above an argument. None: it takes a tree, or stands above the rule.
+fn comment_in_row<'a>(
+    env: Env<'_>,
+    commented: &Commented,
+    text: &str,
+    parts: &[Part<'a>],
+    new: &mut Parts<'a>,
+) -> Result<Option<Edit>, AllocError>
+    ensures { IfOk result (λ told. IfSome told (IsRowEdit (comment_args commented.now env.entry.home.now text.now)
+        (comment_done commented.now env.entry.home.now)
+        (map part_view parts.now) (map part_view new.new.items))) }
+{
+    match commented {
+        Commented::Attribute(attr) => {
+            let edit = comment_attribute(env.alloc, attr.as_str(), text, parts, new)?;
+            Ok(Some(edit))
+        }
+        _ => Ok(None),
+    }
+}
+
+// What a command makes of the arguments of a rule, straight on its parts. None: it takes a tree.
+fn edit_in_row<'a>(
+    env: Env<'_>,
     command: &Command,
     parts: &[Part<'a>],
     new: &mut Parts<'a>,
-) -> Executed
-    requires { edits_arguments command.now ≡ true }
-    ensures parts { IfOk result (λ done. done.changed ≡ true
-        → (s : Statement) (r : Rule) → IsRuleRow s r (map part_view parts.now)
-        → map part_view new.new.items ≡ parts_of (rule_after command.now env.entry.home.now s)) }
-    ensures done { IfOk result (λ done. (s : Statement) (r : Rule) → IsRuleRow s r (map part_view parts.now)
-        → done ≡ commands.done_of command.now env.entry.home.now (Some s)) }
+) -> Result<Option<Edit>, AllocError>
+    ensures { IfOk result (λ told. IfSome told (IsRowEdit (commands.args_after command.now env.entry.home.now)
+        (commands.args_done command.now env.entry.home.now) (map part_view parts.now) (map part_view new.new.items))) }
 {
-    if let Some(done) = edit_in_row(env, command, parts, new)? {
-        return Ok(done);
+    match &command.action {
+        Action::Set(setting) => set_in_row(env, setting, parts, new),
+        Action::SetIfAbsent(attr, words) => {
+            let edit = set_absent(env.alloc, attr.as_str(), words.as_slice(), parts, new)?;
+            Ok(Some(edit))
+        }
+        Action::Comment(commented, text) => {
+            comment_in_row(env, commented, text.as_str(), parts, new)
+        }
+        _ => Ok(None),
     }
-    edit_by_tree(env, bump, command, parts, new)
 }
 
-/// Writes the parts that a command makes of those of a rule, where it changes something. `Err`: memory was refused, and
-/// the new list is of no use.
-pub(crate) fn edit_rule<'a>(
+// What a command makes of the arguments of a rule.
+fn edit_arguments<'a>(
     env: Env<'_>,
-    bump: &'a Bump,
     command: &Command,
-    rule: RuleParts<'_, 'a>,
+    parts: &[Part<'a>],
     new: &mut Parts<'a>,
-) -> Executed
-    requires { is_edit command.now ≡ true }
-    ensures parts { IfOk result (λ done. done.changed ≡ true
-        → (s : Statement) (r : Rule) → IsRuleRow s r (map part_view rule.entry.parts.now)
-        → kind_text r.kind ≡ rule.entry.kind.now
-        → map part_view new.new.items ≡ parts_of (rule_after command.now env.entry.home.now s)) }
-    ensures done { IfOk result (λ done. (s : Statement) (r : Rule)
-        → IsRuleRow s r (map part_view rule.entry.parts.now) → kind_text r.kind ≡ rule.entry.kind.now
-        → done ≡ commands.done_of command.now env.entry.home.now (Some s)) }
+) -> Result<Edit, AllocError>
+    requires { edits_arguments command.now ≡ true }
+    ensures { IfOk result (IsRowEdit (commands.args_after command.now env.entry.home.now)
+        (commands.args_done command.now env.entry.home.now) (map part_view parts.now) (map part_view new.new.items)) }
 {
-    let RuleParts { kind, parts } = rule;
+    if let Some(edit) = edit_in_row(env, command, parts, new)? {
+        return Ok(edit);
+    }
+    edit_by_tree(env, command, parts, new)
+}
+
+// What a command makes of a rule of this kind. The new parts go into a list.
+fn edit_parts<'a>(
+    env: Env<'_>,
+    command: &Command,
+    kind: &str,
+    parts: &[Part<'a>],
+    new: &mut Parts<'a>,
+) -> Result<Edit, AllocError>
+    requires { is_edit command.now ≡ true }
+    ensures { IfOk result (IsEditOf command.now env.entry.home.now kind.now (map part_view parts.now)
+        (map part_view new.new.items)) }
+{
     match &command.action {
-        Action::Set(Setting::ToKind(new_kind)) => { set_kind(new_kind.as_str(), kind, parts, new) }
-        Action::Rename(old, to) => rename(env.alloc, old.as_str(), to.as_str(), parts, new),
+        Action::Set(Setting::ToKind(new_kind)) => set_kind(new_kind.as_str(), kind, parts, new),
         Action::Comment(Commented::Rule, text) => {
             comment_rule(env.alloc, text.as_str(), parts, new)
         }
-        Action::Comment(Commented::Attribute(attr), text) => {
-            comment_attribute(env.alloc, attr.as_str(), text.as_str(), parts, new)
+        Action::Rename(old, to) => rename(env.alloc, old.as_str(), to.as_str(), parts, new),
+        _ => edit_arguments(env, command, parts, new),
+    }
+}
+
+/// What a command makes of a rule. The new parts go into a list. `Err`: memory was refused, and the list is of no use.
+pub(crate) fn edit_rule<'a>(
+    env: Env<'_>,
+    command: &Command,
+    rule: RuleParts<'_, 'a>,
+    new: &mut Parts<'a>,
+) -> Result<Edit, AllocError>
+    requires edits { is_edit command.now ≡ true }
+    requires fits { rule.comments ≤ length rule.parts.now }
+    ensures within { IfOk result (λ e. IsWithin e.place (map part_view rule.entry.parts.now)) }
+    ensures edit { IfOk result (λ e. (s : Statement) (r : Rule) → HasKindAndParts rule.entry s
+        → rule_of s.nodes ≡ Some r → IsEditFor command.now env.entry.home.now s
+        (map part_view rule.entry.parts.now) (map part_view new.new.items) e) }
+{
+    // The comments that commands have added are many, if anything is: nobody has to go over them.
+    let RuleParts {
+        kind,
+        comments,
+        parts,
+    } = rule;
+    let edit = edit_parts(env, command, kind, &parts[comments..], new)?;
+    let place = Place {
+        from: comments + edit.place.from,
+        to: comments + edit.place.to,
+    };
+    Ok(Edit {
+        done: edit.done,
+        place,
+    })
+}
+
+/// How many comments more the rule has above it after the command, at least.
+#[tactic(auto, using(crate::proofs::RowEdited::none_above, crate::proofs::RowEdited::one_above))]
+pub(crate) fn new_comments(command: &Command) -> usize
+    ensures { (home : labels.Package) (s : Statement) (r : Rule) → rule_of s.nodes ≡ Some r
+        → HasMore result s (rule_after command.now home s) }
+{
+    match &command.action {
+        Action::Comment(Commented::Rule, _) => 1,
+        _ => 0,
+    }
+}
+
+/// After the command the rule has the head that it had: its kind, its name and its lines.
+pub(crate) fn keeps_head(command: &Command) -> bool
+    ensures { result ≡ true → (home : labels.Package) (s : Statement) → KeepsHead s (rule_after command.now home s) }
+{
+    match one_attribute(command) {
+        Some(attr) => {
+            if attr == "name" {
+                return false;
+            }
+            true
         }
-        _ => edit_arguments(env, bump, command, parts, new),
+        None => matches!(command.action, Action::Comment(Commented::Rule, _)),
     }
 }

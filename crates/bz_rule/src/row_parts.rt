@@ -1,18 +1,24 @@
-//! The parts of a statement: those that were read, or those that a command has written.
+//! The parts of a statement: those that were read, or those that commands have left. An edit of these moves what stands
+//! behind it, and no more.
 
-ghost use Rattle.std.specs.Prelude.{◌≡◌};
+ghost use Rattle.std.specs.Prelude.{◌≡◌, ◌≤◌, ◌++◌, drop, length, IfOk, OnErr, OnOk};
+ghost use Rattle.std.specs.List.{splice};
 ghost use Rattle.bz_rule.specs.private.PartsOf.{parts_in};
 
 use bumpalo::Bump;
-use bz_attribute::Parts;
+use bz_attribute::{Parts, Place};
 use bz_tree::Part;
+use std::alloc::AllocError;
+
+// For the next edits, which mostly add.
+const ROOM: usize = 16;
 
 /// The parts of a statement.
 #[derive(Drop)]
 pub(crate) enum RowParts<'a> {
     /// As they were read.
     Read(&'a [Part<'a>]),
-    /// As a command wrote them.
+    /// As commands have left them.
     Written(Parts<'a>),
 }
 
@@ -26,11 +32,68 @@ impl<'a> RowParts<'a> {
         }
     }
 
-    /// A list for other parts: the one that these stand in, if there is one.
-    pub(crate) fn into_list(self, bump: &'a Bump) -> Parts<'a> {
+    /// Puts others in a place of them. `Err`: memory was refused, and they stay.
+    pub(crate) fn put(
+        &mut self,
+        bump: &'a Bump,
+        place: Place,
+        new: &[Part<'a>],
+    ) -> Result<(), AllocError>
+        requires { (place.from ≤ place.to) × (place.to ≤ length (parts_in self.old)) }
+        ensures ok { OnOk result (parts_in self.new ≡ splice (parts_in self.old) place.from place.to new.now) }
+        ensures err { OnErr result (parts_in self.new ≡ parts_in self.old) }
+    {
         match self {
-            RowParts::Read(_) => Vec::new(bump),
-            RowParts::Written(parts) => parts,
+            RowParts::Written(list) => put_in(list, place, new),
+            RowParts::Read(parts) => {
+                let list = with_others(bump, parts, place, new)?;
+                *self = RowParts::Written(list);
+                Ok(())
+            }
         }
     }
+}
+
+/// A list of some parts with others in a place of them.
+pub(crate) fn with_others<'a>(
+    bump: &'a Bump,
+    parts: &[Part<'a>],
+    place: Place,
+    new: &[Part<'a>],
+) -> Result<Parts<'a>, AllocError>
+    requires { (place.from ≤ place.to) × (place.to ≤ length parts.now) }
+    ensures { IfOk result (λ list. list.items ≡ splice parts.now place.from place.to new.now) }
+{
+    let room = new.len().saturating_add(ROOM);
+    let mut list = Vec::with_capacity(bump, parts.len().saturating_add(room))?;
+    list.extend_from_slice(&parts[..place.from])?;
+    list.extend_from_slice(new)?;
+    list.extend_from_slice(&parts[place.to..])?;
+    Ok(list)
+}
+
+// Puts others in a place of a list. `Err`: memory was refused, and the list is as it was.
+fn put_in<'a>(list: &mut Parts<'a>, place: Place, new: &[Part<'a>]) -> Result<(), AllocError>
+    requires { (place.from ≤ place.to) × (place.to ≤ length list.old.items) }
+    ensures ok { OnOk result (list.new.items ≡ splice list.old.items place.from place.to new.now) }
+    ensures err { OnErr result (list.new.items ≡ list.old.items) }
+{
+    let end = list.len();
+    let behind = place.from + new.len();
+    make_room(list, place.to - place.from, new)?;
+    list.copy_within(place.to..end, behind);
+    list.truncate(behind + (end - place.to));
+    list[place.from..behind].copy_from_slice(new);
+    Ok(())
+}
+
+// Makes a list longer where more is new than goes: by what is too much of the new.
+fn make_room<'a>(list: &mut Parts<'a>, gone: usize, new: &[Part<'a>]) -> Result<(), AllocError>
+    ensures ok { OnOk result (list.new.items ≡ list.old.items ++ drop gone new.now) }
+    ensures err { OnErr result (list.new.items ≡ list.old.items) }
+{
+    if gone < new.len() {
+        list.extend_from_slice(&new[gone..])?;
+    }
+    Ok(())
 }

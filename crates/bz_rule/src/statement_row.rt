@@ -1,4 +1,4 @@
-//! A statement as its row, with the head of the rule that it is: commands write its parts anew.
+//! A statement as its row, with the head of the rule that it is: commands put other parts in places of it.
 
 ghost use Rattle.std.specs.Prelude.{◌≡◌, ◌++◌, ℕ, List, IfOk, IsOk, OnOk, OnErr, Some, false, true, map, option_map, is_some, string_bytes};
 ghost use Rattle.bz_tree.specs.Tree.{Statement};
@@ -14,13 +14,14 @@ ghost use Rattle.bz_attribute.specs.Texts.{shown_text};
 ghost use Rattle.bz_attribute_commands.specs.Print.{prints};
 ghost use Rattle.bz_layout.specs.Layout.{layout_text};
 ghost use Rattle.bz_rule.specs.Commands as commands;
-ghost use Rattle.bz_rule.specs.private.RowEdits.{HasKindAndParts, IsNextOf, is_edit};
+ghost use Rattle.bz_attribute.specs.RowEdits.{IsWithin, replaced_at};
+ghost use Rattle.bz_rule.specs.private.RowEdits.{HasKindAndParts, HasMore, IsNextOf, KeepsHead, is_edit, rule_after};
 
 use crate::command::{Action, Command};
-use crate::row_edit::{RuleParts, edit_rule};
-use crate::row_parts::RowParts;
+use crate::row_edit::{RuleParts, edit_rule, keeps_head, new_comments};
+use crate::row_parts::{RowParts, with_others};
 use bumpalo::Bump;
-use bz_attribute::{Done, Env, Executed, Head, Parts, call_at, push_stmt};
+use bz_attribute::{Done, Env, Executed, Head, Parts, Place, call_at, push_stmt};
 use bz_attribute_commands::print::print;
 use bz_command::{Field, Package, Target};
 use bz_layout::put_row;
@@ -33,13 +34,15 @@ use std::mem;
 #[derive(Drop)]
 pub struct StatementRow<'a> {
     pub(crate) parts: RowParts<'a>,
-    // Where the next parts are written: what it holds does not count.
+    // Where commands write new parts: what it holds does not count.
     pub(crate) spare: Parts<'a>,
     pub(crate) class: Class,
     pub(crate) start: u64,
     pub(crate) end: u64,
     // None: it is no rule.
     pub(crate) head: Option<Head<'a>>,
+    // Its parts begin with so many comments at least: those that commands have added.
+    pub(crate) comments: usize,
     // Where its lists stand, and texts that commands make.
     pub(crate) bump: &'a Bump,
 }
@@ -57,7 +60,7 @@ impl<'a> Model for StatementRow<'a> {
 
     ghost view = { λ l. row_statement (row_value (parts_in l.parts) l.class l.start l.end) };
 
-    ghost invariant = { λ l. HasItsHead (row_value (parts_in l.parts) l.class l.start l.end) l.head };
+    ghost invariant = { λ l. HasItsHead (row_value (parts_in l.parts) l.class l.start l.end) l.head l.comments };
 }
 
 impl<'a> StatementRow<'a> {
@@ -86,6 +89,7 @@ impl<'a> StatementRow<'a> {
             start: row.start,
             end: row.end,
             head,
+            comments: 0,
             bump,
         }
     }
@@ -108,6 +112,7 @@ impl<'a> StatementRow<'a> {
             start: stmt.start,
             end: stmt.end,
             head,
+            comments: 0,
             bump,
         })
     }
@@ -203,21 +208,63 @@ impl<'a> StatementRow<'a> {
     {
         RuleParts {
             kind: self.kind(),
+            comments: self.comments,
             parts: self.parts.as_slice(),
         }
     }
 
-    // Takes other parts, in whose list the next ones are written then. `Err`: memory was refused, and all is as it was.
+    // Takes other parts. `Err`: memory was refused, and all is as it was.
     fn take(&mut self, alloc: Global, new: Parts<'a>) -> Result<(), AllocError>
         requires { (s : Statement) × IsNextOf self.old (map part_view new.items) s }
         ensures taken { OnOk result ((s : Statement) → IsNextOf self.old (map part_view new.entry.items) s → self.new ≡ s) }
         ensures err { OnErr result (self.new ≡ self.old) }
     {
         let head = Head::of_parts(alloc, self.bump, &new, self.start, self.end)?;
-        let old = mem::replace(&mut self.parts, RowParts::Written(new));
+        self.parts = RowParts::Written(new);
         self.head = head;
-        self.spare = old.into_list(self.bump);
         Ok(())
+    }
+
+    // Puts others in a place of its parts, among them so many comments above it. Its head stays. `Err`: memory was
+    // refused, and all is as it was.
+    fn put_beside(
+        &mut self,
+        place: Place,
+        new: &[Part<'a>],
+        comments: usize,
+    ) -> Result<(), AllocError>
+        requires within { IsWithin place (parts_of self.old) }
+        requires next { (s : Statement) × (IsNextOf self.old (replaced_at place (map part_view new.now) (parts_of self.old)) s
+            × (KeepsHead self.old s × HasMore comments self.old s)) }
+        ensures taken { OnOk result ((s : Statement)
+            → IsNextOf self.old (replaced_at place (map part_view new.now) (parts_of self.old)) s → self.new ≡ s) }
+        ensures err { OnErr result (self.new ≡ self.old) }
+    {
+        self.parts.put(self.bump, place, new)?;
+        self.comments = self.comments.saturating_add(comments);
+        Ok(())
+    }
+
+    // Puts what a command has written in its place. `Err`: memory was refused, and all is as it was.
+    fn change(
+        &mut self,
+        env: Env<'_>,
+        command: &Command,
+        place: Place,
+        new: &[Part<'a>],
+    ) -> Result<(), AllocError>
+        requires rule { is_some (rule_of self.old.nodes) ≡ true }
+        requires within { IsWithin place (parts_of self.old) }
+        requires next { replaced_at place (map part_view new.now) (parts_of self.old)
+            ≡ parts_of (rule_after command.now env.home.now self.old) }
+        ensures changed { OnOk result (self.new ≡ rule_after command.now env.entry.home.now self.old) }
+        ensures err { OnErr result (self.new ≡ self.old) }
+    {
+        if keeps_head(command) {
+            return self.put_beside(place, new, new_comments(command));
+        }
+        let list = with_others(self.bump, self.parts.as_slice(), place, new)?;
+        self.take(env.alloc, list)
     }
 
     // Applies a command that changes a rule.
@@ -229,13 +276,14 @@ impl<'a> StatementRow<'a> {
         ensures err { OnErr result (self.new ≡ self.old) }
     {
         let mut new = mem::replace(&mut self.spare, Vec::new(self.bump));
-        let done = edit_rule(env, self.bump, command, self.rule(), &mut new)?;
-        if !done.changed {
+        let edit = edit_rule(env, command, self.rule(), &mut new)?;
+        if !edit.done.changed {
             self.spare = new;
-            return Ok(done);
+            return Ok(edit.done);
         }
-        self.take(env.alloc, new)?;
-        Ok(done)
+        self.change(env, command, edit.place, &new)?;
+        self.spare = new;
+        Ok(edit.done)
     }
 }
 

@@ -1,22 +1,25 @@
--- For private clauses alone: a set of what `add` finds there.
-use Rattle.std.specs.Prelude.{◌≡◌, ℕ, List, take, ◌||◌, Some}
+-- For private clauses alone: a set of what `add` finds there, and what it writes.
+use Rattle.std.specs.Prelude.{◌≡◌, ℕ, List, ◌++◌, drop, map, take, ◌||◌}
 use Rattle.std.specs.List.{list_any}
 use Rattle.bz_command.specs.Labels.{Package}
-use Rattle.bz_command.specs.declared.arguments.Moved.TheVariants.{Values}
-use Rattle.bz_attribute.specs.Effects.{done, not_a_list}
-use Rattle.bz_attribute.specs.Add.{adds}
-use Rattle.bz_attribute.specs.Lists.{same}
-use Rattle.bz_attribute.specs.declared.done.Done.{Done}
-use Rattle.bz_tree.specs.Tree.{Segment}
 use Rattle.bz_command.specs.LabelSetViews.{has}
+use Rattle.bz_command.specs.declared.arguments.Moved.TheVariants.{Values}
 use Rattle.bz_command.specs.declared.label_set.LabelSet.{LabelSet}
+use Rattle.bz_tree.specs.Rows.{RowPart, segs_parts}
+use Rattle.bz_tree.specs.Tree.{Segment, segs_of}
+use Rattle.bz_attribute.specs.Add.{fresh, new_elements}
+use Rattle.bz_attribute.specs.Effects.{string}
+use Rattle.bz_attribute.specs.Lists.{same}
 use Rattle.bz_attribute.specs.private.ElementSets.{is_in}
-
--- what `add` tells of the argument that is there
-abbrev pub told : Package → List ℕ → List (List ℕ) → Segment → Done
-told home attr values a = done (not_a_list attr (Some a)) (adds home values (Some a))
 
 -- the set has the labels of the elements of these lists that are among the values, and of the first i values
 pub record Knows (home : Package) (lists : List (List Segment)) (values : List (List ℕ)) (i : ℕ) (set : LabelSet) : Type 0 where
   pub of : set.home.now ≡ home
   pub all : (text : List ℕ) → has set text ≡ (is_in home (Values values) lists text || list_any (same home text) (take i values))
+
+-- the elements for those of the first i values that are missing were written
+pub record IsAdding (home : Package) (lists : List (List Segment)) (values : List (List ℕ)) (i : ℕ) (set : LabelSet) (before now : List RowPart) : Type 0 where
+  pub made : List Segment
+  pub parts : now ≡ before ++ segs_parts (segs_of made)
+  pub knows : Knows home lists values i set
+  pub added : made ++ map string (fresh home lists (take i values) (drop i values)) ≡ new_elements home lists values

@@ -1,5 +1,5 @@
 -- For private clauses: where the arguments stand that a command looks at, and a row with its head.
-use Rattle.std.specs.Prelude.{◌≡◌, ℕ, ◌-◌, List, ◌∷◌, ◌++◌, Bool, true, false, Option, Some, None, map, take, drop}
+use Rattle.std.specs.Prelude.{◌≡◌, ℕ, ◌-◌, List, ◌∷◌, ◌++◌, Bool, true, false, Option, Some, None, map, take, drop, ◌≤◌, ◌+◌, length}
 use Rattle.bz_tree.specs.Statement.{class_of}
 use Rattle.bz_tree.specs.declared.stmt.Class.TheVariants.{Rule as RuleClass}
 use Rattle.bz_tree.specs.Tree.{Segment, Statement, segs_of}
@@ -8,25 +8,34 @@ use Rattle.bz_command.specs.Labels.{Package}
 use Rattle.bz_command.specs.declared.arguments.Attributes.TheVariants.{Named}
 use Rattle.bz_command.specs.declared.arguments.Commented.TheVariants.{Attribute, Rule as Above, Value}
 use Rattle.bz_command.specs.declared.arguments.Setting.TheVariants.{ToKind, ToValues}
-use Rattle.bz_rule.specs.Commands.{Command, args_after, args_done}
+use Rattle.bz_rule.specs.Commands.{Command, args_after, args_done, done_of}
 use Rattle.bz_rule.specs.declared.command.Action.TheVariants.{Add, Comment, Delete, Print, Remove, Rename, Replace, Set, SetIfAbsent}
-use Rattle.bz_attribute.specs.Comment.{comment_attribute, comment_rule}
+use Rattle.bz_attribute.specs.Comment.{comment_rule}
 use Rattle.bz_attribute.specs.Effects.{with_args}
 use Rattle.bz_attribute.specs.Heads.{HasHead}
+use Rattle.bz_attribute.specs.RowEdits.{IsWithin, replaced_at}
+use Rattle.bz_attribute.specs.RowPlaces.{IsRuleRow}
+use Rattle.bz_attribute.specs.declared.edit.Edit.{Edit}
 use Rattle.bz_attribute.specs.Rules.{Rule, rule_of, kind_text}
 use Rattle.bz_rule.specs.declared.row_edit.RuleParts.{RuleParts}
-use Rattle.bz_attribute.specs.Rename.{rename}
 use Rattle.bz_attribute.specs.Set.{with_kind}
 use Rattle.bz_attribute.specs.declared.head.Head.{Head}
 use Rattle.bz_rule.specs.RowViews.{RowValue, row_statement}
 
 -- a row is of its statement, and that has this head
-pub record HasItsHead (row : RowValue) (head : Option Head) : Type 0 where
+pub record HasItsHead (row : RowValue) (head : Option Head) (comments : ℕ) : Type 0 where
   pub are : row.parts ≡ parts_of (row_statement row)
   pub has : HasHead head (row_statement row)
+  -- at least so many comments stand above it
+  pub below : comments ≤ length (row_statement row).before
 
--- the parts of a rule, beside its kind
+-- without the first of the comments above it
+abbrev pub below : ℕ → Statement → Statement
+below comments s = record s { before = drop comments s.before }
+
+-- the parts of a rule, beside its kind, and how many comments they begin with at least
 pub record HasKindAndParts (rule : RuleParts) (s : Statement) : Type 0 where
+  pub fits : rule.comments ≤ length s.before
   pub are : map part_view rule.parts.now ≡ parts_of s
   pub kind : (r : Rule) → rule_of s.nodes ≡ Some r → kind_text r.kind ≡ rule.kind.now
 
@@ -34,9 +43,14 @@ pub record HasKindAndParts (rule : RuleParts) (s : Statement) : Type 0 where
 pub record IsNextOf (old : Statement) (parts : List RowPart) (s : Statement) : Type 0 where
   pub are : parts ≡ parts_of s
   pub rule : class_of s.nodes ≡ RuleClass
+  pub before : length old.before ≤ length s.before
   pub same : s.class ≡ old.class
   pub start : s.start ≡ old.start
   pub end : s.end ≡ old.end
+
+-- the one has each head that the other has
+abbrev pub KeepsHead : Statement → Statement → Type 0
+KeepsHead s after = (head : Option Head) → HasHead head s → HasHead head after
 
 -- Some arguments stand there: the command does to the rule what it does to them alone, and tells the same.
 pub record IsPlaceFor (c : Command) (home : Package) (s : Statement) (r : Rule) (ps : List RowPart) (from to : ℕ) : Type 0 where
@@ -62,8 +76,6 @@ edits_arguments c = is_edit c
 abbrev pub rule_after : Command → Package → Statement → Statement
 rule_after (Set (ToKind kind)) home s = with_kind kind s
 rule_after (Comment Above text) home s = comment_rule text s
-rule_after (Comment (Attribute attr) text) home s = with_args (comment_attribute attr text) s
-rule_after (Rename old new) home s = with_args (rename old new) s
 rule_after c home s = with_args (args_after c home) s
 
 -- the attribute of a command that looks at its first argument alone, and adds one after all where there is none
@@ -76,3 +88,18 @@ one_attribute (Replace (Named attr) old new) = Some attr
 one_attribute (Comment (Attribute attr) text) = Some attr
 one_attribute (Comment (Value attr value) text) = Some attr
 one_attribute _ = None
+
+-- it has at least so many comments more above it
+abbrev pub HasMore : ℕ → Statement → Statement → Type 0
+HasMore comments s after = length s.before + comments ≤ length after.before
+
+-- What a command makes of the parts of a rule of this kind: the new ones, in their place, make the rule after it.
+pub record IsEditOf (c : Command) (home : Package) (kind : List ℕ) (ps new : List RowPart) (e : Edit) : Type 0 where
+  pub within : IsWithin e.place ps
+  pub parts : (s : Statement) (r : Rule) → IsRuleRow s r ps → kind_text r.kind ≡ kind → e.done.changed ≡ true → replaced_at e.place new ps ≡ parts_of (rule_after c home s)
+  pub done : (s : Statement) (r : Rule) → IsRuleRow s r ps → kind_text r.kind ≡ kind → e.done ≡ done_of c home (Some s)
+
+-- what it makes of the parts of this rule
+pub record IsEditFor (c : Command) (home : Package) (s : Statement) (ps new : List RowPart) (e : Edit) : Type 0 where
+  pub parts : e.done.changed ≡ true → replaced_at e.place new ps ≡ parts_of (rule_after c home s)
+  pub done : e.done ≡ done_of c home (Some s)

@@ -1,4 +1,4 @@
-use Rattle.std.proofs.Common.{arith, sym}
+use Rattle.std.proofs.Common.{arith}
 use Rattle.std.specs.Prelude.{map}
 use Rattle.bz_tree.specs.Rows.{part_view}
 use Rattle.bz_attribute.proofs.PlaceFound.{all_ordered, place_all}

@@ -1,13 +1,10 @@
-use Rattle.std.proofs.Common.{◌++◌, ◌∷◌, [], List, ap, take, ◌∙◌}
+use Rattle.std.proofs.Common.{◌≡◌, ◌∙◌, ◌++◌, ◌∷◌, [], ℕ, List, ap, map}
 use Rattle.bz_tree.specs.declared.row.Part.{Part}
-use Rattle.bz_tree.specs.Rows.{above}
-use Rattle.bz_attribute.proofs.Slices.{three_written}
-use Rattle.bz_attribute_commands.proofs.KindWritten.{one_more}
+use Rattle.bz_tree.specs.Rows.{above, part_view}
+use Rattle.bz_attribute.specs.Comment.{comment_line}
 use Rattle.bz_attribute_commands.proofs.line.write_line.Goals as goal
 
 pub returns : goal.returns
 returns c =
-    three_written c.args.parts.now c.extend_from_slice.new.self.items c.push.new.self.items c.extend_from_slice-2.new.self.items c.args.at c.args.at (above c.args.line.now ∷ [])
-    (c.in_ok-extend_from_slice.ensures.items ∙ ap (λ (ps : List Part). ps ++ take c.args.at c.args.parts.now) c.clear.ensures.items)
-    (one_more _ _ _ c.in_ok-push.ensures.items)
-    c.in_ok-extend_from_slice-2.ensures.items
+    let line : c.in_ok-line-2.line.now ≡ comment_line c.args.text.now = c.in_ok-line-2.ensures ∙ c.as_str.ensures.value ∙ c.in_ok-line.ensures in
+    ap (map part_view) (c.in_ok-push.ensures.items ∙ ap (λ (ps : List Part). ps ++ Part.Above c.in_ok-line-2.line ∷ []) c.clear.ensures.items) ∙ ap (λ (text : List ℕ). above text ∷ []) line

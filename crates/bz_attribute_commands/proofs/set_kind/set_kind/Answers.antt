@@ -1,19 +1,22 @@
-use Rattle.std.proofs.Common.{ℕ, ◌++◌, List, ap, map, take, sym, ◌∙◌}
+use Rattle.std.proofs.Common.{◌≡◌, ◌∙◌, ◌++◌, ◌<◌, ℕ, List, false, true, ap, map, sym, subst, arith}
+use Rattle.std.proofs.lemmas.Bool.{false≢true}
 use Rattle.bz_tree.specs.declared.row.Part.{Part}
 use Rattle.bz_tree.specs.Tree.{items_of}
-use Rattle.bz_tree.specs.Rows.{items_parts, part_view}
+use Rattle.bz_tree.specs.Rows.{RowPart, items_parts, part_view}
+use Rattle.bz_attribute.specs.RowEdits.{IsWithin, replaced_at}
 use Rattle.bz_attribute.specs.Set.{kind_items}
-use Rattle.bz_attribute.proofs.Slices.{three_written}
-use Rattle.bz_attribute_commands.proofs.KindWritten.{kind_written}
+use Rattle.bz_attribute.specs.declared.edit.Edit.{Edit}
+use Rattle.bz_attribute.proofs.RowEdits.{seen_within}
+use Rattle.bz_attribute_commands.proofs.KindWritten.{kind_done, kind_written}
 use Rattle.bz_attribute_commands.proofs.set_kind.set_kind.Goals as goal
+
+pub returns-clause-within : goal.returns-clause-within
+returns-clause-within c = subst (λ (e : Edit). IsWithin e.place (map part_view c.args.parts.now)) (sym c.at.ensures) (seen_within c.kind_place.result c.args.parts.now c.kind_place.ensures.within)
 
 pub returns-clause-parts : goal.returns-clause-parts
 returns-clause-parts c changed s r h was =
-    let from = c.kind_place-place.result.from in
-    let to = c.kind_place-place.result.to in
-    three_written c.args.parts.now c.extend_from_slice.new.self.items c.push_kind.new.out.items c.extend_from_slice-2.new.self.items from to
-    (items_parts (items_of (kind_items c.args.kind.now)))
-    (c.in_ok-extend_from_slice.ensures.items ∙ ap (λ (ps : List Part). ps ++ take from c.args.parts.now) c.clear.ensures.items)
-    (c.in_ok-push_kind.ensures ∙ ap (λ (text : List ℕ). map part_view c.extend_from_slice.new.self.items ++ items_parts (items_of (kind_items text))) c.in_ok-kind.ensures)
-    c.in_ok-extend_from_slice-2.ensures.items
-    ∙ kind_written c.args.kind.now c.args.old_kind.now s r (map part_view c.args.parts.now) from to (c.kind_place-place.ensures.place s r h) h.rule was (sym c.eq.ensures ∙ c.if-eq.false)
+    let ps : List RowPart = map part_view c.args.parts.now in
+    let tokens : map part_view c.push_kind.new.out.items ≡ items_parts (items_of (kind_items c.args.kind.now)) =
+    c.in_ok-push_kind.ensures ∙ (λ i. map part_view (c.clear.ensures.items i) ++ items_parts (items_of (kind_items (c.in_ok-kind.ensures i)))) in
+    (λ i. replaced_at ((c.at.ensures i).place) (tokens i) ps)
+    ∙ kind_written c.args.kind.now c.args.old_kind.now s r ps c.kind_place.result.from c.kind_place.result.to (c.kind_place.ensures.place s r h) h.rule was (sym c.eq.ensures ∙ c.if-eq.false)

@@ -1,24 +1,26 @@
-use Rattle.std.proofs.Common.{◌≡◌, Bool, None, nat_lt, not, filter, length, ap, sym, ◌∙◌, rules, arith}
-use Rattle.std.proofs.lemmas.Fn.{filter_same}
-use Rattle.std.proofs.lemmas.List.{length-map}
-use Rattle.bz_tree.specs.View.{seg_view, segs_view}
-use Rattle.bz_attribute.specs.Effects.{done}
-use Rattle.bz_attribute.proofs.Mapped.{filter-map}
-use Rattle.bz_list_commands.specs.private.EditSteps.{goes}
-use Rattle.bz_list_commands.proofs.ArgEdits.{fewer_left, removes_whole, whole_removed}
+use Rattle.std.proofs.Common.{◌≡◌, ℕ, List, [], ◌∷◌, map, arith, ap, sym, ◌∙◌}
+use Rattle.bz_tree.specs.Rows.{part_view}
+use Rattle.bz_list_commands.specs.private.StringEdits.{equals_one, equals_word}
+use Rattle.bz_list_commands.proofs.Meanings.{no_words, one_alone, one_word, rows_dropped, rows_removed_some}
+use Rattle.bz_list_commands.proofs.WrittenParts.{ok_as}
 use Rattle.bz_list_commands.proofs.remove.remove.Goals as goal
 
-pub returns-then-is_empty-clause-args : goal.returns-then-is_empty-clause-args
-returns-then-is_empty-clause-args c =
-    rw (filter-map seg_view (λ s. not (goes c.args.attributes.now s)) c.args.args.now.items) (ap segs_view (filter_same _ (λ seg. not (goes c.args.attributes.now (seg_view seg))) _ (λ x b f' k. search rules) _ _ c.retain.ensures.filtered))
-    ∙ whole_removed c.args.env.home.now c.args.attributes.now c.args.values.now (segs_view c.args.args.now.items) (sym c.is_empty.ensures ∙ c.if-is_empty.true)
+pub returns-in-empty : goal.returns-in-empty
+returns-in-empty c =
+    ok_as (λ e h. rows_dropped c.args.env.home.now c.args.attributes.now c.args.values.now (map part_view c.args.parts.now) (map part_view c.drop_arguments.new.new.items) e (no_words c.args.values.now (omega (arith, c.in-empty.len_below))) h) c.drop_arguments.result c.drop_arguments.ensures
 
-pub returns-then-is_empty-clause-done : goal.returns-then-is_empty-clause-done
-returns-then-is_empty-clause-done c =
-    let left : segs_view c.retain.new.self.items ≡ filter (λ s. not (goes c.args.attributes.now s)) (segs_view c.args.args.now.items) =
-    rw (filter-map seg_view (λ s. not (goes c.args.attributes.now s)) c.args.args.now.items) (ap segs_view (filter_same _ (λ seg. not (goes c.args.attributes.now (seg_view seg))) _ (λ x b f' k. search rules) _ _ c.retain.ensures.filtered)) in
-    let few : c.len.result ≡ length (filter (λ s. not (goes c.args.attributes.now s)) (segs_view c.args.args.now.items)) = omega (arith, c.len.ensures, c.retain.new.self.ok.0, length-map c.retain.new.self.items seg_view, ap length left) in
-    let all : c.len-before.result ≡ length (segs_view c.args.args.now.items) = omega (arith, c.len-before.ensures, c.args.args.now.ok.0, length-map c.args.args.now.items seg_view) in
-    c.quiet.ensures
-    ∙ ap (λ (b : Bool). done None b) ((λ j. nat_lt (few j) (all j)) ∙ fewer_left (goes c.args.attributes.now) (segs_view c.args.args.now.items)
-    ∙ removes_whole c.args.env.home.now c.args.attributes.now c.args.values.now (segs_view c.args.args.now.items) (sym c.is_empty.ensures ∙ c.if-is_empty.true))
+pub returns-in-len1 : goal.returns-in-len1
+returns-in-len1 c =
+    let one : c.args.values.now ≡ c.as_str.result.now ∷ [] =
+    one_alone c.args.values.now c.word-item.result _ (omega (arith, c.in-len1.len_at_least)) (omega (arith, c.in-len1.len_below)) c.word-item.is ∙ ap (λ (v : List ℕ). v ∷ []) (sym c.as_str.ensures) in
+    ok_as
+    (λ e h. rows_removed_some c.args.env.home.now c.args.attributes.now c.args.values.now (equals_word c.args.env.home.now c.as_str.result.now) (map part_view c.args.parts.now) (map part_view c.drop_strings.new.new.items) e (omega (arith, c.in-len1.len_at_least))
+    (one_word c.args.env.home.now c.as_str.result.now ∙ ap (equals_one c.args.env.home.now) (sym one)) h)
+    c.drop_strings.result c.drop_strings.ensures
+
+pub returns-in_ok-words-in_default : goal.returns-in_ok-words-in_default
+returns-in_ok-words-in_default c =
+    ok_as
+    (λ e h. rows_removed_some c.args.env.home.now c.args.attributes.now c.args.values.now (equals_one c.args.env.home.now c.in_ok-words-in_default.words.words.now) (map part_view c.args.parts.now) (map part_view c.drop_strings-in_default.new.new.items) e (omega (arith, c.in_default.len_at_least))
+    (ap (equals_one c.args.env.home.now) c.in_ok-words-in_default.ensures) h)
+    c.drop_strings-in_default.result c.drop_strings-in_default.ensures

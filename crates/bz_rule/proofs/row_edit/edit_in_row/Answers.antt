@@ -1,11 +1,11 @@
 use Rattle.std.proofs.Common.{sym}
 use Rattle.bz_rule.proofs.row_edit.edit_in_row.Goals as goal
 
-pub returns-in-Add : goal.returns-in-Add
-returns-in-Add c = rw (sym c.command.view_is, c.in-Add.is) (rw (c.as_str.ensures, c.as_slice.ensures) at c.add_in_row.ensures)
+pub returns-in-Set : goal.returns-in-Set
+returns-in-Set c = rw (sym c.command.view_is, c.in-Set.is) c.set_in_row.ensures
 
-pub returns-in-Remove : goal.returns-in-Remove
-returns-in-Remove c = rw (sym c.command.view_is, c.in-Remove.is) (rw (c.as_slice-in-Remove.ensures) at c.remove_in_place.ensures)
+pub returns-in_ok-edit-in-SetIfAbsent : goal.returns-in_ok-edit-in-SetIfAbsent
+returns-in_ok-edit-in-SetIfAbsent c = rw (sym c.command.view_is, c.in-SetIfAbsent.is) (rw (c.as_str.ensures, c.as_slice.ensures) at c.in_ok-edit-in-SetIfAbsent.ensures)
 
-pub returns-in-Replace : goal.returns-in-Replace
-returns-in-Replace c = rw (sym c.command.view_is, c.in-Replace.is) (rw (c.as_str-in-Replace.ensures, c.as_str-in-Replace-2.ensures) at c.replace_in_place.ensures)
+pub returns-in-Comment : goal.returns-in-Comment
+returns-in-Comment c = rw (sym c.command.view_is, c.in-Comment.is) (rw (c.as_str-in-Comment.ensures) at c.comment_in_row.ensures)

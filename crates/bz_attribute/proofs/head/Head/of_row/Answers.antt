@@ -1,4 +1,4 @@
-use Rattle.std.proofs.Common.{◌≡◌, sym, ◌∙◌}
+use Rattle.std.proofs.Common.{sym, ◌∙◌}
 use Rattle.std.proofs.lemmas.Result.{IfOk-weaker}
 use Rattle.bz_attribute.proofs.Headed.{other_class}
 use Rattle.bz_attribute.proofs.head.Head.of_row.Goals as goal

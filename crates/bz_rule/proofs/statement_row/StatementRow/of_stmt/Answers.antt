@@ -1,4 +1,4 @@
-use Rattle.std.proofs.Common.{◌≡◌, ◌∙◌, ◌++◌, List, ap, map, refl}
+use Rattle.std.proofs.Common.{◌≡◌, ◌∙◌, ◌++◌, List, ap, map, refl, arith}
 use Rattle.bz_tree.specs.View.{view}
 use Rattle.bz_tree.specs.Rows.{part_view, parts_of}
 use Rattle.bz_tree.specs.declared.row.Part.{Part}
@@ -14,7 +14,7 @@ pub invariant_of-result : goal.invariant_of-result
 invariant_of-result c =
     let s = view c.args.stmt.now in
     let are : map part_view c.push_stmt.new.parts.items ≡ parts_of s = c.in_ok-push_stmt.ensures ∙ ap (λ (ps : List Part). map part_view ps ++ parts_of s) c.new-parts.ensures.items in
-    has_head s c.push_stmt.new.parts.items _ _ _ c.in_ok-head.head (record { are = are; is = refl; begins = refl; ends = refl }) c.in_ok-head.ensures
+    has_head s c.push_stmt.new.parts.items _ _ _ c.in_ok-head.head 0 (record { are = are; is = refl; begins = refl; ends = refl }) c.in_ok-head.ensures (omega arith)
 
 pub returns : goal.returns
 returns c =

@@ -1,0 +1,217 @@
+-- The elements of a list part, and the value of an argument, by their parts.
+use Rattle.std.proofs.Common.{◌≡◌, ℕ, ◌+◌, ◌<◌, ◌≤◌, List, [], ◌∷◌, ◌++◌, Bool, true, false, if◌then◌else◌, Option, Some, None, map, length, length-drop, take, drop, refl, ap, sym, ◌∙◌, arith, append_assoc, length-append, drop-drop}
+use Rattle.std.proofs.lemmas.Bool.{false≢true}
+use Rattle.std.proofs.lemmas.List.{length-map}
+use Rattle.std.proofs.Math.Seq.{drop-append_seam, take-append_seam}
+use Rattle.std.specs.Prelude.{codes}
+use Rattle.bz_tree.specs.declared.stmt.GroupKind.{GroupKind}
+use Rattle.bz_tree.specs.Tree.{Item, leaf, group, Segment, Statement, items_of, segs_of}
+use Rattle.bz_tree.specs.Rows.{RowPart, a_token, opening, closing, segment_end, above, beside_part, items_parts, segs_parts}
+use Rattle.bz_token.specs.declared.token.Kind.TheVariants.{Identifier, Operator}
+use Rattle.bz_attribute.specs.Elements.{IsElementOf, IsValueAt, ListRest, rest_parts, value_parts}
+use Rattle.bz_attribute.specs.Effects.{edit_first, with_args, nodes_after, nodes_of}
+use Rattle.bz_attribute.specs.Finder.{find_from}
+use Rattle.bz_attribute.specs.Lists.{with_value}
+use Rattle.bz_attribute.specs.RowPlaces.{IsRuleRow}
+use Rattle.bz_attribute.specs.Rules.{Rule, first_named, is_named, is_operator_item, is_text, name_of, only_text, value}
+use Rattle.bz_attribute.specs.private.Ends.{above_len, end_len, segment_len}
+use Rattle.bz_attribute.specs.private.HeadParts.{is_end}
+use Rattle.bz_attribute.specs.private.ListParts.{ends_list, string_in}
+use Rattle.bz_attribute.proofs.EditedAt.{edited_at, first_at, segs_join}
+use Rattle.bz_attribute.proofs.EndsBack.{no_beside_argument, no_beside_end, segment_long}
+use Rattle.bz_attribute.proofs.Lengths.{above_passed, no_more_above}
+use Rattle.bz_attribute.proofs.RuleNodes.{rule_nodes}
+use Rattle.bz_attribute.proofs.RuleParts.{before_args}
+use Rattle.bz_attribute.proofs.PlaceFound.{answered, argument_there, args_found, in_three, nodes_split, placed, post, pre, told}
+
+-- what comes after the elements of a list
+abbrev tail : List (List ℕ) → Bool → List Item → List RowPart → List RowPart
+tail end one_comma items after = map above end ++ closing one_comma ∷ value_parts items after
+
+-- no element is left
+no_above_close : (end : List (List ℕ)) (one_comma : Bool) (qs : List RowPart) → above_len (map above end ++ closing one_comma ∷ qs) ≡ length end
+no_above_close end one_comma qs = above_passed end (closing one_comma ∷ qs) ∙ omega arith
+
+pub at_close : (end : List (List ℕ)) (one_comma : Bool) (items : List Item) (after ps : List RowPart) (at token : ℕ) → drop at ps ≡ tail end one_comma items after → token ≡ at + above_len (drop at ps)
+    → drop token ps ≡ closing one_comma ∷ value_parts items after
+at_close end one_comma items after ps at token read is =
+    let rest : List RowPart = closing one_comma ∷ value_parts items after in
+    let long : token ≡ at + length (map above end) = omega (arith, is, ap above_len read, no_above_close end one_comma (value_parts items after), length-map end above) in
+    ap (λ (n : ℕ). drop n ps) long ∙ sym (drop-drop (length (map above end)) at ps) ∙ ap (drop (length (map above end))) read ∙ drop-append_seam (map above end) rest
+
+-- an element is left: its nodes, and what comes after it
+record AreNodes (s : Segment) (ps rest : List RowPart) (at token : ℕ) : Type 0 where
+  begins : token ≡ at + length s.before
+  read : drop token ps ≡ items_parts (items_of s.nodes) ++ segment_end ∷ (beside_part s.suffix ++ rest)
+
+element_cut : (s : Segment) (ss : List Segment) (last : List RowPart)
+    → segs_parts (segs_of (s ∷ ss)) ++ last ≡ map above s.before ++ (items_parts (items_of s.nodes) ++ segment_end ∷ (beside_part s.suffix ++ (segs_parts (segs_of ss) ++ last)))
+element_cut s ss last = simp append_assoc
+
+at_nodes : (s : Segment) (ss : List Segment) (last ps : List RowPart) (at token : ℕ) → drop at ps ≡ segs_parts (segs_of (s ∷ ss)) ++ last → token ≡ at + above_len (drop at ps) → AreNodes s ps (segs_parts (segs_of ss) ++ last) at token
+at_nodes s ss last ps at token read is =
+    let nodes : List RowPart = items_parts (items_of s.nodes) ++ segment_end ∷ (beside_part s.suffix ++ (segs_parts (segs_of ss) ++ last)) in
+    let cut : drop at ps ≡ map above s.before ++ nodes = read ∙ element_cut s ss last in
+    let long : above_len (drop at ps) ≡ length s.before = ap above_len cut ∙ above_passed s.before nodes ∙ omega (arith, no_more_above (items_of s.nodes) (beside_part s.suffix ++ (segs_parts (segs_of ss) ++ last))) in
+    let place : token ≡ at + length (map above s.before) = omega (arith, is, long, length-map s.before above) in
+    record {
+      begins = omega (arith, is, long);
+      read = ap (λ (n : ℕ). drop n ps) place ∙ sym (drop-drop (length (map above s.before)) at ps) ∙ ap (drop (length (map above s.before))) cut ∙ drop-append_seam (map above s.before) nodes;
+    }
+
+goes_on : (xs : List Item) (qs : List RowPart) → ends_list (items_parts (items_of xs) ++ segment_end ∷ qs) ≡ false
+goes_on [] qs = refl
+goes_on (leaf kind text ∷ xs) qs = refl
+goes_on (group kind segs one_comma end ∷ xs) qs = refl
+
+none_of : (ss : List Segment) (last ps : List RowPart) (at token : ℕ) → drop at ps ≡ segs_parts (segs_of ss) ++ last → token ≡ at + above_len (drop at ps) → ends_list (drop token ps) ≡ true → ss ≡ []
+none_of [] last ps at token read is ends = refl
+none_of (s ∷ ss) last ps at token read is ends =
+    let n = at_nodes s ss last ps at token read is in
+    absurd (false≢true (sym (goes_on s.nodes (beside_part s.suffix ++ (segs_parts (segs_of ss) ++ last))) ∙ ap ends_list (sym n.read) ∙ ends))
+
+pub none_left : (rest : ListRest) (after ps : List RowPart) (at token : ℕ) → drop at ps ≡ rest_parts rest after → token ≡ at + above_len (drop at ps) → ends_list (drop token ps) ≡ true → rest.elements ≡ []
+none_left rest after ps at token read is ends = none_of rest.elements (tail rest.end rest.one_comma rest.items after) ps at token read is ends
+
+-- no comment of the next element, or of the end, is beside this one
+beside_none : (ss : List Segment) (end : List (List ℕ)) (one_comma : Bool) (qs : List RowPart) → end_len (segment_end ∷ (segs_parts (segs_of ss) ++ (map above end ++ closing one_comma ∷ qs))) ≡ 1
+beside_none [] end one_comma qs = ap (λ (ps : List RowPart). end_len (segment_end ∷ ps)) (sym (append_assoc (map above end) (closing one_comma ∷ []) qs)) ∙ no_beside_end end one_comma qs
+beside_none (s ∷ ss) end one_comma qs =
+    let last : List RowPart = map above end ++ closing one_comma ∷ qs in
+    ap (λ (ps : List RowPart). end_len (segment_end ∷ ps)) (element_cut s ss last) ∙ no_beside_argument s.before (items_of s.nodes) (beside_part s.suffix ++ (segs_parts (segs_of ss) ++ last))
+
+-- its text
+no_text : (kind : GroupKind) (qs : List RowPart) → string_in (opening kind ∷ qs) ≡ None
+no_text kind [] = refl
+no_text kind (q ∷ qs) = elim (is_end q) as (λ b. (if◌then◌else◌ {A = Option (List ℕ)} b None None) ≡ None) [ true ↦ refl | false ↦ refl ]
+
+text_told : (xs : List Item) (qs : List RowPart) → string_in (items_parts (items_of xs) ++ segment_end ∷ qs) ≡ only_text xs
+text_told [] [] = refl
+text_told [] (q ∷ qs) = elim (is_end q) as (λ b. (if◌then◌else◌ {A = Option (List ℕ)} b None None) ≡ None) [ true ↦ refl | false ↦ refl ]
+text_told (leaf kind text ∷ []) qs = refl
+text_told (leaf kind text ∷ leaf k t ∷ xs) qs = refl
+text_told (leaf kind text ∷ group k segs one_comma end ∷ xs) qs = refl
+text_told (group kind segs one_comma end ∷ []) qs = no_text kind _
+text_told (group kind segs one_comma end ∷ y ∷ xs) qs = no_text kind _
+
+element_of : (s : Segment) (ss : List Segment) (end : List (List ℕ)) (one_comma : Bool) (items : List Item) (after ps : List RowPart) (at token to : ℕ) (string : Option (List ℕ))
+    → drop at ps ≡ segs_parts (segs_of (s ∷ ss)) ++ tail end one_comma items after → token ≡ at + above_len (drop at ps) → to ≡ token + segment_len (drop token ps) → string ≡ string_in (drop token ps)
+    → IsElementOf (record { elements = s ∷ ss; end = end; one_comma = one_comma; items = items }) after ps at token to string
+element_of s ss end one_comma items after ps at token to string read is to_is string_is =
+    let last : List RowPart = tail end one_comma items after in
+    let own : List RowPart = segs_parts (segs_of (s ∷ [])) in
+    let n = at_nodes s ss last ps at token read is in
+    let long : segment_len (drop token ps) ≡ length (items_parts (items_of s.nodes)) + (1 + length (beside_part s.suffix)) =
+    ap segment_len n.read ∙ segment_long s (segs_parts (segs_of ss) ++ last) (beside_none ss end one_comma (value_parts items after)) in
+    let both : segs_parts (segs_of (s ∷ ss)) ≡ own ++ segs_parts (segs_of ss) = segs_join (s ∷ []) ss in
+    let cut : drop at ps ≡ own ++ (segs_parts (segs_of ss) ++ last) = read ∙ ap (λ (qs : List RowPart). qs ++ last) both ∙ append_assoc own (segs_parts (segs_of ss)) last in
+    let size : length own ≡ length s.before + (length (items_parts (items_of s.nodes)) + (1 + length (beside_part s.suffix))) =
+    omega (
+      arith,
+      length-map s.before above,
+      length-append (map above s.before) (items_parts (items_of s.nodes) ++ (segment_end ∷ (beside_part s.suffix ++ []))),
+      length-append (items_parts (items_of s.nodes)) (segment_end ∷ (beside_part s.suffix ++ [])),
+      length-append (beside_part s.suffix) [],
+    ) in
+    let place : to ≡ at + length own = omega (arith, to_is, long, size, n.begins) in
+    let after_it : drop to ps ≡ segs_parts (segs_of ss) ++ last = ap (λ (k : ℕ). drop k ps) place ∙ sym (drop-drop (length own) at ps) ∙ ap (drop (length own)) cut ∙ drop-append_seam own (segs_parts (segs_of ss) ++ last) in
+    record {
+      element = s;
+      others = ss;
+      are = refl;
+      begins = n.begins;
+      ends = place;
+      own = cut ∙ ap (λ (qs : List RowPart). own ++ qs) (sym after_it);
+      read = after_it;
+      text = string_is ∙ ap string_in n.read ∙ text_told s.nodes (beside_part s.suffix ++ (segs_parts (segs_of ss) ++ last));
+    }
+
+element_in : (ss : List Segment) (end : List (List ℕ)) (one_comma : Bool) (items : List Item) (after ps : List RowPart) (at token to : ℕ) (string : Option (List ℕ))
+    → drop at ps ≡ segs_parts (segs_of ss) ++ tail end one_comma items after → token ≡ at + above_len (drop at ps) → ends_list (drop token ps) ≡ false → to ≡ token + segment_len (drop token ps) → string ≡ string_in (drop token ps)
+    → IsElementOf (record { elements = ss; end = end; one_comma = one_comma; items = items }) after ps at token to string
+element_in [] end one_comma items after ps at token to string read is more to_is string_is =
+    absurd (false≢true (sym more ∙ ap ends_list (at_close end one_comma items after ps at token read is)))
+element_in (s ∷ ss) end one_comma items after ps at token to string read is more to_is string_is = element_of s ss end one_comma items after ps at token to string read is to_is string_is
+
+pub element_there : (rest : ListRest) (after ps : List RowPart) (at token to : ℕ) (string : Option (List ℕ)) → drop at ps ≡ rest_parts rest after → token ≡ at + above_len (drop at ps) → ends_list (drop token ps) ≡ false
+    → to ≡ token + segment_len (drop token ps) → string ≡ string_in (drop token ps) → IsElementOf rest after ps at token to string
+element_there rest after ps at token to string read is more to_is string_is = element_in rest.elements rest.end rest.one_comma rest.items after ps at token to string read is more to_is string_is
+
+-- the list ends
+pub record HasClosed (rest : ListRest) (after ps : List RowPart) (at token : ℕ) : Type 0 where
+  pub place : token ≡ at + length rest.end
+  pub more : token < length ps
+  pub read : drop (token + 1) ps ≡ value_parts rest.items after
+
+pub closed_there : (rest : ListRest) (after ps : List RowPart) (at token : ℕ) → rest.elements ≡ [] → drop at ps ≡ rest_parts rest after → token ≡ at + above_len (drop at ps) → token ≤ length ps → HasClosed rest after ps at token
+closed_there rest after ps at token none read is within =
+    let tail_read : drop at ps ≡ tail rest.end rest.one_comma rest.items after = read ∙ ap (λ (ss : List Segment). segs_parts (segs_of ss) ++ tail rest.end rest.one_comma rest.items after) none in
+    let close = at_close rest.end rest.one_comma rest.items after ps at token tail_read is in
+    record {
+      place = omega (arith, is, ap above_len tail_read, no_above_close rest.end rest.one_comma (value_parts rest.items after));
+      more = omega (arith, ap length close, length-drop token ps, within);
+      read = sym (drop-drop 1 token ps) ∙ ap (drop 1) close;
+    }
+
+-- an argument with a name
+pub record IsNamed (nodes : List Item) : Type 0 where
+  pub text : List ℕ
+  pub operator : List ℕ
+  pub are : nodes ≡ leaf Identifier text ∷ leaf Operator operator ∷ drop 2 nodes
+
+no_name : {P : Type 0} (name : List ℕ) (b : Bool) → is_text name (if◌then◌else◌ {A = Option (List ℕ)} b None None) ≡ true → P
+no_name name true h = absurd (false≢true h)
+no_name name false h = absurd (false≢true h)
+
+named_nodes : (name : List ℕ) (nodes : List Item) → is_text name (name_of nodes) ≡ true → IsNamed nodes
+named_nodes name [] h = absurd (false≢true h)
+named_nodes name (x ∷ []) h = absurd (false≢true h)
+named_nodes name (leaf Identifier text ∷ leaf Operator operator ∷ xs) h = record { text = text; operator = operator; are = refl }
+named_nodes name (leaf _ text ∷ leaf Operator operator ∷ xs) h = no_name name (is_operator_item (codes "=") (leaf Operator operator)) h
+named_nodes name (group k segs one_comma end ∷ leaf Operator operator ∷ xs) h = no_name name (is_operator_item (codes "=") (leaf Operator operator)) h
+named_nodes name (x ∷ leaf _ operator ∷ xs) h = absurd (false≢true h)
+named_nodes name (x ∷ group k segs one_comma end ∷ xs) h = absurd (false≢true h)
+
+-- its name and the operator stand before it
+pub value_within : (name : List ℕ) (s : Statement) (r : Rule) (ps : List RowPart) (at : ℕ) → IsRuleRow s r ps → find_from name 0 false ps ≡ Some at → at + 2 ≤ length ps
+value_within name s r ps at h is =
+    let g = argument_there name s r ps at h is in
+    let n = named_nodes name g.arg.nodes g.is in
+    let two : drop at ps ≡ a_token Identifier n.text ∷ a_token Operator n.operator ∷ value_parts (value g.arg) g.more = g.parts ∙ ap (λ (xs : List Item). items_parts (items_of xs) ++ segment_end ∷ g.more) n.are in
+    omega (arith, ap length two, length-drop at ps)
+
+-- the value of the first argument of a name
+pub value_there : (name : List ℕ) (s : Statement) (r : Rule) (ps : List RowPart) (at to : ℕ) → IsRuleRow s r ps → find_from name 0 false ps ≡ Some at → to ≡ at + 2 → IsValueAt name s r ps to
+value_there name s r ps at to h is to_is =
+    let f = placed name s r at (args_found name s r) (answered name s r) (sym (told name s r ps h) ∙ is) in
+    let a : Segment = f.arg.arg in
+    let n = named_nodes name a.nodes f.arg.is in
+    let two : List RowPart = a_token Identifier n.text ∷ a_token Operator n.operator ∷ [] in
+    let first : List RowPart = pre s r f.arg.front ++ map above a.before in
+    let front : List RowPart = first ++ two in
+    let after : List RowPart = beside_part a.suffix ++ post s r f.arg.back in
+    let nodes : (v : List Item) → items_parts (items_of (leaf Identifier n.text ∷ leaf Operator n.operator ∷ v)) ++ segment_end ∷ after ≡ two ++ value_parts v after = λ v. refl in
+    let own : items_parts (items_of a.nodes) ++ segment_end ∷ after ≡ two ++ value_parts (value a) after = ap (λ (xs : List Item). items_parts (items_of xs) ++ segment_end ∷ after) n.are ∙ nodes (value a) in
+    let all : ps ≡ front ++ value_parts (value a) after =
+    h.are ∙ in_three s r f.arg.front (a ∷ []) f.arg.back (rule_nodes [] s.nodes r h.rule) f.arg.are ∙ nodes_split s r f.arg.front f.arg.back a
+    ∙ ap (λ (qs : List RowPart). first ++ qs) own ∙ sym (append_assoc first two (value_parts (value a) after)) in
+    let begins : at + 2 ≡ length front =
+    omega (arith, f.is, f.arg.at, length-append first two, length-append (pre s r f.arg.front) (map above a.before), length-append (before_args s r) (segs_parts (segs_of f.arg.front))) in
+    let place : to ≡ length front = to_is ∙ begins in
+    record {
+      arg = a;
+      after = after;
+      first = ap (first_named name) f.arg.are ∙ first_at name f.arg.front a f.arg.back f.arg.none f.arg.is;
+      read = (λ i. drop (place i) (all i)) ∙ drop-append_seam front (value_parts (value a) after);
+      put = λ edit v made.
+          let b : Segment = with_value v a in
+          let b_is : b ≡ record a { nodes = leaf Identifier n.text ∷ leaf Operator n.operator ∷ v } = ap (λ (xs : List Item). record a { nodes = take 2 xs ++ v }) n.are in
+          let r2 : Rule = record r { args = edit_first (is_named name) edit r.args } in
+          let args : r2.args ≡ f.arg.front ++ (b ∷ f.arg.back) =
+          ap (edit_first (is_named name) edit) f.arg.are ∙ edited_at (is_named name) edit f.arg.front a f.arg.back f.arg.none f.arg.is ∙ ap (λ (zs : List Segment). f.arg.front ++ (zs ++ f.arg.back)) made in
+          let written : nodes_of r2 ≡ (with_args (edit_first (is_named name) edit) s).nodes = sym (ap (nodes_after (edit_first (is_named name) edit) s.nodes) h.rule) in
+          let taken : take to ps ≡ front = (λ i. take (place i) (all i)) ∙ take-append_seam front (value_parts (value a) after) in
+          let own_now : items_parts (items_of b.nodes) ++ segment_end ∷ after ≡ two ++ value_parts v after = ap (λ (x : Segment). items_parts (items_of x.nodes) ++ segment_end ∷ after) b_is ∙ nodes v in
+          ap (λ (qs : List RowPart). qs ++ value_parts v after) taken ∙ append_assoc first two (value_parts v after) ∙ ap (λ (qs : List RowPart). first ++ qs) (sym own_now)
+          ∙ sym (in_three (with_args (edit_first (is_named name) edit) s) r2 f.arg.front (b ∷ []) f.arg.back written args ∙ nodes_split s r f.arg.front f.arg.back b);
+    }

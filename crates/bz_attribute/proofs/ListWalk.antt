@@ -1,0 +1,180 @@
+-- A walk over the items of a value, by their parts, from one list part to the next.
+use Rattle.std.proofs.Common.{◌≡◌, ℕ, ◌+◌, ◌<◌, ◌≤◌, List, [], ◌∷◌, ◌++◌, Bool, true, false, ◌&&◌, map, length, drop, get_or, refl, ap, sym, ◌∙◌, subst, arith, append_assoc, length-append, drop-drop}
+use Rattle.std.specs.List.{list_all}
+use Rattle.std.specs.Prelude.{Option, Some, None, IfSome, IfNone, Result, Ok, Err, IfOk}
+use Rattle.bz_tree.specs.declared.row.Part.{Part}
+use Rattle.bz_tree.specs.declared.stmt.GroupKind.TheVariants.{List as ListKind}
+use Rattle.bz_tree.specs.Tree.{Item, leaf, group, Segs, Segment, items_of, segments}
+use Rattle.bz_tree.specs.Rows.{RowPart, part_view, opening, closing, segment_end, above, item_parts, items_parts, segs_parts}
+use Rattle.bz_attribute.specs.Elements.{HasNoList, IsListIn, ListRest, edit_in, edit_one_in, list_item, lists_in, rest_parts, value_parts}
+use Rattle.bz_attribute.specs.Lists.{edit_from, edit_list, edit_one_from, is_list, parts_from}
+use Rattle.bz_attribute.specs.Lists as lists
+use Rattle.bz_attribute.specs.private.HeadParts.{is_end}
+use Rattle.bz_attribute.specs.private.ListParts.{HasJoints, HasWalked, IsWalked, KeepsOthers, ends_piece, is_joint, is_plus, item_len, opens_list}
+use Rattle.bz_attribute.proofs.ItemParts.{item_at, none_after, none_at, piece_told}
+use Rattle.bz_attribute.proofs.RuleNodes.{segs_back}
+
+-- joints
+pub joints_begin : (ps : List RowPart) (from : ℕ) → HasJoints ps from from
+joints_begin ps from = λ nodes after read. record { back = nodes; read = read; joints = refl }
+
+pub joints_pass : (ps : List Part) (from at end : ℕ) (d : Part) → HasJoints (map part_view ps) from at → at < length ps → is_end (part_view (get_or ps at d)) ≡ false → is_joint (part_view (get_or ps at d)) ≡ true
+    → end ≡ at + item_len (drop at (map part_view ps)) → HasJoints (map part_view ps) from end
+joints_pass ps from at end d w h more joint end_is = λ nodes after read.
+    let j = w nodes after read in
+    let i = item_at j.back after ps at d j.read h more in
+    record {
+      back = i.xs;
+      read = i.next end end_is;
+      joints = j.joints ∙ ap (list_all lists.is_joint) i.are ∙ ap (λ (b : Bool). b && list_all lists.is_joint i.xs) (sym i.joint ∙ joint);
+    }
+
+pub no_joint : (ps : List Part) (from at : ℕ) (d : Part) (nodes : List Item) (after : List RowPart) → HasJoints (map part_view ps) from at → at < length ps → is_end (part_view (get_or ps at d)) ≡ false → is_joint (part_view (get_or ps at d)) ≡ false
+    → drop from (map part_view ps) ≡ value_parts nodes after → list_all lists.is_joint nodes ≡ false
+no_joint ps from at d nodes after w h more joint read =
+    let j = w nodes after read in
+    let i = item_at j.back after ps at d j.read h more in
+    j.joints ∙ ap (list_all lists.is_joint) i.are ∙ ap (λ (b : Bool). b && list_all lists.is_joint i.xs) (sym i.joint ∙ joint)
+
+pub all_joints : (ps : List Part) (from at : ℕ) (d : Part) (nodes : List Item) (after : List RowPart) → HasJoints (map part_view ps) from at → at < length ps → is_end (part_view (get_or ps at d)) ≡ true
+    → drop from (map part_view ps) ≡ value_parts nodes after → list_all lists.is_joint nodes ≡ true
+all_joints ps from at d nodes after w h end read =
+    let j = w nodes after read in
+    j.joints ∙ ap (list_all lists.is_joint) (none_at j.back after ps at d j.read h end)
+
+pub no_joints_after : {P : Type 0} (ps : List Part) (from at : ℕ) (nodes : List Item) (after : List RowPart) → HasJoints (map part_view ps) from at → length ps ≤ at → drop from (map part_view ps) ≡ value_parts nodes after → P
+no_joints_after ps from at nodes after w h read = let j = w nodes after read in none_after j.back after ps at j.read h
+
+-- no list part so far
+pub walk_begins : (start : Bool) (ps : List RowPart) (from : ℕ) → HasWalked start start ps from from
+walk_begins start ps from = λ nodes after read. record { front = []; back = nodes; are = refl; place = omega arith; read = read; lists = refl; others = λ e keeps. refl }
+
+joined_long : (front : List Item) (x : Item) → length (items_parts (items_of (front ++ x ∷ []))) ≡ length (items_parts (items_of front)) + length (item_parts x)
+joined_long [] x = omega (arith, length-append (item_parts x) [])
+joined_long (y ∷ front) x =
+    omega (arith, joined_long front x, length-append (item_parts y) (items_parts (items_of (front ++ x ∷ []))), length-append (item_parts y) (items_parts (items_of front)))
+
+pub walk_passes : (whole start next : Bool) (ps : List Part) (from at end : ℕ) (d : Part) → HasWalked whole start (map part_view ps) from at → at < length ps → is_end (part_view (get_or ps at d)) ≡ false
+    → start && opens_list (part_view (get_or ps at d)) && ends_piece (drop end (map part_view ps)) ≡ false → next ≡ is_plus (part_view (get_or ps at d)) → end ≡ at + item_len (drop at (map part_view ps))
+    → HasWalked whole next (map part_view ps) from end
+walk_passes whole start next ps from at end d w h more none plus end_is = λ nodes after read.
+    let k = w nodes after read in
+    let i = item_at k.back after ps at d k.read h more in
+    let no_part : lists.is_part start i.x i.xs ≡ false = (λ j. start && sym i.list j && (sym (piece_told i.xs after) ∙ ap ends_piece (sym (i.next end end_is))) j) ∙ none in
+    let is_next : next ≡ lists.is_plus i.x = plus ∙ i.plus in
+    record {
+      front = k.front ++ i.x ∷ [];
+      back = i.xs;
+      are = k.are ∙ ap (λ (ys : List Item). k.front ++ ys) i.are ∙ sym (append_assoc k.front (i.x ∷ []) i.xs);
+      place = omega (arith, end_is, i.long, k.place, joined_long k.front i.x);
+      read = i.next end end_is;
+      lists = k.lists ∙ ap (parts_from start) i.are ∙ rw no_part (ap (λ (b : Bool). parts_from b i.xs) (sym is_next));
+      others = λ e keeps.
+          k.others e keeps
+          ∙ ap (λ (ys : List Item). k.front ++ ys) (ap (e start) i.are ∙ keeps start i.x i.xs no_part ∙ ap (λ (b : Bool). i.x ∷ e b i.xs) (sym is_next))
+          ∙ sym (append_assoc k.front (i.x ∷ []) (e next i.xs));
+    }
+
+-- the edits of all parts and of the first
+keeps_all : (f : List Segment → List Segment) → KeepsOthers (edit_from f)
+keeps_all f start x xs told = rw told refl
+
+keeps_first : (f : List Segment → List Segment) → KeepsOthers (edit_one_from f)
+keeps_first f start x xs told = rw told refl
+
+abbrev Joined : Bool → List Item → Type 0
+Joined whole nodes = whole ≡ true → list_all lists.is_joint nodes ≡ true
+
+all_lists : (whole : Bool) (nodes : List Item) → Joined whole nodes → lists_in whole nodes ≡ parts_from whole nodes
+all_lists true nodes h = rw (h refl) refl
+all_lists false nodes h = refl
+
+all_edited : (whole : Bool) (f : List Segment → List Segment) (nodes : List Item) → Joined whole nodes → edit_in whole f nodes ≡ edit_from f whole nodes
+all_edited true f nodes h = rw (h refl) refl
+all_edited false f nodes h = refl
+
+one_edited : (whole : Bool) (f : List Segment → List Segment) (nodes : List Item) → Joined whole nodes → edit_one_in whole f nodes ≡ edit_one_from f whole nodes
+one_edited true f nodes h = rw (h refl) refl
+one_edited false f nodes h = refl
+
+-- the end
+nothing_left : (whole start : Bool) (nodes : List Item) (after ps : List RowPart) (from at : ℕ) → (w : IsWalked whole start nodes after ps from at) → w.back ≡ [] → Joined whole nodes → HasNoList whole nodes
+nothing_left whole start nodes after ps from at w none joined = record {
+  none = all_lists whole nodes joined ∙ w.lists ∙ ap (parts_from start) none;
+  same = λ f. all_edited whole f nodes joined ∙ w.others (edit_from f) (keeps_all f) ∙ ap (λ (ys : List Item). w.front ++ edit_from f start ys) none ∙ ap (λ (ys : List Item). w.front ++ ys) (sym none) ∙ sym w.are;
+}
+
+pub walk_ends : (whole start : Bool) (ps : List Part) (from at : ℕ) (d : Part) (nodes : List Item) (after : List RowPart) → HasWalked whole start (map part_view ps) from at → at < length ps → is_end (part_view (get_or ps at d)) ≡ true
+    → drop from (map part_view ps) ≡ value_parts nodes after → Joined whole nodes → HasNoList whole nodes
+walk_ends whole start ps from at d nodes after w h end read joined =
+    let k = w nodes after read in
+    nothing_left whole start nodes after (map part_view ps) from at k (none_at k.back after ps at d k.read h end) joined
+
+pub no_walk_after : {P : Type 0} (whole start : Bool) (ps : List Part) (from at : ℕ) (nodes : List Item) (after : List RowPart) → HasWalked whole start (map part_view ps) from at → length ps ≤ at → drop from (map part_view ps) ≡ value_parts nodes after → P
+no_walk_after whole start ps from at nodes after w h read = let k = w nodes after read in none_after k.back after ps at k.read h
+
+-- a list part
+record IsListItem (x : Item) : Type 0 where
+  segs : Segs
+  one_comma : Bool
+  end : List (List ℕ)
+  is : x ≡ group ListKind segs one_comma end
+
+list_is : (x : Item) → is_list x ≡ true → IsListItem x
+list_is (group ListKind segs one_comma end) h = record { segs = segs; one_comma = one_comma; end = end; is = refl }
+list_is (group _ segs one_comma end) h = absurd cc
+list_is (leaf kind text) h = absurd cc
+
+abbrev rest_of : Segs → Bool → List (List ℕ) → List Item → ListRest
+rest_of segs one_comma end xs = record { elements = segments segs; end = end; one_comma = one_comma; items = xs }
+
+opened : (segs : Segs) (one_comma : Bool) (end : List (List ℕ)) (xs : List Item) (after : List RowPart)
+    → value_parts (group ListKind segs one_comma end ∷ xs) after ≡ opening ListKind ∷ rest_parts (rest_of segs one_comma end xs) after
+opened segs one_comma end xs after =
+    let moved : ((segs_parts segs ++ (map above end ++ closing one_comma ∷ [])) ++ items_parts (items_of xs)) ++ segment_end ∷ after ≡ segs_parts segs ++ (map above end ++ closing one_comma ∷ value_parts xs after) = simp append_assoc in
+    ap (λ (ps : List RowPart). opening ListKind ∷ ps) (moved ∙ ap (λ (ss : Segs). segs_parts ss ++ (map above end ++ closing one_comma ∷ value_parts xs after)) (sym (segs_back segs)))
+
+here : (whole : Bool) (nodes : List Item) (after ps : List RowPart) (from at : ℕ) (xs : List Item) (segs : Segs) (one_comma : Bool) (end : List (List ℕ))
+    → (w : IsWalked whole true nodes after ps from at) → w.back ≡ group ListKind segs one_comma end ∷ xs → lists.ends xs ≡ true → Joined whole nodes → IsListIn whole nodes after ps from (at + 1)
+here whole nodes after ps from at xs segs one_comma end w back ends joined =
+    let x : Item = group ListKind segs one_comma end in
+    let list : ListRest = rest_of segs one_comma end xs in
+    let same : list_item list ≡ x = ap (λ (ss : Segs). group ListKind ss one_comma end) (segs_back segs) in
+    let part : lists.is_part true x xs ≡ true = ends in
+    record {
+      front = w.front;
+      list = list;
+      are = w.are ∙ ap (λ (ys : List Item). w.front ++ ys) (back ∙ ap (λ (y : Item). y ∷ xs) (sym same));
+      begins = omega (arith, w.place);
+      read = ap (λ (n : ℕ). drop n ps) (omega arith) ∙ sym (drop-drop 1 at ps) ∙ ap (drop 1) (w.read ∙ ap (λ (ys : List Item). value_parts ys after) back ∙ opened segs one_comma end xs after);
+      lists = all_lists whole nodes joined ∙ w.lists ∙ ap (parts_from true) back ∙ rw part refl;
+      ends = ends;
+      edit = λ f. all_edited whole f nodes joined ∙ w.others (edit_from f) (keeps_all f) ∙ ap (λ (ys : List Item). w.front ++ ys) (ap (edit_from f true) back ∙ rw part refl);
+      first = λ f. one_edited whole f nodes joined ∙ w.others (edit_one_from f) (keeps_first f) ∙ ap (λ (ys : List Item). w.front ++ ys) (ap (edit_one_from f true) back ∙ rw part refl);
+    }
+
+pub list_here : (whole start : Bool) (ps : List Part) (from at end : ℕ) (d : Part) (nodes : List Item) (after : List RowPart) → HasWalked whole start (map part_view ps) from at → at < length ps → is_end (part_view (get_or ps at d)) ≡ false
+    → start ≡ true → opens_list (part_view (get_or ps at d)) ≡ true → ends_piece (drop end (map part_view ps)) ≡ true → end ≡ at + item_len (drop at (map part_view ps))
+    → drop from (map part_view ps) ≡ value_parts nodes after → Joined whole nodes → IsListIn whole nodes after (map part_view ps) from (at + 1)
+list_here whole start ps from at end d nodes after w h more starts opens piece end_is read joined =
+    let k = subst (λ (b : Bool). IsWalked whole b nodes after (map part_view ps) from at) starts (w nodes after read) in
+    let i = item_at k.back after ps at d k.read h more in
+    let l = list_is i.x (sym i.list ∙ opens) in
+    here whole nodes after (map part_view ps) from at i.xs l.segs l.one_comma l.end k (i.are ∙ ap (λ (y : Item). y ∷ i.xs) l.is) (sym (piece_told i.xs after) ∙ ap ends_piece (sym (i.next end end_is)) ∙ piece) joined
+
+-- no list parts where not all are joints
+pub not_joined : (nodes : List Item) → list_all lists.is_joint nodes ≡ false → HasNoList true nodes
+not_joined nodes h = record { none = rw h refl; same = λ f. rw h refl }
+
+-- an answer that tells more
+pub some_as : {A : Type 0} (P Q : A → Type 0) (o : Option A) → ((n : A) → P n → Q n) → IfSome o P → IfSome o Q
+some_as P Q None f h = h
+some_as P Q (Some n) f h = f n h
+
+pub none_as : {A : Type 0} (P Q : Type 0) (o : Option A) → (P → Q) → IfNone o P → IfNone o Q
+none_as P Q None f h = f h
+none_as P Q (Some n) f h = h
+
+pub ok_as : {A E : Type 0} (P Q : A → Type 0) (r : Result A E) → ((a : A) → P a → Q a) → IfOk r P → IfOk r Q
+ok_as P Q (Ok a) f h = f a h
+ok_as P Q (Err e) f h = h

@@ -1,0 +1,128 @@
+-- The list parts of a value and the elements of each, among the parts of its rule.
+use Rattle.std.specs.Prelude.{◌≡◌, ℕ, ◌+◌, List, [], ◌∷◌, ◌++◌, Bool, true, false, Option, None, Some, length, map, take, drop}
+use Rattle.bz_tree.specs.declared.stmt.GroupKind.TheVariants.{List as ListKind}
+use Rattle.bz_tree.specs.Tree.{Item, group, Segment, Statement, items_of, segs_of}
+use Rattle.bz_tree.specs.Rows.{RowPart, above, closing, segment_end, items_parts, parts_of, segs_parts}
+use Rattle.bz_attribute.specs.Rules.{Rule, first_named, is_named, only_text, value}
+use Rattle.bz_attribute.specs.Lists.{edit_first_part, edit_from, edit_one_from, edit_parts, ends, parts, parts_from, with_value}
+use Rattle.bz_attribute.specs.Effects.{edit_first, with_args}
+use Rattle.bz_attribute.specs.Move.{joined}
+
+-- the parts of a value, the end of its argument, and those after that
+abbrev pub value_parts : List Item → List RowPart → List RowPart
+value_parts nodes after = items_parts (items_of nodes) ++ segment_end ∷ after
+
+-- the value of the first argument of a name stands there
+pub record IsValueAt (name : List ℕ) (s : Statement) (r : Rule) (ps : List RowPart) (at : ℕ) : Type 0 where
+  pub arg : Segment
+  pub after : List RowPart
+  pub first : first_named name r.args ≡ Some arg
+  pub read : drop at ps ≡ value_parts (value arg) after
+  -- others in its place make the rule with that argument edited
+  pub put : (edit : Segment → List Segment) (nodes : List Item) → edit arg ≡ with_value nodes arg ∷ []
+      → take at ps ++ value_parts nodes after ≡ parts_of (with_args (edit_first (is_named name) edit) s)
+
+-- what is left of a value from a place in a list part on
+pub record ListRest : Type 0 where
+  -- the elements that are left of the list part, and how it ends
+  pub elements : List Segment
+  pub end : List (List ℕ)
+  pub one_comma : Bool
+  -- what comes after it in the value
+  pub items : List Item
+
+abbrev pub list_item : ListRest → Item
+list_item l = group ListKind (segs_of l.elements) l.one_comma l.end
+
+abbrev pub rest_parts : ListRest → List RowPart → List RowPart
+rest_parts l after = segs_parts (segs_of l.elements) ++ (map above l.end ++ closing l.one_comma ∷ value_parts l.items after)
+
+-- The elements of each list part of a value (`whole`), or of what comes after a list part of it.
+abbrev pub lists_in : Bool → List Item → List (List Segment)
+lists_in true nodes = parts nodes
+lists_in false nodes = parts_from false nodes
+
+abbrev pub edit_in : Bool → (List Segment → List Segment) → List Item → List Item
+edit_in true f nodes = edit_parts f nodes
+edit_in false f nodes = edit_from f false nodes
+
+abbrev pub edit_one_in : Bool → (List Segment → List Segment) → List Item → List Item
+edit_one_in true f nodes = edit_first_part f nodes
+edit_one_in false f nodes = edit_one_from f false nodes
+
+-- The first list part of nodes that stand at `from`: its elements begin at `to`.
+pub record IsListIn (whole : Bool) (nodes : List Item) (after ps : List RowPart) (from to : ℕ) : Type 0 where
+  pub front : List Item
+  pub list : ListRest
+  pub are : nodes ≡ front ++ list_item list ∷ list.items
+  pub begins : to ≡ from + (length (items_parts (items_of front)) + 1)
+  pub read : drop to ps ≡ rest_parts list after
+  pub lists : lists_in whole nodes ≡ list.elements ∷ parts_from false list.items
+  pub ends : ends list.items ≡ true
+  pub edit : (f : List Segment → List Segment)
+      → edit_in whole f nodes ≡ front ++ list_item (record list { elements = f list.elements }) ∷ edit_from f false list.items
+  pub first : (f : List Segment → List Segment)
+      → edit_one_in whole f nodes ≡ front ++ list_item (record list { elements = f list.elements }) ∷ list.items
+
+-- there is none
+pub record HasNoList (whole : Bool) (nodes : List Item) : Type 0 where
+  pub none : lists_in whole nodes ≡ []
+  pub same : (f : List Segment → List Segment) → edit_in whole f nodes ≡ nodes
+
+-- The next of the elements that are left, which begin at `at`: its nodes begin at `token`, and it ends at `to`.
+pub record IsElementOf (l : ListRest) (after ps : List RowPart) (at token to : ℕ) (string : Option (List ℕ)) : Type 0 where
+  pub element : Segment
+  pub others : List Segment
+  pub are : l.elements ≡ element ∷ others
+  pub begins : token ≡ at + length element.before
+  pub ends : to ≡ at + length (segs_parts (segs_of (element ∷ [])))
+  pub own : drop at ps ≡ segs_parts (segs_of (element ∷ [])) ++ drop to ps
+  pub read : drop to ps ≡ rest_parts (record l { elements = others }) after
+  pub text : string ≡ only_text element.nodes
+
+-- an edit of elements one by one
+pub record IsByElement (f : List Segment → List Segment) : Type 0 where
+  pub nil : f [] ≡ []
+  pub cons : (s : Segment) (ss : List Segment) → f (s ∷ ss) ≡ f (s ∷ []) ++ f ss
+
+-- the edit of what is left
+abbrev pub edited_rest : (List Segment → List Segment) → ListRest → ListRest
+edited_rest f l = record { elements = f l.elements; end = l.end; one_comma = l.one_comma; items = edit_from f false l.items }
+
+-- The nodes of a value begin at `from`, and f edits each list part: `new` are the parts that come to stand before what
+-- `at` begins, `seen` the elements before it.
+pub record IsEditedTo (f : List Segment → List Segment) (nodes : List Item) (after ps : List RowPart) (at : ℕ) (new : List RowPart) : Type 0 where
+  pub rest : ListRest
+  pub seen : List Segment
+  pub read : drop at ps ≡ rest_parts rest after
+  pub elements : joined (parts nodes) ≡ seen ++ (rest.elements ++ joined (parts_from false rest.items))
+  pub edited : value_parts (edit_parts f nodes) after ≡ new ++ rest_parts (edited_rest f rest) after
+
+-- all elements that are left of the value
+abbrev pub elements_left : ListRest → List Segment
+elements_left l = l.elements ++ joined (parts_from false l.items)
+
+-- the next of them ends at `to`
+pub record IsNextElement (l : ListRest) (after ps : List RowPart) (to : ℕ) (string : Option (List ℕ)) : Type 0 where
+  pub element : Segment
+  pub left : ListRest
+  pub are : elements_left l ≡ element ∷ elements_left left
+  pub read : drop to ps ≡ rest_parts left after
+  pub text : string ≡ only_text element.nodes
+
+-- the elements of a list part end at `end`
+pub record AreElementsTo (l : ListRest) (ps : List RowPart) (from end : ℕ) : Type 0 where
+  pub are : drop from ps ≡ segs_parts (segs_of l.elements) ++ drop end ps
+  pub size : end ≡ from + length (segs_parts (segs_of l.elements))
+
+-- the list parts of a value, where the elements of the first begin at a place
+pub record AreListsAt (ps : List RowPart) (from : ℕ) (lists : List (List Segment)) : Type 0 where
+  pub rest : ListRest
+  pub after : List RowPart
+  pub read : drop from ps ≡ rest_parts rest after
+  pub are : lists ≡ rest.elements ∷ parts_from false rest.items
+
+-- there may be none
+abbrev pub AreLists : List RowPart → Option ℕ → List (List Segment) → Type 0
+AreLists ps None lists = lists ≡ []
+AreLists ps (Some from) lists = AreListsAt ps from lists

@@ -1,0 +1,99 @@
+-- For private clauses alone: the items of a value, by their parts.
+use Rattle.std.specs.Prelude.{◌≡◌, ℕ, zero, suc, ◌+◌, List, [], ◌∷◌, ◌++◌, Bool, true, false, ◌||◌, if◌then◌else◌, Option, None, length, drop}
+use Rattle.std.specs.List.{list_all}
+use Rattle.bz_tree.specs.declared.stmt.GroupKind.TheVariants.{List as ListKind}
+use Rattle.bz_tree.specs.Tree.{Item, leaf, Segment, items_of, segs_of}
+use Rattle.bz_tree.specs.Rows.{RowPart, a_token, closing, opening, items_parts, segs_parts}
+use Rattle.bz_attribute.specs.Elements.{ListRest, elements_left, rest_parts, value_parts}
+use Rattle.bz_attribute.specs.Lists as lists
+use Rattle.bz_attribute.specs.private.HeadParts.{is_end, text_of}
+
+-- how many parts there are up to the bracket that closes around them, with it, where so many more are open
+abbrev pub close_len : ℕ → List RowPart → ℕ
+close_len d [] = 0
+close_len d (opening kind ∷ ps) = suc (close_len (suc d) ps)
+close_len zero (closing one_comma ∷ ps) = 1
+close_len (suc d) (closing one_comma ∷ ps) = suc (close_len d ps)
+close_len d (p ∷ ps) = suc (close_len d ps)
+
+-- how many parts the item has that they begin with
+abbrev pub item_len : List RowPart → ℕ
+item_len [] = 0
+item_len (opening kind ∷ ps) = 1 + close_len 0 ps
+item_len (p ∷ ps) = 1
+
+abbrev pub is_joint : RowPart → Bool
+is_joint (a_token kind text) = lists.is_joint (leaf kind text)
+is_joint _ = true
+
+abbrev pub is_plus : RowPart → Bool
+is_plus (a_token kind text) = lists.is_plus (leaf kind text)
+is_plus _ = false
+
+abbrev pub opens_list : RowPart → Bool
+opens_list (opening ListKind) = true
+opens_list _ = false
+
+-- a piece of a value ends there
+abbrev pub ends_piece : List RowPart → Bool
+ends_piece [] = true
+ends_piece (p ∷ ps) = is_end p || is_plus p
+
+-- the elements of a list end there
+abbrev pub ends_list : List RowPart → Bool
+ends_list [] = true
+ends_list (closing one_comma ∷ ps) = true
+ends_list _ = false
+
+-- the text of a segment that is one string token
+abbrev pub string_in : List RowPart → Option (List ℕ)
+string_in (p ∷ q ∷ ps) = if is_end q then text_of p else None
+string_in _ = None
+
+-- an edit of items, of which `start` says whether a piece begins with the first: where that is no list part, it stays
+abbrev pub KeepsOthers : (Bool → List Item → List Item) → Type 0
+KeepsOthers e = (start : Bool) (x : Item) (xs : List Item) → lists.is_part start x xs ≡ false → e start (x ∷ xs) ≡ x ∷ e (lists.is_plus x) xs
+
+-- Of nodes that begin at `from`, those before `at` are no list parts. A piece begins there where `start`.
+pub record IsWalked (whole start : Bool) (nodes : List Item) (after ps : List RowPart) (from at : ℕ) : Type 0 where
+  pub front : List Item
+  pub back : List Item
+  pub are : nodes ≡ front ++ back
+  pub place : at ≡ from + length (items_parts (items_of front))
+  pub read : drop at ps ≡ value_parts back after
+  pub lists : lists.parts_from whole nodes ≡ lists.parts_from start back
+  pub others : (e : Bool → List Item → List Item) → KeepsOthers e → e whole nodes ≡ front ++ e start back
+
+abbrev pub HasWalked : Bool → Bool → List RowPart → ℕ → ℕ → Type 0
+HasWalked whole start ps from at = (nodes : List Item) (after : List RowPart) → drop from ps ≡ value_parts nodes after → IsWalked whole start nodes after ps from at
+
+-- Of nodes that begin at `from`, those before `at` are joints.
+pub record AreJoints (nodes : List Item) (after ps : List RowPart) (at : ℕ) : Type 0 where
+  pub back : List Item
+  pub read : drop at ps ≡ value_parts back after
+  pub joints : list_all lists.is_joint nodes ≡ list_all lists.is_joint back
+
+abbrev pub HasJoints : List RowPart → ℕ → ℕ → Type 0
+HasJoints ps from at = (nodes : List Item) (after : List RowPart) → drop from ps ≡ value_parts nodes after → AreJoints nodes after ps at
+
+-- the elements of a list part up to a place
+pub record IsPassedTo (l : ListRest) (after ps : List RowPart) (from at : ℕ) : Type 0 where
+  pub seen : List Segment
+  pub left : ListRest
+  pub elements : l.elements ≡ seen ++ left.elements
+  pub own : drop from ps ≡ segs_parts (segs_of seen) ++ drop at ps
+  pub size : at ≡ from + length (segs_parts (segs_of seen))
+  pub read : drop at ps ≡ rest_parts left after
+
+abbrev pub HasPassedTo : List RowPart → ℕ → ℕ → Type 0
+HasPassedTo ps from at = (l : ListRest) (after : List RowPart) → drop from ps ≡ rest_parts l after → IsPassedTo l after ps from at
+
+-- no element is left of the list part that `at` is in, and of the value what was left before
+pub record IsEmptiedTo (l : ListRest) (after ps : List RowPart) (at : ℕ) : Type 0 where
+  pub left : ListRest
+  pub none : left.elements ≡ []
+  pub same : elements_left l ≡ elements_left left
+  pub read : drop at ps ≡ rest_parts left after
+
+abbrev pub HasEmptied : List RowPart → ℕ → ℕ → Type 0
+HasEmptied ps from at = (l : ListRest) (after : List RowPart) → drop from ps ≡ rest_parts l after → IsEmptiedTo l after ps at

@@ -1,0 +1,37 @@
+//! What a command makes of the parts of a rule: others come to stand in a place of them.
+
+ghost use Rattle.std.specs.Prelude.{◌≡◌, None, false, true};
+ghost use Rattle.bz_attribute.specs.Effects.{done};
+
+use crate::done::Done;
+use crate::place::Place;
+
+/// What a command makes of the parts of a rule: where `done.changed`, those of the place make way for the ones that it
+/// wrote.
+#[derive(Drop)]
+pub struct Edit {
+    pub done: Done,
+    pub place: Place,
+}
+
+impl Edit {
+    /// A change at a place.
+    pub fn at(place: Place) -> Edit
+        ensures { result ≡ record { done = done None true; place = place } }
+    {
+        Edit {
+            done: Done::quiet(true),
+            place,
+        }
+    }
+
+    /// Nothing changes.
+    pub fn none(done: Done) -> Edit
+        ensures { result ≡ record { done = done; place = record { from = 0; to = 0 } } }
+    {
+        Edit {
+            done,
+            place: Place { from: 0, to: 0 },
+        }
+    }
+}

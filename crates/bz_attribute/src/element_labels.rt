@@ -1,0 +1,78 @@
+//! The labels of the elements of a value, walked over among the parts of a rule.
+
+ghost use Rattle.std.specs.Prelude.{◌≡◌, ◌≤◌, ℕ, List, IsTrue, drop, map, length, option_map, IfOk, IfSome};
+ghost use Rattle.bz_tree.specs.Rows.{RowPart, part_view};
+ghost use Rattle.bz_tree.specs.Tree.{Segment};
+ghost use Rattle.bz_attribute.specs.Elements.{AreLists, ListRest, elements_left, rest_parts};
+ghost use Rattle.bz_attribute.specs.Rules.{value_in};
+ghost use Rattle.bz_attribute.specs.private.ElementSets.{choice, is_among, is_in, kept};
+ghost use Rattle.bz_command.specs.LabelSetViews.{has};
+ghost use Rattle.bz_command.specs.private.ByteSteps.{left, is_good};
+
+use crate::elements::next_of_value;
+use crate::word_set::WordSet;
+use bz_command::{Bytes, LabelSet, Package, value_of};
+use bz_tree::Part;
+use std::alloc::{AllocError, Global};
+
+// The value of a string, where it equals one of the words; without words any value.
+fn kept_value<'a>(
+    home: &Package,
+    words: Option<&WordSet<'_>>,
+    string: Option<&'a str>,
+) -> Option<Bytes<'a>>
+    ensures value { option_map left result
+        ≡ kept home.now (choice words.entry) (value_in (option_map (λ text. text.now) string.entry)) }
+    ensures good { IfSome result (λ bytes. IsTrue (is_good bytes)) }
+{
+    let value = value_of(string?)?;
+    match words {
+        Some(set) if !set.has(home, value) => None,
+        _ => Some(value),
+    }
+}
+
+/// The labels of the elements of list parts that equal one of the words, or without words of all elements, as far as
+/// these are strings with a value. The elements of the first list part begin at `list`.
+pub fn labels_of<'s>(
+    alloc: Global,
+    home: &'s Package,
+    words: Option<&WordSet<'_>>,
+    parts: &[Part<'s>],
+    list: Option<usize>,
+) -> Result<LabelSet<'s>, AllocError>
+    requires { IfSome list (λ from. from ≤ length parts.now) }
+    ensures home { IfOk result (λ set. set.home.now ≡ home.now) }
+    ensures all { IfOk result (λ set. (lists : List (List Segment))
+        → AreLists (map part_view parts.now) list lists
+        → (text : List ℕ) → has set text ≡ is_in home.now (choice words.entry) lists text) }
+{
+    match list {
+        None => Ok(LabelSet::new(alloc, home)),
+        Some(from) => labels_from(alloc, home, words, parts, from),
+    }
+}
+
+fn labels_from<'s>(
+    alloc: Global,
+    home: &'s Package,
+    words: Option<&WordSet<'_>>,
+    parts: &[Part<'s>],
+    from: usize,
+) -> Result<LabelSet<'s>, AllocError>
+    requires { from ≤ length parts.now }
+    ensures home { IfOk result (λ set. set.home.now ≡ home.now) }
+    ensures all { IfOk result (λ set. (rest : ListRest) (after : List RowPart)
+        → drop from (map part_view parts.now) ≡ rest_parts rest after
+        → (text : List ℕ) → has set text ≡ is_among home.now (choice words.entry) (elements_left rest) text) }
+{
+    let mut set = LabelSet::new(alloc, home);
+    let mut at = from;
+    while let Some(element) = next_of_value(parts, at) {
+        if let Some(value) = kept_value(home, words, element.string) {
+            set.insert(value)?;
+        }
+        at = element.to;
+    }
+    Ok(set)
+}

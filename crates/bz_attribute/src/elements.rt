@@ -1,0 +1,279 @@
+//! The list parts of a value and the elements of each, walked over among the parts of a rule: no tree and no memory.
+
+ghost use Rattle.std.specs.Prelude.{◌≡◌, ◌≤◌, ◌<◌, ◌+◌, List, [], ◌∷◌, ◌&&◌, ◌||◌, true, false, drop, map, length, option_map, IfNone, IfSome, codes};
+ghost use Rattle.std.specs.List.{list_all};
+ghost use Rattle.bz_tree.specs.Tree.{Item, Statement};
+ghost use Rattle.bz_tree.specs.Rows.{RowPart, part_view};
+ghost use Rattle.bz_attribute.specs.Elements.{AreElementsTo, HasNoList, IsElementOf, IsListIn, IsNextElement, IsValueAt, ListRest, elements_left, rest_parts, value_parts};
+ghost use Rattle.bz_attribute.specs.Lists as lists;
+ghost use Rattle.bz_attribute.specs.Effects.{has};
+ghost use Rattle.bz_attribute.specs.Rules.{Rule};
+ghost use Rattle.bz_attribute.specs.RowPlaces.{IsRuleRow};
+ghost use Rattle.bz_attribute.specs.private.Ends.{above_len};
+ghost use Rattle.bz_attribute.specs.private.ListParts as spec;
+
+use crate::finder::find_argument;
+use crate::head_parts::{is_end, text_of};
+use crate::place::{is_above, segment_len};
+use bz_token::Kind;
+use bz_tree::{GroupKind, Part};
+
+/// An element of a list part, among the parts of a rule. It begins with the comments above it.
+#[derive(Clone, Copy)]
+pub struct Element<'a> {
+    /// Where its nodes begin, after the comments above it.
+    pub token: usize,
+    /// After its last part.
+    pub to: usize,
+    /// Its text, where it is one string token.
+    pub string: Option<&'a str>,
+}
+
+/// Where the value of the first argument of a name begins.
+pub fn value_place(parts: &[Part<'_>], name: &str) -> Option<usize>
+    ensures some { IfSome result (λ at. (s : Statement) (r : Rule) → IsRuleRow s r (map part_view parts.now)
+        → IsValueAt name.now s r (map part_view parts.now) at) }
+    ensures none { IfNone result ((s : Statement) (r : Rule) → IsRuleRow s r (map part_view parts.now)
+        → has name.now r.args ≡ false) }
+    ensures within { IfSome result (λ at. at ≤ length parts.now) }
+{
+    match find_argument(parts, name) {
+        None => None,
+        Some(at) if parts.len() - at < 2 => None,
+        Some(at) => Some(at + 2),
+    }
+}
+
+// How many parts there are up to the bracket that closes around them, with it.
+fn close_len(parts: &[Part<'_>]) -> usize
+    ensures len { result ≡ spec.close_len 0 (map part_view parts.now) }
+    ensures within { result ≤ length parts.now }
+{
+    let mut depth: usize = 0;
+    let mut count = 0;
+    while count < parts.len() {
+        match parts[count] {
+            Part::Close(_) if depth == 0 => return count + 1,
+            Part::Open(_) => depth += 1,
+            Part::Close(_) => depth -= 1,
+            _ => {}
+        }
+        count += 1;
+    }
+    count
+}
+
+// How many parts the item has that they begin with: a token, or brackets with what stands in them.
+fn item_len(parts: &[Part<'_>]) -> usize
+    ensures len { result ≡ spec.item_len (map part_view parts.now) }
+    ensures within { result ≤ length parts.now }
+    ensures some { 0 < length parts.now → 0 < result }
+{
+    match parts {
+        [] => 0,
+        [Part::Open(_), inside @ ..] => 1 + close_len(inside),
+        _ => 1,
+    }
+}
+
+// An item that begins with this part may stand in a value that has list parts.
+fn is_joint(part: &Part<'_>) -> bool
+    ensures { result ≡ spec.is_joint (part_view part.now) }
+{
+    match part {
+        Part::Token(Kind::Keyword, _) => false,
+        Part::Token(Kind::Operator, text) => matches!(*text, "+" | "."),
+        _ => true,
+    }
+}
+
+fn is_plus(part: &Part<'_>) -> bool
+    ensures { result ≡ spec.is_plus (part_view part.now) }
+{
+    match part {
+        Part::Token(Kind::Operator, text) => *text == "+",
+        _ => false,
+    }
+}
+
+fn opens_list(part: &Part<'_>) -> bool
+    ensures { result ≡ spec.opens_list (part_view part.now) }
+{
+    matches!(part, Part::Open(GroupKind::List))
+}
+
+// A piece of a value ends there.
+fn ends_piece(parts: &[Part<'_>]) -> bool
+    ensures { result ≡ spec.ends_piece (map part_view parts.now) }
+{
+    match parts {
+        [] => true,
+        [part, ..] => is_end(part) || is_plus(part),
+    }
+}
+
+// All that stands in a value at depth 0 may stand in one that has list parts.
+fn are_joints(parts: &[Part<'_>], from: usize) -> bool
+    requires { from ≤ length parts.now }
+    ensures { (nodes : List Item) (after : List RowPart)
+        → drop from (map part_view parts.now) ≡ value_parts nodes after → result ≡ list_all lists.is_joint nodes }
+{
+    let mut at = from;
+    while at < parts.len() && !is_end(&parts[at]) {
+        if !is_joint(&parts[at]) {
+            return false;
+        }
+        at += item_len(&parts[at..]);
+    }
+    true
+}
+
+// Where the elements of the next list part begin: `whole` says whether these are all nodes of a value, or those after
+// a list part of it.
+fn list_from(parts: &[Part<'_>], from: usize, whole: bool) -> Option<usize>
+    requires { from ≤ length parts.now }
+    ensures some { IfSome result (λ to. (nodes : List Item) (after : List RowPart)
+        → drop from (map part_view parts.now) ≡ value_parts nodes after
+        → (whole ≡ true → list_all lists.is_joint nodes ≡ true)
+        → IsListIn whole nodes after (map part_view parts.now) from to) }
+    ensures none { IfNone result ((nodes : List Item) (after : List RowPart)
+        → drop from (map part_view parts.now) ≡ value_parts nodes after
+        → (whole ≡ true → list_all lists.is_joint nodes ≡ true) → HasNoList whole nodes) }
+    ensures within { IfSome result (λ to. (from < to) × (to ≤ length parts.now)) }
+{
+    let mut at = from;
+    let mut starts = whole;
+    while at < parts.len() && !is_end(&parts[at]) {
+        let end = at + item_len(&parts[at..]);
+        if starts && opens_list(&parts[at]) && ends_piece(&parts[end..]) {
+            return Some(at + 1);
+        }
+        starts = is_plus(&parts[at]);
+        at = end;
+    }
+    None
+}
+
+/// Where the elements of the first list part of a value begin.
+pub fn first_list(parts: &[Part<'_>], value: usize) -> Option<usize>
+    requires { value ≤ length parts.now }
+    ensures some { IfSome result (λ to. (nodes : List Item) (after : List RowPart)
+        → drop value (map part_view parts.now) ≡ value_parts nodes after
+        → IsListIn true nodes after (map part_view parts.now) value to) }
+    ensures none { IfNone result ((nodes : List Item) (after : List RowPart)
+        → drop value (map part_view parts.now) ≡ value_parts nodes after → HasNoList true nodes) }
+    ensures within { IfSome result (λ to. (value < to) × (to ≤ length parts.now)) }
+{
+    if !are_joints(parts, value) {
+        return None;
+    }
+    list_from(parts, value, true)
+}
+
+/// Where the elements of the next list part begin, after one whose elements end at a place.
+pub fn next_list(parts: &[Part<'_>], at: usize) -> Option<usize>
+    requires { at ≤ length parts.now }
+    ensures some { IfSome result (λ to. (rest : ListRest) (after : List RowPart) → rest.elements ≡ []
+        → drop at (map part_view parts.now) ≡ rest_parts rest after
+        → IsListIn false rest.items after (map part_view parts.now) (at + length rest.end + 1) to) }
+    ensures none { IfNone result ((rest : ListRest) (after : List RowPart) → rest.elements ≡ []
+        → drop at (map part_view parts.now) ≡ rest_parts rest after → HasNoList false rest.items) }
+    ensures within { IfSome result (λ to. (at < to) × (to ≤ length parts.now)) }
+{
+    let close = at + comments_len(&parts[at..]);
+    if close == parts.len() {
+        return None;
+    }
+    list_from(parts, close + 1, false)
+}
+
+// How many comments stand above something.
+fn comments_len(parts: &[Part<'_>]) -> usize
+    ensures len { result ≡ above_len (map part_view parts.now) }
+    ensures within { result ≤ length parts.now }
+{
+    let mut count = 0;
+    while count < parts.len() && is_above(parts[count]) {
+        count += 1;
+    }
+    count
+}
+
+// The elements of a list end there.
+fn ends_list(parts: &[Part<'_>]) -> bool
+    ensures { result ≡ spec.ends_list (map part_view parts.now) }
+{
+    matches!(parts, [] | [Part::Close(_), ..])
+}
+
+// The text of the segment that they begin with, where it is one string token.
+fn string_in<'a>(parts: &[Part<'a>]) -> Option<&'a str>
+    ensures { option_map (λ text. text.now) result ≡ spec.string_in (map part_view parts.now) }
+{
+    match parts {
+        [string, end, ..] if is_end(end) => text_of(string),
+        _ => None,
+    }
+}
+
+/// The element that begins at a place in a list part. None: its elements end there.
+pub fn next_element<'a>(parts: &[Part<'a>], at: usize) -> Option<Element<'a>>
+    requires { at ≤ length parts.now }
+    ensures some { IfSome result (λ e. (rest : ListRest) (after : List RowPart)
+        → drop at (map part_view parts.now) ≡ rest_parts rest after → IsElementOf rest after (map part_view parts.now)
+        at e.token e.to (option_map (λ text. text.now) e.string)) }
+    ensures none { IfNone result ((rest : ListRest) (after : List RowPart)
+        → drop at (map part_view parts.now) ≡ rest_parts rest after → rest.elements ≡ []) }
+    ensures within { IfSome result (λ e. (at ≤ e.token) × ((e.token < e.to) × (e.to ≤ length parts.now))) }
+{
+    let token = at + comments_len(&parts[at..]);
+    let rest = &parts[token..];
+    if ends_list(rest) {
+        return None;
+    }
+    Some(Element {
+        token,
+        to: token + segment_len(rest),
+        string: string_in(rest),
+    })
+}
+
+/// Where the elements of a list part end, which begin at a place.
+pub fn elements_end(parts: &[Part<'_>], from: usize) -> usize
+    requires { from ≤ length parts.now }
+    ensures elements { (rest : ListRest) (after : List RowPart)
+        → drop from (map part_view parts.now) ≡ rest_parts rest after
+        → AreElementsTo rest (map part_view parts.now) from result }
+    ensures within { (from ≤ result) × (result ≤ length parts.now) }
+{
+    let mut at = from;
+    while let Some(element) = next_element(parts, at) {
+        at = element.to;
+    }
+    at
+}
+
+/// The next element of a value, from a place in a list part of it on. None: no element is left in any.
+pub fn next_of_value<'a>(parts: &[Part<'a>], at: usize) -> Option<Element<'a>>
+    requires { at ≤ length parts.now }
+    ensures some { IfSome result (λ e. (rest : ListRest) (after : List RowPart)
+        → drop at (map part_view parts.now) ≡ rest_parts rest after → IsNextElement rest after
+        (map part_view parts.now) e.to (option_map (λ text. text.now) e.string)) }
+    ensures none { IfNone result ((rest : ListRest) (after : List RowPart)
+        → drop at (map part_view parts.now) ≡ rest_parts rest after → elements_left rest ≡ []) }
+    ensures within { IfSome result (λ e. (at < e.to) × (e.to ≤ length parts.now)) }
+{
+    let element = next_element(parts, at);
+    if element.is_some() {
+        return element;
+    }
+    let mut end = at;
+    while let Some(from) = next_list(parts, end) {
+        let element = next_element(parts, from);
+        if element.is_some() {
+            return element;
+        }
+        end = from;
+    }
+    None
+}

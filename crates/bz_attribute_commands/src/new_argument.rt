@@ -1,0 +1,91 @@
+//! The parts of a new argument, and of the value that it is set to.
+
+ghost use Rattle.std.specs.Prelude.{◌≡◌, ◌++◌, ◌∷◌, [], None, OnOk, map};
+ghost use Rattle.bz_token.specs.declared.token.Kind.TheVariants.{String as StringKind};
+ghost use Rattle.bz_command.specs.Values.{quoted};
+ghost use Rattle.bz_tree.specs.Tree.{items_of, segs_of};
+ghost use Rattle.bz_tree.specs.Rows.{a_token, items_parts, part_view, segs_parts};
+ghost use Rattle.bz_attribute.specs.Effects.{argument, list_item, string};
+ghost use Rattle.bz_attribute_commands.specs.private.SetViews.{new_view};
+ghost use Rattle.bz_attribute.specs.Set as spec;
+
+use crate::set::{New, new_of};
+use bz_attribute::Parts;
+use bz_command::{Text, quote};
+use bz_token::Kind;
+use bz_tree::{GroupKind, Part};
+use std::alloc::{AllocError, Global};
+
+/// Writes the parts of an argument that is new and is set to some words, in place of what the list holds.
+pub fn write_argument<'a>(
+    alloc: Global,
+    attr: &str,
+    words: &[Text],
+    new: &mut Parts<'a>,
+) -> Result<(), AllocError>
+    ensures { OnOk result (map part_view new.new.items
+        ≡ segs_parts (segs_of (argument attr.now (spec.new_value (spec.new_of attr.now words.now None)) ∷ []))) }
+{
+    new.clear();
+    push_token(Kind::Identifier, attr, new)?;
+    new.push(Part::Token(Kind::Operator, "="))?;
+    push_value(alloc, new_of(attr, words, &[]), new)?;
+    new.push(Part::End)?;
+    Ok(())
+}
+
+// Appends the parts of a value.
+fn push_value<'a>(alloc: Global, value: New<'_>, new: &mut Parts<'a>) -> Result<(), AllocError>
+    ensures { OnOk result (map part_view new.new.items
+        ≡ map part_view new.old.items ++ items_parts (items_of (spec.new_value (new_view value.entry)))) }
+{
+    match value {
+        New::String(word) => push_string(alloc, word, new),
+        New::Number(digits) => push_token(Kind::Integer, digits, new),
+        New::Constant(name) => push_token(Kind::Identifier, name, new),
+        New::Strings(words) => push_list(alloc, words, new),
+    }
+}
+
+// Appends a token, whose text is copied into the arena.
+fn push_token<'a>(kind: Kind, text: &str, new: &mut Parts<'a>) -> Result<(), AllocError>
+    ensures { OnOk result
+        (map part_view new.new.items ≡ map part_view new.old.items ++ a_token kind text.now ∷ []) }
+{
+    let bump = *new.allocator();
+    let text = bump.try_alloc_str(text)?;
+    new.push(Part::Token(kind, text))?;
+    Ok(())
+}
+
+// Appends the literal of a string.
+fn push_string<'a>(alloc: Global, word: &str, new: &mut Parts<'a>) -> Result<(), AllocError>
+    ensures { OnOk result
+        (map part_view new.new.items ≡ map part_view new.old.items ++ a_token StringKind (quoted word.now) ∷ []) }
+{
+    let literal = quote(alloc, word)?;
+    push_token(Kind::String, literal.as_str(), new)
+}
+
+// Appends the parts of a list of strings.
+fn push_list<'a>(alloc: Global, words: &[Text], new: &mut Parts<'a>) -> Result<(), AllocError>
+    ensures { OnOk result (map part_view new.new.items
+        ≡ map part_view new.old.items ++ items_parts (items_of (list_item (map string words.now) ∷ []))) }
+{
+    new.push(Part::Open(GroupKind::List))?;
+    push_strings(alloc, words, new)?;
+    new.push(Part::Close(false))?;
+    Ok(())
+}
+
+// Appends the parts of elements that are strings.
+fn push_strings<'a>(alloc: Global, words: &[Text], new: &mut Parts<'a>) -> Result<(), AllocError>
+    ensures { OnOk result
+        (map part_view new.new.items ≡ map part_view new.old.items ++ segs_parts (segs_of (map string words.now))) }
+{
+    for word in words {
+        push_string(alloc, word.as_str(), new)?;
+        new.push(Part::End)?;
+    }
+    Ok(())
+}

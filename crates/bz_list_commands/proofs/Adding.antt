@@ -1,0 +1,135 @@
+-- What `add` writes, value by value, and what it makes of a rule.
+use Rattle.std.proofs.Common.{◌≡◌, ℕ, ◌+◌, ◌-◌, ◌<◌, ◌≤◌, List, [], ◌∷◌, ◌++◌, Bool, true, false, ◌||◌, not, if◌then◌else◌, Option, Some, None, is_some, length, get_or, map, take, drop, refl, ap, sym, ◌∙◌, subst, arith, append_assoc, append-nil, length-append, take-add}
+use Rattle.std.specs.Prelude.{codes, option_to_list, Result, Ok, Err, OnOk}
+use Rattle.std.proofs.lemmas.List.{drop_all}
+use Rattle.bz_token.specs.declared.token.Kind.TheVariants.{Identifier, Operator}
+use Rattle.bz_tree.specs.declared.stmt.GroupKind.TheVariants.{List as ListKind}
+use Rattle.bz_tree.specs.Rows.{RowPart, a_token, above, beside_part, closing, opening, items_parts, parts_of, segment_end, segs_parts}
+use Rattle.bz_tree.specs.Tree.{Item, Segment, Statement, items_of, segs_of}
+use Rattle.bz_command.specs.Labels.{Package}
+use Rattle.bz_command.specs.LabelSetViews.{Gains, has as holds_label}
+use Rattle.bz_command.specs.declared.label_set.LabelSet.{LabelSet}
+use Rattle.bz_attribute.specs.Add.{add, adds, fresh, is_fresh, new_elements, with_added}
+use Rattle.bz_attribute.specs.Effects.{argument, done, edit_first, failed, has, is_nil, list_item, no_parts, not_a_list, string, with_args}
+use Rattle.bz_attribute.specs.Elements.{AreElementsTo, AreLists, IsListIn, IsValueAt, value_parts}
+use Rattle.bz_attribute.specs.Lists.{edit_first_part, parts, same, with_value}
+use Rattle.bz_attribute.specs.RowEdits.{replaced_at}
+use Rattle.bz_attribute.specs.RowPlaces.{IsLocal, IsPlaceOf, IsRuleRow, alone}
+use Rattle.bz_attribute.specs.Rules.{Rule, first_named, is_named, value}
+use Rattle.bz_attribute.specs.declared.done.Done.{Done}
+use Rattle.bz_attribute.specs.declared.done.Note.TheVariants.{NotAList}
+use Rattle.bz_attribute.specs.declared.place.Place.{Place}
+use Rattle.bz_attribute.proofs.EditedAt.{none_first, segs_join, with_args_at}
+use Rattle.bz_attribute.proofs.Fresh.{fresh_step}
+use Rattle.bz_attribute.proofs.ListEdits.{appended}
+use Rattle.bz_list_commands.specs.private.AddSteps.{IsAdding, Knows}
+use Rattle.bz_list_commands.proofs.Known.{knows_fresh, knows_more}
+use Rattle.bz_list_commands.proofs.Named.{add_local, is_there}
+
+-- value by value
+pub adding_begins : (home : Package) (lists : List (List Segment)) (values : List (List ℕ)) (set : LabelSet) (before : List RowPart) → Knows home lists values 0 set → IsAdding home lists values 0 set before before
+adding_begins home lists values set before knows = record { made = []; parts = sym (append-nil before); knows = knows; added = refl }
+
+pub adding_more : (home : Package) (lists : List (List Segment)) (values : List (List ℕ)) (i : ℕ) (word : List ℕ) (old new : LabelSet) (before now after : List RowPart) → IsAdding home lists values i old before now → i < length values → word ≡ get_or values i []
+    → Gains (λ text. same old.home.now text word) old new → new.home.now ≡ old.home.now → not (holds_label old word) ≡ true → after ≡ now ++ segs_parts (segs_of (string word ∷ [])) → IsAdding home lists values (i + 1) new before after
+adding_more home lists values i word old new before now after a h at more is fresh written =
+    let told : is_fresh home lists (take i values) (get_or values i []) ≡ true = sym (knows_fresh home lists values i word old h at a.knows) ∙ fresh in
+    let told_word : is_fresh home lists (take i values) word ≡ true = ap (is_fresh home lists (take i values)) at ∙ told in
+    record {
+      made = a.made ++ string word ∷ [];
+      parts =
+          written ∙ ap (λ (ps : List RowPart). ps ++ segs_parts (segs_of (string word ∷ []))) a.parts
+          ∙ append_assoc before (segs_parts (segs_of a.made)) (segs_parts (segs_of (string word ∷ [])))
+          ∙ ap (λ (ps : List RowPart). before ++ ps) (sym (segs_join a.made (string word ∷ [])));
+      knows = knows_more home lists values i word old new h at a.knows more is;
+      added = fresh_step home lists values i word [] a.made (a.made ++ string word ∷ []) h at (rw told_word refl) ∙ a.added;
+    }
+
+pub adding_none : (home : Package) (lists : List (List Segment)) (values : List (List ℕ)) (i : ℕ) (word : List ℕ) (old new : LabelSet) (before now after : List RowPart) → IsAdding home lists values i old before now → i < length values → word ≡ get_or values i []
+    → Gains (λ text. same old.home.now text word) old new → new.home.now ≡ old.home.now → not (holds_label old word) ≡ false → after ≡ now → IsAdding home lists values (i + 1) new before after
+adding_none home lists values i word old new before now after a h at more is known same =
+    let told_word : is_fresh home lists (take i values) word ≡ false = ap (is_fresh home lists (take i values)) at ∙ sym (knows_fresh home lists values i word old h at a.knows) ∙ known in
+    record {
+      made = a.made;
+      parts = same ∙ a.parts;
+      knows = knows_more home lists values i word old new h at a.knows more is;
+      added = fresh_step home lists values i word [] a.made a.made h at (rw told_word (sym (append-nil a.made))) ∙ a.added;
+    }
+
+pub adding_ends : (home : Package) (lists : List (List Segment)) (values : List (List ℕ)) (i : ℕ) (set : LabelSet) (before now : List RowPart) → IsAdding home lists values i set before now → length values ≤ i → now ≡ before ++ segs_parts (segs_of (new_elements home lists values))
+adding_ends home lists values i set before now a h =
+    let all : a.made ≡ new_elements home lists values =
+    sym (append-nil a.made) ∙ ap (λ (ws : List (List ℕ)). a.made ++ map string (fresh home lists (take i values) ws)) (sym (drop_all i values h)) ∙ a.added in
+    a.parts ∙ ap (λ (ss : List Segment). before ++ segs_parts (segs_of ss)) all
+
+-- what it tells
+abbrev pub told : Package → List ℕ → List (List ℕ) → List Segment → Done
+told home attr values args = done (not_a_list attr (first_named attr args)) (adds home values (first_named attr args))
+
+pub told_absent : (home : Package) (attr : List ℕ) (values : List (List ℕ)) (args : List Segment) → has attr args ≡ false → done None true ≡ told home attr values args
+told_absent home attr values args none = sym (ap (λ (a : Option Segment). done (not_a_list attr a) (adds home values a)) (none_first attr args none))
+
+pub told_no_list : (home : Package) (attr : List ℕ) (values : List (List ℕ)) (args : List Segment) (a : Segment) → first_named attr args ≡ Some a → parts (value a) ≡ [] → failed (NotAList attr) ≡ told home attr values args
+told_no_list home attr values args a first none =
+    sym (ap (λ (b : Option Segment). done (not_a_list attr b) (adds home values b)) first ∙ ap (λ (b : Bool). done (if b then Some (NotAList attr) else None) (adds home values (Some a))) (ap no_parts none))
+
+pub told_list : (home : Package) (attr : List ℕ) (values : List (List ℕ)) (args : List Segment) (a : Segment) (ss : List Segment) (lists : List (List Segment)) (b : Bool) → first_named attr args ≡ Some a → parts (value a) ≡ ss ∷ lists
+    → not (is_nil (new_elements home (parts (value a)) values)) ≡ b → done None b ≡ told home attr values args
+told_list home attr values args a ss lists b first some is =
+    sym (ap (λ (c : Option Segment). done (not_a_list attr c) (adds home values c)) first
+    ∙ ap (λ (c : Bool). done (if c then Some (NotAList attr) else None) (adds home values (Some a))) (ap no_parts some) ∙ ap (done None) is)
+
+-- whether there is something new
+segment_some : (s : Segment) (ss : List Segment) → 1 ≤ length (segs_parts (segs_of (s ∷ ss)))
+segment_some s ss = omega (
+    arith,
+    length-append (map above s.before) (items_parts (items_of s.nodes) ++ (segment_end ∷ (beside_part s.suffix ++ segs_parts (segs_of ss)))),
+    length-append (items_parts (items_of s.nodes)) (segment_end ∷ (beside_part s.suffix ++ segs_parts (segs_of ss))),
+)
+
+pub none_new : (ss : List Segment) (ps : List RowPart) → ps ≡ segs_parts (segs_of ss) → length ps ≡ 0 → not (is_nil ss) ≡ false
+none_new [] ps is h = refl
+none_new (s ∷ ss) ps is h = absurd (omega (arith, ap length is, h, segment_some s ss))
+
+pub some_new : (ss : List Segment) (ps : List RowPart) → ps ≡ segs_parts (segs_of ss) → 1 ≤ length ps → not (is_nil ss) ≡ true
+some_new [] ps is h = absurd (omega (arith, ap length is, h))
+some_new (s ∷ ss) ps is h = refl
+
+-- what it makes of the rule
+pub added_new : (home : Package) (attr : List ℕ) (values : List (List ℕ)) (s : Statement) (r : Rule) (ps new : List RowPart) (place : Place) → IsRuleRow s r ps → has attr r.args ≡ false → IsPlaceOf attr s r ps place.from place.to
+    → new ≡ segs_parts (segs_of (argument attr (list_item (new_elements home [] values) ∷ []) ∷ [])) → replaced_at place new ps ≡ parts_of (with_args (add home attr values) s)
+added_new home attr values s r ps new place h none at written =
+    let alone_is : alone attr r ≡ [] = ap (λ (o : Option Segment). option_to_list o) (none_first attr r.args none) in
+    ap (λ (qs : List RowPart). take place.from ps ++ (qs ++ drop place.to ps)) (written ∙ ap (λ (args : List Segment). segs_parts (segs_of (add home attr values args))) (sym alone_is))
+    ∙ at.put (add home attr values) (add_local home attr values)
+
+pub added_there : (home : Package) (attr : List ℕ) (values : List (List ℕ)) (s : Statement) (r : Rule) (ps new : List RowPart) (place list end : ℕ) → IsRuleRow s r ps → (v : IsValueAt attr s r ps place) → (l : IsListIn true (value v.arg) v.after ps place list)
+    → AreElementsTo l.list ps list end → new ≡ segs_parts (segs_of (new_elements home (parts (value v.arg)) values)) → replaced_at (record { from = end; to = end }) new ps ≡ parts_of (with_args (add home attr values) s)
+added_there home attr values s r ps new place list end h v l e written =
+    let edit : Segment → List Segment = λ a. with_added home values a ∷ [] in
+    let elements : List Segment = new_elements home (parts (value v.arg)) values in
+    let some : no_parts (parts (value v.arg)) ≡ false = ap no_parts l.lists in
+    let made : edit v.arg ≡ with_value (edit_first_part (λ ss. ss ++ elements) (value v.arg)) v.arg ∷ [] = rw some refl in
+    let front : take end ps ≡ take place ps ++ take (end - place) (drop place ps) = ap (λ (n : ℕ). take n ps) (omega (arith, l.begins, e.size)) ∙ take-add place (end - place) ps in
+    let edits : add home attr values r.args ≡ edit_first (is_named attr) edit r.args = rw (is_there attr r.args v.arg v.first) refl in
+    (λ i. front i ++ (written i ++ drop end ps))
+    ∙ append_assoc (take place ps) (take (end - place) (drop place ps)) (segs_parts (segs_of elements) ++ drop end ps)
+    ∙ ap (λ (qs : List RowPart). take place ps ++ qs) (sym (appended elements (value v.arg) v.after ps place list end v.read l e.are e.size))
+    ∙ v.put edit (edit_first_part (λ ss. ss ++ elements) (value v.arg)) made
+    ∙ ap parts_of (sym (with_args_at (add home attr values) (edit_first (is_named attr) edit) s r h.rule edits))
+
+pub lists_there : (ps : List RowPart) (nodes : List Item) (after : List RowPart) (place list : ℕ) → IsListIn true nodes after ps place list → AreLists ps (Some list) (parts nodes)
+lists_there ps nodes after place list l = record { rest = l.list; after = after; read = l.read; are = l.lists }
+
+-- the parts of a new argument
+pub attribute_written : (attr : List ℕ) (ss : List Segment) (old one two three : List RowPart) → one ≡ old ++ (a_token Identifier attr ∷ a_token Operator (codes "=") ∷ opening ListKind ∷ []) → two ≡ one ++ segs_parts (segs_of ss)
+    → three ≡ two ++ (closing false ∷ segment_end ∷ []) → three ≡ old ++ segs_parts (segs_of (argument attr (list_item ss ∷ []) ∷ []))
+attribute_written attr ss old one two three first mid last =
+    let head : List RowPart = a_token Identifier attr ∷ a_token Operator (codes "=") ∷ opening ListKind ∷ [] in
+    let elements : List RowPart = segs_parts (segs_of ss) in
+    let moved : ((old ++ head) ++ elements) ++ (closing false ∷ segment_end ∷ []) ≡ old ++ segs_parts (segs_of (argument attr (list_item ss ∷ []) ∷ [])) = simp append_assoc in
+    last ∙ ap (λ (qs : List RowPart). qs ++ (closing false ∷ segment_end ∷ [])) (mid ∙ ap (λ (qs : List RowPart). qs ++ elements) first) ∙ moved
+
+pub where_done : {T E P Q : Type 0} (r : Result T E) → (P → Q) → OnOk r P → OnOk r Q
+where_done (Ok x) f p = f p
+where_done (Err e) f p = p

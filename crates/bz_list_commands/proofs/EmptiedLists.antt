@@ -1,0 +1,162 @@
+-- A list that loses all its elements, told by its parts.
+use Rattle.std.proofs.Common.{◌≡◌, ℕ, ◌+◌, ◌≤◌, ◌<◌, List, [], ◌∷◌, ◌++◌, Bool, true, false, ◌&&◌, not, if◌then◌else◌, Option, Some, None, length, map, drop, refl, ap, sym, ◌∙◌, arith, append_assoc, append-nil}
+use Rattle.std.specs.Prelude.{nat_lt}
+use Rattle.std.specs.List.{list_any}
+use Rattle.std.proofs.lemmas.Bool.{false≢true}
+use Rattle.std.proofs.lemmas.Bool.Decides.{nat_tests}
+use Rattle.std.proofs.lemmas.Grind.{flat_map-append}
+use Rattle.bz_tree.specs.declared.stmt.GroupKind.TheVariants.{List as ListKind}
+use Rattle.bz_tree.specs.Tree.{Item, leaf, group, Segment, Segs, items_of, segments, segs_of}
+use Rattle.bz_tree.specs.Rows.{RowPart, above, beside_part, closing, opening, segment_end, item_parts, items_parts, segs_parts}
+use Rattle.bz_attribute.specs.Elements.{IsElementOf, ListRest, list_item, rest_parts, value_parts}
+use Rattle.bz_attribute.specs.Effects.{is_nil, loses_all}
+use Rattle.bz_attribute.proofs.RuleNodes.{segs_back}
+use Rattle.bz_attribute.proofs.Views.{segments_of}
+use Rattle.bz_list_commands.specs.private.StringEdits.{become, become_all, passes}
+use Rattle.bz_list_commands.specs.private.ElementEdits.{begins_list, is_node}
+use Rattle.bz_list_commands.proofs.ElementEdits.{after_them}
+
+-- Some elements of a list were seen, and all are meant.
+pub record AreGone (p : List ℕ → Bool) (nodes : List Item) (after ps : List RowPart) (first at : ℕ) : Type 0 where
+  pub list : ListRest
+  pub are : nodes ≡ list_item list ∷ list.items
+  pub front : List Segment
+  pub others : List Segment
+  pub elements : list.elements ≡ front ++ others
+  pub read : drop at ps ≡ rest_parts (record list { elements = others }) after
+  pub gone : become_all p None front ≡ []
+  pub some : nat_lt first at ≡ not (is_nil front)
+
+-- the parts do not begin with a list
+no_list_value : (f : List Segment → List Segment) (nodes : List Item) (after : List RowPart) → begins_list (value_parts nodes after) ≡ false → loses_all f nodes ≡ false
+no_list_value f [] after h = refl
+no_list_value f (leaf k text ∷ []) after h = refl
+no_list_value f (group ListKind segs one_comma end ∷ []) after h = absurd (false≢true (sym h))
+no_list_value f (group _ segs one_comma end ∷ []) after h = refl
+no_list_value f (x ∷ y ∷ xs) after h = refl
+
+pub no_list : (f : List Segment → List Segment) (nodes : List Item) (after ps : List RowPart) → ps ≡ value_parts nodes after → begins_list ps ≡ false → loses_all f nodes ≡ false
+no_list f nodes after ps are h = no_list_value f nodes after (ap begins_list (sym are) ∙ h)
+
+-- they do
+record IsList (nodes : List Item) : Type 0 where
+  list : ListRest
+  are : nodes ≡ list_item list ∷ list.items
+
+first_list : (nodes : List Item) (after : List RowPart) → begins_list (value_parts nodes after) ≡ true → IsList nodes
+first_list [] after h = absurd (false≢true h)
+first_list (leaf k text ∷ xs) after h = absurd (false≢true h)
+first_list (group ListKind segs one_comma end ∷ xs) after h = record {
+  list = record { elements = segments segs; end = end; one_comma = one_comma; items = xs };
+  are = ap (λ (ss : Segs). group ListKind ss one_comma end ∷ xs) (sym (segs_back segs));
+}
+first_list (group _ segs one_comma end ∷ xs) after h = absurd (false≢true h)
+
+moved_list : (els end later after : List RowPart) (x y e : RowPart) → ((x ∷ (els ++ (end ++ y ∷ []))) ++ later) ++ e ∷ after ≡ x ∷ (els ++ (end ++ y ∷ (later ++ e ∷ after)))
+moved_list els end later after x y e = simp append_assoc
+
+pub none_gone : (p : List ℕ → Bool) (nodes : List Item) (after ps : List RowPart) (value : ℕ) → drop value ps ≡ value_parts nodes after → begins_list (drop value ps) ≡ true → AreGone p nodes after ps (value + 1) (value + 1)
+none_gone p nodes after ps value are h =
+    let l : IsList nodes = first_list nodes after (ap begins_list (sym are) ∙ h) in
+    let list : ListRest = l.list in
+    let here : drop value ps ≡ opening ListKind ∷ rest_parts list after =
+    are ∙ ap (λ (ns : List Item). value_parts ns after) l.are
+    ∙ moved_list (segs_parts (segs_of list.elements)) (map above list.end) (items_parts (items_of list.items)) after (opening ListKind) (closing list.one_comma) segment_end in
+    record {
+      list = list;
+      are = l.are;
+      front = [];
+      others = list.elements;
+      elements = refl;
+      read = after_them ps (opening ListKind ∷ []) (rest_parts list after) value (value + 1) here refl;
+      gone = refl;
+      some = grind (arith, nat_tests);
+    }
+
+some_last : (ss : List Segment) (s : Segment) → is_nil (ss ++ s ∷ []) ≡ false
+some_last [] s = refl
+some_last (x ∷ ss) s = refl
+
+pub one_gone : (p : List ℕ → Bool) (nodes : List Item) (after ps : List RowPart) (first at token to : ℕ) (string : Option (List ℕ)) → (g : AreGone p nodes after ps first at) → IsElementOf (record g.list { elements = g.others }) after ps at token to string → passes p string ≡ true
+    → first < to → AreGone p nodes after ps first to
+one_gone p nodes after ps first at token to string g e is later =
+    let s : Segment = e.element in
+    let goes : become p None s ≡ [] = ap (λ (b : Bool). if b then [] else s ∷ []) (ap (passes p) (sym e.text) ∙ is) in
+    record {
+      list = g.list;
+      are = g.are;
+      front = g.front ++ s ∷ [];
+      others = e.others;
+      elements = g.elements ∙ ap (λ (zs : List Segment). g.front ++ zs) e.are ∙ sym (append_assoc g.front (s ∷ []) e.others);
+      read = e.read;
+      gone = flat_map-append (become p None) g.front (s ∷ []) ∙ (λ i. g.gone i ++ (goes i ++ []));
+      some = grind (arith, nat_tests, later) ∙ ap not (sym (some_last g.front s));
+    }
+
+-- of what is a list alone, by the elements that are left
+alone : (f : List Segment → List Segment) (list : ListRest) → loses_all f (list_item list ∷ []) ≡ (not (is_nil list.elements) && is_nil (f list.elements))
+alone f list = (λ i. not (is_nil (segments_of list.elements i)) && is_nil (f (segments_of list.elements i)))
+
+not_alone : (f : List Segment → List Segment) (list : ListRest) (x : Item) (xs : List Item) → list.items ≡ x ∷ xs → loses_all f (list_item list ∷ list.items) ≡ false
+not_alone f list x xs is = ap (λ (ns : List Item). loses_all f (list_item list ∷ ns)) is
+
+and_false : (b : Bool) → (b && false) ≡ false
+and_false true = refl
+and_false false = refl
+
+and_true : (b : Bool) → (b && true) ≡ b
+and_true true = refl
+and_true false = refl
+
+nil_of : (ss : List Segment) → is_nil ss ≡ false → (b : Bool) → (b && is_nil ss) ≡ false
+nil_of ss h b = ap (λ (c : Bool). b && c) h ∙ and_false b
+
+stays_in : (f : List Segment → List Segment) (list : ListRest) (items : List Item) → is_nil (f list.elements) ≡ false → loses_all f (list_item list ∷ items) ≡ false
+stays_in f list [] h = alone f list ∙ nil_of (f list.elements) h (not (is_nil list.elements))
+stays_in f list (x ∷ xs) h = refl
+
+pub one_stays : (p : List ℕ → Bool) (nodes : List Item) (after ps : List RowPart) (first at token to : ℕ) (string : Option (List ℕ)) → (g : AreGone p nodes after ps first at) → IsElementOf (record g.list { elements = g.others }) after ps at token to string → passes p string ≡ false
+    → loses_all (become_all p None) nodes ≡ false
+one_stays p nodes after ps first at token to string g e is =
+    let s : Segment = e.element in
+    let f : List Segment → List Segment = become_all p None in
+    let stays : become p None s ≡ s ∷ [] = ap (λ (b : Bool). if b then [] else s ∷ []) (ap (passes p) (sym e.text) ∙ is) in
+    let left : f g.list.elements ≡ s ∷ f e.others =
+    ap f (g.elements ∙ ap (λ (zs : List Segment). g.front ++ zs) e.are) ∙ flat_map-append (become p None) g.front (s ∷ e.others) ∙ (λ i. g.gone i ++ (stays i ++ f e.others)) in
+    ap (loses_all f) g.are ∙ stays_in f g.list g.list.items (ap is_nil left)
+
+-- what stands after the elements has a node exactly where the value goes on
+no_nodes : (texts : List (List ℕ)) (ps : List RowPart) → list_any is_node (map above texts ++ ps) ≡ list_any is_node ps
+no_nodes [] ps = refl
+no_nodes (text ∷ texts) ps = no_nodes texts ps
+
+none_beside : (suffix : Option (List ℕ)) → list_any is_node (beside_part suffix) ≡ false
+none_beside None = refl
+none_beside (Some text) = refl
+
+has_node : (x : Item) (ps : List RowPart) → list_any is_node (item_parts x ++ ps) ≡ true
+has_node (leaf k text) ps = refl
+has_node (group k segs one_comma end) ps = refl
+
+by_items : (f : List Segment → List Segment) (list : ListRest) (items : List Item) (suffix : Option (List ℕ)) (b : Bool) → (not (is_nil list.elements) && is_nil (f list.elements)) ≡ b
+    → (b && not (list_any is_node (value_parts items (beside_part suffix)))) ≡ loses_all f (list_item list ∷ items)
+by_items f list [] suffix b is = ap (λ (c : Bool). b && not c) (none_beside suffix) ∙ and_true b ∙ sym (alone f list ∙ is)
+by_items f list (x ∷ xs) suffix b is =
+    ap (λ (c : Bool). b && not c) (ap (list_any is_node) (append_assoc (item_parts x) (items_parts (items_of xs)) (segment_end ∷ beside_part suffix)) ∙ has_node x (items_parts (items_of xs) ++ segment_end ∷ beside_part suffix)) ∙ and_false b
+
+pub all_gone : (p : List ℕ → Bool) (nodes : List Item) (suffix : Option (List ℕ)) (ps : List RowPart) (first at : ℕ) → (g : AreGone p nodes (beside_part suffix) ps first at) → g.others ≡ []
+    → (nat_lt first at && not (list_any is_node (drop at ps))) ≡ loses_all (become_all p None) nodes
+all_gone p nodes suffix ps first at g none =
+    let f : List Segment → List Segment = become_all p None in
+    let list : ListRest = g.list in
+    let front : list.elements ≡ g.front = g.elements ∙ ap (λ (zs : List Segment). g.front ++ zs) none ∙ append-nil g.front in
+    let lost : (not (is_nil list.elements) && is_nil (f list.elements)) ≡ nat_lt first at =
+    (λ i. not (is_nil (front i)) && is_nil (f (front i))) ∙ ap (λ (zs : List Segment). not (is_nil g.front) && is_nil zs) g.gone ∙ and_true (not (is_nil g.front)) ∙ sym g.some in
+    let rest : list_any is_node (drop at ps) ≡ list_any is_node (value_parts list.items (beside_part suffix)) =
+    ap (list_any is_node) (g.read ∙ ap (λ (zs : List Segment). rest_parts (record list { elements = zs }) (beside_part suffix)) none)
+    ∙ no_nodes list.end (closing list.one_comma ∷ value_parts list.items (beside_part suffix)) in
+    ap (λ (c : Bool). nat_lt first at && not c) rest ∙ by_items f list list.items suffix (nat_lt first at) lost ∙ sym (ap (loses_all f) g.are)
+
+pub begins_some : (ps : List RowPart) → begins_list ps ≡ true → 1 ≤ length ps
+begins_some [] h = absurd (false≢true h)
+begins_some (p ∷ ps) h = omega arith

@@ -1,0 +1,17 @@
+use Rattle.std.proofs.Common.{◌≡◌, ◌≤◌, ◌-◌, ℕ, List, Option, length, map, drop}
+use Rattle.bz_tree.specs.Tree.{Item}
+use Rattle.bz_tree.specs.Rows.{beside_part, part_view}
+use Rattle.bz_attribute.specs.Elements.{value_parts}
+use Rattle.bz_list_commands.specs.private.StringEdits.{means}
+use Rattle.bz_list_commands.proofs.EmptiedLists.{AreGone}
+use Rattle.bz_list_commands.proofs.emptied.all_go.Given as goal
+
+abbrev pub invariant-loop-element : goal.invariant-loop-element
+invariant-loop-element l = record {
+  order : l.first ≤ l.at;
+  within : l.at ≤ length l.parts;
+  left : (nodes : List Item) (suffix : Option (List ℕ)) → drop l.value (map part_view l.parts) ≡ value_parts nodes (beside_part suffix) → AreGone (means l.edit) nodes (beside_part suffix) (map part_view l.parts) l.first l.at;
+}
+
+abbrev pub decreases-loop-element : goal.decreases-loop-element
+decreases-loop-element l = length l.parts - l.at

@@ -1,0 +1,71 @@
+//! Whether a value is one list that loses all its elements.
+
+ghost use Rattle.std.specs.Prelude.{◌≡◌, ◌≤◌, List, ℕ, Option, None as Nothing, map, length, drop};
+ghost use Rattle.std.specs.List.{list_any};
+ghost use Rattle.bz_tree.specs.Tree.{Item};
+ghost use Rattle.bz_tree.specs.Rows.{beside_part, part_view};
+ghost use Rattle.bz_attribute.specs.Elements.{value_parts};
+ghost use Rattle.bz_attribute.specs.Effects.{loses_all};
+ghost use Rattle.bz_list_commands.specs.private.StringEdits.{become_all, literal_of, means};
+ghost use Rattle.bz_list_commands.specs.private.ElementEdits as spec;
+
+use crate::element_edits::is_meant;
+use crate::string_edit::StringEdit;
+use bz_attribute::next_element;
+use bz_tree::{GroupKind, Part};
+
+fn is_node(part: &Part<'_>) -> bool
+    ensures { result ≡ spec.is_node (part_view part.now) }
+{
+    matches!(part, Part::Token(_, _) | Part::Open(_))
+}
+
+fn has_node(parts: &[Part<'_>]) -> bool
+    ensures { result ≡ list_any spec.is_node (map part_view parts.now) }
+{
+    parts.iter().any(is_node)
+}
+
+fn begins_list(parts: &[Part<'_>]) -> bool
+    ensures { result ≡ spec.begins_list (map part_view parts.now) }
+{
+    matches!(parts, [Part::Open(GroupKind::List), ..])
+}
+
+// The same where they go.
+fn all_go(edit: StringEdit<'_, '_, '_>, parts: &[Part<'_>], value: usize) -> bool
+    requires { value ≤ length parts.now }
+    ensures { (nodes : List Item) (suffix : Option (List ℕ))
+        → drop value (map part_view parts.now) ≡ value_parts nodes (beside_part suffix)
+        → result ≡ loses_all (become_all (means edit.entry) Nothing) nodes }
+{
+    if !begins_list(&parts[value..]) {
+        return false;
+    }
+    let first = value + 1;
+    let mut at = first;
+    while let Some(element) = next_element(parts, at) {
+        if !is_meant(edit, element) {
+            return false;
+        }
+        at = element.to;
+    }
+    if at == first {
+        return false;
+    }
+    !has_node(&parts[at..])
+}
+
+/// The value of an argument is one list, and no element of it is left, where it has some. The parts end with the
+/// argument.
+pub fn loses_all(edit: StringEdit<'_, '_, '_>, parts: &[Part<'_>], value: usize) -> bool
+    requires { value ≤ length parts.now }
+    ensures { (nodes : List Item) (suffix : Option (List ℕ))
+        → drop value (map part_view parts.now) ≡ value_parts nodes (beside_part suffix)
+        → result ≡ loses_all (become_all (means edit.entry) (literal_of edit.entry)) nodes }
+{
+    match edit.new {
+        None => all_go(edit, parts, value),
+        Some(_) => false,
+    }
+}

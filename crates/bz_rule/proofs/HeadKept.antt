@@ -1,0 +1,217 @@
+-- The head of a rule, where a command edits another attribute than its name.
+use Rattle.std.proofs.Common.{◌≡◌, ◌∙◌, ℕ, List, [], ◌∷◌, ◌++◌, Bool, true, false, ◌||◌, if◌then◌else◌, Option, Some, None, is_some, map, option_map, refl, ap, sym, subst}
+use Rattle.std.specs.Prelude.{bytes_eq, codes}
+use Rattle.std.proofs.lemmas.Slice.Eq.{bytes_eq-Decides}
+use Rattle.bz_tree.specs.Tree.{Item, Segment, Statement}
+use Rattle.bz_command.specs.Labels.{Package}
+use Rattle.bz_command.specs.declared.arguments.Attributes.TheVariants.{Every, Named}
+use Rattle.bz_command.specs.declared.arguments.Commented.TheVariants.{Rule as Above, Attribute, Value}
+use Rattle.bz_command.specs.declared.arguments.Moved.TheVariants.{Values}
+use Rattle.bz_command.specs.declared.arguments.Setting.TheVariants.{ToKind, ToValues}
+use Rattle.bz_attribute.specs.Rules.{Rule, first_named, is_named, is_text, name_of, rule_of, string_in, value}
+use Rattle.bz_attribute.specs.Lists.{edit_first_part, edit_parts, equals, parts, with_value}
+use Rattle.bz_attribute.specs.Add.{add, new_elements, with_added}
+use Rattle.bz_attribute.specs.Comment.{comment_attribute, comment_element, edit_element, comment_line, comment_note, comment_rule, comment_value, with_comment}
+use Rattle.bz_attribute.specs.Effects.{argument, edit_first, filtered, has, list_item, loses_all, no_parts, unchosen, with_args}
+use Rattle.bz_attribute.specs.Heads.{HasHead, IsHeadOf}
+use Rattle.bz_attribute.specs.Remove.{remove_values}
+use Rattle.bz_attribute.specs.Replace.{replace, replaced, replaced_in}
+use Rattle.bz_attribute.specs.RowPlaces.{IsLocal}
+use Rattle.bz_attribute.specs.Set.{is_value, new_of, new_value, set, set_if_absent, set_in}
+use Rattle.bz_attribute.specs.declared.head.Head.{Head}
+use Rattle.bz_attribute.proofs.EditedAt.{none_first}
+use Rattle.bz_rule.specs.Commands.{Command, args_after}
+use Rattle.bz_rule.specs.declared.command.Action.TheVariants.{Add, Comment, Delete, Move, Print, Remove, Rename, Replace, Set, SetIfAbsent}
+use Rattle.bz_rule.specs.private.RowEdits.{KeepsHead, edits_arguments, one_attribute, rule_after}
+use Rattle.bz_rule.proofs.Arguments.{attribute_named, has_first, is_first_named, name_put}
+use Rattle.bz_rule.proofs.Commands.{local}
+use Rattle.bz_rule.proofs.Lawful.{Local}
+use Rattle.bz_rule.proofs.Rebuilt.{rule_with}
+use Rattle.bz_rule.proofs.Rebuilt as rebuilt
+use Rattle.bz_rule.proofs.RowEdited.{args_rule}
+
+-- two names that differ, either way round
+other_way : (a b : List ℕ) → bytes_eq a b ≡ false → bytes_eq b a ≡ false
+other_way a b h = elim (bytes_eq b a) as (λ t. bytes_eq b a ≡ t → t ≡ false) [
+  | false ↦ λ e. refl
+  | true ↦ λ e. sym ((bytes_eq-Decides a b).1 (sym ((bytes_eq-Decides b a).0 e))) ∙ h
+] refl
+
+not_both : (attr n : List ℕ) (o : Option (List ℕ)) → bytes_eq attr n ≡ false → is_text attr o ≡ true → is_text n o ≡ false
+not_both attr n None h is = absurd cc
+not_both attr n (Some other) h is = ap (bytes_eq n) (sym ((bytes_eq-Decides attr other).0 is)) ∙ other_way attr n h
+
+-- of a name: what comes after others, what stands before them, what stands in place of one of another name
+first_before : (n : List ℕ) (args more : List Segment) → has n more ≡ false → first_named n (args ++ more) ≡ first_named n args
+first_before n [] more h = none_first n more h
+first_before n (x ∷ args) more h = elim (is_named n x) as (λ b. (if b then Some x else first_named n (args ++ more)) ≡ (if b then Some x else first_named n args)) [ true ↦ refl | false ↦ first_before n args more h ]
+
+first_behind : (n : List ℕ) (front args : List Segment) → has n front ≡ false → first_named n (front ++ args) ≡ first_named n args
+first_behind n [] args h = refl
+first_behind n (x ∷ front) args h =
+    elim (is_named n x) as (λ b. b || has n front ≡ false → (if b then Some x else first_named n (front ++ args)) ≡ first_named n args) [ true ↦ λ e. absurd cc | false ↦ λ e. first_behind n front args e ] h
+
+first_beside : (n attr : List ℕ) (new args : List Segment) → bytes_eq attr n ≡ false → has n new ≡ false → first_named n (edit_first (is_named attr) (λ x. new) args) ≡ first_named n args
+first_beside n attr new [] h none = refl
+first_beside n attr new (x ∷ args) h none =
+    elim (is_named attr x) as (λ b. is_named attr x ≡ b → first_named n (if b then new ++ args else x ∷ edit_first (is_named attr) (λ z. new) args) ≡ first_named n (x ∷ args)) [
+      | true ↦ λ e. first_behind n new args none ∙ sym (ap (λ (b : Bool). if b then Some x else first_named n args) (not_both attr n (name_of x.nodes) h e))
+      | false ↦ λ e. elim (is_named n x) as (λ b. (if b then Some x else first_named n (edit_first (is_named attr) (λ z. new) args)) ≡ (if b then Some x else first_named n args))
+          [ true ↦ refl | false ↦ first_beside n attr new args h none ]
+    ] refl
+
+-- an edit of one attribute that makes none of a name
+record MakesNo (n attr : List ℕ) (f : List Segment → List Segment) : Type 0 where
+  absent : has n (f []) ≡ false
+  there : (a : Segment) → is_named attr a ≡ true → has n (f (a ∷ [])) ≡ false
+
+first_stays : (n attr : List ℕ) (f : List Segment → List Segment) → bytes_eq attr n ≡ false → IsLocal attr f → MakesNo n attr f → (args : List Segment) → first_named n (f args) ≡ first_named n args
+first_stays n attr f h law made args =
+    elim (first_named attr args) as (λ o. first_named attr args ≡ o → first_named n (f args) ≡ first_named n args) [
+      | None ↦ λ e. ap (first_named n) (law.absent args (has_first attr args ∙ ap is_some e)) ∙ first_before n args (f []) made.absent
+      | Some a ↦ λ e. ap (first_named n) (law.there args a e) ∙ first_beside n attr (f (a ∷ [])) args h (made.there a (is_first_named attr args a e))
+    ] refl
+
+-- one argument, of the same name
+same_name : (n attr : List ℕ) (a b : Segment) → bytes_eq attr n ≡ false → is_named attr a ≡ true → name_of b.nodes ≡ name_of a.nodes → has n (b ∷ []) ≡ false
+same_name n attr a b h is same = ap (λ (o : Option (List ℕ)). is_text n o || false) same ∙ ap (λ (t : Bool). t || false) (not_both attr n (name_of a.nodes) h is)
+
+put : (n attr : List ℕ) (nodes : List Item) (a : Segment) → bytes_eq attr n ≡ false → is_named attr a ≡ true → has n (with_value nodes a ∷ []) ≡ false
+put n attr nodes a h is = same_name n attr a (with_value nodes a) h is (name_put nodes a (attribute_named attr a is))
+
+-- the first and only one, edited
+edited : (n attr : List ℕ) (f : Segment → List Segment) (a : Segment) → is_named attr a ≡ true → has n (f a) ≡ false → has n (edit_first (is_named attr) f (a ∷ [])) ≡ false
+edited n attr f a is none = ap (λ (b : Bool). has n (if b then f a ++ [] else a ∷ [])) is ∙ first_none (f a) none
+  where
+    first_none : (xs : List Segment) → has n xs ≡ false → has n (xs ++ []) ≡ false
+    first_none [] h = refl
+    first_none (x ∷ xs) h = elim (is_named n x) as (λ b. b || has n xs ≡ false → b || has n (xs ++ []) ≡ false) [ true ↦ λ e. e | false ↦ λ e. first_none xs e ] h
+
+new_one : (n attr : List ℕ) → bytes_eq attr n ≡ false → bytes_eq n attr || false ≡ false
+new_one n attr h = ap (λ (b : Bool). b || false) (other_way attr n h)
+
+stays : (n attr : List ℕ) (a : Segment) → bytes_eq attr n ≡ false → is_named attr a ≡ true → has n (a ∷ []) ≡ false
+stays n attr a h is = same_name n attr a a h is refl
+
+added : (home : Package) (n attr : List ℕ) (values : List (List ℕ)) (a : Segment) → bytes_eq attr n ≡ false → is_named attr a ≡ true → has n (with_added home values a ∷ []) ≡ false
+added home n attr values a h is =
+    let more : List Item = edit_first_part (λ ss. ss ++ new_elements home (parts (value a)) values) (value a) in
+    elim (no_parts (parts (value a))) as (λ b. has n ((if b then a else with_value more a) ∷ []) ≡ false) [ true ↦ stays n attr a h is | false ↦ put n attr more a h is ]
+
+less : (home : Package) (n attr : List ℕ) (f : List Segment → List Segment) (a : Segment) → bytes_eq attr n ≡ false → is_named attr a ≡ true → has n (filtered f a) ≡ false
+less home n attr f a h is = elim (loses_all f (value a)) as (λ b. has n (if b then [] else with_value (edit_parts f (value a)) a ∷ []) ≡ false) [ true ↦ refl | false ↦ put n attr (edit_parts f (value a)) a h is ]
+
+set_to : (n attr : List ℕ) (words : List (List ℕ)) (was : Option Segment) (a : Segment) → bytes_eq attr n ≡ false → is_named attr a ≡ true → has n (set_in (new_of attr words was) a ∷ []) ≡ false
+set_to n attr words was a h is =
+    elim (is_value (new_of attr words was) (value a)) as (λ b. has n ((if b then a else with_value (new_value (new_of attr words was)) a) ∷ []) ≡ false) [ true ↦ stays n attr a h is | false ↦ put n attr (new_value (new_of attr words was)) a h is ]
+
+-- each command on one attribute
+no_add : (home : Package) (n attr : List ℕ) (values : List (List ℕ)) → bytes_eq attr n ≡ false → MakesNo n attr (add home attr values)
+no_add home n attr values h = record {
+  absent = new_one n attr h;
+  there = λ a e.
+      ap (λ (b : Bool). has n (if b then edit_first (is_named attr) (λ x. with_added home values x ∷ []) (a ∷ []) else (a ∷ []) ++ argument attr (list_item (new_elements home [] values) ∷ []) ∷ [])) (ap (λ (b : Bool). b || false) e)
+      ∙ edited n attr (λ x. with_added home values x ∷ []) a e (added home n attr values a h e);
+}
+
+no_less : (home : Package) (n attr : List ℕ) (values : List (List ℕ)) → bytes_eq attr n ≡ false → MakesNo n attr (remove_values home attr values)
+no_less home n attr values h = record {
+  absent = refl;
+  there = λ a e. edited n attr (filtered (unchosen home (Values values))) a e (less home n attr (unchosen home (Values values)) a h e);
+}
+
+no_set : (n attr : List ℕ) (words : List (List ℕ)) → bytes_eq attr n ≡ false → MakesNo n attr (set attr words)
+no_set n attr words h = record {
+  absent = new_one n attr h;
+  there = λ a e.
+      let was : Option Segment = first_named attr (a ∷ []) in
+      ap (λ (b : Bool). has n (if b then edit_first (is_named attr) (λ x. set_in (new_of attr words was) x ∷ []) (a ∷ []) else (a ∷ []) ++ argument attr (new_value (new_of attr words was)) ∷ [])) (ap (λ (b : Bool). b || false) e)
+      ∙ edited n attr (λ x. set_in (new_of attr words was) x ∷ []) a e (set_to n attr words was a h e);
+}
+
+no_set_if_absent : (n attr : List ℕ) (words : List (List ℕ)) → bytes_eq attr n ≡ false → MakesNo n attr (set_if_absent attr words)
+no_set_if_absent n attr words h = record {
+  absent = new_one n attr h;
+  there = λ a e.
+      ap (λ (b : Bool). has n (if b then a ∷ [] else (a ∷ []) ++ argument attr (new_value (new_of attr words None)) ∷ [])) (ap (λ (b : Bool). b || false) e) ∙ stays n attr a h e;
+}
+
+no_replace : (home : Package) (n attr old new : List ℕ) → bytes_eq attr n ≡ false → MakesNo n attr (replace home (Named attr) old new)
+no_replace home n attr old new h = record {
+  absent = refl;
+  there = λ a e. edited n attr (λ x. replaced_in home old new x ∷ []) a e (put n attr (edit_parts (map (replaced home old new)) (value a)) a h e);
+}
+
+no_comment : (n attr text : List ℕ) → bytes_eq attr n ≡ false → MakesNo n attr (comment_attribute attr text)
+no_comment n attr text h = record {
+  absent = refl;
+  there = λ a e.
+      ap (λ (b : Bool). has n (if b then edit_first (is_named attr) (λ x. with_comment (comment_line text) x ∷ []) (a ∷ []) else a ∷ [])) (ap (λ (b : Bool). b || false) e)
+      ∙ edited n attr (λ x. with_comment (comment_line text) x ∷ []) a e (same_name n attr a (with_comment (comment_line text) a) h e refl);
+}
+
+no_comment_value : (home : Package) (n attr v text : List ℕ) → bytes_eq attr n ≡ false → MakesNo n attr (comment_value home attr v text)
+no_comment_value home n attr v text h = record {
+  absent = refl;
+  there = λ a e.
+      elim (is_some (comment_note home attr v (a ∷ []))) as (λ b. has n (if b then a ∷ [] else edit_first (is_named attr) (λ x. comment_element home v text x ∷ []) (a ∷ [])) ≡ false)
+      [ true ↦ stays n attr a h e | false ↦ edited n attr (λ x. comment_element home v text x ∷ []) a e (put n attr (edit_element (equals home v) (with_comment (comment_line text)) (value a)) a h e) ];
+}
+
+-- the attribute of one is the one that was asked for
+of_it : (n name attr : List ℕ) (f : List Segment → List Segment) → Some name ≡ Some attr → bytes_eq attr n ≡ false → (bytes_eq name n ≡ false → MakesNo n name f) → MakesNo n attr f
+of_it n name attr f is h made = let same : name ≡ attr = cc in subst (λ (z : List ℕ). MakesNo n z f) same (made (ap (λ (z : List ℕ). bytes_eq z n) same ∙ h))
+
+makes_no : (c : Command) (home : Package) (attr n : List ℕ) → one_attribute c ≡ Some attr → bytes_eq attr n ≡ false → MakesNo n attr (args_after c home)
+makes_no (Add name values) home attr n is h = of_it n name attr _ is h (no_add home n name values)
+makes_no (Remove Every values) home attr n is h = absurd cc
+makes_no (Remove (Named name) []) home attr n is h = absurd cc
+makes_no (Remove (Named name) (value ∷ values)) home attr n is h = of_it n name attr _ is h (no_less home n name (value ∷ values))
+makes_no (Set (ToKind kind)) home attr n is h = absurd cc
+makes_no (Set (ToValues name words)) home attr n is h = of_it n name attr _ is h (no_set n name words)
+makes_no (SetIfAbsent name words) home attr n is h = of_it n name attr _ is h (no_set_if_absent n name words)
+makes_no Delete home attr n is h = absurd cc
+makes_no (Rename old new) home attr n is h = absurd cc
+makes_no (Move old new chosen) home attr n is h = absurd cc
+makes_no (Replace Every old new) home attr n is h = absurd cc
+makes_no (Replace (Named name) old new) home attr n is h = of_it n name attr _ is h (no_replace home n name old new)
+makes_no (Comment Above text) home attr n is h = absurd cc
+makes_no (Comment (Attribute name) text) home attr n is h = of_it n name attr _ is h (no_comment n name text)
+makes_no (Comment (Value name v) text) home attr n is h = of_it n name attr _ is h (no_comment_value home n name v text)
+makes_no (Print fields) home attr n is h = absurd cc
+
+edits : (c : Command) (attr : List ℕ) → one_attribute c ≡ Some attr → edits_arguments c ≡ true
+edits (Add name values) attr is = refl
+edits (Remove attrs values) attr is = refl
+edits (Set (ToKind kind)) attr is = absurd cc
+edits (Set (ToValues name words)) attr is = refl
+edits (SetIfAbsent name words) attr is = refl
+edits Delete attr is = absurd cc
+edits (Rename old new) attr is = absurd cc
+edits (Move old new chosen) attr is = absurd cc
+edits (Replace attrs old new) attr is = refl
+edits (Comment Above text) attr is = absurd cc
+edits (Comment (Attribute name) text) attr is = refl
+edits (Comment (Value name v) text) attr is = refl
+edits (Print fields) attr is = absurd cc
+
+with_head : (f : List Segment → List Segment) (s : Statement) → ((args : List Segment) → first_named (codes "name") (f args) ≡ first_named (codes "name") args) → KeepsHead s (with_args f s)
+with_head f s same None has = rebuilt.rule_after f s ∙ ap (option_map (rule_with f)) has
+with_head f s same (Some head) has = record {
+  rule = rule_with f has.rule;
+  is = rebuilt.rule_after f s ∙ ap (option_map (rule_with f)) has.is;
+  kind_is = has.kind_is;
+  name_is = has.name_is ∙ sym (ap string_in (same has.rule.args));
+  start_is = has.start_is;
+  end_is = has.end_is;
+}
+
+pub head_stays : (c : Command) (home : Package) (attr : List ℕ) (s : Statement) → one_attribute c ≡ Some attr → bytes_eq attr (codes "name") ≡ false → KeepsHead s (rule_after c home s)
+head_stays c home attr s is h head has =
+    subst (HasHead head) (sym (args_rule c home s (edits c attr is)))
+    (with_head (args_after c home) s (first_stays (codes "name") attr (args_after c home) h (local c home attr is).args (makes_no c home attr (codes "name") is h)) head has)
+
+-- a comment above it
+pub above_stays : (text : List ℕ) (s : Statement) → KeepsHead s (comment_rule text s)
+above_stays text s None has = has
+above_stays text s (Some head) has = record { rule = has.rule; is = has.is; kind_is = has.kind_is; name_is = has.name_is; start_is = has.start_is; end_is = has.end_is }

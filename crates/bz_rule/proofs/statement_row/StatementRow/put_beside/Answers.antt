@@ -1,0 +1,33 @@
+use Rattle.std.proofs.Common.{◌≡◌, ◌∙◌, ap, length, map, subst, sym, arith}
+use Rattle.bz_tree.specs.Tree.{Statement}
+use Rattle.bz_tree.specs.Rows.{part_view, parts_of}
+use Rattle.bz_attribute.specs.Heads.{HasHead}
+use Rattle.bz_rule.specs.private.PartsOf.{parts_in}
+use Rattle.bz_rule.proofs.RowStatements.{has_head, statement_of}
+use Rattle.bz_rule.proofs.Spliced.{of_next}
+use Rattle.bz_rule.proofs.statement_row.StatementRow.put_beside.Goals as goal
+
+pub invariant_of-self-2 : goal.invariant_of-self-2
+invariant_of-self-2 c =
+    let i = c.self.inside in
+    let old = c.args.self.now in
+    let s = c.requires.next.0 in
+    let next = c.requires.next.1.0 in
+    has_head s (parts_in c.put.new.self) _ _ _ i.head _ (record {
+      are = of_next c.args.place (parts_in i.parts) c.args.new.now (parts_in c.put.new.self) old s c.in_ok-put.ensures.ok (c.self.invariant.are ∙ ap parts_of c.self.view_is) next.are;
+      is = ap (λ (z : Statement). z.class) c.self.view_is ∙ sym next.same;
+      begins = ap (λ (z : Statement). z.start) c.self.view_is ∙ sym next.start;
+      ends = ap (λ (z : Statement). z.end) c.self.view_is ∙ sym next.end;
+    }) (c.requires.next.1.1.0 i.head (subst (HasHead i.head) c.self.view_is c.self.invariant.has))
+    (grind (arith, c.saturating_add-self-inside.ensures, c.self.invariant.below, ap (λ (z : Statement). length z.before) c.self.view_is, c.requires.next.1.1.1))
+
+pub returns-clause-taken : goal.returns-clause-taken
+returns-clause-taken c s next =
+    let i = c.self.inside in
+    let old = c.args.self.now in
+    statement_of s (parts_in c.put.new.self) _ _ _ (record {
+      are = of_next c.args.place (parts_in i.parts) c.args.new.now (parts_in c.put.new.self) old s c.in_ok-put.ensures.ok (c.self.invariant.are ∙ ap parts_of c.self.view_is) next.are;
+      is = ap (λ (z : Statement). z.class) c.self.view_is ∙ sym next.same;
+      begins = ap (λ (z : Statement). z.start) c.self.view_is ∙ sym next.start;
+      ends = ap (λ (z : Statement). z.end) c.self.view_is ∙ sym next.end;
+    })
