@@ -1,4 +1,4 @@
-//! `set` and `set_if_absent`: an attribute gets a value.
+//! `set`: an attribute gets a value.
 
 ghost use Rattle.std.specs.Prelude.{◌≡◌, ◌++◌, ◌∷◌, [], None, Some, not, true, false, IfOk, IsOk, OnOk, OnErr};
 ghost use Rattle.bz_tree.specs.View.{node_view, nodes_view, seg_view, segs_view};
@@ -46,21 +46,6 @@ pub fn set(alloc: Global, attr: &str, words: &[Text], args: &mut Vec<Seg<'_>>) -
         return Ok(Done::quiet(true));
     };
     set_in(alloc, attr, words, &mut args[i])
-}
-
-/// Adds an argument where there is none of the name, and else succeeds. An `Err` leaves all as it was.
-pub fn set_if_absent(alloc: Global, attr: &str, words: &[Text], args: &mut Vec<Seg<'_>>) -> Executed
-    ensures args { OnOk result
-        (segs_view args.new.items ≡ spec.set_if_absent attr.now words.now (segs_view args.old.items)) }
-    ensures done { IfOk result
-        (λ done. done ≡ effects.done None (not (effects.has attr.now (segs_view args.old.items)))) }
-    ensures unchanged { effects.has attr.now (segs_view args.old.items) ≡ true → IsOk result }
-    ensures err { OnErr result (segs_view args.new.items ≡ segs_view args.old.items) }
-{
-    match find(args, attr) {
-        None => set(alloc, attr, words, args),
-        Some(_) => Ok(Done::quiet(false)),
-    }
 }
 
 fn set_in(alloc: Global, attr: &str, words: &[Text], arg: &mut Seg<'_>) -> Executed

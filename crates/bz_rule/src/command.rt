@@ -3,16 +3,13 @@
 ghost use Rattle.std.specs.Prelude.{◌≡◌, IfOk, OnOk, OnErr, true};
 ghost use Rattle.bz_tree.specs.View.{segs_view};
 ghost use Rattle.bz_rule.specs.Commands as spec;
-ghost use Rattle.bz_rule.specs.private.RowEdits.{edits_arguments};
+ghost use Rattle.bz_rule.specs.private.RowEdits.{takes_tree};
 
 use bz_attribute::{Done, Env, Executed};
 use bz_attribute_commands::comment::comment;
-use bz_attribute_commands::set::{set, set_if_absent};
+use bz_attribute_commands::set::set;
 use bz_command::{Attributes, Commented, Field, Moved, Package, Seq, Setting, Text};
-use bz_list_commands::add::add;
 use bz_list_commands::moving::move_elements;
-use bz_list_commands::remove::remove;
-use bz_list_commands::replace::replace;
 use bz_tree::Seg;
 use std::alloc::{AllocError, Global};
 use std::marker::Model;
@@ -118,29 +115,24 @@ pub(crate) fn in_args(
     home: &Package,
     args: &mut Vec<Seg<'_>>,
 ) -> Executed
-    requires { edits_arguments command.now ≡ true }
+    requires { takes_tree command.now ≡ true }
     ensures args { OnOk result
         (segs_view args.new.items ≡ spec.args_after command.now home.now (segs_view args.old.items)) }
     ensures done { IfOk result (λ done. done ≡ spec.args_done command.now home.now (segs_view args.old.items)) }
     ensures err { OnErr result (segs_view args.new.items ≡ segs_view args.old.items) }
 {
-    let env = Env { alloc, home };
     match &command.action {
-        Action::Add(attr, values) => add(env, attr.as_str(), values.as_slice(), args),
-        Action::Remove(attributes, values) => remove(env, attributes, values.as_slice(), args),
         Action::Set(Setting::ToValues(attr, values)) => {
             set(alloc, attr.as_str(), values.as_slice(), args)
         }
-        Action::SetIfAbsent(attr, values) => {
-            set_if_absent(alloc, attr.as_str(), values.as_slice(), args)
-        }
         Action::Move(old, new, moved) => {
+            let env = Env { alloc, home };
             move_elements(env, old.as_str(), new.as_str(), moved, args)
         }
-        Action::Replace(attributes, old, new) => {
-            replace(alloc, home, attributes, old.as_str(), new.as_str(), args)
+        Action::Comment(commented, text) => {
+            let env = Env { alloc, home };
+            comment(env, commented, text.as_str(), args)
         }
-        Action::Comment(commented, text) => comment(env, commented, text.as_str(), args),
         _ => Ok(Done::quiet(false)),
     }
 }

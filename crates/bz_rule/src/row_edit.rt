@@ -13,7 +13,7 @@ ghost use Rattle.bz_attribute.specs.Set.{set, set_if_absent, sets};
 ghost use Rattle.bz_command.specs.Labels as labels;
 ghost use Rattle.bz_rule.specs.Commands as commands;
 ghost use Rattle.bz_rule.specs.declared.command.Action.TheVariants.{Set};
-ghost use Rattle.bz_rule.specs.private.RowEdits.{HasKindAndParts, HasMore, IsEditFor, IsEditOf, IsPlaceFor, KeepsHead, edits_arguments, is_edit, one_attribute, rule_after};
+ghost use Rattle.bz_rule.specs.private.RowEdits.{HasKindAndParts, HasMore, IsEditFor, IsEditOf, IsPlaceFor, KeepsHead, edits_arguments, is_edit, one_attribute, rule_after, takes_tree};
 
 use crate::command::{Action, Command, in_args};
 use bz_attribute::{
@@ -24,6 +24,9 @@ use bz_attribute_commands::new_argument::write_argument;
 use bz_attribute_commands::rename::rename;
 use bz_attribute_commands::set_kind::set_kind;
 use bz_command::{Attributes, Commented, Setting, Text};
+use bz_list_commands::add::add;
+use bz_list_commands::remove::remove;
+use bz_list_commands::replace::{Change, replace};
 use bz_tree::Part;
 use std::alloc::{AllocError, Global};
 
@@ -74,7 +77,7 @@ fn edit_by_tree<'a>(
     parts: &[Part<'a>],
     new: &mut Parts<'a>,
 ) -> Result<Edit, AllocError>
-    requires { edits_arguments command.now ≡ true }
+    requires { takes_tree command.now ≡ true }
     ensures { IfOk result (IsRowEdit (commands.args_after command.now env.entry.home.now)
         (commands.args_done command.now env.entry.home.now) (map part_view parts.now) (map part_view new.new.items)) }
 {
@@ -180,15 +183,28 @@ fn edit_in_row<'a>(
 {
     match &command.action {
         Action::Set(setting) => set_in_row(env, setting, parts, new),
-        Action::SetIfAbsent(attr, words) => {
-            let edit = set_absent(env.alloc, attr.as_str(), words.as_slice(), parts, new)?;
-            Ok(Some(edit))
-        }
         Action::Comment(commented, text) => {
             comment_in_row(env, commented, text.as_str(), parts, new)
         }
         _ => Ok(None),
     }
+}
+
+// What a command makes of the arguments of a rule, on its parts where it can, else by a tree.
+fn edit_others<'a>(
+    env: Env<'_>,
+    command: &Command,
+    parts: &[Part<'a>],
+    new: &mut Parts<'a>,
+) -> Result<Edit, AllocError>
+    requires { takes_tree command.now ≡ true }
+    ensures { IfOk result (IsRowEdit (commands.args_after command.now env.entry.home.now)
+        (commands.args_done command.now env.entry.home.now) (map part_view parts.now) (map part_view new.new.items)) }
+{
+    if let Some(edit) = edit_in_row(env, command, parts, new)? {
+        return Ok(edit);
+    }
+    edit_by_tree(env, command, parts, new)
 }
 
 // What a command makes of the arguments of a rule.
@@ -202,10 +218,23 @@ fn edit_arguments<'a>(
     ensures { IfOk result (IsRowEdit (commands.args_after command.now env.entry.home.now)
         (commands.args_done command.now env.entry.home.now) (map part_view parts.now) (map part_view new.new.items)) }
 {
-    if let Some(edit) = edit_in_row(env, command, parts, new)? {
-        return Ok(edit);
+    match &command.action {
+        Action::Add(attr, values) => add(env, attr.as_str(), values.as_slice(), parts, new),
+        Action::Remove(attributes, values) => {
+            remove(env, attributes, values.as_slice(), parts, new)
+        }
+        Action::Replace(attributes, old, value) => {
+            let change = Change {
+                old: old.as_str(),
+                new: value.as_str(),
+            };
+            replace(env, attributes, change, parts, new)
+        }
+        Action::SetIfAbsent(attr, words) => {
+            set_absent(env.alloc, attr.as_str(), words.as_slice(), parts, new)
+        }
+        _ => edit_others(env, command, parts, new),
     }
-    edit_by_tree(env, command, parts, new)
 }
 
 // What a command makes of a rule of this kind. The new parts go into a list.

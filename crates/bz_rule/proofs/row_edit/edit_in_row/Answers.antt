@@ -4,8 +4,5 @@ use Rattle.bz_rule.proofs.row_edit.edit_in_row.Goals as goal
 pub returns-in-Set : goal.returns-in-Set
 returns-in-Set c = rw (sym c.command.view_is, c.in-Set.is) c.set_in_row.ensures
 
-pub returns-in_ok-edit-in-SetIfAbsent : goal.returns-in_ok-edit-in-SetIfAbsent
-returns-in_ok-edit-in-SetIfAbsent c = rw (sym c.command.view_is, c.in-SetIfAbsent.is) (rw (c.as_str.ensures, c.as_slice.ensures) at c.in_ok-edit-in-SetIfAbsent.ensures)
-
 pub returns-in-Comment : goal.returns-in-Comment
-returns-in-Comment c = rw (sym c.command.view_is, c.in-Comment.is) (rw (c.as_str-in-Comment.ensures) at c.comment_in_row.ensures)
+returns-in-Comment c = rw (sym c.command.view_is, c.in-Comment.is) (rw (c.as_str.ensures) at c.comment_in_row.ensures)

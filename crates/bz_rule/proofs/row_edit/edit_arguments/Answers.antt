@@ -1,0 +1,14 @@
+use Rattle.std.proofs.Common.{sym}
+use Rattle.bz_rule.proofs.row_edit.edit_arguments.Goals as goal
+
+pub returns-in-Add : goal.returns-in-Add
+returns-in-Add c = rw (sym c.command.view_is, c.in-Add.is) (rw (c.as_str.ensures, c.as_slice.ensures) at c.add.ensures)
+
+pub returns-in-Remove : goal.returns-in-Remove
+returns-in-Remove c = rw (sym c.command.view_is, c.in-Remove.is) (rw (c.as_slice-in-Remove.ensures) at c.remove.ensures)
+
+pub returns-in-Replace : goal.returns-in-Replace
+returns-in-Replace c = rw (sym c.command.view_is, c.in-Replace.is) (rw (c.as_str-in-Replace.ensures, c.as_str-in-Replace-2.ensures) at c.replace.ensures)
+
+pub returns-in-SetIfAbsent : goal.returns-in-SetIfAbsent
+returns-in-SetIfAbsent c = rw (sym c.command.view_is, c.in-SetIfAbsent.is) (rw (c.as_str-in-SetIfAbsent.ensures, c.as_slice-in-SetIfAbsent.ensures) at c.set_absent.ensures)
