@@ -82,9 +82,9 @@ told_list home attr values args a ss lists b first some is =
 -- whether there is something new
 segment_some : (s : Segment) (ss : List Segment) → 1 ≤ length (segs_parts (segs_of (s ∷ ss)))
 segment_some s ss = omega (
-    arith,
-    length-append (map above s.before) (items_parts (items_of s.nodes) ++ (segment_end ∷ (beside_part s.suffix ++ segs_parts (segs_of ss)))),
-    length-append (items_parts (items_of s.nodes)) (segment_end ∷ (beside_part s.suffix ++ segs_parts (segs_of ss))),
+  arith,
+  length-append (map above s.before) (items_parts (items_of s.nodes) ++ (segment_end ∷ (beside_part s.suffix ++ segs_parts (segs_of ss)))),
+  length-append (items_parts (items_of s.nodes)) (segment_end ∷ (beside_part s.suffix ++ segs_parts (segs_of ss))),
 )
 
 pub none_new : (ss : List Segment) (ps : List RowPart) → ps ≡ segs_parts (segs_of ss) → length ps ≡ 0 → not (is_nil ss) ≡ false

@@ -24,11 +24,11 @@ loop-at-preserved c =
       after = search rules;
       walked =
           walk_passes c.args.whole c.loop-at.starts c.is_plus-starts.result c.args.parts.now c.args.from at end _ c.loop-at.invariant.walked c.loop-at-test.true (sym c.is_end.ensures ∙ c.if-not-is_end.true) (
-              elim c.else-starts.branch [
-                else-starts-via-then-starts+then-opens_list+else-ends_piece w ↦ (λ i. w.if-starts.true i && (sym w.opens_list.ensures ∙ w.if-opens_list.true) i && (sym (w.ends_piece.ensures ∙ ap ends_piece (rest_seen c.args.parts.now end)) ∙ w.if-ends_piece.false) i)
-              | else-starts-via-then-starts+else-opens_list w ↦ (λ i. w.if-starts.true i && (sym w.opens_list.ensures ∙ w.if-opens_list.false) i && piece)
-              | else-starts-via-else-starts w ↦ rw w.if-starts.false refl
-              ]
+          elim c.else-starts.branch [
+            | else-starts-via-then-starts+then-opens_list+else-ends_piece w ↦ (λ i. w.if-starts.true i && (sym w.opens_list.ensures ∙ w.if-opens_list.true) i && (sym (w.ends_piece.ensures ∙ ap ends_piece (rest_seen c.args.parts.now end)) ∙ w.if-ends_piece.false) i)
+            | else-starts-via-then-starts+else-opens_list w ↦ (λ i. w.if-starts.true i && (sym w.opens_list.ensures ∙ w.if-opens_list.false) i && piece)
+            | else-starts-via-else-starts w ↦ rw w.if-starts.false refl
+          ]
           ) c.is_plus-starts.ensures
           (ap (λ (n : ℕ). at + n) (c.item_len.ensures.len ∙ ap item_len (rest_seen c.args.parts.now at)));
     }

@@ -44,10 +44,10 @@ returns-then-is_empty c =
     c.in_ok-write_missing.ensures lists are ∙ ap (λ (qs : List Part). map part_view qs ++ segs_parts (segs_of (new_elements home lists values))) c.clear.ensures.items in
     unchanged _ _ ps _ _ _ c.none-then-is_empty.ensures (ap (λ (d : Done). d.changed) told)
     (λ s r h.
-        let v = c.in-Some.ensures.some s r h in
-        let l = c.in-Some-first_list.ensures.some (value v.arg) v.after v.read in
-        told ∙ told_list home c.args.attr.now values r.args v.arg _ _ false v.first l.lists 
-        (none_new (new_elements home (parts (value v.arg)) values) (map part_view now) (missing (parts (value v.arg)) (lists_there ps (value v.arg) v.after c.in-Some.value c.in-Some-first_list.list l)) (length-map now part_view ∙ empty)))
+    let v = c.in-Some.ensures.some s r h in
+    let l = c.in-Some-first_list.ensures.some (value v.arg) v.after v.read in
+    told ∙ told_list home c.args.attr.now values r.args v.arg _ _ false v.first l.lists
+    (none_new (new_elements home (parts (value v.arg)) values) (map part_view now) (missing (parts (value v.arg)) (lists_there ps (value v.arg) v.after c.in-Some.value c.in-Some-first_list.list l)) (length-map now part_view ∙ empty)))
 
 pub returns : goal.returns
 returns c =
@@ -62,11 +62,11 @@ returns c =
     c.in_ok-write_missing.ensures lists are ∙ ap (λ (qs : List Part). map part_view qs ++ segs_parts (segs_of (new_elements home lists values))) c.clear.ensures.items in
     changed _ _ ps _ _ _ c.at-2.ensures (omega arith, omega (arith, c.elements_end-end.ensures.within.1, length-map c.args.parts.now part_view))
     (λ s r h.
-        let v = c.in-Some.ensures.some s r h in
-        let l = c.in-Some-first_list.ensures.some (value v.arg) v.after v.read in
-        added_there home attr values s r ps _ c.in-Some.value c.in-Some-first_list.list end h v l (c.elements_end-end.ensures.elements l.list v.after l.read) (missing (parts (value v.arg)) (lists_there ps (value v.arg) v.after c.in-Some.value c.in-Some-first_list.list l)))
+    let v = c.in-Some.ensures.some s r h in
+    let l = c.in-Some-first_list.ensures.some (value v.arg) v.after v.read in
+    added_there home attr values s r ps _ c.in-Some.value c.in-Some-first_list.list end h v l (c.elements_end-end.ensures.elements l.list v.after l.read) (missing (parts (value v.arg)) (lists_there ps (value v.arg) v.after c.in-Some.value c.in-Some-first_list.list l)))
     (λ s r h.
-        let v = c.in-Some.ensures.some s r h in
-        let l = c.in-Some-first_list.ensures.some (value v.arg) v.after v.read in
-        told_list home attr values r.args v.arg _ _ true v.first l.lists
-        (some_new (new_elements home (parts (value v.arg)) values) (map part_view now) (missing (parts (value v.arg)) (lists_there ps (value v.arg) v.after c.in-Some.value c.in-Some-first_list.list l)) (omega (arith, some, length-map now part_view))))
+    let v = c.in-Some.ensures.some s r h in
+    let l = c.in-Some-first_list.ensures.some (value v.arg) v.after v.read in
+    told_list home attr values r.args v.arg _ _ true v.first l.lists
+    (some_new (new_elements home (parts (value v.arg)) values) (map part_view now) (missing (parts (value v.arg)) (lists_there ps (value v.arg) v.after c.in-Some.value c.in-Some-first_list.list l)) (omega (arith, some, length-map now part_view))))
