@@ -9,6 +9,7 @@ pub mod Known
 pub mod Leaving
 pub mod Meanings
 pub mod Named
+pub mod OneValue
 pub mod PlaceEdits
 pub mod Written
 pub mod WrittenParts

@@ -1,20 +1,23 @@
 //! `add`: values that are missing go to the end of a list.
 
-ghost use Rattle.std.specs.Prelude.{◌≡◌, ◌≤◌, ◌++◌, ◌∷◌, [], List, map, length, IfOk, IfSome, OnOk};
+ghost use Rattle.std.specs.Prelude.{◌≡◌, ◌≤◌, ◌++◌, ◌∷◌, [], List, drop, map, length, option_map, IfOk, IfSome, OnOk};
+ghost use Rattle.std.specs.List.{list_any};
 ghost use Rattle.bz_tree.specs.Tree.{Segment, segs_of};
-ghost use Rattle.bz_tree.specs.Rows.{part_view, segs_parts};
-ghost use Rattle.bz_attribute.specs.Elements.{AreLists};
+ghost use Rattle.bz_tree.specs.Rows.{RowPart, part_view, segs_parts};
+ghost use Rattle.bz_attribute.specs.Elements.{AreLists, ListRest, elements_left, rest_parts};
+ghost use Rattle.bz_attribute.specs.Lists.{equals, same_value};
 ghost use Rattle.bz_attribute.specs.RowEdits.{IsRowEdit};
-ghost use Rattle.bz_attribute.specs.Rules.{first_named};
+ghost use Rattle.bz_attribute.specs.Rules.{first_named, value_in};
 ghost use Rattle.bz_attribute.specs.Add as spec;
 ghost use Rattle.bz_attribute.specs.Effects as effects;
 
 use crate::new_attribute::{close_attribute, open_attribute};
+use bz_attribute::equals::text_equals;
 use bz_attribute::{
-    Done, Edit, Env, Parts, Place, WordSet, elements_end, first_list, labels_of, place_of,
-    value_place,
+    Done, Edit, Env, Parts, Place, WordSet, elements_end, first_list, labels_of, next_of_value,
+    place_of, value_place,
 };
-use bz_command::{Bytes, Text, quote};
+use bz_command::{Bytes, Package, Text, quote};
 use bz_token::Kind;
 use bz_tree::Part;
 use std::alloc::{AllocError, Global};
@@ -65,9 +68,28 @@ fn write_attribute(
     close_attribute(written)
 }
 
-// The elements for the values that are missing in some list parts. Each is looked up in a set of the values before it and
-// of the elements that are among the values: no other element needs to be in it.
+// The elements for the values that are missing in some list parts.
 fn write_missing<'s>(
+    env: Env<'s>,
+    values: &'s [Text],
+    parts: &[Part<'s>],
+    list: Option<usize>,
+    written: &mut Parts<'_>,
+) -> Result<(), AllocError>
+    requires { IfSome list (λ from. from ≤ length parts.now) }
+    ensures { OnOk result ((lists : List (List Segment)) → AreLists (map part_view parts.now) list lists
+        → map part_view written.new.items ≡ map part_view written.old.items
+        ++ segs_parts (segs_of (spec.new_elements env.entry.home.now lists values.now))) }
+{
+    match values {
+        [word] => write_if_missing(env, word.as_str(), parts, list, written),
+        _ => write_each_missing(env, values, parts, list, written),
+    }
+}
+
+// The same of any values. Each is looked up in a set of the values before it and of the elements that are among the
+// values: no other element needs to be in it.
+fn write_each_missing<'s>(
     env: Env<'s>,
     values: &'s [Text],
     parts: &[Part<'s>],
@@ -87,6 +109,62 @@ fn write_missing<'s>(
         }
     }
     Ok(())
+}
+
+// The same of one value, which is compared with each element: no set is made.
+fn write_if_missing(
+    env: Env<'_>,
+    word: &str,
+    parts: &[Part<'_>],
+    list: Option<usize>,
+    written: &mut Parts<'_>,
+) -> Result<(), AllocError>
+    requires { IfSome list (λ from. from ≤ length parts.now) }
+    ensures { OnOk result ((lists : List (List Segment)) → AreLists (map part_view parts.now) list lists
+        → map part_view written.new.items ≡ map part_view written.old.items
+        ++ segs_parts (segs_of (spec.new_elements env.entry.home.now lists (word.now ∷ [])))) }
+{
+    if is_there(env.home, word, parts, list) {
+        return Ok(());
+    }
+    write_string(env.alloc, word, written)
+}
+
+// An element of some list parts equals the word.
+fn is_there(home: &Package, word: &str, parts: &[Part<'_>], list: Option<usize>) -> bool
+    requires { IfSome list (λ from. from ≤ length parts.now) }
+    ensures { (lists : List (List Segment)) → AreLists (map part_view parts.now) list lists
+        → result ≡ list_any (list_any (equals home.now word.now)) lists }
+{
+    match list {
+        None => false,
+        Some(from) => is_from(home, word, parts, from),
+    }
+}
+
+// An element from a place in a list part of a value on equals the word.
+fn is_from(home: &Package, word: &str, parts: &[Part<'_>], from: usize) -> bool
+    requires { from ≤ length parts.now }
+    ensures { (rest : ListRest) (after : List RowPart) → drop from (map part_view parts.now) ≡ rest_parts rest after
+        → result ≡ list_any (equals home.now word.now) (elements_left rest) }
+{
+    let mut at = from;
+    while let Some(element) = next_of_value(parts, at) {
+        if is_word(home, word, element.string) {
+            return true;
+        }
+        at = element.to;
+    }
+    false
+}
+
+fn is_word(home: &Package, word: &str, string: Option<&str>) -> bool
+    ensures { result ≡ same_value home.now word.now (value_in (option_map (λ text. text.now) string.entry)) }
+{
+    match string {
+        None => false,
+        Some(text) => text_equals(home, text, word),
+    }
 }
 
 // An element that is a new string.

@@ -9,7 +9,8 @@ use Rattle.bz_tree.specs.Rows.{RowPart, segs_parts}
 use Rattle.bz_tree.specs.Tree.{Segment, segs_of}
 use Rattle.bz_attribute.specs.Add.{fresh, new_elements}
 use Rattle.bz_attribute.specs.Effects.{string}
-use Rattle.bz_attribute.specs.Lists.{same}
+use Rattle.bz_attribute.specs.Elements.{ListRest, elements_left, rest_parts}
+use Rattle.bz_attribute.specs.Lists.{equals, same}
 use Rattle.bz_attribute.specs.private.ElementSets.{is_in}
 
 -- the set has the labels of the elements of these lists that are among the values, and of the first i values
@@ -23,3 +24,12 @@ pub record IsAdding (home : Package) (lists : List (List Segment)) (values : Lis
   pub parts : now ≡ before ++ segs_parts (segs_of made)
   pub knows : Knows home lists values i set
   pub added : made ++ map string (fresh home lists (take i values) (drop i values)) ≡ new_elements home lists values
+
+-- of the elements that are left from `from` on, none before `at` equals the word
+pub record IsSought (home : Package) (word : List ℕ) (l : ListRest) (after ps : List RowPart) (at : ℕ) : Type 0 where
+  pub left : ListRest
+  pub read : drop at ps ≡ rest_parts left after
+  pub same : list_any (equals home word) (elements_left left) ≡ list_any (equals home word) (elements_left l)
+
+abbrev pub HasSought : Package → List ℕ → List RowPart → ℕ → ℕ → Type 0
+HasSought home word ps from at = (l : ListRest) (after : List RowPart) → drop from ps ≡ rest_parts l after → IsSought home word l after ps at
