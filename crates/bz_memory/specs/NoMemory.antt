@@ -1,0 +1,5 @@
+-- The evidence that memory was refused, which has one value.
+use Rattle.bz_memory.specs.declared.no_memory.NoMemory.{NoMemory}
+
+abbrev pub no_memory : NoMemory
+no_memory = record { seen = tt }

@@ -1,0 +1,19 @@
+//! The calls of std that ask for memory, and the evidence that one of them was refused.
+//!
+//! `NoMemory` has a private field, so no other crate can make one. Where a function answers it, one of the calls below
+//! saw std refuse.
+#![tactic(auto)]
+
+mod arena;
+mod list;
+mod map;
+mod no_memory;
+mod string;
+
+pub use arena::alloc_str;
+pub use list::{
+    append, extend_from_slice, lengthen, push, reserve, reserve_exact, with_capacity, with_room_for,
+};
+pub use map::insert;
+pub use no_memory::NoMemory;
+pub use string::{from_str, push_char, push_str, with_length_of};

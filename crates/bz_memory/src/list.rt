@@ -1,0 +1,120 @@
+//! Lists that grow.
+
+ghost use Rattle.std.specs.Prelude.{◌≡◌, ◌≤◌, ◌<◌, ◌+◌, [], ◌∷◌, ◌++◌, is_ok, if◌then◌else◌, IfOk, OnOk, OnErr, length, take, vec_len, vec_capacity};
+
+use crate::no_memory::{NoMemory, refused};
+use std::alloc::Allocator;
+
+/// Puts a value at the end of a list.
+#[inline(always)]
+pub fn push<T: Drop, A: Allocator>(list: &mut Vec<T, A>, value: T) -> Result<(), NoMemory>
+    ensures items { list.new.items ≡ (if is_ok result then list.old.items ++ value ∷ [] else list.old.items) }
+    ensures full { OnErr result (vec_capacity list.old ≤ vec_len list.old) }
+{
+    match list.push(value) {
+        Ok(()) => Ok(()),
+        Err(_) => Err(refused()),
+    }
+}
+
+/// Puts copies of some values at the end of a list.
+#[inline(always)]
+pub fn extend_from_slice<T: Copy, A: Allocator>(
+    list: &mut Vec<T, A>,
+    values: &[T],
+) -> Result<(), NoMemory>
+    ensures items { list.new.items ≡ (if is_ok result then list.old.items ++ values.now else list.old.items) }
+    ensures full { OnErr result (vec_capacity list.old < vec_len list.old + length values.now) }
+{
+    match list.extend_from_slice(values) {
+        Ok(()) => Ok(()),
+        Err(_) => Err(refused()),
+    }
+}
+
+/// Puts the values of another list at the end of a list.
+#[inline(always)]
+pub fn append<T, A: Allocator>(list: &mut Vec<T, A>, other: &mut Vec<T, A>) -> Result<(), NoMemory>
+    ensures items { list.new.items ≡ (if is_ok result then list.old.items ++ other.old.items else list.old.items) }
+    ensures other_items { other.new.items ≡ (if is_ok result then [] else other.old.items) }
+    ensures full { OnErr result (vec_capacity list.old < vec_len list.old + vec_len other.old) }
+{
+    match list.append(other) {
+        Ok(()) => Ok(()),
+        Err(_) => Err(refused()),
+    }
+}
+
+/// Makes room for so many values more.
+#[inline(always)]
+pub fn reserve<T, A: Allocator>(list: &mut Vec<T, A>, more: usize) -> Result<(), NoMemory>
+    ensures items { list.new.items ≡ list.old.items }
+    ensures ok { OnOk result (vec_len list.new + more ≤ vec_capacity list.new) }
+    ensures full { OnErr result (vec_capacity list.old < vec_len list.old + more) }
+{
+    match list.reserve(more) {
+        Ok(()) => Ok(()),
+        Err(_) => Err(refused()),
+    }
+}
+
+/// Makes room for so many values more, and takes no more memory than that.
+#[inline(always)]
+pub fn reserve_exact<T, A: Allocator>(list: &mut Vec<T, A>, more: usize) -> Result<(), NoMemory>
+    ensures items { list.new.items ≡ list.old.items }
+    ensures ok { OnOk result (vec_len list.new + more ≤ vec_capacity list.new) }
+    ensures full { OnErr result (vec_capacity list.old < vec_len list.old + more) }
+{
+    match list.reserve_exact(more) {
+        Ok(()) => Ok(()),
+        Err(_) => Err(refused()),
+    }
+}
+
+/// An empty list with room for so many values.
+#[inline(always)]
+pub fn with_capacity<T, A: Allocator>(alloc: A, capacity: usize) -> Result<Vec<T, A>, NoMemory>
+    requires { capacity ≤ 131072 }
+    ensures items { IfOk result (λ v. v.items ≡ []) }
+    ensures capacity { IfOk result (λ v. capacity ≤ vec_capacity v) }
+{
+    match Vec::with_capacity(alloc, capacity) {
+        Ok(list) => Ok(list),
+        Err(_) => Err(refused()),
+    }
+}
+
+/// An empty list with room for as many values as another list has, and a few.
+#[inline(always)]
+pub fn with_room_for<T, U, A: Allocator>(
+    alloc: A,
+    like: &[U],
+    few: usize,
+) -> Result<Vec<T, A>, NoMemory>
+    requires { few ≤ 131072 }
+    ensures items { IfOk result (λ v. v.items ≡ []) }
+    ensures capacity { IfOk result (λ v. length like.now + few ≤ vec_capacity v) }
+{
+    let Some(capacity) = like.len().checked_add(few) else {
+        return Err(refused());
+    };
+    match Vec::with_capacity(alloc, capacity) {
+        Ok(list) => Ok(list),
+        Err(_) => Err(refused()),
+    }
+}
+
+/// Makes bytes longer by so many zeros; at most a piece of an input.
+#[inline(always)]
+pub fn lengthen<A: Allocator>(bytes: &mut Vec<u8, A>, more: usize) -> Result<(), NoMemory>
+    requires { more ≤ 8192 }
+    ensures front { OnOk result (take (length bytes.old.items) bytes.new.items ≡ bytes.old.items) }
+    ensures len { OnOk result (length bytes.new.items ≡ length bytes.old.items + more) }
+    ensures same { OnErr result (bytes.new.items ≡ bytes.old.items) }
+{
+    let start = bytes.len();
+    match bytes.resize(start + more, 0) {
+        Ok(()) => Ok(()),
+        Err(_) => Err(refused()),
+    }
+}

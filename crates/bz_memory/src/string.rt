@@ -1,0 +1,53 @@
+//! Strings that grow.
+
+ghost use Rattle.std.specs.Prelude.{◌≡◌, ◌≤◌, ◌<◌, ◌+◌, [], ◌∷◌, ◌++◌, is_ok, if◌then◌else◌, IfOk, OnOk, OnErr, length, string_bytes, encode_utf8};
+
+use crate::no_memory::{NoMemory, refused};
+use std::alloc::Allocator;
+
+/// A string of this text.
+#[inline(always)]
+pub fn from_str<A: Allocator>(alloc: A, text: &str) -> Result<String<A>, NoMemory>
+    ensures ok { IfOk result (λ s. string_bytes s ≡ text.now) }
+{
+    match String::from_str(alloc, text) {
+        Ok(string) => Ok(string),
+        Err(_) => Err(refused()),
+    }
+}
+
+/// An empty string with room for as many bytes as a text has.
+#[inline(always)]
+pub fn with_length_of<A: Allocator>(alloc: A, text: &str) -> Result<String<A>, NoMemory>
+    ensures bytes { IfOk result (λ s. string_bytes s ≡ []) }
+{
+    match String::with_capacity(alloc, text.len()) {
+        Ok(string) => Ok(string),
+        Err(_) => Err(refused()),
+    }
+}
+
+/// Puts a text at the end of a string.
+#[inline(always)]
+pub fn push_str<A: Allocator>(string: &mut String<A>, text: &str) -> Result<(), NoMemory>
+    ensures bytes { string_bytes string.new
+        ≡ (if is_ok result then string_bytes string.old ++ text.now else string_bytes string.old) }
+{
+    match string.push_str(text) {
+        Ok(()) => Ok(()),
+        Err(_) => Err(refused()),
+    }
+}
+
+/// Puts a character at the end of a string.
+#[inline(always)]
+pub fn push_char<A: Allocator>(string: &mut String<A>, character: char) -> Result<(), NoMemory>
+    ensures bytes { string_bytes string.new
+        ≡ (if is_ok result then string_bytes string.old ++ encode_utf8 character else string_bytes string.old) }
+    ensures ascii { character < 128 → encode_utf8 character ≡ character ∷ [] }
+{
+    match string.push(character) {
+        Ok(()) => Ok(()),
+        Err(_) => Err(refused()),
+    }
+}
