@@ -15,7 +15,7 @@ module _ {S T : Type 0} (gave : S → List (List ℕ) → S → Type 0) (failure
       → (read : List (List ℕ)) × gave source read source_after × ForEveryFile read (HasTooLong max_statement line (joined read)))
       → r ≢ Err Stopped → IfErr r (λ fault. IsFaultOver gave failures source fault source_after)
   fault_over (Ok x) read long statement going = tt
-  fault_over (Err OutOfMemory) read long statement going = tt
+  fault_over (Err (OutOfMemory _)) read long statement going = tt
   fault_over (Err ReadFailed) read long statement going = read refl
   fault_over (Err WriteFailed) read long statement going = tt
   fault_over (Err InputTooLong) read long statement going = long refl

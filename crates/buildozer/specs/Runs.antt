@@ -70,7 +70,7 @@ pub record IsKeptText {S : Type 0} (gave : S → List (List ℕ) → S → Type 
 -- Why a run over this source has no report: a read failed, all permitted reads did not meet the end, or a statement is too long. Of
 -- memory and of writes nothing is said.
 abbrev pub IsFaultOver : {S : Type 0} → (S → List (List ℕ) → S → Type 0) → (S → ℕ) → S → RunFault → S → Type 0
-IsFaultOver gave failures source OutOfMemory source_after = ⊤
+IsFaultOver gave failures source (OutOfMemory _) source_after = ⊤
 IsFaultOver gave failures source ReadFailed source_after = Rises (failures source) (failures source_after)
 IsFaultOver gave failures source WriteFailed source_after = ⊤
 IsFaultOver gave failures source InputTooLong source_after =

@@ -7,7 +7,8 @@ ghost use Rattle.buildozer.specs.Texts.{line_of, message_of, lines_text, message
 
 use bz_devices::buffered::Buffered;
 use bz_engine::{Failed, Report, Sink, Texts};
-use std::alloc::{AllocError, Global};
+use bz_memory::NoMemory;
+use std::alloc::Global;
 
 /// Standard output and standard error, each with a buffer before it.
 ///
@@ -20,7 +21,7 @@ pub struct Console<O, E> {
 
 impl<O: Sink, E: Sink> Console<O, E> {
     /// Both, with nothing kept back.
-    pub fn new(alloc: Global, out: O, err: E) -> Result<Console<O, E>, AllocError>
+    pub fn new(alloc: Global, out: O, err: E) -> Result<Console<O, E>, NoMemory>
     where
         O: Drop,
         E: Drop,

@@ -10,11 +10,12 @@ use crate::package::{Devices, FAILED, edit_package};
 use crate::run::Asked;
 use bz_engine::{Sink, Source};
 use bz_folder::Folder;
+use bz_memory::NoMemory;
 use bz_script::flags::Flags;
 use bz_script::group::Script;
 use bz_script::packages::by_package;
 use bz_script::status::whole_status;
-use std::alloc::{AllocError, Global};
+use std::alloc::Global;
 
 /// Edits each package of the script, in the order of their first mention, and gives the exit status. Without `-k` no
 /// package comes after one that failed.
@@ -27,7 +28,7 @@ pub fn edit_all<D: Folder, S: Source, O: Sink, E: Sink>(
     flags: &Flags,
     script: Script,
     devices: &mut Devices<D, S, O, E>,
-) -> Result<u8, AllocError>
+) -> Result<u8, NoMemory>
     ensures safe { SafeRun D.did (spec.MayHold D.leads D.File.gave flags.now.k script.items)
         devices.old.draft.folder devices.new.draft.folder }
     // Each package that comes has a status, and without `-k` none comes after one that failed.

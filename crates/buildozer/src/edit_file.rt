@@ -74,7 +74,7 @@ fn not_begun(replaced: Result<bool, Trouble>) -> FileFault {
 
 fn fault_of(trouble: Trouble) -> FileFault {
     match trouble {
-        Trouble::OutOfMemory => FileFault::Run(RunFault::OutOfMemory),
+        Trouble::OutOfMemory(why) => FileFault::Run(RunFault::OutOfMemory(why)),
         Trouble::Clean | Trouble::LeftBehind => FileFault::CannotWrite,
     }
 }

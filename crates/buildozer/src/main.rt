@@ -11,6 +11,7 @@ mod run;
 
 use bz_engine::{FromRead, ToWrite};
 use bz_folder::{Draft, OnDisk};
+use bz_memory::{NoMemory, push};
 use bz_script::flags::Flags;
 use bz_script::group::Script;
 use bz_script::help;
@@ -19,7 +20,7 @@ use bz_script::usage::{StartFault, UsageFault};
 use console::Console;
 use edit_all::edit_all;
 use package::Devices;
-use std::alloc::{AllocError, Global};
+use std::alloc::Global;
 use std::process::ExitCode;
 use std::{env, io};
 
@@ -30,7 +31,7 @@ const USAGE: u8 = 1;
 fn command_line(rt: &HostRuntime, alloc: Global) -> Result<Vec<String>, StartFault> {
     let mut words = Vec::new(alloc);
     for word in env::args(rt).map_err(start_fault)?.skip(1) {
-        words.push(word).map_err(|_| UsageFault::OutOfMemory)?;
+        push(&mut words, word).map_err(|_| UsageFault::OutOfMemory)?;
     }
     Ok(words)
 }
@@ -44,7 +45,7 @@ fn start_fault(error: io::Error) -> StartFault {
 }
 
 /// Edits what the script asks for, and gives the exit status.
-fn edit(rt: &HostRuntime, alloc: Global, flags: &Flags, script: Script) -> Result<u8, AllocError> {
+fn edit(rt: &HostRuntime, alloc: Global, flags: &Flags, script: Script) -> Result<u8, NoMemory> {
     let mut devices = Devices {
         draft: Draft::new(alloc, OnDisk::new(alloc, rt))?,
         input: FromRead::new(rt.stdin()),

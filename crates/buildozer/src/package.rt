@@ -220,7 +220,7 @@ fn put_fault<O: Sink, E: Sink>(
     ensures { result ≡ 2 }
 {
     match fault {
-        RunFault::OutOfMemory => console.put_message(name, "out of memory"),
+        RunFault::OutOfMemory(_) => console.put_message(name, "out of memory"),
         RunFault::ReadFailed => console.put_message(name, "read failed"),
         RunFault::WriteFailed => console.put_message(name, "write failed"),
         RunFault::InputTooLong => console.put_message(name, "input too long"),

@@ -5,10 +5,11 @@ ghost use Rattle.bz_attribute.specs.declared.done.Note.TheVariants.{AttributeExi
 ghost use Rattle.bz_attribute.specs.Effects as spec;
 
 use bz_command::Text;
-use std::alloc::{AllocError, Global};
+use bz_memory::NoMemory;
+use std::alloc::Global;
 
 /// What an execution of a command did. `Err`: memory was refused.
-pub type Executed = Result<Done, AllocError>;
+pub type Executed = Result<Done, NoMemory>;
 
 /// What an execution of a command did.
 #[derive(Drop)]

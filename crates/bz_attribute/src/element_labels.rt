@@ -12,8 +12,9 @@ ghost use Rattle.bz_command.specs.private.ByteSteps.{left, is_good};
 use crate::elements::next_of_value;
 use crate::word_set::WordSet;
 use bz_command::{Bytes, LabelSet, Package, value_of};
+use bz_memory::NoMemory;
 use bz_tree::Part;
-use std::alloc::{AllocError, Global};
+use std::alloc::Global;
 
 // The value of a string, where it equals one of the words; without words any value.
 fn kept_value<'a>(
@@ -40,7 +41,7 @@ pub fn labels_of<'s>(
     words: Option<&WordSet<'_>>,
     parts: &[Part<'s>],
     list: Option<usize>,
-) -> Result<LabelSet<'s>, AllocError>
+) -> Result<LabelSet<'s>, NoMemory>
     requires { IfSome list (λ from. from ≤ length parts.now) }
     ensures home { IfOk result (λ set. set.home.now ≡ home.now) }
     ensures all { IfOk result (λ set. (lists : List (List Segment))
@@ -59,7 +60,7 @@ fn labels_from<'s>(
     words: Option<&WordSet<'_>>,
     parts: &[Part<'s>],
     from: usize,
-) -> Result<LabelSet<'s>, AllocError>
+) -> Result<LabelSet<'s>, NoMemory>
     requires { from ≤ length parts.now }
     ensures home { IfOk result (λ set. set.home.now ≡ home.now) }
     ensures all { IfOk result (λ set. (rest : ListRest) (after : List RowPart)

@@ -13,8 +13,9 @@ use crate::head_parts::{after_comments, in_call, kind_of, name_text, value_in};
 use crate::texts::push_home;
 use bumpalo::Bump;
 use bz_command::{Marked, Package, Target};
+use bz_memory::{NoMemory, push_str};
 use bz_tree::{Class, Part, Row};
-use std::alloc::{AllocError, Global};
+use std::alloc::Global;
 
 /// The head of a rule: what its kind, its name and its lines are.
 #[derive(Clone, Copy)]
@@ -36,7 +37,7 @@ impl<'a> Head<'a> {
         alloc: Global,
         bump: &'a Bump,
         row: &Row<'a>,
-    ) -> Result<Option<Head<'a>>, AllocError>
+    ) -> Result<Option<Head<'a>>, NoMemory>
         ensures { IfOk result (λ found. (s : Statement) → s.class ≡ class_of s.nodes → IsRowOf s row.now
             → HasHead found s) }
     {
@@ -53,7 +54,7 @@ impl<'a> Head<'a> {
         parts: &[Part<'a>],
         start: u64,
         end: u64,
-    ) -> Result<Option<Head<'a>>, AllocError>
+    ) -> Result<Option<Head<'a>>, NoMemory>
         ensures { IfOk result (λ found. (s : Statement) → class_of s.nodes ≡ RuleClass
             → map part_view parts.now ≡ parts_of s → s.start ≡ start → s.end ≡ end → HasHead found s) }
     {
@@ -85,17 +86,17 @@ impl<'a> Head<'a> {
     }
 
     /// The rule by its name, or by `%` and its kind.
-    pub fn shown(&self, alloc: Global, home: &Package) -> Result<String, AllocError>
+    pub fn shown(&self, alloc: Global, home: &Package) -> Result<String, NoMemory>
         ensures { IfOk result (λ text. (s : Statement) → IsHeadOf self.now s
             → string_bytes text ≡ shown_text home.now s) }
     {
         let mut text = String::new(alloc);
         push_home(&mut text, home)?;
         match self.name {
-            Some(name) => text.push_str(name)?,
+            Some(name) => push_str(&mut text, name)?,
             None => {
-                text.push_str("%")?;
-                text.push_str(self.kind)?;
+                push_str(&mut text, "%")?;
+                push_str(&mut text, self.kind)?;
             }
         }
         Ok(text)

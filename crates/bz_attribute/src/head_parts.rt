@@ -12,9 +12,10 @@ ghost use Rattle.bz_attribute.specs.private.HeadParts.{IsInCall};
 use crate::finder::find_argument;
 use bumpalo::Bump;
 use bz_command::{plain_text, read_value};
+use bz_memory::{NoMemory, alloc_str, push_str};
 use bz_token::Kind;
 use bz_tree::{GroupKind, Part};
-use std::alloc::{AllocError, Global};
+use std::alloc::Global;
 
 /// The parts after the comments above them.
 pub(crate) fn after_comments<'p, 'a>(parts: &'p [Part<'a>]) -> &'p [Part<'a>]
@@ -54,7 +55,7 @@ pub(crate) fn kind_of<'a>(
     alloc: Global,
     bump: &'a Bump,
     parts: &[Part<'a>],
-) -> Result<&'a str, AllocError>
+) -> Result<&'a str, NoMemory>
     ensures { IfOk result (λ kind. kind.now ≡ spec.token_texts (map part_view parts.now)) }
 {
     match parts {
@@ -67,16 +68,16 @@ fn joined_tokens<'a>(
     alloc: Global,
     bump: &'a Bump,
     parts: &[Part<'a>],
-) -> Result<&'a str, AllocError>
+) -> Result<&'a str, NoMemory>
     ensures { IfOk result (λ kind. kind.now ≡ spec.token_texts (map part_view parts.now)) }
 {
     let mut kind = String::new(alloc);
     let mut rest = parts;
     while let [Part::Token(_, text), after @ ..] = rest {
-        kind.push_str(text)?;
+        push_str(&mut kind, text)?;
         rest = after;
     }
-    bump.try_alloc_str(kind.as_str())
+    alloc_str(bump, kind.as_str())
 }
 
 /// The string that the first argument `name` of a rule is, where it is one. Most often that is the first argument of
@@ -98,7 +99,7 @@ pub(crate) fn value_in<'a>(
     alloc: Global,
     bump: &'a Bump,
     text: Option<&'a str>,
-) -> Result<Option<&'a str>, AllocError>
+) -> Result<Option<&'a str>, NoMemory>
     ensures { IfOk result (λ value. option_map (λ v. v.now) value
         ≡ rules.value_in (option_map (λ t. t.now) text.entry)) }
 {
@@ -110,7 +111,7 @@ pub(crate) fn value_in<'a>(
     }
     match read_value(alloc, text)? {
         None => Ok(None),
-        Some(value) => Ok(Some(bump.try_alloc_str(value.as_str())?)),
+        Some(value) => Ok(Some(alloc_str(bump, value.as_str())?)),
     }
 }
 

@@ -11,8 +11,9 @@ use crate::chosen::{Chosen, is_chosen};
 use crate::equals::string_of;
 use crate::lists::{elements_at, next_part};
 use bz_command::{LabelSet, Package};
+use bz_memory::NoMemory;
 use bz_tree::{Node, Seg};
-use std::alloc::{AllocError, Global};
+use std::alloc::Global;
 
 /// The labels of the chosen elements of a value's list parts, as far as these are strings with a value.
 pub fn labels_in<'s>(
@@ -20,7 +21,7 @@ pub fn labels_in<'s>(
     home: &'s Package,
     chosen: Chosen<'_, '_>,
     value: &'s [Node<'_>],
-) -> Result<LabelSet<'s>, AllocError>
+) -> Result<LabelSet<'s>, NoMemory>
     ensures home { IfOk result (λ set. set.home.now ≡ home.now) }
     ensures all { IfOk result
         (λ set. (text : List ℕ) → has set text

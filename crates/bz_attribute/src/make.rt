@@ -7,16 +7,17 @@ ghost use Rattle.bz_tree.specs.Tree.{leaf};
 ghost use Rattle.bz_attribute.specs.Effects as spec;
 
 use bz_command::{Text, quote};
+use bz_memory::{NoMemory, from_str, push, with_room_for};
 use bz_token::Kind;
 use bz_tree::{Group, GroupKind, Leaf, Node, Seg};
-use std::alloc::{AllocError, Global};
+use std::alloc::Global;
 use std::borrow::CowStr;
 
 /// A new token.
-pub fn token<'a>(alloc: Global, kind: Kind, text: &str) -> Result<Node<'a>, AllocError>
+pub fn token<'a>(alloc: Global, kind: Kind, text: &str) -> Result<Node<'a>, NoMemory>
     ensures { IfOk result (λ node. node_view node ≡ leaf kind text.now) }
 {
-    Ok(leaf(kind, String::from_str(alloc, text)?))
+    Ok(leaf(kind, from_str(alloc, text)?))
 }
 
 /// An operator. It takes no memory.
@@ -39,24 +40,24 @@ fn leaf<'a>(kind: Kind, text: String) -> Node<'a>
 }
 
 /// The literal of a new string.
-pub fn literal<'a>(alloc: Global, value: &str) -> Result<Node<'a>, AllocError>
+pub fn literal<'a>(alloc: Global, value: &str) -> Result<Node<'a>, NoMemory>
     ensures { IfOk result (λ node. node_view node ≡ spec.string_item value.now) }
 {
     Ok(leaf(Kind::String, quote(alloc, value)?))
 }
 
 /// An element that is a new string.
-pub fn string<'a>(alloc: Global, value: &str) -> Result<Seg<'a>, AllocError>
+pub fn string<'a>(alloc: Global, value: &str) -> Result<Seg<'a>, NoMemory>
     ensures { IfOk result (λ seg. seg_view seg ≡ spec.string value.now) }
 {
     Ok(segment(alloc, vec![in alloc; literal(alloc, value)?]?))
 }
 
 /// Adds an element that is a new string.
-pub fn push_string(alloc: Global, value: &str, segs: &mut Vec<Seg<'_>>) -> Result<(), AllocError>
+pub fn push_string(alloc: Global, value: &str, segs: &mut Vec<Seg<'_>>) -> Result<(), NoMemory>
     ensures { OnOk result (segs_view segs.new.items ≡ segs_view segs.old.items ++ spec.string value.now ∷ []) }
 {
-    segs.push(string(alloc, value)?)?;
+    push(segs, string(alloc, value)?)?;
     Ok(())
 }
 
@@ -72,10 +73,10 @@ pub fn segment<'a>(alloc: Global, nodes: Vec<Node<'a>>) -> Seg<'a>
 }
 
 /// Elements that are new strings.
-pub fn strings<'a>(alloc: Global, values: &[Text]) -> Result<Vec<Seg<'a>>, AllocError>
+pub fn strings<'a>(alloc: Global, values: &[Text]) -> Result<Vec<Seg<'a>>, NoMemory>
     ensures { IfOk result (λ segs. segs_view segs.items ≡ map spec.string values.now) }
 {
-    let mut segs = Vec::with_capacity(alloc, values.len())?;
+    let mut segs = with_room_for(alloc, values, 0)?;
     for value in values {
         push_string(alloc, value.as_str(), &mut segs)?;
     }
@@ -95,7 +96,7 @@ pub fn list<'a>(alloc: Global, elements: Vec<Seg<'a>>) -> Node<'a>
 }
 
 /// A new argument whose value is one node.
-pub fn argument<'a>(alloc: Global, attr: &str, value: Node<'a>) -> Result<Seg<'a>, AllocError>
+pub fn argument<'a>(alloc: Global, attr: &str, value: Node<'a>) -> Result<Seg<'a>, NoMemory>
     ensures { IfOk result (λ seg. seg_view seg ≡ spec.argument attr.now (node_view value.entry ∷ [])) }
 {
     let name = token(alloc, Kind::Identifier, attr)?;
@@ -109,12 +110,12 @@ pub fn push_argument<'a>(
     attr: &str,
     value: Node<'a>,
     args: &mut Vec<Seg<'a>>,
-) -> Result<(), AllocError>
+) -> Result<(), NoMemory>
     ensures ok { OnOk result
         (segs_view args.new.items
         ≡ segs_view args.old.items ++ spec.argument attr.now (node_view value.entry ∷ []) ∷ []) }
     ensures err { OnErr result (segs_view args.new.items ≡ segs_view args.old.items) }
 {
-    args.push(argument(alloc, attr, value)?)?;
+    push(args, argument(alloc, attr, value)?)?;
     Ok(())
 }

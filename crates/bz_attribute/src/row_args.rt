@@ -8,8 +8,9 @@ ghost use Rattle.bz_attribute.specs.Rules.{elements};
 ghost use Rattle.bz_tree.specs.Rows.{above, beside_part, closing, opening, item_parts, items_parts, part_view, parts_of, segs_parts};
 
 use bumpalo::Bump;
+use bz_memory::{NoMemory, alloc_str, extend_from_slice, push, with_room_for};
 use bz_tree::{Group, GroupKind, Node, Part, Seg, Stmt, nodes_of_parts};
-use std::alloc::{AllocError, Global};
+use std::alloc::Global;
 use std::borrow::CowStr;
 
 /// A list of parts in the arena of a chunk.
@@ -26,19 +27,19 @@ fn segments_of<'a>(alloc: Global, node: Node<'a>) -> Vec<Seg<'a>>
 }
 
 // The parts within a list.
-fn in_list<'a>(alloc: Global, parts: &[Part<'a>]) -> Result<Vec<Part<'a>>, AllocError>
+fn in_list<'a>(alloc: Global, parts: &[Part<'a>]) -> Result<Vec<Part<'a>>, NoMemory>
     ensures { IfOk result (λ list. map part_view list.items
         ≡ opening ListKind ∷ (map part_view parts.now ++ closing false ∷ [])) }
 {
-    let mut list = Vec::with_capacity(alloc, parts.len().saturating_add(2))?;
-    list.push(Part::Open(GroupKind::List))?;
-    list.extend_from_slice(parts)?;
-    list.push(Part::Close(false))?;
+    let mut list = with_room_for(alloc, parts, 2)?;
+    push(&mut list, Part::Open(GroupKind::List))?;
+    extend_from_slice(&mut list, parts)?;
+    push(&mut list, Part::Close(false))?;
     Ok(list)
 }
 
 /// The arguments whose parts these are. `Err`: memory was refused.
-pub fn read_arguments<'a>(alloc: Global, parts: &[Part<'a>]) -> Result<Vec<Seg<'a>>, AllocError>
+pub fn read_arguments<'a>(alloc: Global, parts: &[Part<'a>]) -> Result<Vec<Seg<'a>>, NoMemory>
     ensures { IfOk result (λ args. (ss : List Segment) → map part_view parts.now ≡ segs_parts (segs_of ss)
         → segs_view args.items ≡ ss) }
 {
@@ -54,12 +55,12 @@ pub fn read_arguments<'a>(alloc: Global, parts: &[Part<'a>]) -> Result<Vec<Seg<'
 }
 
 // The text itself where it is borrowed, a copy in the arena where it is owned.
-fn kept_text<'a>(bump: &'a Bump, text: &CowStr<'a>) -> Result<&'a str, AllocError>
+fn kept_text<'a>(bump: &'a Bump, text: &CowStr<'a>) -> Result<&'a str, NoMemory>
     ensures { IfOk result (λ kept. kept.now ≡ text_of text.now) }
 {
     match text {
         CowStr::Borrowed(slice) => Ok(*slice),
-        CowStr::Owned(string) => bump.try_alloc_str(string.as_str()),
+        CowStr::Owned(string) => alloc_str(bump, string.as_str()),
     }
 }
 
@@ -67,12 +68,12 @@ fn push_above<'a>(
     bump: &'a Bump,
     comments: &[CowStr<'a>],
     parts: &mut Parts<'a>,
-) -> Result<(), AllocError>
+) -> Result<(), NoMemory>
     ensures { OnOk result (map part_view parts.new.items
         ≡ map part_view parts.old.items ++ map above (texts comments.now)) }
 {
     for comment in comments {
-        parts.push(Part::Above(kept_text(bump, comment)?))?;
+        push(parts, Part::Above(kept_text(bump, comment)?))?;
     }
     Ok(())
 }
@@ -81,23 +82,23 @@ fn push_beside<'a>(
     bump: &'a Bump,
     comment: &Option<CowStr<'a>>,
     parts: &mut Parts<'a>,
-) -> Result<(), AllocError>
+) -> Result<(), NoMemory>
     ensures { OnOk result
         (map part_view parts.new.items ≡ map part_view parts.old.items ++ beside_part (option_map text_of comment.now)) }
 {
     match comment {
         None => Ok(()),
-        Some(text) => Ok(parts.push(Part::Beside(kept_text(bump, text)?))?),
+        Some(text) => Ok(push(parts, Part::Beside(kept_text(bump, text)?))?),
     }
 }
 
 #[cycle(parts)]
-fn push_node<'a>(bump: &'a Bump, node: &Node<'a>, parts: &mut Parts<'a>) -> Result<(), AllocError>
+fn push_node<'a>(bump: &'a Bump, node: &Node<'a>, parts: &mut Parts<'a>) -> Result<(), NoMemory>
     ensures { OnOk result
         (map part_view parts.new.items ≡ map part_view parts.old.items ++ item_parts (node_view node.now)) }
 {
     match node {
-        Node::Token(leaf) => Ok(parts.push(Part::Token(leaf.kind, kept_text(bump, &leaf.text)?))?),
+        Node::Token(leaf) => Ok(push(parts, Part::Token(leaf.kind, kept_text(bump, &leaf.text)?))?),
         Node::Group(group) => push_group(bump, group, parts),
     }
 }
@@ -107,14 +108,14 @@ fn push_group<'a>(
     bump: &'a Bump,
     group: &Group<'a>,
     parts: &mut Parts<'a>,
-) -> Result<(), AllocError>
+) -> Result<(), NoMemory>
     ensures { OnOk result
         (map part_view parts.new.items ≡ map part_view parts.old.items ++ item_parts (group_view group.now)) }
 {
-    parts.push(Part::Open(group.kind))?;
+    push(parts, Part::Open(group.kind))?;
     push_arguments(bump, &group.segs, parts)?;
     push_above(bump, &group.end, parts)?;
-    parts.push(Part::Close(group.one_comma))?;
+    push(parts, Part::Close(group.one_comma))?;
     Ok(())
 }
 
@@ -123,7 +124,7 @@ fn push_nodes<'a>(
     bump: &'a Bump,
     nodes: &[Node<'a>],
     parts: &mut Parts<'a>,
-) -> Result<(), AllocError>
+) -> Result<(), NoMemory>
     ensures { OnOk result
         (map part_view parts.new.items
         ≡ map part_view parts.old.items ++ items_parts (items_of (nodes_view nodes.now))) }
@@ -140,7 +141,7 @@ fn push_arguments<'a>(
     bump: &'a Bump,
     args: &[Seg<'a>],
     parts: &mut Parts<'a>,
-) -> Result<(), AllocError>
+) -> Result<(), NoMemory>
     ensures { OnOk result
         (map part_view parts.new.items
         ≡ map part_view parts.old.items ++ segs_parts (segs_of (segs_view args.now))) }
@@ -148,7 +149,7 @@ fn push_arguments<'a>(
     for arg in args {
         push_above(bump, &arg.before, parts)?;
         push_nodes(bump, &arg.nodes, parts)?;
-        parts.push(Part::End)?;
+        push(parts, Part::End)?;
         push_beside(bump, &arg.suffix, parts)?;
     }
     Ok(())
@@ -160,7 +161,7 @@ pub fn push_stmt<'a>(
     bump: &'a Bump,
     stmt: &Stmt<'a>,
     parts: &mut Parts<'a>,
-) -> Result<(), AllocError>
+) -> Result<(), NoMemory>
     ensures { OnOk result (map part_view parts.new.items ≡ map part_view parts.old.items ++ parts_of (view stmt.now)) }
 {
     push_above(bump, &stmt.before, parts)?;
@@ -173,7 +174,7 @@ pub fn write_arguments<'a>(
     bump: &'a Bump,
     args: &[Seg<'a>],
     new: &mut Parts<'a>,
-) -> Result<(), AllocError>
+) -> Result<(), NoMemory>
     ensures { OnOk result (map part_view new.new.items ≡ segs_parts (segs_of (segs_view args.now))) }
 {
     new.clear();

@@ -4,10 +4,11 @@ ghost use Rattle.std.specs.Prelude.{◌≡◌, ◌++◌, IfOk, OnOk, string_byte
 ghost use Rattle.bz_attribute.specs.Texts as spec;
 
 use bz_command::{Marked, Package, Target};
-use std::alloc::{AllocError, Global};
+use bz_memory::{NoMemory, push_str};
+use std::alloc::Global;
 
 /// A label, `//PATH:TARGET`; standard input is `-:TARGET`.
-pub fn label(alloc: Global, home: &Package, target: &Target) -> Result<String, AllocError>
+pub fn label(alloc: Global, home: &Package, target: &Target) -> Result<String, NoMemory>
     ensures { IfOk result (λ text. string_bytes text ≡ spec.label_text home.now target.now) }
 {
     let mut text = String::new(alloc);
@@ -16,31 +17,31 @@ pub fn label(alloc: Global, home: &Package, target: &Target) -> Result<String, A
     Ok(text)
 }
 
-fn push_target(text: &mut String, target: &Target) -> Result<(), AllocError>
+fn push_target(text: &mut String, target: &Target) -> Result<(), NoMemory>
     ensures { OnOk result (string_bytes text.new ≡ string_bytes text.old ++ spec.target_text target.now) }
 {
     match &target.marked {
-        Marked::Name(name) => text.push_str(name.as_str()),
-        Marked::Pkg => text.push_str("__pkg__"),
-        Marked::All => text.push_str("*"),
+        Marked::Name(name) => push_str(text, name.as_str()),
+        Marked::Pkg => push_str(text, "__pkg__"),
+        Marked::All => push_str(text, "*"),
         Marked::Kind(kind) => {
-            text.push_str("%")?;
-            text.push_str(kind.as_str())
+            push_str(text, "%")?;
+            push_str(text, kind.as_str())
         }
         Marked::Line(line) => write!(text, "%{line}"),
     }
 }
 
 /// Writes a package and the colon after it.
-pub fn push_home(text: &mut String, home: &Package) -> Result<(), AllocError>
+pub fn push_home(text: &mut String, home: &Package) -> Result<(), NoMemory>
     ensures { OnOk result (string_bytes text.new ≡ string_bytes text.old ++ spec.home_text home.now) }
 {
     match home.path() {
-        None => text.push_str("-:"),
+        None => push_str(text, "-:"),
         Some(path) => {
-            text.push_str("//")?;
-            text.push_str(path)?;
-            text.push_str(":")
+            push_str(text, "//")?;
+            push_str(text, path)?;
+            push_str(text, ":")
         }
     }
 }

@@ -11,8 +11,9 @@ ghost use Rattle.bz_command.specs.private.ByteSteps.{left, is_good};
 
 use crate::equals::string_of;
 use bz_command::{Bytes, Package, SortedLabels, Text, same_label, value_of};
+use bz_memory::NoMemory;
 use bz_tree::Seg;
-use std::alloc::{AllocError, Global};
+use std::alloc::Global;
 
 /// Words, and the labels that they are in a package: sorted once, so that an element is looked up.
 #[derive(Drop)]
@@ -28,7 +29,7 @@ impl<'a> WordSet<'a> {
         alloc: Global,
         home: &'a Package,
         words: &'a [Text],
-    ) -> Result<WordSet<'a>, AllocError>
+    ) -> Result<WordSet<'a>, NoMemory>
         ensures { IfOk result (λ set. set.words.now ≡ words.now) }
     {
         let labels = SortedLabels::new(alloc, home, words)?;

@@ -8,7 +8,8 @@ ghost use Rattle.bz_attribute_commands.specs.private.SetViews.{new_view};
 
 use crate::set::{New, new_of};
 use bz_command::{Text, quote};
-use std::alloc::{AllocError, Global};
+use bz_memory::{NoMemory, extend_from_slice};
+use std::alloc::Global;
 
 /// Writes the argument that `set` adds, on a line of its own, where its value is one token or a list of one string. False,
 /// with nothing written: it is another.
@@ -17,7 +18,7 @@ pub fn put_argument(
     attr: &str,
     words: &[Text],
     out: &mut Vec<u8>,
-) -> Result<bool, AllocError>
+) -> Result<bool, NoMemory>
     ensures put { IfOk result (λ put. IsTrue put
         → out.new.items ≡ out.old.items ++ argument_lines (new_argument attr.now words.now)) }
     ensures nothing { IfOk result (λ put. IsFalse put → out.new.items ≡ out.old.items) }
@@ -25,7 +26,7 @@ pub fn put_argument(
     put_new(alloc, attr, new_of(attr, words, &[]), out)
 }
 
-fn put_new(alloc: Global, attr: &str, new: New<'_>, out: &mut Vec<u8>) -> Result<bool, AllocError>
+fn put_new(alloc: Global, attr: &str, new: New<'_>, out: &mut Vec<u8>) -> Result<bool, NoMemory>
     ensures put { IfOk result (λ put. IsTrue put → out.new.items
         ≡ out.old.items ++ argument_lines (argument attr.now (new_value (new_view new.entry)))) }
     ensures nothing { IfOk result (λ put. IsFalse put → out.new.items ≡ out.old.items) }
@@ -51,16 +52,16 @@ fn put_line(
     value: &str,
     right: &str,
     out: &mut Vec<u8>,
-) -> Result<(), AllocError>
+) -> Result<(), NoMemory>
     ensures { OnOk result
         (out.new.items ≡ out.old.items ++ argument_line attr.now (left.now ++ (value.now ++ right.now))) }
 {
-    out.extend_from_slice(b"\n    ")?;
-    out.extend_from_slice(attr.as_bytes())?;
-    out.extend_from_slice(b" = ")?;
-    out.extend_from_slice(left.as_bytes())?;
-    out.extend_from_slice(value.as_bytes())?;
-    out.extend_from_slice(right.as_bytes())?;
-    out.extend_from_slice(b",")?;
+    extend_from_slice(out, b"\n    ")?;
+    extend_from_slice(out, attr.as_bytes())?;
+    extend_from_slice(out, b" = ")?;
+    extend_from_slice(out, left.as_bytes())?;
+    extend_from_slice(out, value.as_bytes())?;
+    extend_from_slice(out, right.as_bytes())?;
+    extend_from_slice(out, b",")?;
     Ok(())
 }

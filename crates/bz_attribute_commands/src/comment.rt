@@ -13,8 +13,9 @@ ghost use Rattle.bz_attribute.specs.Comment as spec;
 use bz_attribute::equals::equals;
 use bz_attribute::{Done, Env, Executed, Note, elements_at, find, first_part, next_part};
 use bz_command::{Commented, Package, Text};
+use bz_memory::{NoMemory, from_str, push, push_str};
 use bz_tree::{Node, Seg};
-use std::alloc::{AllocError, Global};
+use std::alloc::Global;
 use std::borrow::CowStr;
 
 /// Adds a comment line above an argument or an element of one; for one above the rule it does nothing. An `Err` leaves
@@ -97,11 +98,11 @@ fn first_equal(home: &Package, value: &str, nodes: &[Node<'_>]) -> Option<(usize
 }
 
 /// The comment line of a text.
-pub(crate) fn comment_line(alloc: Global, text: &str) -> Result<String, AllocError>
+pub(crate) fn comment_line(alloc: Global, text: &str) -> Result<String, NoMemory>
     ensures { IfOk result (λ line. string_bytes line ≡ spec.comment_line text.now) }
 {
-    let mut line = String::from_str(alloc, "# ")?;
-    line.push_str(text)?;
+    let mut line = from_str(alloc, "# ")?;
+    push_str(&mut line, text)?;
     trim(&mut line);
     Ok(line)
 }
@@ -113,7 +114,7 @@ fn push_line(alloc: Global, text: &str, lines: &mut Vec<CowStr<'_>>) -> Executed
     ensures err { OnErr result (texts lines.new.items ≡ texts lines.old.items) }
 {
     let line = comment_line(alloc, text)?;
-    lines.push(CowStr::Owned(line))?;
+    push(lines, CowStr::Owned(line))?;
     Ok(Done::quiet(true))
 }
 

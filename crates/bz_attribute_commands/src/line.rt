@@ -11,8 +11,9 @@ ghost use Rattle.bz_attribute.specs.Rules.{Rule};
 
 use crate::comment::comment_line;
 use bz_attribute::{Done, Edit, Parts, Place, find_argument, kind_place};
+use bz_memory::{NoMemory, alloc_str, push};
 use bz_tree::Part;
-use std::alloc::{AllocError, Global};
+use std::alloc::Global;
 
 /// Adds a comment line above the rule that has these parts. The line goes into `new`.
 pub fn comment_rule<'a>(
@@ -20,7 +21,7 @@ pub fn comment_rule<'a>(
     text: &str,
     parts: &[Part<'a>],
     new: &mut Parts<'a>,
-) -> Result<Edit, AllocError>
+) -> Result<Edit, NoMemory>
     ensures within { IfOk result (λ e. IsWithin e.place (map part_view parts.now)) }
     ensures parts { IfOk result (λ e. (s : Statement) (r : Rule) → IsRuleRow s r (map part_view parts.now)
         → replaced_at e.place (map part_view new.new.items) (map part_view parts.now)
@@ -38,7 +39,7 @@ pub fn comment_attribute<'a>(
     text: &str,
     parts: &[Part<'a>],
     new: &mut Parts<'a>,
-) -> Result<Edit, AllocError>
+) -> Result<Edit, NoMemory>
     ensures { IfOk result (IsRowEdit (spec.comment_attribute attr.now text.now)
         (λ args. done (is_absent attr.now args) true) (map part_view parts.now) (map part_view new.new.items)) }
 {
@@ -57,13 +58,13 @@ fn insertion(at: usize) -> Edit
 }
 
 // Writes the comment line of a text.
-fn write_line<'a>(alloc: Global, text: &str, new: &mut Parts<'a>) -> Result<(), AllocError>
+fn write_line<'a>(alloc: Global, text: &str, new: &mut Parts<'a>) -> Result<(), NoMemory>
     ensures { OnOk result (map part_view new.new.items ≡ above (spec.comment_line text.now) ∷ []) }
 {
     let line = comment_line(alloc, text)?;
     let bump = *new.allocator();
-    let line = bump.try_alloc_str(line.as_str())?;
+    let line = alloc_str(bump, line.as_str())?;
     new.clear();
-    new.push(Part::Above(line))?;
+    push(new, Part::Above(line))?;
     Ok(())
 }

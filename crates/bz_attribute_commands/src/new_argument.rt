@@ -12,9 +12,10 @@ ghost use Rattle.bz_attribute.specs.Set as spec;
 use crate::set::{New, new_of};
 use bz_attribute::Parts;
 use bz_command::{Text, quote};
+use bz_memory::{NoMemory, alloc_str, push};
 use bz_token::Kind;
 use bz_tree::{GroupKind, Part};
-use std::alloc::{AllocError, Global};
+use std::alloc::Global;
 
 /// Writes the parts of an argument that is new and is set to some words, in place of what the list holds.
 pub fn write_argument<'a>(
@@ -22,20 +23,20 @@ pub fn write_argument<'a>(
     attr: &str,
     words: &[Text],
     new: &mut Parts<'a>,
-) -> Result<(), AllocError>
+) -> Result<(), NoMemory>
     ensures { OnOk result (map part_view new.new.items
         ≡ segs_parts (segs_of (argument attr.now (spec.new_value (spec.new_of attr.now words.now None)) ∷ []))) }
 {
     new.clear();
     push_token(Kind::Identifier, attr, new)?;
-    new.push(Part::Token(Kind::Operator, "="))?;
+    push(new, Part::Token(Kind::Operator, "="))?;
     push_value(alloc, new_of(attr, words, &[]), new)?;
-    new.push(Part::End)?;
+    push(new, Part::End)?;
     Ok(())
 }
 
 // Appends the parts of a value.
-fn push_value<'a>(alloc: Global, value: New<'_>, new: &mut Parts<'a>) -> Result<(), AllocError>
+fn push_value<'a>(alloc: Global, value: New<'_>, new: &mut Parts<'a>) -> Result<(), NoMemory>
     ensures { OnOk result (map part_view new.new.items
         ≡ map part_view new.old.items ++ items_parts (items_of (spec.new_value (new_view value.entry)))) }
 {
@@ -48,18 +49,18 @@ fn push_value<'a>(alloc: Global, value: New<'_>, new: &mut Parts<'a>) -> Result<
 }
 
 // Appends a token, whose text is copied into the arena.
-fn push_token<'a>(kind: Kind, text: &str, new: &mut Parts<'a>) -> Result<(), AllocError>
+fn push_token<'a>(kind: Kind, text: &str, new: &mut Parts<'a>) -> Result<(), NoMemory>
     ensures { OnOk result
         (map part_view new.new.items ≡ map part_view new.old.items ++ a_token kind text.now ∷ []) }
 {
     let bump = *new.allocator();
-    let text = bump.try_alloc_str(text)?;
-    new.push(Part::Token(kind, text))?;
+    let text = alloc_str(bump, text)?;
+    push(new, Part::Token(kind, text))?;
     Ok(())
 }
 
 // Appends the literal of a string.
-fn push_string<'a>(alloc: Global, word: &str, new: &mut Parts<'a>) -> Result<(), AllocError>
+fn push_string<'a>(alloc: Global, word: &str, new: &mut Parts<'a>) -> Result<(), NoMemory>
     ensures { OnOk result
         (map part_view new.new.items ≡ map part_view new.old.items ++ a_token StringKind (quoted word.now) ∷ []) }
 {
@@ -68,24 +69,24 @@ fn push_string<'a>(alloc: Global, word: &str, new: &mut Parts<'a>) -> Result<(),
 }
 
 // Appends the parts of a list of strings.
-fn push_list<'a>(alloc: Global, words: &[Text], new: &mut Parts<'a>) -> Result<(), AllocError>
+fn push_list<'a>(alloc: Global, words: &[Text], new: &mut Parts<'a>) -> Result<(), NoMemory>
     ensures { OnOk result (map part_view new.new.items
         ≡ map part_view new.old.items ++ items_parts (items_of (list_item (map string words.now) ∷ []))) }
 {
-    new.push(Part::Open(GroupKind::List))?;
+    push(new, Part::Open(GroupKind::List))?;
     push_strings(alloc, words, new)?;
-    new.push(Part::Close(false))?;
+    push(new, Part::Close(false))?;
     Ok(())
 }
 
 // Appends the parts of elements that are strings.
-fn push_strings<'a>(alloc: Global, words: &[Text], new: &mut Parts<'a>) -> Result<(), AllocError>
+fn push_strings<'a>(alloc: Global, words: &[Text], new: &mut Parts<'a>) -> Result<(), NoMemory>
     ensures { OnOk result
         (map part_view new.new.items ≡ map part_view new.old.items ++ segs_parts (segs_of (map string words.now))) }
 {
     for word in words {
         push_string(alloc, word.as_str(), new)?;
-        new.push(Part::End)?;
+        push(new, Part::End)?;
     }
     Ok(())
 }

@@ -21,8 +21,9 @@ use bz_attribute::{
 };
 use bz_command::{Field, Text, quote, read_value};
 use bz_layout::flat;
+use bz_memory::{NoMemory, push_char, push_str, with_length_of};
 use bz_tree::{GroupKind, Node, Part, Seg};
-use std::alloc::{AllocError, Global};
+use std::alloc::Global;
 
 /// Prints fields of the rule of this head and these parts, or its name and its kind where none is named; the note names
 /// the first field that is missing.
@@ -31,7 +32,7 @@ pub fn print(env: Env<'_>, fields: &[Field], head: Head<'_>, parts: &[Part<'_>])
         → IsRuleRow s r (map part_view parts.now) → done ≡ spec.prints env.entry.home.now fields.now (Some s)) }
 {
     // Most often the name is all that is printed.
-    let mut line = String::with_capacity(env.alloc, head.name.unwrap_or("").len())?;
+    let mut line = with_length_of(env.alloc, head.name.unwrap_or(""))?;
     let missing = push_all(env, &mut line, fields, head, parts)?;
     Ok(Done {
         changed: false,
@@ -41,7 +42,7 @@ pub fn print(env: Env<'_>, fields: &[Field], head: Head<'_>, parts: &[Part<'_>])
 }
 
 /// The line that is printed of a rule of this name, where its name or its label is the one field. None: more is asked.
-pub fn print_name(env: Env<'_>, fields: &[Field], name: &str) -> Result<Option<Text>, AllocError>
+pub fn print_name(env: Env<'_>, fields: &[Field], name: &str) -> Result<Option<Text>, NoMemory>
     ensures { IfOk result (λ line. IfSome line (λ text. (s : Statement) (r : Rule) → rule_of s.nodes ≡ Some r
         → name_in r.args ≡ Some name.now
         → spec.prints env.entry.home.now fields.now (Some s) ≡ spec.printed_line text)) }
@@ -49,7 +50,7 @@ pub fn print_name(env: Env<'_>, fields: &[Field], name: &str) -> Result<Option<T
     let [field] = fields else {
         return Ok(None);
     };
-    let mut line = String::with_capacity(env.alloc, name.len())?;
+    let mut line = with_length_of(env.alloc, name)?;
     if !push_of_name(env, &mut line, field, name)? {
         return Ok(None);
     }
@@ -62,14 +63,14 @@ fn push_of_name(
     text: &mut String,
     field: &Field,
     name: &str,
-) -> Result<bool, AllocError>
+) -> Result<bool, NoMemory>
     ensures { IfOk result (λ known. IsTrue known
         → IsFieldOfName env.entry.home.now field.now name.now (string_bytes text.old) (string_bytes text.new)) }
 {
     match field {
         Field::Label => {
             push_home(text, env.home)?;
-            text.push_str(name)?;
+            push_str(text, name)?;
             Ok(true)
         }
         Field::ValueOf(attr) if attr.as_str() == "name" => {
@@ -80,7 +81,7 @@ fn push_of_name(
     }
 }
 
-fn missing_note(alloc: Global, missing: Option<&str>) -> Result<Option<Note>, AllocError>
+fn missing_note(alloc: Global, missing: Option<&str>) -> Result<Option<Note>, NoMemory>
     ensures { IfOk result (λ note. note ≡ option_map (λ name. Missing name.now) missing.entry) }
 {
     match missing {
@@ -96,7 +97,7 @@ fn push_all<'f>(
     fields: &'f [Field],
     head: Head<'_>,
     parts: &[Part<'_>],
-) -> Result<Option<&'f str>, AllocError>
+) -> Result<Option<&'f str>, NoMemory>
     ensures { IfOk result (λ missing. HasPrinted env.entry.home.now (spec.fields_of fields.now) head.entry
         (map part_view parts.now) (string_bytes text.old) (string_bytes text.new)
         (option_map (λ name. Missing name.now) missing)) }
@@ -104,8 +105,8 @@ fn push_all<'f>(
     match fields {
         [] => {
             let missing = push_attribute(env, text, head, parts, "name")?;
-            text.push_str(" ")?;
-            text.push_str(head.kind)?;
+            push_str(text, " ")?;
+            push_str(text, head.kind)?;
             Ok(missing)
         }
         _ => push_fields(env, text, fields, head, parts),
@@ -119,7 +120,7 @@ fn push_fields<'f>(
     fields: &'f [Field],
     head: Head<'_>,
     parts: &[Part<'_>],
-) -> Result<Option<&'f str>, AllocError>
+) -> Result<Option<&'f str>, NoMemory>
     ensures { IfOk result (λ missing. HasPrinted env.entry.home.now fields.now head.entry
         (map part_view parts.now) (string_bytes line.old) (string_bytes line.new)
         (option_map (λ name. Missing name.now) missing)) }
@@ -127,7 +128,7 @@ fn push_fields<'f>(
     let mut missing = None;
     let mut space = "";
     for field in fields {
-        line.push_str(space)?;
+        push_str(line, space)?;
         missing = missing.or(push_field(env, line, head, parts, field)?);
         space = " ";
     }
@@ -141,7 +142,7 @@ fn push_field<'f>(
     head: Head<'_>,
     parts: &[Part<'_>],
     field: &'f Field,
-) -> Result<Option<&'f str>, AllocError>
+) -> Result<Option<&'f str>, NoMemory>
     ensures { IfOk result (λ missing. HasPrinted env.entry.home.now (field.now ∷ []) head.entry
         (map part_view parts.now) (string_bytes text.old) (string_bytes text.new)
         (option_map (λ name. Missing name.now) missing)) }
@@ -149,16 +150,16 @@ fn push_field<'f>(
     match field {
         Field::Label => {
             let Some(name) = head.name else {
-                text.push_str("(missing)")?;
+                push_str(text, "(missing)")?;
                 return Ok(Some("label"));
             };
             push_home(text, env.home)?;
-            text.push_str(name)?;
+            push_str(text, name)?;
         }
         Field::ValueOf(attr) => {
             return push_attribute(env, text, head, parts, attr.as_str());
         }
-        Field::Kind => text.push_str(head.kind)?,
+        Field::Kind => push_str(text, head.kind)?,
         Field::StartLine => write!(text, "{}", head.start)?,
         Field::EndLine => write!(text, "{}", head.end)?,
     }
@@ -172,7 +173,7 @@ fn push_attribute<'f>(
     head: Head<'_>,
     parts: &[Part<'_>],
     attr: &'f str,
-) -> Result<Option<&'f str>, AllocError>
+) -> Result<Option<&'f str>, NoMemory>
     ensures { IfOk result (λ missing. HasPrinted env.entry.home.now (ValueOf attr.now ∷ []) head.entry
         (map part_view parts.now) (string_bytes text.old) (string_bytes text.new)
         (option_map (λ name. Missing name.now) missing)) }
@@ -192,7 +193,7 @@ fn push_argument<'f>(
     text: &mut String,
     parts: &[Part<'_>],
     attr: &'f str,
-) -> Result<Option<&'f str>, AllocError>
+) -> Result<Option<&'f str>, NoMemory>
     ensures { IfOk result (λ missing. HasPrintedArgument attr.now (map part_view parts.now)
         (string_bytes text.old) (string_bytes text.new) (option_map (λ name. Missing name.now) missing)) }
 {
@@ -200,7 +201,7 @@ fn push_argument<'f>(
     let args = read_arguments(alloc, &parts[place.from..place.to])?;
     match args.as_slice() {
         [] => {
-            text.push_str("(missing)")?;
+            push_str(text, "(missing)")?;
             Ok(Some(attr))
         }
         [arg, ..] => {
@@ -210,7 +211,7 @@ fn push_argument<'f>(
     }
 }
 
-fn push_value(alloc: Global, text: &mut String, value: &[Node<'_>]) -> Result<(), AllocError>
+fn push_value(alloc: Global, text: &mut String, value: &[Node<'_>]) -> Result<(), NoMemory>
     ensures { OnOk result (string_bytes text.new ≡ string_bytes text.old ++ spec.value_text (nodes_view value.now)) }
 {
     if push_string(alloc, text, value)? {
@@ -220,7 +221,7 @@ fn push_value(alloc: Global, text: &mut String, value: &[Node<'_>]) -> Result<()
         [node] if is_list(node) && are_strings(elements_at(node)) => {
             push_words(alloc, text, elements_at(node))
         }
-        _ => text.push_str(flat(alloc, value, Some(GroupKind::RuleCall))?.as_str()),
+        _ => push_str(text, flat(alloc, value, Some(GroupKind::RuleCall))?.as_str()),
     }
 }
 
@@ -232,7 +233,7 @@ fn are_strings(elements: &[Seg<'_>]) -> bool
 }
 
 // Writes what is one string with a value as a word. False: it is not.
-fn push_string(alloc: Global, text: &mut String, nodes: &[Node<'_>]) -> Result<bool, AllocError>
+fn push_string(alloc: Global, text: &mut String, nodes: &[Node<'_>]) -> Result<bool, NoMemory>
     ensures word { OnOk result
         (string_bytes text.new ≡ string_bytes text.old ++ spec.word_of (string_value (nodes_view nodes.now))) }
     ensures is { IfOk result (λ is. is ≡ is_some (string_value (nodes_view nodes.now))) }
@@ -248,29 +249,29 @@ fn push_string(alloc: Global, text: &mut String, nodes: &[Node<'_>]) -> Result<b
 }
 
 // Writes strings in brackets, with a space between them.
-fn push_words(alloc: Global, text: &mut String, list: &[Seg<'_>]) -> Result<(), AllocError>
+fn push_words(alloc: Global, text: &mut String, list: &[Seg<'_>]) -> Result<(), NoMemory>
     ensures { OnOk result
         (string_bytes text.new ≡ string_bytes text.old ++ spec.words_text (segs_view list.now)) }
 {
-    text.push('[')?;
+    push_char(text, '[')?;
     let mut space = "";
     for element in list {
-        text.push_str(space)?;
+        push_str(text, space)?;
         let _ = push_string(alloc, text, &element.nodes)?;
         space = " ";
     }
-    text.push(']')
+    push_char(text, ')')
 }
 
 // Writes a value as a word.
-fn push_word(alloc: Global, text: &mut String, word: &str) -> Result<(), AllocError>
+fn push_word(alloc: Global, text: &mut String, word: &str) -> Result<(), NoMemory>
     ensures { OnOk result (string_bytes text.new ≡ string_bytes text.old ++ spec.word_form word.now) }
 {
     if is_plain(word.as_bytes()) {
-        return text.push_str(word);
+        return push_str(text, word);
     }
     let literal = quote(alloc, word)?;
-    text.push_str(literal.as_str())
+    push_str(text, literal.as_str())
 }
 
 fn is_plain(word: &[u8]) -> bool

@@ -7,9 +7,10 @@ ghost use Rattle.bz_attribute.specs.Rename as spec;
 ghost use Rattle.bz_attribute.specs.RowEdits.{IsRowEdit};
 
 use bz_attribute::{Done, Edit, Parts, Place, find_argument};
+use bz_memory::{NoMemory, alloc_str, push};
 use bz_token::Kind;
 use bz_tree::Part;
-use std::alloc::{AllocError, Global};
+use std::alloc::Global;
 
 /// Renames the first argument named `old` of the rule that has these parts, where none is named `new`. Its name goes into
 /// `written`.
@@ -19,7 +20,7 @@ pub fn rename<'a>(
     new: &str,
     parts: &[Part<'a>],
     written: &mut Parts<'a>,
-) -> Result<Edit, AllocError>
+) -> Result<Edit, NoMemory>
     ensures { IfOk result (IsRowEdit (spec.rename old.now new.now)
         (λ args. done (spec.rename_note old.now new.now args) true)
         (map part_view parts.now) (map part_view written.new.items)) }
@@ -31,9 +32,9 @@ pub fn rename<'a>(
         return Ok(Edit::none(Done::attribute_exists(alloc, new)?));
     }
     let bump = *written.allocator();
-    let name = bump.try_alloc_str(new)?;
+    let name = alloc_str(bump, new)?;
     written.clear();
-    written.push(Part::Token(Kind::Identifier, name))?;
+    push(written, Part::Token(Kind::Identifier, name))?;
     Ok(Edit::at(Place {
         from: at,
         to: at + 1,

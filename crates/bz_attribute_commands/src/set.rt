@@ -13,9 +13,10 @@ use bz_attribute::{
     strings, token, value_of,
 };
 use bz_command::Text;
+use bz_memory::{NoMemory, reserve};
 use bz_token::Kind;
 use bz_tree::{Node, Seg};
-use std::alloc::{AllocError, Global};
+use std::alloc::Global;
 
 /// What an attribute is set to.
 #[derive(Clone, Copy)]
@@ -61,7 +62,7 @@ fn set_in(alloc: Global, attr: &str, words: &[Text], arg: &mut Seg<'_>) -> Execu
     if is_value(new, value) {
         return Ok(Done::quiet(false));
     }
-    arg.nodes.reserve(1)?;
+    reserve(&mut arg.nodes, 1)?;
     let value = new_node(alloc, new)?;
     arg.nodes.truncate(2);
     arg.nodes.push_reserved(value);
@@ -134,7 +135,7 @@ fn is_number(word: &[u8]) -> bool
     }
 }
 
-fn new_node<'a>(alloc: Global, new: New<'_>) -> Result<Node<'a>, AllocError>
+fn new_node<'a>(alloc: Global, new: New<'_>) -> Result<Node<'a>, NoMemory>
     ensures { IfOk result (λ node. node_view node ∷ [] ≡ spec.new_value (new_view new.entry)) }
 {
     match new {

@@ -10,9 +10,9 @@ ghost use Rattle.bz_attribute.specs.Set as spec;
 
 use bz_attribute::{Done, Edit, Parts, kind_place};
 use bz_command::cut;
+use bz_memory::{NoMemory, alloc_str, push};
 use bz_token::Kind;
 use bz_tree::Part;
-use std::alloc::AllocError;
 
 /// Sets the kind of the rule that has these parts, where it has another one. Its tokens go into `new`.
 pub fn set_kind<'a>(
@@ -20,7 +20,7 @@ pub fn set_kind<'a>(
     old_kind: &str,
     parts: &[Part<'a>],
     new: &mut Parts<'a>,
-) -> Result<Edit, AllocError>
+) -> Result<Edit, NoMemory>
     ensures within { IfOk result (λ e. IsWithin e.place (map part_view parts.now)) }
     ensures parts { IfOk result (λ e. e.done.changed ≡ true
         → (s : Statement) (r : Rule) → IsRuleRow s r (map part_view parts.now) → kind_text r.kind ≡ old_kind.now
@@ -34,22 +34,22 @@ pub fn set_kind<'a>(
         return Ok(Edit::none(Done::quiet(false)));
     }
     let bump = *new.allocator();
-    let kind = bump.try_alloc_str(kind)?;
+    let kind = alloc_str(bump, kind)?;
     new.clear();
     push_kind(kind, new)?;
     Ok(Edit::at(kind_place(parts)))
 }
 
 // Appends the tokens of a kind.
-fn push_kind<'a>(mut kind: &'a str, out: &mut Parts<'a>) -> Result<(), AllocError>
+fn push_kind<'a>(mut kind: &'a str, out: &mut Parts<'a>) -> Result<(), NoMemory>
     ensures { OnOk result (map part_view out.new.items
         ≡ map part_view out.old.items ++ items_parts (items_of (spec.kind_items kind.now))) }
 {
     while let Some((name, rest)) = cut(kind, '.') {
-        out.push(Part::Token(Kind::Identifier, name))?;
-        out.push(Part::Token(Kind::Operator, "."))?;
+        push(out, Part::Token(Kind::Identifier, name))?;
+        push(out, Part::Token(Kind::Operator, "."))?;
         kind = rest;
     }
-    out.push(Part::Token(Kind::Identifier, kind))?;
+    push(out, Part::Token(Kind::Identifier, kind))?;
     Ok(())
 }

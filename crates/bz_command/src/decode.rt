@@ -5,15 +5,16 @@ ghost use Rattle.bz_command.specs.Values as spec;
 
 use crate::literal::{is_at_end, next_in, open};
 use crate::value::plain_text;
-use std::alloc::{AllocError, Global};
+use bz_memory::{NoMemory, from_str, push_char, push_str};
+use std::alloc::Global;
 
 /// The value of a text that is a string literal with a value. None: it is none, or has no value. Bytes that stand for
 /// themselves are copied in runs.
-pub fn read_value(alloc: Global, text: &str) -> Result<Option<String>, AllocError>
+pub fn read_value(alloc: Global, text: &str) -> Result<Option<String>, NoMemory>
     ensures { IfOk result (λ value. option_map (λ text. string_bytes text) value ≡ spec.value_of text.now) }
 {
     if let Some(value) = plain_text(text) {
-        return Ok(Some(String::from_str(alloc, value)?));
+        return Ok(Some(from_str(alloc, value)?));
     }
     let Some(literal) = open(text.as_bytes()) else {
         return Ok(None);
@@ -23,8 +24,8 @@ pub fn read_value(alloc: Global, text: &str) -> Result<Option<String>, AllocErro
     let mut left = literal;
     while let Some((byte, after)) = next_in(left) {
         if left.rest.len() - after.rest.len() > 1 {
-            value.push_str(&run[..run.len() - left.rest.len()])?;
-            value.push(char::from(byte))?;
+            push_str(&mut value, &run[..run.len() - left.rest.len()])?;
+            push_char(&mut value, char::from(byte))?;
             run = &run[run.len() - after.rest.len()..];
         }
         left = after;
@@ -32,6 +33,6 @@ pub fn read_value(alloc: Global, text: &str) -> Result<Option<String>, AllocErro
     if !is_at_end(left) {
         return Ok(None);
     }
-    value.push_str(&run[..run.len() - left.rest.len()])?;
+    push_str(&mut value, &run[..run.len() - left.rest.len()])?;
     Ok(Some(value))
 }

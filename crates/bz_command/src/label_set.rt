@@ -9,7 +9,8 @@ ghost use Rattle.bz_command.specs.LabelSetViews as spec;
 use crate::bytes::Bytes;
 use crate::label::Label;
 use crate::package::Package;
-use std::alloc::{AllocError, Global};
+use bz_memory::NoMemory;
+use std::alloc::Global;
 use std::collections::BTreeSet;
 
 /// A set of labels of one package.
@@ -30,7 +31,7 @@ impl<'a> LabelSet<'a> {
     }
 
     /// Adds the label that a text is, and says whether it is new. An `Err` leaves the set as it was.
-    pub fn insert(&mut self, text: Bytes<'a>) -> Result<bool, AllocError>
+    pub fn insert(&mut self, text: Bytes<'a>) -> Result<bool, NoMemory>
         requires { IsTrue (is_good text) }
         ensures new { IfOk result (λ new. new ≡ not (spec.has self.old (left text.entry))) }
         ensures ok { OnOk result (spec.Gains

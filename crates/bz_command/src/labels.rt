@@ -1,5 +1,6 @@
 //! Labels: a package and a target in it.
 
+ghost use Rattle.bz_memory.specs.NoMemory.{no_memory};
 ghost use Rattle.std.specs.Prelude.{◌≡◌, ◌&&◌, ◌==◌, not, ◌≢◌, Some, None, Ok, Err, IsTrue};
 ghost use Rattle.std.specs.List.{list_all};
 ghost use Rattle.std.specs.Char.{is_ascii_digit};
@@ -10,26 +11,27 @@ use crate::names::is_kind;
 use crate::package::{Package, PackagePlace};
 use crate::parts::cut;
 use crate::target::{Marked, Target};
-use std::alloc::{AllocError, Global};
+use bz_memory::NoMemory;
+use std::alloc::Global;
 
 /// Why a text is no label.
 #[derive(Clone, Copy, Debug, PartialEq, Eq)]
 pub enum LabelFault {
-    OutOfMemory,
+    OutOfMemory(NoMemory),
     /// What stands before the colon is no package.
     BadPackage,
     /// What stands after the colon is no target, or there is no colon and the package has no last part.
     BadTarget,
 }
 
-impl From<AllocError> for LabelFault {
+impl From<NoMemory> for LabelFault {
     ghost use Rattle.std.specs.Prelude.{◌≡◌};
     ghost use Rattle.bz_command.specs.declared.labels.LabelFault.TheVariants.{OutOfMemory};
 
-    ghost from_gives = { λ _ e. e ≡ OutOfMemory };
+    ghost from_gives = { λ why e. e ≡ OutOfMemory why };
 
-    fn from(_: AllocError) -> LabelFault {
-        LabelFault::OutOfMemory
+    fn from(why: NoMemory) -> LabelFault {
+        LabelFault::OutOfMemory(why)
     }
 }
 
@@ -37,7 +39,7 @@ impl From<AllocError> for LabelFault {
 /// root, `-:TARGET` for standard input, or a path alone, whose last part is then the name. A bad package is reported
 /// before a bad target.
 pub fn read_label(alloc: Global, text: &str) -> Result<(Package, Target), LabelFault>
-    ensures { result ≢ Err LabelFault.OutOfMemory → result ≡ spec.label_of text.now }
+    ensures { result ≢ Err (LabelFault.OutOfMemory no_memory) → result ≡ spec.label_of text.now }
 {
     match text.split_once(':') {
         Some((path, target)) => read_pair(alloc, path, target),
@@ -47,7 +49,7 @@ pub fn read_label(alloc: Global, text: &str) -> Result<(Package, Target), LabelF
 
 // What stands before the colon, and what stands after it.
 fn read_pair(alloc: Global, path: &str, target: &str) -> Result<(Package, Target), LabelFault>
-    ensures { result ≢ Err LabelFault.OutOfMemory
+    ensures { result ≢ Err (LabelFault.OutOfMemory no_memory)
         → result ≡ spec.pair_of (spec.package_of path.now) (spec.target_of target.now) }
 {
     Ok((read_package(alloc, path)?, read_target(alloc, target)?))
@@ -56,7 +58,7 @@ fn read_pair(alloc: Global, path: &str, target: &str) -> Result<(Package, Target
 // A label without a colon.
 fn read_named(alloc: Global, text: &str) -> Result<(Package, Target), LabelFault>
     requires { IsTrue (list_all (λ b. not (spec.is_colon b)) text.now) }
-    ensures { result ≢ Err LabelFault.OutOfMemory → result ≡ spec.named_of (spec.package_of text.now) }
+    ensures { result ≢ Err (LabelFault.OutOfMemory no_memory) → result ≡ spec.named_of (spec.package_of text.now) }
 {
     let package = read_package(alloc, text)?;
     let path = match package.path() {
@@ -78,7 +80,7 @@ fn last_part(mut path: &str) -> &str
 }
 
 fn read_package(alloc: Global, text: &str) -> Result<Package, LabelFault>
-    ensures { result ≢ Err LabelFault.OutOfMemory → result ≡ spec.package_of text.now }
+    ensures { result ≢ Err (LabelFault.OutOfMemory no_memory) → result ≡ spec.package_of text.now }
 {
     if text == "-" {
         let place = PackagePlace::Standard;
@@ -123,7 +125,7 @@ fn is_part(part: &str) -> bool
 }
 
 fn read_target(alloc: Global, text: &str) -> Result<Target, LabelFault>
-    ensures { result ≢ Err LabelFault.OutOfMemory → result ≡ spec.target_of text.now }
+    ensures { result ≢ Err (LabelFault.OutOfMemory no_memory) → result ≡ spec.target_of text.now }
 {
     if !is_target(text) {
         return Err(LabelFault::BadTarget);
@@ -145,7 +147,7 @@ fn is_target(text: &str) -> bool
 
 // What stands after a percent sign.
 fn read_percent(alloc: Global, text: &str) -> Result<Target, LabelFault>
-    ensures { result ≢ Err LabelFault.OutOfMemory → result ≡ spec.percent_of text.now }
+    ensures { result ≢ Err (LabelFault.OutOfMemory no_memory) → result ≡ spec.percent_of text.now }
 {
     let marked = if is_number(text) {
         Marked::Line(text.parse().map_err(|_| LabelFault::BadTarget)?)

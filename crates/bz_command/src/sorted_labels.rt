@@ -14,7 +14,8 @@ use crate::bytes::Bytes;
 use crate::label::Label;
 use crate::list::Text;
 use crate::package::Package;
-use std::alloc::{AllocError, Global};
+use bz_memory::{NoMemory, push, with_room_for};
+use std::alloc::Global;
 
 /// The labels that some words are in one package, sorted.
 #[derive(Drop)]
@@ -30,14 +31,14 @@ impl<'a> SortedLabels<'a> {
         alloc: Global,
         home: &'a Package,
         words: &'a [Text],
-    ) -> Result<SortedLabels<'a>, AllocError>
+    ) -> Result<SortedLabels<'a>, NoMemory>
         ensures home { IfOk result (λ labels. labels.home.now ≡ home.now) }
         ensures all { IfOk result (λ labels. (text : List ℕ) → holds labels.home.now labels.labels.items text
             ≡ list_any (λ word. bytes_eq (completed labels.home.now text) (completed labels.home.now word)) words.now) }
     {
-        let mut labels = Vec::with_capacity(alloc, words.len())?;
+        let mut labels = with_room_for(alloc, words, 0)?;
         for word in words {
-            labels.push(Label::new(home, Bytes::Plain(word.as_str().as_bytes())))?;
+            push(&mut labels, Label::new(home, Bytes::Plain(word.as_str().as_bytes())))?;
         }
         labels.sort_unstable();
         Ok(SortedLabels { home, labels })

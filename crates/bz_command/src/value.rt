@@ -7,8 +7,9 @@ ghost use Rattle.bz_command.specs.private.ValueSteps.{is_value};
 ghost use Rattle.bz_command.specs.private.ByteSteps.{inner_of};
 
 use crate::literal::{Literal, is_at_end, next_in, open, plain_value};
+use bz_memory::{NoMemory, from_str, push_char, push_str};
 use bz_token::{Kind, Token};
-use std::alloc::{AllocError, Global};
+use std::alloc::Global;
 
 /// Whether the token is a string literal with this value. A bytes literal, a raw string with a backslash and a string with an
 /// escape other than `\a \b \f \n \r \t \v \\ \' \"` have no value.
@@ -19,27 +20,27 @@ pub fn value_is(token: &Token<'_>, value: &str) -> bool
 }
 
 /// The string literal, in double quotes, that has this value.
-pub fn quote(alloc: Global, value: &str) -> Result<String, AllocError>
+pub fn quote(alloc: Global, value: &str) -> Result<String, NoMemory>
     ensures { IfOk result (λ text. string_bytes text ≡ spec.quoted value.now) }
 {
-    let mut text = String::from_str(alloc, "\"")?;
+    let mut text = from_str(alloc, "\"")?;
     for c in value.chars() {
         push_written(&mut text, c)?;
     }
-    text.push('"')?;
+    push_char(&mut text, '"')?;
     Ok(text)
 }
 
-fn push_written(text: &mut String, c: char) -> Result<(), AllocError>
+fn push_written(text: &mut String, c: char) -> Result<(), NoMemory>
     ensures { OnOk result (string_bytes text.new ≡ string_bytes text.old ++ flat_map spec.written (encode_utf8 c)) }
 {
     match c {
-        '\\' => text.push_str("\\\\"),
-        '"' => text.push_str("\\\""),
-        '\n' => text.push_str("\\n"),
-        '\r' => text.push_str("\\r"),
-        '\t' => text.push_str("\\t"),
-        _ => text.push(c),
+        '\\' => push_str(text, "\\\\"),
+        '"' => push_str(text, "\\\""),
+        '\n' => push_str(text, "\\n"),
+        '\r' => push_str(text, "\\r"),
+        '\t' => push_str(text, "\\t"),
+        _ => push_char(text, c),
     }
 }
 

@@ -8,10 +8,11 @@ ghost use Rattle.bz_command.specs.private.WordSteps.{kept};
 
 use crate::list::Text;
 use crate::parts::cut;
-use std::alloc::{AllocError, Global};
+use bz_memory::{NoMemory, push, push_char, push_str};
+use std::alloc::Global;
 
 /// Splits a text into words at runs of spaces. A space after a backslash is a part of the word.
-pub fn read_words(alloc: Global, text: &str) -> Result<Vec<Text>, AllocError>
+pub fn read_words(alloc: Global, text: &str) -> Result<Vec<Text>, NoMemory>
     ensures words { IfOk result (λ words. words.items ≡ spec.words_of text.now) }
     ensures utf8 { IfOk result (λ words. list_all is_utf8 words.items ≡ true) }
 {
@@ -21,27 +22,27 @@ pub fn read_words(alloc: Global, text: &str) -> Result<Vec<Text>, AllocError>
     while let Some((part, rest)) = cut(left, ' ') {
         match part.strip_suffix("\\") {
             Some(front) => {
-                word.push_str(front)?;
-                word.push(' ')?;
+                push_str(&mut word, front)?;
+                push_char(&mut word, ' ')?;
             }
             None => {
-                word.push_str(part)?;
+                push_str(&mut word, part)?;
                 keep(&mut words, word)?;
                 word = String::new(alloc);
             }
         }
         left = rest;
     }
-    word.push_str(left)?;
+    push_str(&mut word, left)?;
     keep(&mut words, word)?;
     Ok(words)
 }
 
-fn keep(words: &mut Vec<Text>, word: String) -> Result<(), AllocError>
+fn keep(words: &mut Vec<Text>, word: String) -> Result<(), NoMemory>
     ensures { OnOk result (words.new.items ≡ words.old.items ++ kept (string_bytes word)) }
 {
     if word.len() > 0 {
-        words.push(Text::from_string(word))?;
+        push(words, Text::from_string(word))?;
     }
     Ok(())
 }

@@ -47,7 +47,7 @@ impl Model for Ahead {
 /// Why there is no next chunk.
 #[derive(Clone, Copy, Debug, PartialEq, Eq)]
 pub enum ChunkFault {
-    OutOfMemory,
+    OutOfMemory(NoMemory),
     ReadFailed,
     /// All the reads that may be made were made without the end, and another is needed.
     InputTooLong,
@@ -63,7 +63,7 @@ impl From<ReadFault> for ChunkFault {
 
     fn from(fault: ReadFault) -> ChunkFault {
         match fault {
-            ReadFault::OutOfMemory => ChunkFault::OutOfMemory,
+            ReadFault::OutOfMemory(why) => ChunkFault::OutOfMemory(why),
             ReadFault::ReadFailed => ChunkFault::ReadFailed,
             ReadFault::InputTooLong => ChunkFault::InputTooLong,
         }

@@ -6,7 +6,8 @@ ghost use Rattle.bz_devices.specs.Buffer.{Took, Stops, took_nothing_lem, took_mo
 
 use crate::device::{Failed, Sink};
 use crate::output::write_all;
-use std::alloc::{AllocError, Global};
+use bz_memory::{NoMemory, with_capacity};
+use std::alloc::Global;
 use std::marker::Model;
 
 /// From so many bytes on a buffer is full.
@@ -34,12 +35,12 @@ impl<W> Model for Buffered<W> {
 
 impl<W: Sink> Buffered<W> {
     /// The sink, with nothing kept back.
-    pub fn new(alloc: Global, sink: W) -> Result<Buffered<W>, AllocError>
+    pub fn new(alloc: Global, sink: W) -> Result<Buffered<W>, NoMemory>
     where
         W: Drop,
         ensures { IfOk result (λ b. b ≡ record { sink = sink; waiting = []; failed = false; failures = 0 }) }
     {
-        let waiting = Vec::with_capacity(alloc, 2 * FULL)?;
+        let waiting = with_capacity(alloc, 2 * FULL)?;
         Ok(Buffered {
             sink,
             waiting,

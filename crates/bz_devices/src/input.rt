@@ -5,7 +5,8 @@ ghost use Rattle.bz_devices.specs.Device.{joined, ends, NoneEnds, Rises};
 ghost use Rattle.bz_devices.specs.declared.input.ReadFault.TheVariants.{OutOfMemory};
 
 use crate::device::{Failed, Source};
-use std::alloc::{AllocError, Global};
+use bz_memory::{NoMemory, resize};
+use std::alloc::Global;
 
 /// The greatest number of bytes that one read asks for.
 pub const PIECE: usize = 8192;
@@ -14,18 +15,18 @@ pub const PIECE: usize = 8192;
 #[derive(Clone, Copy, Debug, PartialEq, Eq)]
 pub enum ReadFault {
     /// A growth of memory was refused.
-    OutOfMemory,
+    OutOfMemory(NoMemory),
     /// The source failed.
     ReadFailed,
     /// All the reads that may be made were made without the end, and another is needed.
     InputTooLong,
 }
 
-impl From<AllocError> for ReadFault {
-    ghost from_gives = { λ _ e. e ≡ OutOfMemory };
+impl From<NoMemory> for ReadFault {
+    ghost from_gives = { λ why e. e ≡ OutOfMemory why };
 
-    fn from(_e: AllocError) -> ReadFault {
-        ReadFault::OutOfMemory
+    fn from(why: NoMemory) -> ReadFault {
+        ReadFault::OutOfMemory(why)
     }
 }
 
@@ -54,7 +55,7 @@ pub fn read_at_most<S: Source>(
         return Err(ReadFault::InputTooLong);
     }
     let start = bytes.len();
-    bytes.resize(start + most, 0)?;
+    resize(bytes, start + most, 0)?;
     match source.read(&mut bytes[start..]) {
         Ok(n) => {
             bytes.truncate(start + n);

@@ -1,4 +1,5 @@
 -- What searches for the next chunk answer in a run, one after another.
+use Rattle.bz_memory.specs.NoMemory.{no_memory}
 use Rattle.std.proofs.Common.{◌≡◌, ◌≢◌, ℕ, ◌≤◌, ◌+◌, List, [], ◌++◌, length, refl, sym, ap, ◌∙◌, Result, Ok, Err, inl, inr}
 use Rattle.bz_devices.specs.declared.limits.Limits.{Limits}
 use Rattle.bz_devices.specs.declared.ahead.ChunkFault.{ChunkFault}
@@ -99,11 +100,11 @@ module _ {S : Type 0} (gave : S → List (List ℕ) → S → Type 0) (failures 
       }
 
   -- memory failed then
-  pub finds_memory : {A T : Type 0} (x : A) (result : Result T RunFault) (source after : S) (old new : Ahead) → result ≡ Err OutOfMemory
+  pub finds_memory : {A T : Type 0} (x : A) (result : Result T RunFault) (source after : S) (old new : Ahead) → result ≡ Err (OutOfMemory no_memory)
       → Finds gave failures options line source after old new (let r : Result A RunFault = Ok x in r)
       → Finds gave failures options line source after old new result
   finds_memory {A = A} {T = T} x result source after old new is before =
-      let memory : Finds gave failures options line source after old new (let r : Result A RunFault = Err OutOfMemory in r) = record {
+      let memory : Finds gave failures options line source after old new (let r : Result A RunFault = Err (OutOfMemory no_memory) in r) = record {
         read = before.read;
         bound = before.bound;
         too_long = λ h. absurd cc;
@@ -114,7 +115,7 @@ module _ {S : Type 0} (gave : S → List (List ℕ) → S → Type 0) (failures 
         steady = λ _. before.steady (no_err x ReadFailed);
         runs = (λ h. cc, λ h. cc);
       } in
-      finds_failed result OutOfMemory OutOfMemory source after old new is refl memory
+      finds_failed result (OutOfMemory no_memory) (OutOfMemory no_memory) source after old new is refl memory
 
   abbrev limits : Limits
   limits = record { statement = options.max_statement; reads = options.max_reads }
@@ -128,7 +129,7 @@ module _ {S : Type 0} (gave : S → List (List ℕ) → S → Type 0) (failures 
   pub finds_no : {A T : Type 0} (fault : ChunkFault) (source after : S) (old new : Ahead)
       → Searches gave failures limits source after old new (let r : Result A ChunkFault = Err fault in r)
       → Finds gave failures options line source after old new (let r : Result T RunFault = Err (fault_at line fault) in r)
-  finds_no chunk.OutOfMemory source after old new s = record {
+  finds_no (chunk.OutOfMemory _) source after old new s = record {
     read = (s.pieces, s.given, s.read, s.needed);
     bound = s.bound;
     too_long = λ h. absurd cc;

@@ -1,4 +1,5 @@
 -- A chunk gives one answer.
+use Rattle.bz_memory.specs.NoMemory.{no_memory}
 use Rattle.std.proofs.Common.{◌≡◌, ℕ, List, [], ◌∷◌, Bool, true, false, cond, refl, sym, ◌∙◌, ap, subst, ◌⊎◌, inl, inr}
 use Rattle.std.specs.Prelude.{codes, Option, None, Some, Result, Ok, Err, IsSome, IsNone}
 use Rattle.std.specs.Str.{bytes_eq, IsUtf8, IsValidUpTo}
@@ -82,7 +83,7 @@ abbrev GoesBy : ℕ → List ℕ → List Placed → Result (Option Statement) S
 GoesBy first bytes tokens (Ok (Some s)) = IsReadAs first bytes tokens s
 GoesBy first bytes tokens (Ok None) = IsNone (first_seen tokens)
 GoesBy first bytes tokens (Err (NotUtf8 line col)) = ⊥
-GoesBy first bytes tokens (Err (Parse parse.OutOfMemory)) = ⊥
+GoesBy first bytes tokens (Err (Parse (parse.OutOfMemory _))) = ⊥
 GoesBy first bytes tokens (Err (Parse (parse.Lex fault))) = ⊥
 GoesBy first bytes tokens (Err (Parse (parse.Indented line))) = indent_fault tokens ≡ Some line
 GoesBy first bytes tokens (Err (Parse (parse.NotAStatement line))) = IsNoStatement first bytes tokens line
@@ -97,31 +98,31 @@ one_by_tokens : (first : ℕ) (bytes : List ℕ) (ts : List Placed) (a b : Resul
 one_by_tokens first bytes ts (Ok (Some s)) (Ok (Some t)) p q = ap (λ x. Ok (Some x)) (chunk_same first bytes ts s t p.chunk q.chunk)
 one_by_tokens first bytes ts (Ok (Some s)) (Ok None) p q = some_is_none (first_seen ts) p.some q
 one_by_tokens first bytes ts (Ok (Some s)) (Err (NotUtf8 l c)) p q = absurd q
-one_by_tokens first bytes ts (Ok (Some s)) (Err (Parse parse.OutOfMemory)) p q = absurd q
+one_by_tokens first bytes ts (Ok (Some s)) (Err (Parse (parse.OutOfMemory _))) p q = absurd q
 one_by_tokens first bytes ts (Ok (Some s)) (Err (Parse (parse.Lex f))) p q = absurd q
 one_by_tokens first bytes ts (Ok (Some s)) (Err (Parse (parse.Indented l))) p q = two_indents (indent_fault ts) l p.upright q
 one_by_tokens first bytes ts (Ok (Some s)) (Err (Parse (parse.NotAStatement l))) p q = absurd (q.none s p.chunk)
 one_by_tokens first bytes ts (Ok None) (Ok (Some t)) p q = some_is_none (first_seen ts) q.some p
 one_by_tokens first bytes ts (Ok None) (Ok None) p q = refl
 one_by_tokens first bytes ts (Ok None) (Err (NotUtf8 l c)) p q = absurd q
-one_by_tokens first bytes ts (Ok None) (Err (Parse parse.OutOfMemory)) p q = absurd q
+one_by_tokens first bytes ts (Ok None) (Err (Parse (parse.OutOfMemory _))) p q = absurd q
 one_by_tokens first bytes ts (Ok None) (Err (Parse (parse.Lex f))) p q = absurd q
 one_by_tokens first bytes ts (Ok None) (Err (Parse (parse.Indented l))) p q = two_indents (indent_fault ts) l (blank_upright ts p) q
 one_by_tokens first bytes ts (Ok None) (Err (Parse (parse.NotAStatement l))) p q = absurd (q.none (statement_with ts (segment_of [])) (blank_chunk first bytes ts p))
 one_by_tokens first bytes ts (Err (NotUtf8 l c)) b p q = absurd p
-one_by_tokens first bytes ts (Err (Parse parse.OutOfMemory)) b p q = absurd p
+one_by_tokens first bytes ts (Err (Parse (parse.OutOfMemory _))) b p q = absurd p
 one_by_tokens first bytes ts (Err (Parse (parse.Lex f))) b p q = absurd p
 one_by_tokens first bytes ts (Err (Parse (parse.Indented l))) (Ok (Some t)) p q = two_indents (indent_fault ts) l q.upright p
 one_by_tokens first bytes ts (Err (Parse (parse.Indented l))) (Ok None) p q = two_indents (indent_fault ts) l (blank_upright ts q) p
 one_by_tokens first bytes ts (Err (Parse (parse.Indented l))) (Err (NotUtf8 m c)) p q = absurd q
-one_by_tokens first bytes ts (Err (Parse (parse.Indented l))) (Err (Parse parse.OutOfMemory)) p q = absurd q
+one_by_tokens first bytes ts (Err (Parse (parse.Indented l))) (Err (Parse (parse.OutOfMemory _))) p q = absurd q
 one_by_tokens first bytes ts (Err (Parse (parse.Indented l))) (Err (Parse (parse.Lex f))) p q = absurd q
 one_by_tokens first bytes ts (Err (Parse (parse.Indented l))) (Err (Parse (parse.Indented m))) p q = ap (λ x. Err (Parse (parse.Indented x))) (some_injective l m (sym p ∙ q))
 one_by_tokens first bytes ts (Err (Parse (parse.Indented l))) (Err (Parse (parse.NotAStatement m))) p q = two_indents (indent_fault ts) l q.upright p
 one_by_tokens first bytes ts (Err (Parse (parse.NotAStatement l))) (Ok (Some t)) p q = absurd (p.none t q.chunk)
 one_by_tokens first bytes ts (Err (Parse (parse.NotAStatement l))) (Ok None) p q = absurd (p.none (statement_with ts (segment_of [])) (blank_chunk first bytes ts q))
 one_by_tokens first bytes ts (Err (Parse (parse.NotAStatement l))) (Err (NotUtf8 m c)) p q = absurd q
-one_by_tokens first bytes ts (Err (Parse (parse.NotAStatement l))) (Err (Parse parse.OutOfMemory)) p q = absurd q
+one_by_tokens first bytes ts (Err (Parse (parse.NotAStatement l))) (Err (Parse (parse.OutOfMemory _))) p q = absurd q
 one_by_tokens first bytes ts (Err (Parse (parse.NotAStatement l))) (Err (Parse (parse.Lex f))) p q = absurd q
 one_by_tokens first bytes ts (Err (Parse (parse.NotAStatement l))) (Err (Parse (parse.Indented m))) p q = two_indents (indent_fault ts) m p.upright q
 one_by_tokens first bytes ts (Err (Parse (parse.NotAStatement l))) (Err (Parse (parse.NotAStatement m))) p q = ap (λ x. Err (Parse (parse.NotAStatement x))) (p.line_is ∙ sym q.line_is)
@@ -130,7 +131,7 @@ one_by_tokens first bytes ts (Err (Parse (parse.NotAStatement l))) (Err (Parse (
 record IsLexFault (first depth : ℕ) (bytes : List ℕ) (answer : Result (Option Statement) SyntaxFault) : Type 0 where
   pub fault : LexFault
   pub is : IsFault first depth bytes fault
-  pub some : fault ≡ lex.OutOfMemory → ⊥
+  pub some : fault ≡ lex.OutOfMemory no_memory → ⊥
   pub answer_is : answer ≡ Err (Parse (parse.Lex fault))
 
 record IsByTokens (first depth : ℕ) (bytes : List ℕ) (answer : Result (Option Statement) SyntaxFault) : Type 0 where
@@ -147,14 +148,14 @@ record IsNoText (first : ℕ) (bytes : List ℕ) (answer : Result (Option Statem
 abbrev IsText : ℕ → ℕ → List ℕ → Result (Option Statement) SyntaxFault → Type 0
 IsText first depth bytes answer = IsUtf8 bytes × (IsLexFault first depth bytes answer ⊎ IsByTokens first depth bytes answer)
 
-lexical_some : (f : LexFault) → IsLexical f → f ≡ lex.OutOfMemory → ⊥
+lexical_some : (f : LexFault) → IsLexical f → f ≡ lex.OutOfMemory no_memory → ⊥
 lexical_some f lexical is = subst IsLexical is lexical
 
 by_way : (first depth : ℕ) (bytes : List ℕ) (a : Result (Option Statement) SyntaxFault) → Gives depth first bytes a → IsText first depth bytes a ⊎ IsNoText first bytes a
 by_way first depth bytes (Ok (Some s)) g = inl (g.0, inr (record { tokens = g.1.tokens; are = g.1.are; by = g.1.reads }))
 by_way first depth bytes (Ok None) g = inl (g.0, inr (record { tokens = g.1.tokens; are = g.1.are; by = g.1.none }))
 by_way first depth bytes (Err (NotUtf8 line col)) g = inr (record { none = g.0; n = g.1.0; valid = g.1.1; answer_is = ap (λ x. Err x) g.1.2 })
-by_way first depth bytes (Err (Parse parse.OutOfMemory)) g = absurd (g.2 refl)
+by_way first depth bytes (Err (Parse (parse.OutOfMemory _))) g = absurd (g.2 refl)
 by_way first depth bytes (Err (Parse (parse.Lex f))) g = inl (g.0, inl (record { fault = f; is = g.1.0; some = lexical_some f g.1.1; answer_is = refl }))
 by_way first depth bytes (Err (Parse (parse.Indented line))) g = inl (g.0, inr (record { tokens = g.1.tokens; are = g.1.are; by = g.1.is }))
 by_way first depth bytes (Err (Parse (parse.NotAStatement line))) g = inl (g.0, inr (record { tokens = g.1.tokens; are = g.1.are; by = g.1.is }))

@@ -161,7 +161,7 @@ module _ {S W T : Type 0} (gave : S → List (List ℕ) → S → Type 0) (reads
   tells_read : (old v e : SessionValue) (source after : S) (fault : RunFault) → IsAtChunk old v
       → (let there : SessionValue = record v { ahead = e.ahead; progress = e.progress } in e ≡ there)
       → FindsAs v e source after (Err fault) → Tells old e fault
-  tells_read old v e source after OutOfMemory at there finds = tt
+  tells_read old v e source after (OutOfMemory _) at there finds = tt
   tells_read old v e source after ReadFailed at there finds = λ long. finds.fitting refl (subst (λ x. IsTooLong x.options.max_statement e.ahead) there long)
   tells_read old v e source after WriteFailed at there finds = absurd (finds.runs.1 refl)
   tells_read old v e source after InputTooLong at there finds = (

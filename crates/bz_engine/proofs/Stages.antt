@@ -41,7 +41,7 @@ pub stage_is : (v w : SessionValue) (s : Stage) → v ≡ w → v.stage ≡ s �
 stage_is v w s same is = sym (ap (λ x. x.stage) same) ∙ is
 
 abbrev is_stop : RunFault → Bool
-is_stop fault.OutOfMemory = false
+is_stop (fault.OutOfMemory _) = false
 is_stop fault.ReadFailed = false
 is_stop fault.WriteFailed = false
 is_stop fault.InputTooLong = false
@@ -53,7 +53,7 @@ pub stopped_alone : {T X : Type 0} (r : Result T RunFault) (e : RunFault) → is
 stopped_alone r e other stopped told = absurd (false≢true (sym other ∙ ap is_stop (sym (err_is fault.Stopped e (sym stopped ∙ told)))))
 
 abbrev is_write : RunFault → Bool
-is_write fault.OutOfMemory = false
+is_write (fault.OutOfMemory _) = false
 is_write fault.ReadFailed = false
 is_write fault.WriteFailed = true
 is_write fault.InputTooLong = false

@@ -1,4 +1,5 @@
 -- The statements of a file: those of its chunks in order, up to the first chunk with a fault.
+use Rattle.bz_memory.specs.NoMemory.{no_memory}
 use Rattle.std.specs.Prelude.{◌≡◌, ◌≢◌, ℕ, List, [], ◌∷◌, take, Option, None, Some, Result, Ok, Err}
 use Rattle.std.specs.Str.{IsUtf8, IsValidUpTo}
 use Rattle.bz_token.specs.Places.{line_at, column_at}
@@ -18,7 +19,7 @@ abbrev pub Gives : ℕ → ℕ → List ℕ → Result (Option Statement) Syntax
 Gives max_depth line chunk (Ok (Some s)) = IsUtf8 chunk × IsStatementIn line max_depth chunk s
 Gives max_depth line chunk (Ok None) = IsUtf8 chunk × IsBlank line max_depth chunk
 Gives max_depth line chunk (Err (NotUtf8 l c)) = ¬ (IsUtf8 chunk) × ((n : ℕ) × IsValidUpTo chunk n × (NotUtf8 l c ≡ not_utf8 line n chunk))
-Gives max_depth line chunk (Err (Parse fault)) = IsUtf8 chunk × IsFaultIn line max_depth chunk fault × (fault ≢ OutOfMemory)
+Gives max_depth line chunk (Err (Parse fault)) = IsUtf8 chunk × IsFaultIn line max_depth chunk fault × (fault ≢ OutOfMemory no_memory)
 
 -- and then what the chunks after it give: a fault ends the list
 abbrev pub Follows : Result (Option Statement) SyntaxFault → (List Statement → Option SyntaxFault → Type 0) → List Statement → Option SyntaxFault → Type 0

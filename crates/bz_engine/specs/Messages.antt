@@ -33,7 +33,7 @@ abbrev pub lined : ℕ → List ℕ → List ℕ
 lined line what = decimal line ++ codes ": " ++ what
 
 abbrev pub lex_text : LexFault → List ℕ
-lex_text OutOfMemory = codes "out of memory"
+lex_text (OutOfMemory _) = codes "out of memory"
 lex_text (BadCharacter line col) = placed line col (codes "bad character")
 lex_text (BadNumber line col) = placed line col (codes "bad number")
 lex_text (OpenText line col) = placed line col (codes "string is not closed")
@@ -43,7 +43,7 @@ lex_text (TooDeep line col) = placed line col (codes "brackets too deep")
 lex_text (BadBackslash line col) = placed line col (codes "bad backslash")
 
 abbrev pub parse_text : ParseFault → List ℕ
-parse_text parse.OutOfMemory = codes "out of memory"
+parse_text (parse.OutOfMemory _) = codes "out of memory"
 parse_text (parse.Lex fault) = lex_text fault
 parse_text (parse.Indented line) = lined line (codes "indented statement")
 parse_text (parse.NotAStatement line) = lined line (codes "not a statement")

@@ -63,7 +63,7 @@ IsCutShort v pieces cs text shown = (shown ≡ []) ⊎ ((next : List ℕ) × IsN
 
 -- What a fault tells: where the next chunk is sure to be too long, this is told, or memory failed.
 abbrev pub Tells : SessionValue → SessionValue → RunFault → Type 0
-Tells old new OutOfMemory = ⊤
+Tells old new (OutOfMemory _) = ⊤
 Tells old new ReadFailed = IsTooLong new.options.max_statement new.ahead → ⊥
 Tells old new WriteFailed = IsTooLong new.options.max_statement new.ahead → ⊥
 -- So many reads were made, none of them the end, and no next chunk is certain.

@@ -9,9 +9,10 @@ ghost use Rattle.bz_engine.specs.private.Found.{Answers, Makes, looked_at, new_o
 use bz_attribute::Env;
 use bz_attribute_commands::print::print_name;
 use bz_command::{Attributes, Marked, Setting, Target};
+use bz_memory::{NoMemory, from_str, push_str};
 use bz_rule::{Action, Command, Text};
 use memchr::memmem;
-use std::alloc::{AllocError, Global};
+use std::alloc::Global;
 
 /// What the one command of a script makes of a rule whose text is known.
 #[derive(Drop)]
@@ -43,7 +44,7 @@ pub(crate) fn answer_by_text<'c>(
     command: &'c Command,
     name: &str,
     text: &str,
-) -> Result<Option<Answer<'c>>, AllocError>
+) -> Result<Option<Answer<'c>>, NoMemory>
     ensures { IfOk result (λ told. IfSome told (Answers command.now env.entry.home.now name.now text.now)) }
 {
     if let Some(attr) = looked_at(command) {
@@ -92,7 +93,7 @@ fn set_by(command: &Command) -> Option<NewArgument<'_>>
 }
 
 /// What is printed of a rule of this name, where that is all that is asked.
-fn printed_by_name(env: Env<'_>, command: &Command, name: &str) -> Result<Option<Text>, AllocError>
+fn printed_by_name(env: Env<'_>, command: &Command, name: &str) -> Result<Option<Text>, NoMemory>
     ensures { IfOk result (λ line. IfSome line (λ text. (s : Statement) → HasName (Some name.now) s
         → Makes command.now env.entry.home.now s s (told_line false (Some text)))) }
 {
@@ -103,7 +104,7 @@ fn printed_by_name(env: Env<'_>, command: &Command, name: &str) -> Result<Option
 }
 
 /// Whether an argument of this name may stand in the text: the name and an equals sign do.
-fn may_have(alloc: Global, text: &str, attr: &str) -> Result<bool, AllocError>
+fn may_have(alloc: Global, text: &str, attr: &str) -> Result<bool, NoMemory>
     ensures { IfOk result (λ has. IsFalse has → HasArgumentName attr.now text.now → ⊥) }
 {
     let begins = argument_begins(alloc, attr)?;
@@ -114,11 +115,11 @@ fn may_have(alloc: Global, text: &str, attr: &str) -> Result<bool, AllocError>
 }
 
 /// The name of an argument, and the sign after it.
-fn argument_begins(alloc: Global, attr: &str) -> Result<String, AllocError>
+fn argument_begins(alloc: Global, attr: &str) -> Result<String, NoMemory>
     ensures { IfOk result (λ text. string_bytes text ≡ attr.now ++ codes " =") }
 {
-    let mut text = String::from_str(alloc, attr)?;
-    text.push_str(" =")?;
+    let mut text = from_str(alloc, attr)?;
+    push_str(&mut text, " =")?;
     Ok(text)
 }
 

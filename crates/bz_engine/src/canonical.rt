@@ -26,10 +26,10 @@ use bz_attribute::Env;
 use bz_attribute_commands::argument::put_argument;
 use bz_canonical::{CanonicalChunk, Room, canonical};
 use bz_devices::ahead::Ahead;
+use bz_memory::{NoMemory, extend_from_slice};
 use bz_passes::index::Key;
 use bz_passes::script::passes_by;
 use bz_tree::Class;
-use std::alloc::AllocError;
 
 /// The script on the first chunk of the text ahead, where the chunk stands as it would be written and what the script
 /// makes of its statement is known without it: it is copied. None, with nothing done: it is to be read.
@@ -39,7 +39,7 @@ pub(crate) fn edit_canonical(
     max_statement: u64,
     progress: &mut Progress,
     text: &mut Vec<u8>,
-) -> Result<Option<NextChunk>, AllocError>
+) -> Result<Option<NextChunk>, NoMemory>
     requires few { IsFewAfter ahead.now }
     requires fits { Fits progress.old.kept script.passes.now }
     requires lines { progress.old.line + length ahead.now.bytes < 2 ^ 64 }
@@ -103,7 +103,7 @@ fn edit_found(
     found: CanonicalChunk<'_>,
     progress: &mut Progress,
     text: &mut Vec<u8>,
-) -> Result<bool, AllocError>
+) -> Result<bool, NoMemory>
     requires fits { Fits progress.old.kept script.passes.now }
     ensures fits { OnOk result (Fits progress.new.kept script.entry.passes.now) }
     ensures line { OnOk result (progress.new.line ≡ progress.old.line) }
@@ -129,7 +129,7 @@ fn edit_by_text(
     found: CanonicalChunk<'_>,
     progress: &mut Progress,
     text: &mut Vec<u8>,
-) -> Result<bool, AllocError>
+) -> Result<bool, NoMemory>
     requires fits { Fits progress.old.kept script.passes.now }
     requires only { script.passes.now ≡ one_pass only.target.now only.command.now }
     ensures fits { OnOk result (Fits progress.new.kept script.entry.passes.now) }
@@ -219,7 +219,7 @@ fn put_canonical(
     found: CanonicalChunk<'_>,
     progress: &mut Progress,
     text: &mut Vec<u8>,
-) -> Result<(), AllocError>
+) -> Result<(), NoMemory>
     ensures last { OnOk result (progress.new ≡ record progress.old { last = Some found.entry.class }) }
     ensures text { OnOk result ((s : Statement) → s.class ≡ found.entry.class → layout_text s ≡ found.entry.written.now
         → text.new.items ≡ text.old.items
@@ -227,7 +227,7 @@ fn put_canonical(
 {
     if !script.passes.is_query() {
         put_gap(progress.last, found.class, text)?;
-        text.extend_from_slice(found.written.as_bytes())?;
+        extend_from_slice(text, found.written.as_bytes())?;
     }
     progress.last = Some(found.class);
     Ok(())
@@ -247,7 +247,7 @@ fn put_grown(
     grown: Grown<'_>,
     progress: &mut Progress,
     text: &mut Vec<u8>,
-) -> Result<(), AllocError>
+) -> Result<(), NoMemory>
     ensures last { OnOk result (progress.new ≡ record progress.old { last = Some grown.entry.class; changed = true }) }
     ensures text { OnOk result ((s : Statement) → s.class ≡ grown.entry.class
         → layout_text s ≡ grown.entry.room.before.now ++ (grown.entry.lines.now ++ grown.entry.room.after.now)
@@ -256,9 +256,9 @@ fn put_grown(
 {
     if !script.passes.is_query() {
         put_gap(progress.last, grown.class, text)?;
-        text.extend_from_slice(grown.room.before.as_bytes())?;
-        text.extend_from_slice(grown.lines)?;
-        text.extend_from_slice(grown.room.after.as_bytes())?;
+        extend_from_slice(text, grown.room.before.as_bytes())?;
+        extend_from_slice(text, grown.lines)?;
+        extend_from_slice(text, grown.room.after.as_bytes())?;
     }
     progress.last = Some(grown.class);
     progress.changed = true;

@@ -22,12 +22,13 @@ use crate::rules::Rules;
 use bumpalo::Bump;
 use bz_attribute::Head;
 use bz_layout::{blank_between, put_row};
+use bz_memory::{NoMemory, push};
 use bz_passes::kept::Kept;
 use bz_passes::language::Facts;
 use bz_passes::script::run_script;
 use bz_rule::{Package, StatementRow, Text};
 use bz_tree::{Class, ParseFault, Row};
-use std::alloc::{AllocError, Global};
+use std::alloc::Global;
 
 /// What a run is to do with each chunk.
 #[derive(Clone, Copy)]
@@ -79,7 +80,7 @@ pub(crate) fn edit_chunk<'a>(
     read: Result<Option<Row<'a>>, ParseFault>,
     progress: &mut Progress,
     text: &mut Vec<u8>,
-) -> Result<Edited, AllocError>
+) -> Result<Edited, NoMemory>
     requires fits { Fits progress.old.kept script.passes.now }
     requires lines { progress.old.line + length chunk.now < 2 ^ 64 }
     requires read { IsReadAs script.max_depth progress.old.line chunk.now read }
@@ -90,7 +91,7 @@ pub(crate) fn edit_chunk<'a>(
 {
     let found = match read {
         Ok(found) => found,
-        Err(ParseFault::OutOfMemory) => return Err(AllocError),
+        Err(ParseFault::OutOfMemory(why)) => return Err(why),
         Err(fault) => return Ok(Edited::Faulty(SyntaxFault::Parse(fault))),
     };
     let Some(row) = found else {
@@ -108,7 +109,7 @@ fn edit_row<'a>(
     row: &'a Row<'a>,
     progress: &mut Progress,
     text: &mut Vec<u8>,
-) -> Result<Scripted, AllocError>
+) -> Result<Scripted, NoMemory>
     requires fits { Fits progress.old.kept script.passes.now }
     requires row { (s : Statement) × ((s.class ≡ class_of s.nodes) × IsRowOf s row.now) }
     ensures fits { OnOk result (Fits progress.new.kept script.entry.passes.now) }
@@ -130,7 +131,7 @@ fn put_passed(
     row: &Row<'_>,
     progress: &mut Progress,
     text: &mut Vec<u8>,
-) -> Result<(), AllocError>
+) -> Result<(), NoMemory>
     ensures last { OnOk result (progress.new ≡ record progress.old { last = Some row.now.class }) }
     ensures text { OnOk result ((s : Statement) → IsRowOf s row.now → text.new.items ≡ text.old.items
         ++ (if is_query script.entry.passes.now then [] else text_following progress.old.last (Some s ∷ []))) }
@@ -149,7 +150,7 @@ fn edit_slot<'a>(
     slot: &mut Option<StatementRow<'a>>,
     progress: &mut Progress,
     text: &mut Vec<u8>,
-) -> Result<Scripted, AllocError>
+) -> Result<Scripted, NoMemory>
     requires { Fits progress.old.kept script.passes.now }
     ensures fits { OnOk result (Fits progress.new.kept script.entry.passes.now) }
     ensures scripted { IfOk result (λ scripted. (s : Statement) → slot.old ≡ Some s
@@ -193,7 +194,7 @@ fn put_slot(
     last: Option<Class>,
     slot: &Option<StatementRow<'_>>,
     text: &mut Vec<u8>,
-) -> Result<(), AllocError>
+) -> Result<(), NoMemory>
     ensures { OnOk result (text.new.items ≡ text.old.items
         ++ (if is_query script.entry.passes.now then [] else text_following last (slot.now ∷ []))) }
 {
@@ -212,7 +213,7 @@ fn put_after(
     last: Option<Class>,
     stmt: &StatementRow<'_>,
     text: &mut Vec<u8>,
-) -> Result<(), AllocError>
+) -> Result<(), NoMemory>
     ensures { OnOk result (text.new.items ≡ text.old.items
         ++ (gap_text (is_gap last stmt.now.class) ++ layout_text stmt.now)) }
 {
@@ -225,17 +226,17 @@ pub(crate) fn put_gap(
     last: Option<Class>,
     class: Class,
     text: &mut Vec<u8>,
-) -> Result<(), AllocError>
+) -> Result<(), NoMemory>
     ensures { OnOk result (text.new.items ≡ text.old.items ++ gap_text (is_gap last class)) }
 {
     if blank_between(last, class) {
-        text.push(b'\n')?;
+        push(text, b'\n')?;
     }
     Ok(())
 }
 
 /// The message of the first failure that was told, by pass and command.
-fn first_failure(alloc: Global, kept: &[Kept]) -> Result<Option<Text>, AllocError>
+fn first_failure(alloc: Global, kept: &[Kept]) -> Result<Option<Text>, NoMemory>
     ensures { IfOk result (λ message. option_to_list message ≡ first_of (flat_map failure_text (log_alone kept.now))) }
 {
     for pass in kept {

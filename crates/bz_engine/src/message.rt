@@ -4,22 +4,23 @@ ghost use Rattle.std.specs.Prelude.{◌≡◌, ◌++◌, IfOk};
 ghost use Rattle.bz_engine.specs.Messages.{not_found_text, note_text, lex_text, parse_text, fault_text, placed, lined};
 
 use crate::report::SyntaxFault;
+use bz_memory::{NoMemory, push_str};
 use bz_rule::{Note, Package, Target, Text, label};
 use bz_token::LexFault;
 use bz_tree::ParseFault;
-use std::alloc::{AllocError, Global};
+use std::alloc::Global;
 
 /// A target that had to mark something and marked nothing.
-pub(crate) fn not_found(alloc: Global, home: &Package, target: &Target) -> Result<Text, AllocError>
+pub(crate) fn not_found(alloc: Global, home: &Package, target: &Target) -> Result<Text, NoMemory>
     ensures { IfOk result (λ t. t ≡ not_found_text home.now target.now) }
 {
     let mut text = label(alloc, home, target)?;
-    text.push_str(": no such rule")?;
+    push_str(&mut text, ": no such rule")?;
     Ok(Text::from_string(text))
 }
 
 /// A note on a rule, which is shown as `rule`.
-pub(crate) fn note_text(alloc: Global, rule: &str, note: &Note) -> Result<Text, AllocError>
+pub(crate) fn note_text(alloc: Global, rule: &str, note: &Note) -> Result<Text, NoMemory>
     ensures { IfOk result (λ t. t ≡ note_text rule.now note.now) }
 {
     match note {
@@ -52,14 +53,14 @@ fn of_attribute(
     before: &str,
     attr: &str,
     after: &str,
-) -> Result<Text, AllocError>
+) -> Result<Text, NoMemory>
     ensures { IfOk result (λ t. t ≡ rule.now ++ before.now ++ attr.now ++ after.now) }
 {
     let text = format!(in alloc; "{rule}{before}{attr}{after}")?;
     Ok(Text::from_string(text))
 }
 
-fn no_value(alloc: Global, rule: &str, attr: &str, value: &str) -> Result<Text, AllocError>
+fn no_value(alloc: Global, rule: &str, attr: &str, value: &str) -> Result<Text, NoMemory>
     ensures { IfOk result (λ t. t ≡ note_text rule.now (Note.NoValue attr.now value.now)) }
 {
     let text = format!(in alloc; "{rule}: no value '{value}' in attribute '{attr}'")?;
@@ -67,7 +68,7 @@ fn no_value(alloc: Global, rule: &str, attr: &str, value: &str) -> Result<Text, 
 }
 
 /// A fault at a line and a column.
-fn placed(alloc: Global, line: u64, col: u64, what: &str) -> Result<Text, AllocError>
+fn placed(alloc: Global, line: u64, col: u64, what: &str) -> Result<Text, NoMemory>
     ensures { IfOk result (λ t. t ≡ placed line col what.now) }
 {
     let text = format!(in alloc; "{line}:{col}: {what}")?;
@@ -75,18 +76,18 @@ fn placed(alloc: Global, line: u64, col: u64, what: &str) -> Result<Text, AllocE
 }
 
 /// A fault of a line.
-fn lined(alloc: Global, line: u64, what: &str) -> Result<Text, AllocError>
+fn lined(alloc: Global, line: u64, what: &str) -> Result<Text, NoMemory>
     ensures { IfOk result (λ t. t ≡ lined line what.now) }
 {
     let text = format!(in alloc; "{line}: {what}")?;
     Ok(Text::from_string(text))
 }
 
-fn lex_text(alloc: Global, fault: LexFault) -> Result<Text, AllocError>
+fn lex_text(alloc: Global, fault: LexFault) -> Result<Text, NoMemory>
     ensures { IfOk result (λ t. t ≡ lex_text fault) }
 {
     match fault {
-        LexFault::OutOfMemory => Text::from_str(alloc, "out of memory"),
+        LexFault::OutOfMemory(_) => Text::from_str(alloc, "out of memory"),
         LexFault::BadCharacter { line, col } => placed(alloc, line, col, "bad character"),
         LexFault::BadNumber { line, col } => placed(alloc, line, col, "bad number"),
         LexFault::OpenText { line, col } => placed(alloc, line, col, "string is not closed"),
@@ -97,11 +98,11 @@ fn lex_text(alloc: Global, fault: LexFault) -> Result<Text, AllocError>
     }
 }
 
-fn parse_text(alloc: Global, fault: ParseFault) -> Result<Text, AllocError>
+fn parse_text(alloc: Global, fault: ParseFault) -> Result<Text, NoMemory>
     ensures { IfOk result (λ t. t ≡ parse_text fault) }
 {
     match fault {
-        ParseFault::OutOfMemory => Text::from_str(alloc, "out of memory"),
+        ParseFault::OutOfMemory(_) => Text::from_str(alloc, "out of memory"),
         ParseFault::Lex(fault) => lex_text(alloc, fault),
         ParseFault::Indented { line } => lined(alloc, line, "indented statement"),
         ParseFault::NotAStatement { line } => lined(alloc, line, "not a statement"),
@@ -109,7 +110,7 @@ fn parse_text(alloc: Global, fault: ParseFault) -> Result<Text, AllocError>
 }
 
 /// Why a statement could not be read.
-pub(crate) fn fault_text(alloc: Global, fault: SyntaxFault) -> Result<Text, AllocError>
+pub(crate) fn fault_text(alloc: Global, fault: SyntaxFault) -> Result<Text, NoMemory>
     ensures { IfOk result (λ t. t ≡ fault_text fault) }
 {
     match fault {

@@ -13,9 +13,9 @@ use crate::chunk::not_utf8;
 use crate::edit::{Edited, Script, edit_chunk};
 use crate::progress::Progress;
 use bz_devices::ahead::Ahead;
+use bz_memory::NoMemory;
 use bz_token::{Front, Token, check_utf8, first_chunk};
 use bz_tree::{read_statement, read_text};
-use std::alloc::AllocError;
 
 /// The next chunk, on which the script was run and which is not yet taken.
 #[derive(Drop)]
@@ -44,7 +44,7 @@ pub(crate) fn edit_first(
     max_statement: u64,
     progress: &mut Progress,
     text: &mut Vec<u8>,
-) -> Result<First, AllocError>
+) -> Result<First, NoMemory>
     requires few { IsFewAfter ahead.now }
     requires fits { Fits progress.old.kept script.passes.now }
     requires lines { progress.old.line + length ahead.now.bytes < 2 ^ 64 }
@@ -72,7 +72,7 @@ fn edit_front(
     max_statement: u64,
     progress: &mut Progress,
     text: &mut Vec<u8>,
-) -> Result<First, AllocError>
+) -> Result<First, NoMemory>
     requires few { IsFewAfter ahead.now }
     requires fits { Fits progress.old.kept script.passes.now }
     requires lines { progress.old.line + length ahead.now.bytes < 2 ^ 64 }
@@ -109,7 +109,7 @@ fn edit_tokens<'a>(
     tokens: &[Token<'a>],
     progress: &mut Progress,
     text: &mut Vec<u8>,
-) -> Result<Edited, AllocError>
+) -> Result<Edited, NoMemory>
     requires fits { Fits progress.old.kept script.passes.now }
     requires lines { progress.old.line + length chunk.now < 2 ^ 64 }
     requires tokens { AreTokensOf progress.old.line script.max_depth chunk.now (map placed tokens.now) }
@@ -128,7 +128,7 @@ pub(crate) fn edit_bytes(
     chunk: &[u8],
     progress: &mut Progress,
     text: &mut Vec<u8>,
-) -> Result<Edited, AllocError>
+) -> Result<Edited, NoMemory>
     requires fits { Fits progress.old.kept script.passes.now }
     requires lines { progress.old.line + length chunk.now < 2 ^ 64 }
     ensures fits { OnOk result (Fits progress.new.kept script.entry.passes.now) }

@@ -9,10 +9,10 @@ ghost use Rattle.bz_engine.specs.private.Found.{HasOneLog, one_told};
 use crate::chunk::newlines;
 use crate::looks::Looks;
 use crate::rules::tell_line;
+use bz_memory::NoMemory;
 use bz_passes::kept::Kept;
 use bz_rule::Text;
 use bz_tree::Class;
-use std::alloc::AllocError;
 use std::marker::Model;
 
 /// What a run keeps of the chunks that are done.
@@ -51,7 +51,7 @@ impl Progress {
     }
 
     /// The one command of the script ran on one statement more, and this line was told of it.
-    pub(crate) fn keep_line(&mut self, line: Option<Text>) -> Result<(), AllocError>
+    pub(crate) fn keep_line(&mut self, line: Option<Text>) -> Result<(), NoMemory>
         requires { HasOneLog self.old.kept }
         ensures { OnOk result
             (self.new ≡ record self.old { kept = kept_and self.old.kept (one_told line) }) }
@@ -82,7 +82,7 @@ impl Progress {
 }
 
 /// The one command of a pass ran on one statement more, which the pass marked, and this line was told of it.
-fn keep_line(kept: &mut Kept, line: Option<Text>) -> Result<(), AllocError>
+fn keep_line(kept: &mut Kept, line: Option<Text>) -> Result<(), NoMemory>
     requires { length kept.old.logs ≡ 1 }
     ensures { OnOk result (kept.new ≡ pass_and kept.old (record { found = true; logs = line_told line ∷ [] })) }
 {

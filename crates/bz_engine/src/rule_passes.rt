@@ -8,9 +8,10 @@ ghost use Rattle.bz_engine.specs.private.Found.{one_pass};
 ghost use Rattle.bz_engine.specs.private.Named.{all_named};
 
 use bz_command::Pass;
+use bz_memory::NoMemory;
 use bz_passes::passes::{Keyed, Passes};
 use bz_rule::{Command, Target};
-use std::alloc::{AllocError, Global};
+use std::alloc::Global;
 use std::marker::Model;
 
 /// The passes of a script, indexed, and what is true of all of them. Contracts see the passes alone.
@@ -46,7 +47,7 @@ impl RulePasses {
     pub(crate) fn new(
         alloc: Global,
         passes: Vec<Pass<Target, Command>>,
-    ) -> Result<RulePasses, AllocError>
+    ) -> Result<RulePasses, NoMemory>
         ensures { IfOk result (λ made. made ≡ passes.items) }
     {
         let query = is_query(passes.as_slice());

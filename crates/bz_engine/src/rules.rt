@@ -7,12 +7,13 @@ ghost use Rattle.bz_engine.specs.Meaning.{line_told, note_told, done_told, shown
 
 use crate::message;
 use bz_attribute::Env;
+use bz_memory::NoMemory;
 use bz_passes::entry::Entry;
 use bz_passes::index::Key;
 use bz_passes::language::{Facts, Language};
 use bz_passes::log::Log;
 use bz_rule::{Command, Done, Note, Package, StatementRow, Target, Text, execute};
-use std::alloc::{AllocError, Global};
+use std::alloc::Global;
 
 /// Targets and commands on the rules of a package, whose statements borrow from the file.
 #[derive(Clone, Copy)]
@@ -61,7 +62,7 @@ impl<'a> Language for Rules<'a> {
         target.must_mark()
     }
 
-    fn not_found(&self, target: &Target) -> Result<Entry, AllocError> {
+    fn not_found(&self, target: &Target) -> Result<Entry, NoMemory> {
         let text = message::not_found(self.alloc, self.home, target)?;
         Ok(Entry::Failure(text))
     }
@@ -71,7 +72,7 @@ impl<'a> Language for Rules<'a> {
         command: &Command,
         slot: &mut Option<StatementRow<'a>>,
         log: &mut Log,
-    ) -> Result<Facts, AllocError> {
+    ) -> Result<Facts, NoMemory> {
         let env = Env {
             alloc: self.alloc,
             home: self.home,
@@ -110,7 +111,7 @@ fn tell_done(
     slot: &Option<StatementRow<'_>>,
     done: &mut Done,
     log: &mut Log,
-) -> Result<Facts, AllocError>
+) -> Result<Facts, NoMemory>
     ensures told { OnOk result (log.new ≡ log.old ++ done_told (shown_slot home.now slot.now) done.old) }
     ensures changed { IfOk result (λ facts. facts.changed ≡ done.old.changed) }
     ensures failed { IfOk result (λ facts. facts.failed ≡ fails done.old.note) }
@@ -121,7 +122,7 @@ fn tell_done(
     Ok(facts)
 }
 
-pub(crate) fn tell_line(line: Option<Text>, log: &mut Log) -> Result<(), AllocError>
+pub(crate) fn tell_line(line: Option<Text>, log: &mut Log) -> Result<(), NoMemory>
     ensures { OnOk result (log.new ≡ log.old ++ line_told line) }
 {
     if let Some(text) = line {
@@ -136,7 +137,7 @@ fn tell_note(
     slot: &Option<StatementRow<'_>>,
     note: &Option<Note>,
     log: &mut Log,
-) -> Result<(), AllocError>
+) -> Result<(), NoMemory>
     ensures { OnOk result (log.new ≡ log.old ++ note_told (shown_slot home.now slot.now) note.now) }
 {
     if let Some(note) = note {
@@ -151,7 +152,7 @@ fn entry_on(
     home: &Package,
     slot: &Option<StatementRow<'_>>,
     note: &Note,
-) -> Result<Entry, AllocError>
+) -> Result<Entry, NoMemory>
     ensures { IfOk result (λ entry. entry ∷ [] ≡ note_told (shown_slot home.now slot.now) (Some note.now)) }
 {
     let rule = shown_slot(alloc, home, slot)?;
@@ -163,7 +164,7 @@ fn shown_slot(
     alloc: Global,
     home: &Package,
     slot: &Option<StatementRow<'_>>,
-) -> Result<String, AllocError>
+) -> Result<String, NoMemory>
     ensures { IfOk result (λ text. string_bytes text ≡ shown_slot home.now slot.now) }
 {
     match slot {
@@ -173,7 +174,7 @@ fn shown_slot(
 }
 
 /// What is told of a note on a rule, which is shown as `rule`: a field that is missing is a warning.
-fn note_entry(alloc: Global, rule: &str, note: &Note) -> Result<Entry, AllocError>
+fn note_entry(alloc: Global, rule: &str, note: &Note) -> Result<Entry, NoMemory>
     ensures { IfOk result (λ entry. entry ∷ [] ≡ note_told rule.now (Some note.now)) }
 {
     let text = message::note_text(alloc, rule, note)?;

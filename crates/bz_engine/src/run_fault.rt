@@ -1,13 +1,14 @@
 //! Why a run ended before its report.
 
+use bz_memory::NoMemory;
+
 ghost use Rattle.std.specs.Prelude.{◌≡◌};
 
-use std::alloc::{AllocError, AllocFailed};
 
 /// Why a run ended before its report.
 #[derive(Clone, Copy, Debug, PartialEq, Eq)]
 pub enum RunFault {
-    OutOfMemory,
+    OutOfMemory(NoMemory),
     ReadFailed,
     WriteFailed,
     /// All the reads that may be made were made without the end, and another is needed.
@@ -18,12 +19,12 @@ pub enum RunFault {
     Stopped,
 }
 
-impl From<AllocError> for RunFault {
+impl From<NoMemory> for RunFault {
     ghost use Rattle.bz_engine.specs.declared.run_fault.RunFault.TheVariants.{OutOfMemory};
 
-    ghost from_gives = { λ _ e. e ≡ OutOfMemory };
+    ghost from_gives = { λ why e. e ≡ OutOfMemory why };
 
-    fn from(_: AllocError) -> RunFault {
-        RunFault::OutOfMemory
+    fn from(why: NoMemory) -> RunFault {
+        RunFault::OutOfMemory(why)
     }
 }

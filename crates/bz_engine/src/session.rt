@@ -1,5 +1,6 @@
 //! A run, a chunk at a time.
 
+ghost use Rattle.bz_memory.specs.NoMemory.{no_memory};
 ghost use Rattle.std.specs.Prelude.{◌≡◌, ◌≢◌, ℕ, ◌+◌, ◌<◌, ◌≤◌, ◌^◌, ◌++◌, false, List, [], length, take, drop, IfOk, OnOk, OnErr, IfSome, IfNone, IsTrue};
 ghost use Rattle.bz_token.specs.Cuts.{IsPart};
 ghost use Rattle.bz_devices.specs.Device.{joined, NoneEnds, Rises};
@@ -30,9 +31,10 @@ use bz_devices::ahead::{Ahead, ChunkFault, next_chunk, read_on};
 use bz_devices::device::{Failed, Sink, Source};
 use bz_devices::limits::Limits;
 use bz_devices::output::write_all;
+use bz_memory::NoMemory;
 use bz_passes::kept::nothing_kept;
 use bz_rule::{Command, Package, Target, Text};
-use std::alloc::{AllocError, Global};
+use std::alloc::Global;
 use std::marker::Model;
 use std::mem;
 
@@ -91,7 +93,7 @@ impl Session {
         home: Package,
         passes: Vec<Pass<Target, Command>>,
         options: Options,
-    ) -> Result<Session, AllocError>
+    ) -> Result<Session, NoMemory>
         requires { options.max_reads ≤ 2 ^ 50 }
         ensures { IfOk result (λ session. session ≡ at_start home passes.items options) }
     {
@@ -149,7 +151,7 @@ impl Session {
         ensures report { (end : _) → self.stage ≡ Ended end
             → IfOk result (λ report. told_by report ≡ told_at self end) }
         // Where it has ended, only a lack of memory keeps the report back; else it is refused.
-        ensures memory { (end : _) → self.stage ≡ Ended end → OnErr result (result ≡ Err RunFault.OutOfMemory) }
+        ensures memory { (end : _) → self.stage ≡ Ended end → OnErr result (result ≡ Err (RunFault.OutOfMemory no_memory)) }
         ensures stopped { ((end : _) → self.stage ≢ Ended end) → result ≡ Err RunFault.Stopped }
     {
         self.take_report()
@@ -159,7 +161,7 @@ impl Session {
     fn take_report(&mut self) -> Result<Report, RunFault>
         ensures report { (end : _) → self.old.stage ≡ Ended end
             → IfOk result (λ report. told_by report ≡ told_at self.old end) }
-        ensures memory { (end : _) → self.old.stage ≡ Ended end → OnErr result (result ≡ Err RunFault.OutOfMemory) }
+        ensures memory { (end : _) → self.old.stage ≡ Ended end → OnErr result (result ≡ Err (RunFault.OutOfMemory no_memory)) }
         ensures stopped { ((end : _) → self.old.stage ≢ Ended end) → result ≡ Err RunFault.Stopped }
     {
         let Stage::Ended(end) = self.stage else {
@@ -174,7 +176,7 @@ impl Session {
         requires stopped { self.old.stage ≡ Stopped }
         requires fits { Fits self.old.progress.kept self.old.passes }
         ensures told { IfOk result (λ report. told_by report ≡ told_at self.old end) }
-        ensures memory { OnErr result (result ≡ Err RunFault.OutOfMemory) }
+        ensures memory { OnErr result (result ≡ Err (RunFault.OutOfMemory no_memory)) }
     {
         let report = match end {
             End::Whole => {
@@ -309,7 +311,7 @@ impl Session {
     }
 
     /// The script on the first chunk of the text ahead.
-    fn edit_ahead(&mut self, text: &mut Vec<u8>) -> Result<First, AllocError>
+    fn edit_ahead(&mut self, text: &mut Vec<u8>) -> Result<First, NoMemory>
         requires stopped { self.old.stage ≡ Stopped }
         requires ready { CanTake self.old }
         ensures same { self.new ≡ record self.old { progress = self.new.progress } }
@@ -319,7 +321,7 @@ impl Session {
     {
         // The lists of the last chunk are given up.
         if self.bump.reset().is_err() {
-            return Err(AllocError);
+            return Err(NoMemory);
         }
         let max_statement = self.options.max_statement;
         let script = Script {
@@ -334,7 +336,7 @@ impl Session {
     }
 
     /// The script on the chunk of the first bytes ahead.
-    fn edit(&mut self, len: usize, text: &mut Vec<u8>) -> Result<Edited, AllocError>
+    fn edit(&mut self, len: usize, text: &mut Vec<u8>) -> Result<Edited, NoMemory>
         requires stopped { self.old.stage ≡ Stopped }
         requires within { len ≤ length self.old.ahead.bytes }
         requires fits { Fits self.old.progress.kept self.old.passes }
@@ -433,7 +435,7 @@ fn fault_at(fault: ChunkFault, line: u64) -> RunFault
     ensures { result ≡ fault_at line fault }
 {
     match fault {
-        ChunkFault::OutOfMemory => RunFault::OutOfMemory,
+        ChunkFault::OutOfMemory(why) => RunFault::OutOfMemory(why),
         ChunkFault::ReadFailed => RunFault::ReadFailed,
         ChunkFault::InputTooLong => RunFault::InputTooLong,
         ChunkFault::StatementTooLong => RunFault::StatementTooLong { line },

@@ -11,17 +11,18 @@ use crate::progress::Progress;
 use crate::report::{End, Report, SyntaxFault};
 use crate::rules::Rules;
 use bz_command::Pass;
+use bz_memory::NoMemory;
 use bz_passes::kept::{is_some_not_found, tell};
 use bz_passes::texts::Texts;
 use bz_rule::{Command, Target, Text};
-use std::alloc::{AllocError, Global};
+use std::alloc::Global;
 
 /// What is told of a file without fault: all that was kept, which is then of no use.
 pub(crate) fn report_of_all(
     rules: Rules<'_>,
     passes: &[Pass<Target, Command>],
     progress: &mut Progress,
-) -> Result<Report, AllocError>
+) -> Result<Report, NoMemory>
     requires { Fits progress.old.kept passes.now }
     ensures { IfOk result (λ report. told_by report ≡ told_of_progress rules.entry.home.now passes.now progress.old) }
 {
@@ -44,7 +45,7 @@ pub(crate) fn report_of_one(
     message: Option<Text>,
     changed: bool,
     end: End,
-) -> Result<Report, AllocError>
+) -> Result<Report, NoMemory>
     ensures { IfOk result (λ report. told_by report ≡ told_alone (option_to_list message) changed end) }
 {
     let mut messages = Texts::new(alloc);
@@ -65,7 +66,7 @@ pub(crate) fn report_of_fault(
     alloc: Global,
     fault: SyntaxFault,
     changed: bool,
-) -> Result<Report, AllocError>
+) -> Result<Report, NoMemory>
     ensures { IfOk result (λ report. told_by report ≡ told_alone (fault_text fault ∷ []) changed (End.Syntax fault)) }
 {
     let message = message::fault_text(alloc, fault)?;

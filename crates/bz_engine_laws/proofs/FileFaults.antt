@@ -1,4 +1,5 @@
 -- A file is read up to its first fault by its tokens and its first lexical fault, chunk by chunk.
+use Rattle.bz_memory.specs.NoMemory.{no_memory}
 use Rattle.std.proofs.Common.{◌≡◌, ℕ, List, [], ◌∷◌, ◌++◌, Bool, true, false, refl, sym, subst, ◌∙◌, append_assoc}
 use Rattle.std.specs.Prelude.{◌↔◌, Option, None, Some, Result, Ok, Err, if◌then◌else◌}
 use Rattle.std.specs.List.{concat}
@@ -24,11 +25,11 @@ use Rattle.bz_engine_laws.specs.WholeFile.{IsOnLines, GivesOnLines, GiveOnLines}
 use Rattle.bz_engine_laws.proofs.FileTokens.{line_snoc, tokens_snoc, found_tokens, tokens_found}
 
 -- a fault that is not want of memory
-not_memory : (f : LexFault) → IsLexical f → f ≡ lex.OutOfMemory → ⊥
+not_memory : (f : LexFault) → IsLexical f → f ≡ lex.OutOfMemory no_memory → ⊥
 not_memory f lexical is = subst IsLexical is lexical
 
-lexical_other : (f : LexFault) → (f ≡ lex.OutOfMemory → ⊥) → IsLexical f
-lexical_other lex.OutOfMemory other = absurd (other refl)
+lexical_other : (f : LexFault) → (f ≡ lex.OutOfMemory no_memory → ⊥) → IsLexical f
+lexical_other (lex.OutOfMemory _) other = absurd (other refl)
 lexical_other (lex.BadCharacter line col) other = tt
 lexical_other (lex.BadNumber line col) other = tt
 lexical_other (lex.OpenText line col) other = tt
@@ -52,7 +53,7 @@ gives_found line depth c tokens lexical (Some s) same g = let f = found_tokens l
 gives_on_lines : (line depth : ℕ) (c : List ℕ) (tokens : List Placed) (lexical : Option LexFault) (answer : Result (Option Statement) SyntaxFault) → IsReadOnlyAs line depth c tokens lexical → Gives depth line c answer → GivesOnLines line c tokens lexical answer
 gives_on_lines line depth c tokens lexical (Ok found) same g = gives_found line depth c tokens lexical found same g
 gives_on_lines line depth c tokens lexical (Err (NotUtf8 l col)) same g = g
-gives_on_lines line depth c tokens lexical (Err (Parse OutOfMemory)) same g = absurd (g.2 refl)
+gives_on_lines line depth c tokens lexical (Err (Parse (OutOfMemory _))) same g = absurd (g.2 refl)
 gives_on_lines line depth c tokens lexical (Err (Parse (Lex f))) same g =
     let read = (fault_read line depth c f (not_memory f g.1.1)).0 g.1.0 in
     (g.0, sym (same read.0 (Some f) read.1).1)
@@ -74,7 +75,7 @@ whole_tokens line depth c tokens lexical f read is = subst (IsReadAs line depth 
 on_lines_gives : (line depth : ℕ) (c : List ℕ) (tokens : List Placed) (lexical : Option LexFault) (answer : Result (Option Statement) SyntaxFault) → IsReadAs line depth c tokens lexical → GivesOnLines line c tokens lexical answer → Gives depth line c answer
 on_lines_gives line depth c tokens lexical (Ok found) read g = found_gives line depth c tokens found (whole_tokens line depth c tokens lexical None read g.1) (g.0, refl, g.2)
 on_lines_gives line depth c tokens lexical (Err (NotUtf8 l col)) read g = g
-on_lines_gives line depth c tokens lexical (Err (Parse OutOfMemory)) read g = absurd g.1
+on_lines_gives line depth c tokens lexical (Err (Parse (OutOfMemory _))) read g = absurd g.1
 on_lines_gives line depth c tokens lexical (Err (Parse (Lex f))) read g =
     let here = whole_tokens line depth c tokens lexical (Some f) read g.1 in
     (g.0, (here.1, lexical_other f here.0), λ same. absurd cc)

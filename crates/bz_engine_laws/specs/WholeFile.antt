@@ -33,7 +33,7 @@ tokens_by_chunks tokens line (c ∷ cs) = tokens_on_lines line c tokens ++ token
 
 -- The fault of a chunk, on whose lines stand these tokens and this lexical fault, if any.
 abbrev pub IsFaultOnLines : ℕ → List ℕ → List Placed → Option LexFault → ParseFault → Type 0
-IsFaultOnLines line chunk tokens lexical OutOfMemory = ⊥
+IsFaultOnLines line chunk tokens lexical (OutOfMemory _) = ⊥
 IsFaultOnLines line chunk tokens lexical (Lex fault) = lexical ≡ Some fault
 IsFaultOnLines line chunk tokens lexical fault = (lexical ≡ None) × IsTokenFault line chunk tokens fault
 

@@ -64,7 +64,7 @@ module _ (file : List ℕ) (wanted : Option Content) (answer : Result Bool Troub
 
 cause_more : (Before : Type 0) (result : Result Bool Trouble) (es fs : List Event) → IsFinishCaused Before result es → IsFinishCaused Before result (es ++ fs)
 cause_more Before (Ok k) es fs h = tt
-cause_more Before (Err OutOfMemory) es fs h = absurd h
+cause_more Before (Err (OutOfMemory _)) es fs h = absurd h
 cause_more Before (Err Clean) es fs h = ⊎_elim (λ f. inl (any_left es fs f)) (λ b. inr b) h
 cause_more Before (Err LeftBehind) es fs h = any_left es fs h
 

@@ -1,4 +1,5 @@
 -- The whole of a replacement.
+use Rattle.bz_memory.specs.NoMemory.{no_memory}
 use Rattle.std.proofs.Common.{◌≡◌, ◌⊎◌, ℕ, ◌+◌, ◌<◌, Bool, true, false, List, [], ◌++◌, length, None, Result, Ok, Err, IsErr, IfSome, refl, sym, ◌∙◌, subst, inl, inr, ⊎_elim, arith, OnOk, is_err}
 use Rattle.std.proofs.lemmas.Bool.{false≢true}
 use Rattle.std.specs.Prelude.{⊤}
@@ -17,7 +18,7 @@ use Rattle.bz_folder.specs.declared.trouble.Trouble.TheVariants.{OutOfMemory, Cl
 
 module _ {D A : Type 0} (did : D → List Event → D → Type 0) (gives : A → List ℕ → Result Bool Failed → A → Type 0) (file : List ℕ) (mode : ℕ) where
   -- where there is no memory for the path, nothing is done
-  pub replaces_nothing : ((s : D) → did s [] s) → (a b : D) (author : A) → b ≡ a → Replacement did gives a b author author file mode (Err OutOfMemory)
+  pub replaces_nothing : ((s : D) → did s [] s) → (a b : D) (author : A) → b ≡ a → Replacement did gives a b author author file mode (Err (OutOfMemory no_memory))
   replaces_nothing nothing a b author same = record {
     wanted = None;
     events = [];
@@ -72,7 +73,7 @@ module _ {D A : Type 0} (did : D → List Event → D → Type 0) (gives : A →
 
     causes : (result : Result Bool Trouble) → IsFinishCaused (IsErr answer ⊎ (taken.stage ≡ Broken)) result fs → IsCaused Gave result (took.sent.events ++ fs)
     causes (Ok k) h = tt
-    causes (Err OutOfMemory) h = absurd h
+    causes (Err (OutOfMemory _)) h = absurd h
     causes (Err Clean) h =
         ⊎_elim (λ f. inl (any_right took.sent.events fs f)) (λ b. ⊎_elim (λ e. inr (from_answer answer gave e)) (λ k. inl (any_left took.sent.events fs (broke k))) b) h
     causes (Err LeftBehind) h = any_right took.sent.events fs h

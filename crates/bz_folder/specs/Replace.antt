@@ -21,7 +21,7 @@ abbrev pub IsEnd : List ℕ → Option Content → Result Bool Trouble → Files
 IsEnd file wanted (Ok true) old now = IsSome wanted × (now file ≡ wanted) × (now (temporary_path file) ≡ None)
 IsEnd file wanted (Ok false) old now = IsUndone file old now
 IsEnd file wanted (Err Clean) old now = IsUndone file old now
-IsEnd file wanted (Err OutOfMemory) old now = IsUndone file old now
+IsEnd file wanted (Err (OutOfMemory _)) old now = IsUndone file old now
 IsEnd file wanted (Err LeftBehind) old now = now file ≡ old file
 
 -- Whatever is there at first, and wherever the process is killed.
@@ -32,7 +32,7 @@ ReplacesSafely file wanted result events =
 -- each error has its cause: no memory, and no call was made; else a call that failed, or the author
 abbrev pub IsCaused : Type 0 → Result Bool Trouble → List Event → Type 0
 IsCaused AuthorFailed (Ok kept) events = ⊤
-IsCaused AuthorFailed (Err OutOfMemory) events = events ≡ []
+IsCaused AuthorFailed (Err (OutOfMemory _)) events = events ≡ []
 IsCaused AuthorFailed (Err Clean) events = AnyFails events ⊎ AuthorFailed
 IsCaused AuthorFailed (Err LeftBehind) events = AnyFails events
 

@@ -14,7 +14,8 @@ use crate::folder::Folder;
 use crate::trouble::Trouble;
 use crate::waiting::Waiting;
 use bz_devices::device::{Failed, Sink};
-use std::alloc::{AllocError, Global};
+use bz_memory::{NoMemory, push_str};
+use std::alloc::Global;
 use std::marker::Model;
 
 /// Whether there is a temporary file.
@@ -54,7 +55,7 @@ impl<D> Model for Draft<D> {
 
 impl<D: Drop> Draft<D> {
     /// A draft in a folder, for no file yet. It takes all the memory that its bytes need.
-    pub fn new(alloc: Global, folder: D) -> Result<Draft<D>, AllocError>
+    pub fn new(alloc: Global, folder: D) -> Result<Draft<D>, NoMemory>
         ensures { IfOk result (λ draft. draft.folder ≡ folder) }
     {
         let waiting = Waiting::new(alloc)?;
@@ -77,7 +78,7 @@ impl<D: Folder> Draft<D> {
     }
 
     /// An empty draft for this file. No call is made.
-    pub(crate) fn begin(&mut self, file: &str) -> Result<(), AllocError>
+    pub(crate) fn begin(&mut self, file: &str) -> Result<(), NoMemory>
         ensures path { OnOk result (self.new.temporary ≡ temporary_path file.now) }
         ensures empty { OnOk result ((self.new.stage ≡ Unmade) × (self.new.waiting ≡ [])) }
         ensures folder { self.new.folder ≡ self.old.folder }
@@ -85,8 +86,8 @@ impl<D: Folder> Draft<D> {
         self.stage = Stage::Unmade;
         self.waiting.clear();
         self.temporary.clear();
-        self.temporary.push_str(file)?;
-        self.temporary.push_str(".buildozer.tmp")?;
+        push_str(&mut self.temporary, file)?;
+        push_str(&mut self.temporary, ".buildozer.tmp")?;
         Ok(())
     }
 

@@ -7,6 +7,7 @@ use crate::folder::{CannotOpen, Folder, Opened, Purpose};
 use crate::tally::Tally;
 use bz_devices::device::Failed;
 use bz_devices::std_device::FromRead;
+use bz_memory::from_str;
 use std::alloc::Global;
 use std::cell::Cell;
 use std::fs::{File, Files, Metadata, OpenOptions, Permissions};
@@ -115,7 +116,7 @@ impl<R: Files<File = File>> OnDisk<R> {
         Ok(Opened {
             source: FromRead::new(File::open(&self.files, path)?),
             mode: there.permissions().mode() & PERMISSION_BITS,
-            path: String::from_str(self.alloc, path)?,
+            path: from_str(self.alloc, path)?,
         })
     }
 
@@ -149,7 +150,7 @@ impl<R: Files<File = File>> OnDisk<R> {
             return Ok(file);
         }
         require_regular(&there)?;
-        Ok(String::from_str(self.alloc, path)?)
+        Ok(from_str(self.alloc, path)?)
     }
 
     /// The file, open and locked until it is closed. Where the file system has no locks it is open

@@ -4,7 +4,7 @@
 #[derive(Clone, Copy, Debug, PartialEq, Eq)]
 pub enum Trouble {
     /// There was no memory for the path of the temporary file. No call was made.
-    OutOfMemory,
+    OutOfMemory(NoMemory),
     /// A call failed, or the author did. No temporary file is left that was not there before.
     Clean,
     /// A call failed, and the temporary file, or what lay there before, could not be removed.

@@ -3,7 +3,8 @@
 ghost use Rattle.std.specs.Prelude.{◌≡◌, ◌+◌, ◌-◌, ◌<◌, ◌≤◌, [], ◌++◌, length, take, min, true, false, IfOk};
 ghost use Rattle.bz_folder.specs.DraftValue.{capacity};
 
-use std::alloc::{AllocError, Global};
+use bz_memory::{NoMemory, with_capacity};
+use std::alloc::Global;
 use std::marker::Model;
 
 /// How many bytes wait at most.
@@ -28,10 +29,10 @@ impl Model for Waiting {
 }
 
 impl Waiting {
-    pub(crate) fn new(alloc: Global) -> Result<Waiting, AllocError>
+    pub(crate) fn new(alloc: Global) -> Result<Waiting, NoMemory>
         ensures { IfOk result (λ waiting. waiting ≡ []) }
     {
-        let bytes = Vec::with_capacity(alloc, CAPACITY)?;
+        let bytes = with_capacity(alloc, CAPACITY)?;
         Ok(Waiting { bytes })
     }
 

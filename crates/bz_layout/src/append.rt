@@ -6,7 +6,7 @@ ghost use Rattle.bz_layout.specs.declared.spacing.Gap.TheVariants.{Line};
 ghost use Rattle.bz_layout.specs.private.Kept.{IsBegunBy};
 
 use crate::write::put_new_line;
-use std::alloc::AllocError;
+use bz_memory::{NoMemory, extend_from_slice, push, push_str};
 
 // A newline with the indent of the last level that is cut from one text.
 const NEW_LINE: &str = "\n                ";
@@ -18,12 +18,12 @@ pub(crate) trait Append {
     ghost bytes: { Self → List ℕ };
 
     /// Appends a text. `Err`: memory was refused.
-    fn put(&mut self, text: &str) -> Result<(), AllocError>
+    fn put(&mut self, text: &str) -> Result<(), NoMemory>
         ensures put { OnOk result (bytes self.new ≡ bytes self.old ++ text.now) }
         ensures begun { IsBegunBy (bytes self.old) (bytes self.new) };
 
     /// The same of a text that is mostly a byte.
-    fn put_short(&mut self, text: &str) -> Result<(), AllocError>
+    fn put_short(&mut self, text: &str) -> Result<(), NoMemory>
         ensures put { OnOk result (bytes self.new ≡ bytes self.old ++ text.now) }
         ensures begun { IsBegunBy (bytes self.old) (bytes self.new) };
 }
@@ -31,7 +31,7 @@ pub(crate) trait Append {
 /// Where lines are begun.
 pub(crate) trait NewLine: Append {
     /// Appends a newline and the indent of a level. `Err`: memory was refused.
-    fn new_line(&mut self, level: usize) -> Result<(), AllocError>
+    fn new_line(&mut self, level: usize) -> Result<(), NoMemory>
         ensures put { OnOk result (Self.bytes self.new ≡ Self.bytes self.old ++ gap_bytes (Line level)) }
         ensures begun { IsBegunBy (Self.bytes self.old) (Self.bytes self.new) };
 }
@@ -40,18 +40,18 @@ impl Append for Vec<u8> {
     ghost bytes = { λ v. v.items };
 
     #[inline(always)]
-    fn put(&mut self, text: &str) -> Result<(), AllocError> {
-        self.extend_from_slice(text.as_bytes())
+    fn put(&mut self, text: &str) -> Result<(), NoMemory> {
+        extend_from_slice(self, text.as_bytes())
     }
 
     #[inline(always)]
-    fn put_short(&mut self, text: &str) -> Result<(), AllocError> {
+    fn put_short(&mut self, text: &str) -> Result<(), NoMemory> {
         match text.as_bytes() {
             [byte] => {
-                self.push(*byte)?;
+                push(self, *byte)?;
                 Ok(())
             }
-            bytes => self.extend_from_slice(bytes),
+            bytes => extend_from_slice(self, bytes),
         }
     }
 }
@@ -59,12 +59,12 @@ impl Append for Vec<u8> {
 impl NewLine for Vec<u8> {
     // One copy of a known length and a cut cost less than a copy of any length.
     #[inline(always)]
-    fn new_line(&mut self, level: usize) -> Result<(), AllocError> {
+    fn new_line(&mut self, level: usize) -> Result<(), NoMemory> {
         if level > LAST_CUT {
             return put_new_line(level, self);
         }
         let len = self.len();
-        self.extend_from_slice(NEW_LINE.as_bytes())?;
+        extend_from_slice(self, NEW_LINE.as_bytes())?;
         self.truncate(len + 1 + 4 * level);
         Ok(())
     }
@@ -74,18 +74,18 @@ impl Append for String {
     ghost bytes = { string_bytes };
 
     #[inline(always)]
-    fn put(&mut self, text: &str) -> Result<(), AllocError> {
-        self.push_str(text)
+    fn put(&mut self, text: &str) -> Result<(), NoMemory> {
+        push_str(self, text)
     }
 
     #[inline(always)]
-    fn put_short(&mut self, text: &str) -> Result<(), AllocError> {
-        self.push_str(text)
+    fn put_short(&mut self, text: &str) -> Result<(), NoMemory> {
+        push_str(self, text)
     }
 }
 
 impl NewLine for String {
-    fn new_line(&mut self, level: usize) -> Result<(), AllocError> {
+    fn new_line(&mut self, level: usize) -> Result<(), NoMemory> {
         put_new_line(level, self)
     }
 }

@@ -5,8 +5,9 @@ ghost use Rattle.bz_tree.specs.View.{nodes_view};
 ghost use Rattle.bz_layout.specs.Layout.{flat_text};
 
 use crate::walk::Walk;
+use bz_memory::NoMemory;
 use bz_tree::{GroupKind, Node, push_nodes};
-use std::alloc::{AllocError, Global};
+use std::alloc::Global;
 
 /// Writes nodes on one line, without comments, and strings as in a statement. `in_group` is the group that the nodes
 /// stand in, and decides what a colon and a star are. `Err`: memory was refused.
@@ -14,7 +15,7 @@ pub fn flat(
     alloc: Global,
     nodes: &[Node<'_>],
     in_group: Option<GroupKind>,
-) -> Result<String, AllocError>
+) -> Result<String, NoMemory>
     ensures text { IfOk result (λ s. string_bytes s ≡ flat_text in_group (nodes_view nodes.now)) }
 {
     let mut parts = Vec::new(alloc);

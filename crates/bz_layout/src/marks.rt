@@ -8,8 +8,9 @@ ghost use Rattle.bz_layout.specs.private.RowLayout.{closed, one_more, mark_of, o
 use crate::broken::breaks_with;
 use crate::walk::FIRST_DEPTH;
 use crate::write::has_commas;
+use bz_memory::{NoMemory, push, with_capacity};
 use bz_tree::{GroupKind, Part};
-use std::alloc::{AllocError, Global};
+use std::alloc::Global;
 
 /// How a bracket is written.
 #[derive(Clone, Copy)]
@@ -76,12 +77,12 @@ fn mark_of(kind: GroupKind, inside: Inside) -> Mark
 
 impl Marks {
     // A bracket opens, with all that stands in it after it.
-    fn open(&mut self, kind: GroupKind) -> Result<(), AllocError>
+    fn open(&mut self, kind: GroupKind) -> Result<(), NoMemory>
         ensures { OnOk result (scanned self.new ≡ opened_back kind (scanned self.old)) }
     {
         let mark = mark_of(kind, self.here);
         let holds = mark.broken || self.here.holds;
-        self.marks.push(mark)?;
+        push(&mut self.marks, mark)?;
         self.here = match self.outer.pop() {
             Some(below) => below,
             None => Inside::closed(false),
@@ -91,14 +92,14 @@ impl Marks {
     }
 
     #[inline(always)]
-    fn step(&mut self, part: &Part<'_>) -> Result<(), AllocError>
+    fn step(&mut self, part: &Part<'_>) -> Result<(), NoMemory>
         ensures { OnOk result (scanned self.new ≡ back (part_view part.now) (scanned self.old)) }
     {
         match *part {
             Part::Token(_, _) => {}
             Part::Open(kind) => self.open(kind)?,
             Part::Close(one_comma) => {
-                self.outer.push(self.here)?;
+                push(&mut self.outer, self.here)?;
                 self.here = Inside::closed(one_comma);
             }
             Part::End => self.here.segs = one_more(self.here.segs),
@@ -107,7 +108,7 @@ impl Marks {
         Ok(())
     }
 
-    fn run_back(&mut self, parts: &[Part<'_>]) -> Result<(), AllocError>
+    fn run_back(&mut self, parts: &[Part<'_>]) -> Result<(), NoMemory>
         ensures { OnOk result (scanned self.new ≡ scan_onto (map part_view parts.now) (scanned self.old)) }
     {
         let mut i = parts.len();
@@ -120,13 +121,13 @@ impl Marks {
 }
 
 // The marks of all brackets, that of the first one last.
-pub(crate) fn marks_of(alloc: Global, parts: &[Part<'_>]) -> Result<Vec<Mark>, AllocError>
+pub(crate) fn marks_of(alloc: Global, parts: &[Part<'_>]) -> Result<Vec<Mark>, NoMemory>
     ensures { IfOk result (λ ms. reverse ms.items ≡ (scan (map part_view parts.now)).marks) }
 {
     let mut walk = Marks {
-        marks: Vec::with_capacity(alloc, FIRST_CAPACITY)?,
+        marks: with_capacity(alloc, FIRST_CAPACITY)?,
         here: Inside::closed(false),
-        outer: Vec::with_capacity(alloc, FIRST_DEPTH)?,
+        outer: with_capacity(alloc, FIRST_DEPTH)?,
     };
     walk.run_back(parts)?;
     let Marks { marks, .. } = walk;

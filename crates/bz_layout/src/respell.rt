@@ -7,8 +7,8 @@ ghost use Rattle.bz_layout.specs.Respell.{is_plain, respell};
 ghost use Rattle.bz_layout.specs.private.Kept.{IsBegunBy};
 
 use crate::append::Append;
+use bz_memory::NoMemory;
 use bz_token::Kind;
-use std::alloc::AllocError;
 
 #[inline(always)]
 fn is_plain(b: u8) -> bool
@@ -51,7 +51,7 @@ fn stripped(text: &str) -> Option<&str>
 
 // Appends the written form of a string that begins with a single quote.
 #[inline(never)]
-fn put_single<T: Append>(text: &str, out: &mut T) -> Result<(), AllocError>
+fn put_single<T: Append>(text: &str, out: &mut T) -> Result<(), NoMemory>
     ensures ok { OnOk result (T.bytes out.new ≡ T.bytes out.old ++ respell String text.now) }
     ensures begun { IsBegunBy (T.bytes out.old) (T.bytes out.new) }
 {
@@ -67,7 +67,7 @@ fn put_single<T: Append>(text: &str, out: &mut T) -> Result<(), AllocError>
 
 // Appends the written form of a token.
 #[inline(always)]
-pub(crate) fn put_written<T: Append>(kind: Kind, text: &str, out: &mut T) -> Result<(), AllocError>
+pub(crate) fn put_written<T: Append>(kind: Kind, text: &str, out: &mut T) -> Result<(), NoMemory>
     ensures ok { OnOk result (T.bytes out.new ≡ T.bytes out.old ++ respell kind text.now) }
     ensures begun { IsBegunBy (T.bytes out.old) (T.bytes out.new) }
 {

@@ -12,14 +12,15 @@ ghost use Rattle.bz_layout.specs.private.RowLayout.{leading, row_text};
 use crate::append::Append;
 use crate::marks::marks_of;
 use crate::walk::Walk;
+use bz_memory::{NoMemory, with_capacity};
 use bz_tree::{Class, Part, Row, Stmt, push_parts};
-use std::alloc::{AllocError, Global};
+use std::alloc::Global;
 
 // Most statements have no more parts.
 const FIRST_PARTS: usize = 40;
 
 // The comments above the statement, each with its newline.
-fn put_leading(parts: &[Part<'_>], out: &mut Vec<u8>) -> Result<(), AllocError>
+fn put_leading(parts: &[Part<'_>], out: &mut Vec<u8>) -> Result<(), NoMemory>
     ensures text { OnOk result
         (out.new.items ≡ out.old.items ++ bytes_of (comment_lines (leading (map part_view parts.now)))) }
     ensures begun { IsBegunBy out.old.items out.new.items }
@@ -47,7 +48,7 @@ fn put_text(
     parts: &[Part<'_>],
     class: Class,
     out: &mut Vec<u8>,
-) -> Result<(), AllocError>
+) -> Result<(), NoMemory>
     ensures text { OnOk result (out.new.items ≡ row_text out.old.items (map part_view parts.now) class) }
     ensures begun { IsBegunBy out.old.items out.new.items }
 {
@@ -68,7 +69,7 @@ fn put_parts(
     parts: &[Part<'_>],
     class: Class,
     out: &mut Vec<u8>,
-) -> Result<(), AllocError>
+) -> Result<(), NoMemory>
     ensures appended { OnOk result
         ((s : Statement) → map part_view parts.now ≡ parts_of s → class ≡ s.class
         → out.new.items ≡ out.old.items ++ layout_text s) }
@@ -84,18 +85,18 @@ fn put_parts(
 
 /// Appends the canonical text of a statement, with its last newline (the layout is this project's own). `Err`: memory
 /// was refused, and `out` is as it was.
-pub fn put_stmt(alloc: Global, stmt: &Stmt<'_>, out: &mut Vec<u8>) -> Result<(), AllocError>
+pub fn put_stmt(alloc: Global, stmt: &Stmt<'_>, out: &mut Vec<u8>) -> Result<(), NoMemory>
     ensures appended { OnOk result (out.new.items ≡ out.old.items ++ layout_text (view stmt.now)) }
     ensures unchanged { OnErr result (out.new.items ≡ out.old.items) }
 {
-    let mut parts = Vec::with_capacity(alloc, FIRST_PARTS)?;
+    let mut parts = with_capacity(alloc, FIRST_PARTS)?;
     push_parts(stmt, &mut parts)?;
     put_parts(alloc, &parts, stmt.class, out)
 }
 
 /// Appends the canonical text of a row's statement, with its last newline. `Err`: memory was refused, and `out` is as
 /// it was.
-pub fn put_row(alloc: Global, row: &Row<'_>, out: &mut Vec<u8>) -> Result<(), AllocError>
+pub fn put_row(alloc: Global, row: &Row<'_>, out: &mut Vec<u8>) -> Result<(), NoMemory>
     ensures appended { OnOk result
         ((s : Statement) → IsRowOf s row.now → out.new.items ≡ out.old.items ++ layout_text s) }
     ensures unchanged { OnErr result (out.new.items ≡ out.old.items) }

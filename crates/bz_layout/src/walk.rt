@@ -12,9 +12,10 @@ use crate::marks::Mark;
 use crate::respell::put_written;
 use crate::spacing::{Edge, Gap, hugs, is_byte, token_closes_up, token_edge};
 use crate::write::{closing, opening, put};
+use bz_memory::{NoMemory, push, with_capacity};
 use bz_token::Kind;
 use bz_tree::{GroupKind, Part};
-use std::alloc::{AllocError, Global};
+use std::alloc::Global;
 use std::cmp::min;
 
 // Few brackets are deeper.
@@ -70,14 +71,14 @@ impl Walk {
         alloc: Global,
         marks: Vec<Mark>,
         within: Option<GroupKind>,
-    ) -> Result<Walk, AllocError>
+    ) -> Result<Walk, NoMemory>
         ensures { IfOk result
             (λ walk. (text : List ℕ) → laid walk text ≡ start text (reverse marks.items) within) }
     {
         let depth = min(marks.len(), FIRST_DEPTH);
         Ok(Walk {
             marks,
-            outer: Vec::with_capacity(alloc, depth)?,
+            outer: with_capacity(alloc, depth)?,
             here: Frame::top(within),
             left: Edge::Start,
             level: 0,
@@ -86,7 +87,7 @@ impl Walk {
 
     // The comma that is due and the gap before the first node of a segment.
     #[inline(always)]
-    fn put_first<T: NewLine>(&self, out: &mut T) -> Result<(), AllocError>
+    fn put_first<T: NewLine>(&self, out: &mut T) -> Result<(), NoMemory>
         ensures ok { OnOk result (T.bytes out.new ≡ T.bytes out.old
             ++ (due self.now.here Start ++ gap_bytes (first_gap self.now.here self.now.level))) }
         ensures begun { IsBegunBy (T.bytes out.old) (T.bytes out.new) }
@@ -102,7 +103,7 @@ impl Walk {
 
     // The gap before what closes up or does not, after the comma that is due.
     #[inline(always)]
-    fn put_gap<T: NewLine>(&self, closes: bool, out: &mut T) -> Result<(), AllocError>
+    fn put_gap<T: NewLine>(&self, closes: bool, out: &mut T) -> Result<(), NoMemory>
         ensures ok { OnOk result (T.bytes out.new ≡ T.bytes out.old
             ++ (due self.now.here self.now.left
             ++ gap_bytes (gap_for (first_gap self.now.here self.now.level) self.now.left closes))) }
@@ -123,7 +124,7 @@ impl Walk {
         kind: Kind,
         text: &str,
         out: &mut T,
-    ) -> Result<(), AllocError>
+    ) -> Result<(), NoMemory>
         ensures laid { OnOk result
             (laid self.new (T.bytes out.new) ≡ with_token kind text.now (laid self.old (T.bytes out.old))) }
         ensures begun { IsBegunBy (T.bytes out.old) (T.bytes out.new) }
@@ -140,7 +141,7 @@ impl Walk {
         kind: Kind,
         text: &str,
         out: &mut T,
-    ) -> Result<(), AllocError>
+    ) -> Result<(), NoMemory>
         ensures laid { OnOk result
             (laid self.new (T.bytes out.new) ≡ with_token kind text.now (laid self.old (T.bytes out.old))) }
         ensures begun { IsBegunBy (T.bytes out.old) (T.bytes out.new) }
@@ -150,7 +151,7 @@ impl Walk {
 
     // The tokens that most statements are made of are told apart once. The code for a text that is known is short.
     #[inline(always)]
-    fn token<T: NewLine>(&mut self, kind: Kind, text: &str, out: &mut T) -> Result<(), AllocError>
+    fn token<T: NewLine>(&mut self, kind: Kind, text: &str, out: &mut T) -> Result<(), NoMemory>
         ensures laid { OnOk result
             (laid self.new (T.bytes out.new) ≡ with_token kind text.now (laid self.old (T.bytes out.old))) }
         ensures begun { IsBegunBy (T.bytes out.old) (T.bytes out.new) }
@@ -165,13 +166,13 @@ impl Walk {
         }
     }
 
-    fn open<T: NewLine>(&mut self, kind: GroupKind, out: &mut T) -> Result<(), AllocError>
+    fn open<T: NewLine>(&mut self, kind: GroupKind, out: &mut T) -> Result<(), NoMemory>
         ensures laid { OnOk result (laid self.new (T.bytes out.new) ≡ opened kind (laid self.old (T.bytes out.old))) }
         ensures begun { IsBegunBy (T.bytes out.old) (T.bytes out.new) }
     {
         self.put_gap(hugs(kind), out)?;
         out.put_short(opening(kind))?;
-        self.outer.push(self.here)?;
+        push(&mut self.outer, self.here)?;
         let mark = match self.marks.pop() {
             Some(mark) => mark,
             None => Frame::top(None).mark,
@@ -179,7 +180,7 @@ impl Walk {
         if mark.broken {
             // No memory holds a text with more levels.
             let Some(inner) = self.level.checked_add(1) else {
-                return Err(AllocError);
+                return Err(NoMemory);
             };
             self.level = inner;
         }
@@ -192,7 +193,7 @@ impl Walk {
         Ok(())
     }
 
-    fn close<T: NewLine>(&mut self, one_comma: bool, out: &mut T) -> Result<(), AllocError>
+    fn close<T: NewLine>(&mut self, one_comma: bool, out: &mut T) -> Result<(), NoMemory>
         ensures laid { OnOk result
             (laid self.new (T.bytes out.new) ≡ closed_by one_comma (laid self.old (T.bytes out.old))) }
         ensures begun { IsBegunBy (T.bytes out.old) (T.bytes out.new) }
@@ -216,7 +217,7 @@ impl Walk {
 
     // A segment ends. One without nodes has not written the comma that is due.
     #[inline(always)]
-    fn end<T: NewLine>(&mut self, out: &mut T) -> Result<(), AllocError>
+    fn end<T: NewLine>(&mut self, out: &mut T) -> Result<(), NoMemory>
         ensures laid { OnOk result (laid self.new (T.bytes out.new) ≡ ended (laid self.old (T.bytes out.old))) }
         ensures begun { IsBegunBy (T.bytes out.old) (T.bytes out.new) }
     {
@@ -235,7 +236,7 @@ impl Walk {
     }
 
     #[inline(always)]
-    fn step<T: NewLine>(&mut self, part: &Part<'_>, out: &mut T) -> Result<(), AllocError>
+    fn step<T: NewLine>(&mut self, part: &Part<'_>, out: &mut T) -> Result<(), NoMemory>
         ensures laid { OnOk result
             (laid self.new (T.bytes out.new) ≡ step (part_view part.now) (laid self.old (T.bytes out.old))) }
         ensures begun { IsBegunBy (T.bytes out.old) (T.bytes out.new) }
@@ -255,7 +256,7 @@ impl Walk {
         &mut self,
         parts: &[Part<'_>],
         out: &mut T,
-    ) -> Result<(), AllocError>
+    ) -> Result<(), NoMemory>
         ensures laid { OnOk result
             (laid self.new (T.bytes out.new) ≡ run (map part_view parts.now) (laid self.old (T.bytes out.old))) }
         ensures begun { IsBegunBy (T.bytes out.old) (T.bytes out.new) }

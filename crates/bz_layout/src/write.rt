@@ -8,8 +8,8 @@ ghost use Rattle.bz_layout.specs.private.Kept.{IsBegunBy};
 
 use crate::append::Append;
 use crate::spacing::Gap;
+use bz_memory::NoMemory;
 use bz_tree::GroupKind;
-use std::alloc::AllocError;
 
 #[inline(always)]
 pub(crate) fn opening(kind: GroupKind) -> &'static str
@@ -44,7 +44,7 @@ pub(crate) fn has_commas(kind: GroupKind, one_comma: bool, n: usize) -> bool
     }
 }
 
-fn put_indent<T: Append>(level: usize, out: &mut T) -> Result<(), AllocError>
+fn put_indent<T: Append>(level: usize, out: &mut T) -> Result<(), NoMemory>
     ensures ok { OnOk result (T.bytes out.new ≡ T.bytes out.old ++ indent level) }
     ensures begun { IsBegunBy (T.bytes out.old) (T.bytes out.new) }
 {
@@ -56,7 +56,7 @@ fn put_indent<T: Append>(level: usize, out: &mut T) -> Result<(), AllocError>
 
 // Few lines are deeper than the levels whose gap is one text here.
 #[inline(never)]
-pub(crate) fn put_new_line<T: Append>(level: usize, out: &mut T) -> Result<(), AllocError>
+pub(crate) fn put_new_line<T: Append>(level: usize, out: &mut T) -> Result<(), NoMemory>
     ensures ok { OnOk result (T.bytes out.new ≡ T.bytes out.old ++ gap_bytes (Line level)) }
     ensures begun { IsBegunBy (T.bytes out.old) (T.bytes out.new) }
 {
@@ -74,7 +74,7 @@ pub(crate) fn put_new_line<T: Append>(level: usize, out: &mut T) -> Result<(), A
 }
 
 #[inline(always)]
-fn put_gap<T: Append>(gap: Gap, out: &mut T) -> Result<(), AllocError>
+fn put_gap<T: Append>(gap: Gap, out: &mut T) -> Result<(), NoMemory>
     ensures ok { OnOk result (T.bytes out.new ≡ T.bytes out.old ++ gap_bytes gap) }
     ensures begun { IsBegunBy (T.bytes out.old) (T.bytes out.new) }
 {
@@ -88,7 +88,7 @@ fn put_gap<T: Append>(gap: Gap, out: &mut T) -> Result<(), AllocError>
 
 // Few parts are comments.
 #[inline(never)]
-pub(crate) fn put<T: Append>(gap: Gap, text: &str, out: &mut T) -> Result<(), AllocError>
+pub(crate) fn put<T: Append>(gap: Gap, text: &str, out: &mut T) -> Result<(), NoMemory>
     ensures ok { OnOk result (T.bytes out.new ≡ T.bytes out.old ++ (gap_bytes gap ++ text.now)) }
     ensures begun { IsBegunBy (T.bytes out.old) (T.bytes out.new) }
 {

@@ -18,9 +18,10 @@ use bz_attribute::{
     place_of, value_place,
 };
 use bz_command::{Bytes, Package, Text, quote};
+use bz_memory::{NoMemory, alloc_str, push};
 use bz_token::Kind;
 use bz_tree::Part;
-use std::alloc::{AllocError, Global};
+use std::alloc::Global;
 
 /// Adds the values that are missing to the first argument of a name of the rule that has these parts, or a new one. The
 /// new parts go into `written`.
@@ -30,7 +31,7 @@ pub fn add<'a>(
     values: &[Text],
     parts: &[Part<'a>],
     written: &mut Parts<'a>,
-) -> Result<Edit, AllocError>
+) -> Result<Edit, NoMemory>
     ensures { IfOk result (IsRowEdit (spec.add env.entry.home.now attr.now values.now)
         (λ args. effects.done (effects.not_a_list attr.now (first_named attr.now args))
         (spec.adds env.entry.home.now values.now (first_named attr.now args)))
@@ -58,7 +59,7 @@ fn write_attribute(
     attr: &str,
     values: &[Text],
     written: &mut Parts<'_>,
-) -> Result<(), AllocError>
+) -> Result<(), NoMemory>
     ensures { OnOk result (map part_view written.new.items ≡ map part_view written.old.items
         ++ segs_parts (segs_of (effects.argument attr.now
         (effects.list_item (spec.new_elements env.entry.home.now [] values.now) ∷ []) ∷ []))) }
@@ -75,7 +76,7 @@ fn write_missing<'s>(
     parts: &[Part<'s>],
     list: Option<usize>,
     written: &mut Parts<'_>,
-) -> Result<(), AllocError>
+) -> Result<(), NoMemory>
     requires { IfSome list (λ from. from ≤ length parts.now) }
     ensures { OnOk result ((lists : List (List Segment)) → AreLists (map part_view parts.now) list lists
         → map part_view written.new.items ≡ map part_view written.old.items
@@ -95,7 +96,7 @@ fn write_each_missing<'s>(
     parts: &[Part<'s>],
     list: Option<usize>,
     written: &mut Parts<'_>,
-) -> Result<(), AllocError>
+) -> Result<(), NoMemory>
     requires { IfSome list (λ from. from ≤ length parts.now) }
     ensures { OnOk result ((lists : List (List Segment)) → AreLists (map part_view parts.now) list lists
         → map part_view written.new.items ≡ map part_view written.old.items
@@ -118,7 +119,7 @@ fn write_if_missing(
     parts: &[Part<'_>],
     list: Option<usize>,
     written: &mut Parts<'_>,
-) -> Result<(), AllocError>
+) -> Result<(), NoMemory>
     requires { IfSome list (λ from. from ≤ length parts.now) }
     ensures { OnOk result ((lists : List (List Segment)) → AreLists (map part_view parts.now) list lists
         → map part_view written.new.items ≡ map part_view written.old.items
@@ -168,13 +169,13 @@ fn is_word(home: &Package, word: &str, string: Option<&str>) -> bool
 }
 
 // An element that is a new string.
-fn write_string(alloc: Global, value: &str, written: &mut Parts<'_>) -> Result<(), AllocError>
+fn write_string(alloc: Global, value: &str, written: &mut Parts<'_>) -> Result<(), NoMemory>
     ensures { OnOk result (map part_view written.new.items
         ≡ map part_view written.old.items ++ segs_parts (segs_of (effects.string value.now ∷ []))) }
 {
     let bump = *written.allocator();
-    let literal = bump.try_alloc_str(quote(alloc, value)?.as_str())?;
-    written.push(Part::Token(Kind::String, literal))?;
-    written.push(Part::End)?;
+    let literal = alloc_str(bump, quote(alloc, value)?.as_str())?;
+    push(written, Part::Token(Kind::String, literal))?;
+    push(written, Part::End)?;
     Ok(())
 }

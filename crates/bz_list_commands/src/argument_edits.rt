@@ -15,8 +15,8 @@ use crate::rewriting::{Written, put};
 use crate::string_edit::StringEdit;
 use bz_attribute::{FirstArgument, Parts, first_argument};
 use bz_command::Attributes;
+use bz_memory::NoMemory;
 use bz_tree::Part;
-use std::alloc::AllocError;
 
 /// What becomes of the arguments of a rule.
 #[derive(Clone, Copy)]
@@ -48,7 +48,7 @@ fn drop_argument<'a>(
     written: Written,
     argument: FirstArgument<'_>,
     out: &mut Parts<'a>,
-) -> Result<Written, AllocError>
+) -> Result<Written, NoMemory>
     requires within { IsWithin written (length parts.now) }
     requires order { (argument.nodes ≤ argument.to) × (written.at + argument.to ≤ length parts.now) }
     ensures within { IfOk result (λ next. IsWithin next (length parts.now)) }
@@ -71,7 +71,7 @@ fn edit_keyword<'a>(
     written: Written,
     argument: FirstArgument<'_>,
     out: &mut Parts<'a>,
-) -> Result<Written, AllocError>
+) -> Result<Written, NoMemory>
     requires within { IsWithin written (length parts.now) }
     requires order { (argument.nodes ≤ argument.to) × (written.at + argument.to ≤ length parts.now) }
     ensures within { IfOk result (λ next. IsWithin next (length parts.now)) }
@@ -101,7 +101,7 @@ fn edit_strings<'a>(
     written: Written,
     argument: FirstArgument<'_>,
     out: &mut Parts<'a>,
-) -> Result<Written, AllocError>
+) -> Result<Written, NoMemory>
     requires within { IsWithin written (length parts.now) }
     requires order { (argument.nodes ≤ argument.to) × (written.at + argument.to ≤ length parts.now) }
     ensures within { IfOk result (λ next. IsWithin next (length parts.now)) }
@@ -126,7 +126,7 @@ fn edit_argument<'a>(
     written: Written,
     argument: FirstArgument<'_>,
     out: &mut Parts<'a>,
-) -> Result<Written, AllocError>
+) -> Result<Written, NoMemory>
     requires within { IsWithin written (length parts.now) }
     requires order { (argument.nodes ≤ argument.to) × (written.at + argument.to ≤ length parts.now) }
     ensures within { IfOk result (λ next. IsWithin next (length parts.now)) }
@@ -146,7 +146,7 @@ pub fn edit_arguments<'a>(
     edit: ArgumentEdit<'_, '_, '_>,
     parts: &[Part<'a>],
     out: &mut Parts<'a>,
-) -> Result<Written, AllocError>
+) -> Result<Written, NoMemory>
     ensures within { IfOk result (λ next. IsWithin next (length parts.now)) }
     ensures all { IfOk result (λ next. next.at ≡ length parts.now) }
     ensures edited { IfOk result (λ next. (args : List Segment) → map part_view parts.now ≡ segs_parts (segs_of args)

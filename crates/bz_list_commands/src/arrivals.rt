@@ -12,8 +12,8 @@ ghost use Rattle.bz_list_commands.specs.private.MoveSteps.{flags, has_value};
 use bz_attribute::equals::string_of;
 use bz_attribute::{Chosen, Env, any_chosen, is_any_chosen, labels_in};
 use bz_command::{LabelSet, Package};
+use bz_memory::{NoMemory, push, with_room_for};
 use bz_tree::{Node, Seg};
-use std::alloc::AllocError;
 
 /// Drops the strings that are in the list parts of a value, or stand earlier. It cannot fail: memory makes it faster
 /// alone.
@@ -50,21 +50,21 @@ fn arrivals_first(env: Env<'_>, value: &[Node<'_>], elements: &mut [Seg<'_>]) ->
 }
 
 // Which of many elements arrive, each looked up in a set of the labels that are there or came before it.
-fn arriving(env: Env<'_>, value: &[Node<'_>], elements: &[Seg<'_>]) -> Result<Vec<bool>, AllocError>
+fn arriving(env: Env<'_>, value: &[Node<'_>], elements: &[Seg<'_>]) -> Result<Vec<bool>, NoMemory>
     ensures { IfOk result
         (λ arrive. arrive.items
         ≡ flags env.entry.home.now (spec.joined (parts (nodes_view value.now))) (segs_view elements.now)) }
 {
     let mut there = labels_in(env.alloc, env.home, Chosen::All, value)?;
-    let mut arrive = Vec::with_capacity(env.alloc, elements.len())?;
+    let mut arrive = with_room_for(env.alloc, elements, 0)?;
     for i in 0..elements.len() {
-        arrive.push(is_new(&elements[i], &mut there)?)?;
+        push(&mut arrive, is_new(&elements[i], &mut there)?)?;
     }
     Ok(arrive)
 }
 
 // It is no string that the set has. Its label goes into the set.
-fn is_new<'s>(element: &'s Seg<'_>, there: &mut LabelSet<'s>) -> Result<bool, AllocError>
+fn is_new<'s>(element: &'s Seg<'_>, there: &mut LabelSet<'s>) -> Result<bool, NoMemory>
     ensures new { IfOk result
         (λ new. new ≡ not (has_value (has there.old) (rules.string_value (seg_view element.now).nodes))) }
     ensures there { OnOk result

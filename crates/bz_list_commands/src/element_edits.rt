@@ -15,8 +15,9 @@ use crate::string_edit::StringEdit;
 use bumpalo::Bump;
 use bz_attribute::{Element, Parts, first_list, next_element, next_list};
 use bz_command::quote;
+use bz_memory::{NoMemory, alloc_str};
 use bz_tree::Part;
-use std::alloc::{AllocError, Global};
+use std::alloc::Global;
 
 // The element is a string that is meant.
 pub fn is_meant(edit: StringEdit<'_, '_, '_>, element: Element<'_>) -> bool
@@ -29,10 +30,10 @@ pub fn is_meant(edit: StringEdit<'_, '_, '_>, element: Element<'_>) -> bool
 }
 
 // The literal of a value, in an arena.
-fn literal_in<'a>(alloc: Global, bump: &'a Bump, value: &str) -> Result<&'a str, AllocError>
+fn literal_in<'a>(alloc: Global, bump: &'a Bump, value: &str) -> Result<&'a str, NoMemory>
     ensures { IfOk result (λ text. text.now ≡ quoted value.now) }
 {
-    bump.try_alloc_str(quote(alloc, value)?.as_str())
+    alloc_str(bump, quote(alloc, value)?.as_str())
 }
 
 // An element that is meant goes, or its string becomes another.
@@ -42,7 +43,7 @@ fn put_element<'a>(
     written: Written,
     element: Element<'_>,
     out: &mut Parts<'a>,
-) -> Result<Written, AllocError>
+) -> Result<Written, NoMemory>
     requires within { IsWithin written (length parts.now) }
     requires order { (written.at ≤ element.token)
         × ((element.token + 1 ≤ element.to) × (element.to ≤ length parts.now)) }
@@ -75,7 +76,7 @@ fn edit_element<'a>(
     written: Written,
     element: Element<'_>,
     out: &mut Parts<'a>,
-) -> Result<Written, AllocError>
+) -> Result<Written, NoMemory>
     requires within { IsWithin written (length parts.now) }
     requires order { (written.at ≤ element.token)
         × ((element.token + 1 ≤ element.to) × (element.to ≤ length parts.now)) }
@@ -99,7 +100,7 @@ fn edit_list<'a>(
     parts: &[Part<'a>],
     written: Written,
     out: &mut Parts<'a>,
-) -> Result<Written, AllocError>
+) -> Result<Written, NoMemory>
     requires { IsWithin written (length parts.now) }
     ensures within { IfOk result (λ next. IsWithin next (length parts.now)) }
     ensures progress { IfOk result (λ next. written.at ≤ next.at) }
@@ -122,7 +123,7 @@ pub fn edit_value<'a>(
     parts: &[Part<'a>],
     written: Written,
     out: &mut Parts<'a>,
-) -> Result<Written, AllocError>
+) -> Result<Written, NoMemory>
     requires { IsWithin written (length parts.now) }
     ensures within { IfOk result (λ next. IsWithin next (length parts.now)) }
     ensures edited { IfOk result (λ next. (nodes : List Item) (after : List RowPart)

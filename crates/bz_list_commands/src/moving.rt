@@ -18,8 +18,9 @@ use bz_attribute::{
     value_of,
 };
 use bz_command::Moved;
+use bz_memory::{NoMemory, with_capacity};
 use bz_tree::{Node, Seg};
-use std::alloc::{AllocError, Global};
+use std::alloc::Global;
 
 /// Moves elements of the first argument named `old` to the first one named `new`, or to a new one. An `Err` leaves all
 /// as it was.
@@ -98,8 +99,8 @@ fn move_chosen(
         },
         value_at(args, new),
     )?;
-    let room = count.checked_add(there).ok_or(AllocError)?;
-    let mut elements = Vec::with_capacity(env.alloc, room)?;
+    let room = count.checked_add(there).ok_or(NoMemory)?;
+    let mut elements = with_capacity(env.alloc, room)?;
     give_list(env.alloc, new, args)?;
     take_from(choice, old, args, &mut elements);
     keep_arrivals(env, value_at(args, new), &mut elements);
@@ -108,7 +109,7 @@ fn move_chosen(
 }
 
 // An empty list comes to the end, where there is no such attribute.
-fn give_list(alloc: Global, attr: &str, args: &mut Vec<Seg<'_>>) -> Result<(), AllocError>
+fn give_list(alloc: Global, attr: &str, args: &mut Vec<Seg<'_>>) -> Result<(), NoMemory>
     ensures ok { OnOk result (segs_view args.new.items ≡ with_list attr.now (segs_view args.old.items)) }
     ensures err { OnErr result (segs_view args.new.items ≡ segs_view args.old.items) }
 {

@@ -6,29 +6,29 @@ ghost use Rattle.bz_tree.specs.declared.stmt.GroupKind.TheVariants.{List as List
 ghost use Rattle.bz_tree.specs.Rows.{a_token, closing, opening, part_view, segment_end};
 
 use bz_attribute::Parts;
+use bz_memory::{NoMemory, alloc_str, push};
 use bz_token::Kind;
 use bz_tree::{GroupKind, Part};
-use std::alloc::AllocError;
 
 /// Begins an argument of a name whose value is a list.
-pub(crate) fn open_attribute(attr: &str, written: &mut Parts<'_>) -> Result<(), AllocError>
+pub(crate) fn open_attribute(attr: &str, written: &mut Parts<'_>) -> Result<(), NoMemory>
     ensures { OnOk result (map part_view written.new.items ≡ map part_view written.old.items
         ++ (a_token Identifier attr.now ∷ a_token Operator (codes "=") ∷ opening ListKind ∷ [])) }
 {
     let bump = *written.allocator();
-    let name = bump.try_alloc_str(attr)?;
-    written.push(Part::Token(Kind::Identifier, name))?;
-    written.push(Part::Token(Kind::Operator, "="))?;
-    written.push(Part::Open(GroupKind::List))?;
+    let name = alloc_str(bump, attr)?;
+    push(written, Part::Token(Kind::Identifier, name))?;
+    push(written, Part::Token(Kind::Operator, "="))?;
+    push(written, Part::Open(GroupKind::List))?;
     Ok(())
 }
 
 /// Ends the argument after the elements of its list.
-pub(crate) fn close_attribute(written: &mut Parts<'_>) -> Result<(), AllocError>
+pub(crate) fn close_attribute(written: &mut Parts<'_>) -> Result<(), NoMemory>
     ensures { OnOk result (map part_view written.new.items
         ≡ map part_view written.old.items ++ (closing false ∷ segment_end ∷ [])) }
 {
-    written.push(Part::Close(false))?;
-    written.push(Part::End)?;
+    push(written, Part::Close(false))?;
+    push(written, Part::End)?;
     Ok(())
 }

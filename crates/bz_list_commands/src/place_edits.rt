@@ -16,8 +16,8 @@ use crate::argument_edits::{ArgumentEdit, edit_arguments};
 use crate::string_edit::StringEdit;
 use bz_attribute::{Done, Edit, Parts, Place, all_arguments, place_of};
 use bz_command::Attributes;
+use bz_memory::NoMemory;
 use bz_tree::Part;
-use std::alloc::AllocError;
 
 // The arguments that have these parts may change.
 fn may_change(edit: ArgumentEdit<'_, '_, '_>, parts: &[Part<'_>]) -> bool
@@ -36,7 +36,7 @@ fn edit_in<'a>(
     parts: &[Part<'a>],
     place: Place,
     new: &mut Parts<'a>,
-) -> Result<Edit, AllocError>
+) -> Result<Edit, NoMemory>
     requires { (place.from ≤ place.to) × (place.to ≤ length parts.now) }
     ensures { IfOk result (λ e. spec.IsPlaceEdit (edit_by edit.entry) (changes_by edit.entry) place
         (map part_view parts.now) (map part_view new.new.items) e) }
@@ -60,7 +60,7 @@ pub fn drop_arguments<'a>(
     attributes: &Attributes,
     parts: &[Part<'a>],
     new: &mut Parts<'a>,
-) -> Result<Edit, AllocError>
+) -> Result<Edit, NoMemory>
     ensures { IfOk result (IsRowEdit (flat_map (kept attributes.now))
         (λ args. done Nothing (list_any (goes_by attributes.now) args))
         (map part_view parts.now) (map part_view new.new.items)) }
@@ -79,7 +79,7 @@ pub fn edit_strings<'a>(
     attributes: &Attributes,
     parts: &[Part<'a>],
     new: &mut Parts<'a>,
-) -> Result<Edit, AllocError>
+) -> Result<Edit, NoMemory>
     ensures { IfOk result (IsRowEdit (spec.edited_in (means edit.entry) (literal_of edit.entry) attributes.now)
         (λ args. done Nothing (spec.changes_in (means edit.entry) attributes.now args))
         (map part_view parts.now) (map part_view new.new.items)) }

@@ -12,8 +12,8 @@ use crate::place_edits::{drop_arguments, edit_strings};
 use crate::string_edit::{Meant, StringEdit};
 use bz_attribute::{Edit, Env, Parts, WordSet};
 use bz_command::{Attributes, Text};
+use bz_memory::NoMemory;
 use bz_tree::Part;
-use std::alloc::AllocError;
 
 // The strings that are meant go.
 fn drop_strings<'a>(
@@ -22,7 +22,7 @@ fn drop_strings<'a>(
     meant: Meant<'_, '_>,
     parts: &[Part<'a>],
     new: &mut Parts<'a>,
-) -> Result<Edit, AllocError>
+) -> Result<Edit, NoMemory>
     ensures { IfOk result (IsRowEdit (edited_in (means_in env.entry.home.now meant.entry) Nothing attributes.now)
         (λ args. effects.done Nothing (changes_in (means_in env.entry.home.now meant.entry) attributes.now args))
         (map part_view parts.now) (map part_view new.new.items)) }
@@ -43,7 +43,7 @@ pub fn remove<'a>(
     values: &[Text],
     parts: &[Part<'a>],
     new: &mut Parts<'a>,
-) -> Result<Edit, AllocError>
+) -> Result<Edit, NoMemory>
     ensures { IfOk result (IsRowEdit (spec.remove env.entry.home.now attributes.now values.now)
         (λ args. effects.done Nothing (spec.removes env.entry.home.now attributes.now values.now args))
         (map part_view parts.now) (map part_view new.new.items)) }

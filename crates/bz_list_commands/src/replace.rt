@@ -10,8 +10,8 @@ use crate::place_edits::edit_strings;
 use crate::string_edit::{Meant, StringEdit};
 use bz_attribute::{Edit, Env, Parts};
 use bz_command::Attributes;
+use bz_memory::NoMemory;
 use bz_tree::Part;
-use std::alloc::AllocError;
 
 /// What elements that equal `old` become.
 #[derive(Clone, Copy)]
@@ -27,7 +27,7 @@ pub fn replace<'a>(
     change: Change<'_>,
     parts: &[Part<'a>],
     new: &mut Parts<'a>,
-) -> Result<Edit, AllocError>
+) -> Result<Edit, NoMemory>
     ensures { IfOk result (IsRowEdit
         (spec.replace env.entry.home.now attributes.now change.entry.old.now change.entry.new.now)
         (λ args. effects.done Nothing

@@ -5,9 +5,9 @@ ghost use Rattle.bz_tree.specs.Rows.{RowPart, part_view};
 ghost use Rattle.bz_list_commands.specs.private.WrittenParts.{HasCopied, HasPut, IsWithin, literal_parts};
 
 use bz_attribute::Parts;
+use bz_memory::{NoMemory, extend_from_slice, push};
 use bz_token::Kind;
 use bz_tree::Part;
-use std::alloc::AllocError;
 
 /// What was written of some parts.
 #[derive(Clone, Copy)]
@@ -40,7 +40,7 @@ fn copy_passed<'a>(
     parts: &[Part<'a>],
     written: Written,
     out: &mut Parts<'a>,
-) -> Result<usize, AllocError>
+) -> Result<usize, NoMemory>
     requires { IsWithin written (length parts.now) }
     ensures { IfOk result (λ from. HasCopied written (map part_view parts.now)
         (map part_view out.old.items) from (map part_view out.new.items)) }
@@ -48,17 +48,17 @@ fn copy_passed<'a>(
     if !written.changed {
         return Ok(written.at);
     }
-    out.extend_from_slice(&parts[written.to..written.at])?;
+    extend_from_slice(out, &parts[written.to..written.at])?;
     Ok(written.from)
 }
 
-fn push_literal<'a>(literal: Option<&'a str>, out: &mut Parts<'a>) -> Result<(), AllocError>
+fn push_literal<'a>(literal: Option<&'a str>, out: &mut Parts<'a>) -> Result<(), NoMemory>
     ensures { OnOk result (map part_view out.new.items
         ≡ map part_view out.old.items ++ literal_parts (option_map (λ text. text.now) literal.entry)) }
 {
     match literal {
         None => Ok(()),
-        Some(text) => Ok(out.push(Part::Token(Kind::String, text))?),
+        Some(text) => Ok(push(out, Part::Token(Kind::String, text))?),
     }
 }
 
@@ -69,7 +69,7 @@ pub fn put<'a>(
     to: usize,
     literal: Option<&'a str>,
     out: &mut Parts<'a>,
-) -> Result<Written, AllocError>
+) -> Result<Written, NoMemory>
     requires within { IsWithin written (length parts.now) }
     requires order { (written.at ≤ to) × (to ≤ length parts.now) }
     ensures within { IfOk result (λ w. IsWithin w (length parts.now)) }

@@ -11,8 +11,9 @@ ghost use Rattle.bz_list_commands.specs.private.TakingSteps.{HasRoom, Takes, lea
 
 use bz_attribute::{Chosen, elements_at, find, is_chosen, loses_all, next_part, segment};
 use bz_command::Package;
+use bz_memory::NoMemory;
 use bz_tree::{Node, Seg};
-use std::alloc::{AllocError, Global};
+use std::alloc::Global;
 use std::mem;
 
 /// Which elements are meant, where words are labels of a package.
@@ -33,7 +34,7 @@ pub(crate) fn value_at<'n, 'a>(args: &'n [Seg<'a>], attr: &str) -> &'n [Node<'a>
 }
 
 /// How many elements of the list parts of a value are chosen.
-pub(crate) fn count_in(choice: Choice<'_, '_, '_>, value: &[Node<'_>]) -> Result<usize, AllocError>
+pub(crate) fn count_in(choice: Choice<'_, '_, '_>, value: &[Node<'_>]) -> Result<usize, NoMemory>
     ensures { IfOk result (λ n. n ≡ length (leave choice.entry (joined (parts (nodes_view value.now))))) }
 {
     let mut count: usize = 0;
@@ -41,7 +42,7 @@ pub(crate) fn count_in(choice: Choice<'_, '_, '_>, value: &[Node<'_>]) -> Result
     while let Some(i) = next_part(value, at) {
         for element in elements_at(&value[i]) {
             if is_chosen(choice.home, choice.chosen, element) {
-                count = count.checked_add(1).ok_or(AllocError)?;
+                count = count.checked_add(1).ok_or(NoMemory)?;
             }
         }
         at = i + 1;

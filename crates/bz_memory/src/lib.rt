@@ -12,8 +12,9 @@ mod string;
 
 pub use arena::alloc_str;
 pub use list::{
-    append, extend_from_slice, lengthen, push, reserve, reserve_exact, with_capacity, with_room_for,
+    append, extend_from_slice, from_array, lengthen, push, reserve, reserve_exact, with_capacity,
+    with_room_for,
 };
 pub use map::insert;
 pub use no_memory::NoMemory;
-pub use string::{from_str, push_char, push_str, with_length_of};
+pub use string::{from_str, push_char, push_number, push_str, with_length_of};

@@ -104,6 +104,20 @@ pub fn with_room_for<T, U, A: Allocator>(
     }
 }
 
+/// A list of the values of an array.
+#[inline(always)]
+pub fn from_array<T: Drop, A: Allocator, const N: usize>(
+    alloc: A,
+    values: [T; N],
+) -> Result<Vec<T, A>, NoMemory>
+    ensures items { IfOk result (λ v. v.items ≡ values) }
+{
+    match Vec::from_array(alloc, values) {
+        Ok(list) => Ok(list),
+        Err(_) => Err(refused()),
+    }
+}
+
 /// Makes bytes longer by so many zeros; at most a piece of an input.
 #[inline(always)]
 pub fn lengthen<A: Allocator>(bytes: &mut Vec<u8, A>, more: usize) -> Result<(), NoMemory>

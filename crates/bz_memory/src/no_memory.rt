@@ -1,5 +1,7 @@
 //! The evidence that memory was refused.
 
+use std::io;
+
 /// A call of std that asks for memory was refused.
 #[derive(Clone, Copy, Debug, PartialEq, Eq)]
 pub struct NoMemory {
@@ -9,4 +11,10 @@ pub struct NoMemory {
 /// The one place where the evidence is made: where std has refused.
 pub(crate) fn refused() -> NoMemory {
     NoMemory { seen: () }
+}
+
+impl From<NoMemory> for io::Error {
+    fn from(_: NoMemory) -> io::Error {
+        io::Error::from(io::ErrorKind::OutOfMemory)
+    }
 }

@@ -1,13 +1,15 @@
 //! Strings that grow.
 
 ghost use Rattle.std.specs.Prelude.{◌≡◌, ◌≤◌, ◌<◌, ◌+◌, [], ◌∷◌, ◌++◌, is_ok, if◌then◌else◌, IfOk, OnOk, OnErr, length, string_bytes, encode_utf8};
+ghost use Rattle.std.specs.Fmt.{decimal};
 
 use crate::no_memory::{NoMemory, refused};
-use std::alloc::Allocator;
+use std::alloc::Global;
+use std::fmt::Write;
 
 /// A string of this text.
 #[inline(always)]
-pub fn from_str<A: Allocator>(alloc: A, text: &str) -> Result<String<A>, NoMemory>
+pub fn from_str(alloc: Global, text: &str) -> Result<String, NoMemory>
     ensures ok { IfOk result (λ s. string_bytes s ≡ text.now) }
 {
     match String::from_str(alloc, text) {
@@ -18,7 +20,7 @@ pub fn from_str<A: Allocator>(alloc: A, text: &str) -> Result<String<A>, NoMemor
 
 /// An empty string with room for as many bytes as a text has.
 #[inline(always)]
-pub fn with_length_of<A: Allocator>(alloc: A, text: &str) -> Result<String<A>, NoMemory>
+pub fn with_length_of(alloc: Global, text: &str) -> Result<String, NoMemory>
     ensures bytes { IfOk result (λ s. string_bytes s ≡ []) }
 {
     match String::with_capacity(alloc, text.len()) {
@@ -29,7 +31,7 @@ pub fn with_length_of<A: Allocator>(alloc: A, text: &str) -> Result<String<A>, N
 
 /// Puts a text at the end of a string.
 #[inline(always)]
-pub fn push_str<A: Allocator>(string: &mut String<A>, text: &str) -> Result<(), NoMemory>
+pub fn push_str(string: &mut String, text: &str) -> Result<(), NoMemory>
     ensures bytes { string_bytes string.new
         ≡ (if is_ok result then string_bytes string.old ++ text.now else string_bytes string.old) }
 {
@@ -41,12 +43,22 @@ pub fn push_str<A: Allocator>(string: &mut String<A>, text: &str) -> Result<(), 
 
 /// Puts a character at the end of a string.
 #[inline(always)]
-pub fn push_char<A: Allocator>(string: &mut String<A>, character: char) -> Result<(), NoMemory>
+pub fn push_char(string: &mut String, character: char) -> Result<(), NoMemory>
     ensures bytes { string_bytes string.new
         ≡ (if is_ok result then string_bytes string.old ++ encode_utf8 character else string_bytes string.old) }
     ensures ascii { character < 128 → encode_utf8 character ≡ character ∷ [] }
 {
     match string.push(character) {
+        Ok(()) => Ok(()),
+        Err(_) => Err(refused()),
+    }
+}
+
+/// Puts a number in decimal digits at the end of a string.
+pub fn push_number(string: &mut String, number: u64) -> Result<(), NoMemory>
+    ensures { OnOk result (string_bytes string.new ≡ string_bytes string.old ++ decimal number) }
+{
+    match write!(string, "{number}") {
         Ok(()) => Ok(()),
         Err(_) => Err(refused()),
     }

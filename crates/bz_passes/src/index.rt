@@ -3,7 +3,8 @@
 ghost use Rattle.std.specs.Prelude.{◌≡◌, ℕ, ◌++◌, [], ◌∷◌, List, Bool, if◌then◌else◌, Option, option_map, IfOk, OnOk, is_none, bytes_eq};
 ghost use Rattle.bz_passes.specs.private.Indexes as spec;
 
-use std::alloc::{AllocError, Global};
+use bz_memory::{NoMemory, from_str, push};
+use std::alloc::Global;
 use std::collections::BTreeMap;
 
 /// What is known of the name of what is in a slot.
@@ -43,14 +44,14 @@ impl Index {
         alloc: Global,
         asked: Option<&str>,
         position: usize,
-    ) -> Result<(), AllocError>
+    ) -> Result<(), NoMemory>
         ensures names { OnOk result ((name : List ℕ) → spec.named self.new name ≡ spec.named self.old name
             ++ (if spec.asks_for name (option_map (λ text. text.now) asked.entry) then position ∷ [] else [])) }
         ensures others { OnOk result (self.new.others.items ≡ self.old.others.items
             ++ (if is_none (option_map (λ text. text.now) asked.entry) then position ∷ [] else [])) }
     {
         match asked {
-            None => self.others.push(position)?,
+            None => push(&mut self.others, position)?,
             Some(name) => add_named(alloc, &mut self.named, name, position)?,
         }
         Ok(())
@@ -73,12 +74,12 @@ fn add_named(
     named: &mut BTreeMap<String, Vec<usize>>,
     name: &str,
     position: usize,
-) -> Result<(), AllocError>
+) -> Result<(), NoMemory>
     ensures { OnOk result ((q : List ℕ) → spec.found named.new q ≡ spec.found named.old q
         ++ (if bytes_eq q name.now then position ∷ [] else [])) }
 {
-    let name = String::from_str(alloc, name)?;
+    let name = from_str(alloc, name)?;
     let positions = named.entry(name)?.or_insert(Vec::new(alloc));
-    positions.push(position)?;
+    push(positions, position)?;
     Ok(())
 }

@@ -8,7 +8,8 @@ ghost use Rattle.bz_passes.specs.Exchange.{Fits, no_slot, kept_of, told, some_no
 use crate::language::Language;
 use crate::log::Log;
 use bz_command::Pass;
-use std::alloc::{AllocError, Global};
+use bz_memory::{NoMemory, push, with_room_for};
+use std::alloc::Global;
 use std::marker::Model;
 use std::mem;
 
@@ -30,31 +31,31 @@ impl Model for Kept {
 }
 
 /// A place for what each command tells.
-fn nothing_told<C>(alloc: Global, commands: &[C]) -> Result<Vec<Log>, AllocError>
+fn nothing_told<C>(alloc: Global, commands: &[C]) -> Result<Vec<Log>, NoMemory>
     ensures { IfOk result (λ logs. logs.items ≡ map (λ command. []) commands.now) }
 {
-    let mut logs = Vec::with_capacity(alloc, commands.len())?;
+    let mut logs = with_room_for(alloc, commands, 0)?;
     for _command in commands {
-        logs.push(Log::new(alloc))?;
+        push(&mut logs, Log::new(alloc))?;
     }
     Ok(logs)
 }
 
 /// What is kept before the first slot: for each pass and each of its commands, nothing.
-pub fn nothing_kept<T, C>(alloc: Global, passes: &[Pass<T, C>]) -> Result<Vec<Kept>, AllocError>
+pub fn nothing_kept<T, C>(alloc: Global, passes: &[Pass<T, C>]) -> Result<Vec<Kept>, NoMemory>
     ensures nothing { IfOk result (λ kept. kept.items ≡ map no_slot passes.now) }
     ensures fits { IfOk result (λ kept. Fits kept.items passes.now) }
 {
-    let mut kept = Vec::with_capacity(alloc, passes.len())?;
+    let mut kept = with_room_for(alloc, passes, 0)?;
     for pass in passes {
         let logs = nothing_told(alloc, pass.commands.as_slice())?;
-        kept.push(Kept { found: false, logs })?;
+        push(&mut kept, Kept { found: false, logs })?;
     }
     Ok(kept)
 }
 
 /// Moves what the commands of a pass told after the log, command by command.
-fn append_all(alloc: Global, logs: &mut [Log], log: &mut Log) -> Result<(), AllocError>
+fn append_all(alloc: Global, logs: &mut [Log], log: &mut Log) -> Result<(), NoMemory>
     ensures { OnOk result (log.new ≡ log.old ++ flat_map (λ said. said) logs.old) }
 {
     for i in 0..logs.len() {
@@ -82,7 +83,7 @@ fn tell_pass<L: Language>(
     pass: &Pass<L::Target, L::Command>,
     kept: &mut Kept,
     log: &mut Log,
-) -> Result<(), AllocError>
+) -> Result<(), NoMemory>
     ensures { OnOk result (log.new ≡ log.old
         ++ (missing (L.meaning language.now) pass.now.target kept.old.found
         ++ flat_map (λ said. said) kept.old.logs)) }
@@ -100,7 +101,7 @@ fn tell_passes<L: Language>(
     passes: &[Pass<L::Target, L::Command>],
     kept: &mut [Kept],
     log: &mut Log,
-) -> Result<(), AllocError>
+) -> Result<(), NoMemory>
     requires { Fits kept.old passes.now }
     ensures { OnOk result (log.new ≡ log.old ++ told (L.meaning language.now) passes.now kept.old) }
 {
@@ -117,7 +118,7 @@ pub fn tell<L: Language>(
     language: &L,
     passes: &[Pass<L::Target, L::Command>],
     kept: &mut [Kept],
-) -> Result<Log, AllocError>
+) -> Result<Log, NoMemory>
     requires { Fits kept.old passes.now }
     ensures told { IfOk result (λ log. log ≡ told (L.meaning language.now) passes.now kept.old) }
     ensures whole { IfOk result (λ log. (slots : List (Slot L.Seen))

@@ -9,7 +9,7 @@ use crate::entry::Entry;
 use crate::index::Key;
 use crate::log::Log;
 use crate::passes::Keyed;
-use std::alloc::AllocError;
+use bz_memory::NoMemory;
 
 /// Whether an execution of a command changed its statement, and whether it failed.
 #[derive(Clone, Copy, Debug, PartialEq, Eq)]
@@ -56,7 +56,7 @@ pub trait Language {
         ensures { result ≡ (meaning self.now).must_mark target.now };
 
     /// What is reported of such a pass.
-    fn not_found(&self, target: &Self::Target) -> Result<Entry, AllocError>
+    fn not_found(&self, target: &Self::Target) -> Result<Entry, NoMemory>
         ensures { IfOk result (λ entry. entry ≡ (meaning self.now).not_found target.now) };
 
     /// Executes one command on a slot. What it reports is appended to the log.
@@ -65,7 +65,7 @@ pub trait Language {
         command: &Self::Command,
         slot: &mut Option<Self::Statement>,
         log: &mut Log,
-    ) -> Result<Facts, AllocError>
+    ) -> Result<Facts, NoMemory>
         ensures slot { OnOk result (seen slot.new ≡ (meaning self.now).after command.now (seen slot.old)) }
         ensures log { OnOk result (log.new ≡ log.old ++ (meaning self.now).says command.now (seen slot.old)) }
         ensures changed { IfOk result (λ facts. facts.changed ≡ changes self.now command.now (seen slot.old)) }

@@ -7,7 +7,8 @@ ghost use Rattle.bz_passes.specs.private.Logs.{kind_of};
 
 use crate::entry::{Entry, EntryKind};
 use crate::texts::Texts;
-use std::alloc::{AllocError, Global};
+use bz_memory::{NoMemory, append, push, reserve};
+use std::alloc::Global;
 use std::marker::Model;
 
 /// The entries that a run reports, in order. An entry costs its text, the text's length and one byte.
@@ -51,18 +52,18 @@ impl Log {
     }
 
     /// Appends an entry.
-    pub fn push(&mut self, entry: Entry) -> Result<(), AllocError>
+    pub fn push(&mut self, entry: Entry) -> Result<(), NoMemory>
         ensures { OnOk result (self.new ≡ self.old ++ entry ∷ []) }
     {
-        self.parts.kinds.reserve(1)?;
+        reserve(&mut self.parts.kinds, 1)?;
         self.parts.put_text(&entry)?;
-        self.parts.kinds.push(kind_of(&entry))?;
+        push(&mut self.parts.kinds, kind_of(&entry))?;
         Ok(())
     }
 
     /// Moves the entries of another log to the end; to an empty log without an allocation. `Err`: allocation failed, and
     /// the log is left empty.
-    pub fn append(&mut self, other: Log) -> Result<(), AllocError>
+    pub fn append(&mut self, other: Log) -> Result<(), NoMemory>
         ensures { OnOk result (self.new ≡ self.old ++ other) }
     {
         if self.parts.kinds.is_empty() {
@@ -114,7 +115,7 @@ impl Log {
 
 impl LogParts {
     /// Puts the text of an entry after those of lines, or of messages.
-    fn put_text(&mut self, entry: &Entry) -> Result<(), AllocError>
+    fn put_text(&mut self, entry: &Entry) -> Result<(), NoMemory>
         ensures kinds { self.new.kinds ≡ self.old.kinds }
         ensures lines { OnOk result (self.new.lines ≡ self.old.lines ++ line_text entry.now) }
         ensures messages { OnOk result (self.new.messages ≡ self.old.messages ++ message_text entry.now) }
@@ -127,13 +128,13 @@ impl LogParts {
     }
 
     /// Puts each part of another log after the same part of this one.
-    fn append(&mut self, other: LogParts) -> Result<(), AllocError>
+    fn append(&mut self, other: LogParts) -> Result<(), NoMemory>
         ensures kinds { OnOk result (self.new.kinds.items ≡ self.old.kinds.items ++ other.kinds.items) }
         ensures lines { OnOk result (self.new.lines ≡ self.old.lines ++ other.lines) }
         ensures messages { OnOk result (self.new.messages ≡ self.old.messages ++ other.messages) }
     {
         let mut other = other;
-        self.kinds.append(&mut other.kinds)?;
+        append(&mut self.kinds, &mut other.kinds)?;
         self.lines.append(other.lines)?;
         self.messages.append(other.messages)
     }

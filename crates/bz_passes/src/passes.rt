@@ -6,7 +6,8 @@ ghost use Rattle.bz_passes.specs.private.Indexes as spec;
 
 use crate::index::{Index, Key};
 use bz_command::Pass;
-use std::alloc::{AllocError, Global};
+use bz_memory::NoMemory;
+use std::alloc::Global;
 use std::marker::Model;
 
 /// What the index needs of a target.
@@ -39,7 +40,7 @@ impl<T: Keyed, C> Model for Passes<T, C> {
 
 impl<T: Keyed, C> Passes<T, C> {
     /// Makes the index of these passes, which keep their order.
-    pub fn new(alloc: Global, passes: Vec<Pass<T, C>>) -> Result<Passes<T, C>, AllocError>
+    pub fn new(alloc: Global, passes: Vec<Pass<T, C>>) -> Result<Passes<T, C>, NoMemory>
     where
         T: Drop,
         C: Drop,
@@ -115,7 +116,7 @@ fn earlier(a: Option<usize>, b: Option<usize>) -> Option<usize>
     }
 }
 
-fn index_of<T: Keyed, C>(alloc: Global, passes: &[Pass<T, C>]) -> Result<Index, AllocError>
+fn index_of<T: Keyed, C>(alloc: Global, passes: &[Pass<T, C>]) -> Result<Index, NoMemory>
     ensures { IfOk result (spec.IsIndex (λ pass. T.asked pass.target) passes.now) }
 {
     let mut index = Index::new(alloc);

@@ -11,7 +11,7 @@ use crate::language::{Facts, Language};
 use crate::log::Log;
 use crate::passes::Passes;
 use bz_command::Pass;
-use std::alloc::AllocError;
+use bz_memory::NoMemory;
 
 /// One command on a slot that may be marked.
 fn execute<L: Language>(
@@ -21,7 +21,7 @@ fn execute<L: Language>(
     slot: &mut Option<L::Statement>,
     log: &mut Log,
     facts: &mut Facts,
-) -> Result<(), AllocError>
+) -> Result<(), NoMemory>
     ensures slot { OnOk result (with_mark mark (L.seen slot.new)
         ≡ executed (L.meaning language.now) command.now (with_mark mark (L.seen slot.old))) }
     ensures log { OnOk result (log.new
@@ -48,7 +48,7 @@ fn run_commands<L: Language>(
     slot: &mut Option<L::Statement>,
     logs: &mut [Log],
     facts: &mut Facts,
-) -> Result<(), AllocError>
+) -> Result<(), NoMemory>
     requires { length logs.old ≡ length commands.now }
     ensures slot { OnOk result (L.seen slot.new
         ≡ (slot_after_commands (L.meaning language.now) commands.now (with_mark mark (L.seen slot.old))).slot) }
@@ -72,7 +72,7 @@ fn run_pass<L: Language>(
     slot: &mut Option<L::Statement>,
     kept: &mut Kept,
     facts: &mut Facts,
-) -> Result<(), AllocError>
+) -> Result<(), NoMemory>
     requires { length kept.old.logs ≡ length pass.now.commands }
     ensures slot { OnOk result (L.seen slot.new ≡ slot_after_pass (L.meaning language.now) pass.now (L.seen slot.old)) }
     ensures kept { OnOk result (kept.new
@@ -145,7 +145,7 @@ fn run_passes<L: Language>(
     slot: &mut Option<L::Statement>,
     kept: &mut [Kept],
     facts: &mut Facts,
-) -> Result<(), AllocError>
+) -> Result<(), NoMemory>
     requires { Fits kept.old passes.now }
     ensures fits { OnOk result (Fits kept.new passes.now) }
     ensures slot { OnOk result (L.seen slot.new ≡ slot_after (L.meaning language.now) passes.now (L.seen slot.old)) }
@@ -173,7 +173,7 @@ pub fn run_script<L: Language>(
     slot: &mut Option<L::Statement>,
     kept: &mut [Kept],
     facts: &mut Facts,
-) -> Result<(), AllocError>
+) -> Result<(), NoMemory>
     // There is a place for each pass and each command, before and after.
     requires { Fits kept.old passes.now }
     ensures fits { OnOk result (Fits kept.new passes.now) }

@@ -2,7 +2,8 @@
 
 ghost use Rattle.std.specs.Prelude.{◌≡◌, ℕ, List, [], ◌∷◌, ◌++◌, length, ◌==◌, OnOk, OnErr, IfSome, IfNone};
 
-use std::alloc::{AllocError, Global};
+use bz_memory::{NoMemory, extend_from_slice, push, reserve};
+use std::alloc::Global;
 use std::marker::Model;
 use std::str::from_utf8;
 
@@ -50,19 +51,19 @@ impl Texts {
     }
 
     /// Appends a text. `Err`: allocation failed, and nothing changed.
-    pub fn push(&mut self, text: &str) -> Result<(), AllocError>
+    pub fn push(&mut self, text: &str) -> Result<(), NoMemory>
         ensures pushed { OnOk result (self.new ≡ self.old ++ text.now ∷ []) }
         ensures stays { OnErr result (self.new ≡ self.old) }
     {
-        self.lens.reserve(1)?;
-        self.bytes.extend_from_slice(text.as_bytes())?;
-        self.lens.push(text.len())?;
+        reserve(&mut self.lens, 1)?;
+        extend_from_slice(&mut self.bytes, text.as_bytes())?;
+        push(&mut self.lens, text.len())?;
         Ok(())
     }
 
     /// Moves the texts of another list to the end; to an empty list without an allocation. `Err`: allocation failed, and
     /// nothing changed.
-    pub fn append(&mut self, other: Texts) -> Result<(), AllocError>
+    pub fn append(&mut self, other: Texts) -> Result<(), NoMemory>
         ensures appended { OnOk result (self.new ≡ self.old ++ other) }
         ensures stays { OnErr result (self.new ≡ self.old) }
     {
@@ -70,9 +71,9 @@ impl Texts {
             *self = other;
             return Ok(());
         }
-        self.lens.reserve(other.lens.len())?;
-        self.bytes.extend_from_slice(other.bytes.as_slice())?;
-        self.lens.extend_from_slice(other.lens.as_slice())?;
+        reserve(&mut self.lens, other.lens.len())?;
+        extend_from_slice(&mut self.bytes, other.bytes.as_slice())?;
+        extend_from_slice(&mut self.lens, other.lens.as_slice())?;
         Ok(())
     }
 

@@ -10,8 +10,9 @@ use bz_attribute_commands::comment::comment;
 use bz_attribute_commands::set::set;
 use bz_command::{Attributes, Commented, Field, Moved, Package, Seq, Setting, Text};
 use bz_list_commands::moving::move_elements;
+use bz_memory::NoMemory;
 use bz_tree::Seg;
-use std::alloc::{AllocError, Global};
+use std::alloc::Global;
 use std::marker::Model;
 
 /// The ten commands.
@@ -140,7 +141,7 @@ pub(crate) fn in_args(
 /// Why words are no command.
 #[derive(Clone, Copy, Debug, PartialEq, Eq)]
 pub enum CommandFault {
-    OutOfMemory,
+    OutOfMemory(NoMemory),
     /// Too few or too many words.
     WrongCount,
     /// A word that is to be an attribute's name is none.
@@ -153,13 +154,13 @@ pub enum CommandFault {
     SameAttribute,
 }
 
-impl From<AllocError> for CommandFault {
+impl From<NoMemory> for CommandFault {
     ghost use Rattle.std.specs.Prelude.{◌≡◌};
     ghost use Rattle.bz_rule.specs.declared.command.CommandFault.TheVariants.{OutOfMemory};
 
-    ghost from_gives = { λ _ e. e ≡ OutOfMemory };
+    ghost from_gives = { λ why e. e ≡ OutOfMemory why };
 
-    fn from(_: AllocError) -> CommandFault {
-        CommandFault::OutOfMemory
+    fn from(why: NoMemory) -> CommandFault {
+        CommandFault::OutOfMemory(why)
     }
 }

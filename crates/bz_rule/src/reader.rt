@@ -1,5 +1,6 @@
 //! How a command is read from its words.
 
+ghost use Rattle.bz_memory.specs.NoMemory.{no_memory};
 ghost use Rattle.std.specs.Prelude.{◌≡◌, ◌≢◌, ◌∷◌, [], Err, IfOk, MatchResult, false, true};
 ghost use Rattle.std.specs.List.{list_any};
 ghost use Rattle.bz_command.specs.Arguments as arguments;
@@ -8,13 +9,14 @@ ghost use Rattle.bz_rule.specs.private.CommandSteps.{attribute_of, attributes_of
 
 use crate::command::{Action, Command, CommandFault};
 use bz_command::{Attributes, Commented, Field, Moved, Seq, Setting, Text, is_kind, read_words};
+use bz_memory::{NoMemory, push, with_room_for};
 use bz_token::is_identifier;
-use std::alloc::{AllocError, Global};
+use std::alloc::Global;
 
 /// Reads a command (buildozer README, edit commands); `None` for a text whose first word is no command's name. Of
 /// several faults the first in the order of [`CommandFault`] is told.
 pub fn read_command(alloc: Global, text: &str) -> Result<Option<Command>, CommandFault>
-    ensures { result ≢ Err CommandFault.OutOfMemory → result ≡ spec.command_of text.now }
+    ensures { result ≢ Err (CommandFault.OutOfMemory no_memory) → result ≡ spec.command_of text.now }
 {
     let mut words = read_words(alloc, text)?;
     let Ok(name) = next_word(&mut words) else {
@@ -29,7 +31,7 @@ pub fn read_command(alloc: Global, text: &str) -> Result<Option<Command>, Comman
 
 // The command of a name; `None` for another name.
 fn read_named(alloc: Global, name: &str, words: Vec<Text>) -> Result<Option<Action>, CommandFault>
-    ensures { result ≢ Err CommandFault.OutOfMemory → result ≡ spec.named_command name.now words.items }
+    ensures { result ≢ Err (CommandFault.OutOfMemory no_memory) → result ≡ spec.named_command name.now words.items }
 {
     let action = match name {
         "add" => read_add(words)?,
@@ -166,11 +168,11 @@ fn breaks_line(text: &str) -> bool
 }
 
 fn read_print(alloc: Global, words: Vec<Text>) -> Result<Action, CommandFault>
-    ensures { result ≢ Err CommandFault.OutOfMemory → result ≡ spec.print_of words.items }
+    ensures { result ≢ Err (CommandFault.OutOfMemory no_memory) → result ≡ spec.print_of words.items }
 {
-    let mut fields = Vec::with_capacity(alloc, words.len())?;
+    let mut fields = with_room_for(alloc, words, 0)?;
     for word in words {
-        fields.push(field(word)?).map_err(AllocError::from)?;
+        push(&mut fields, field(word)?)?;
     }
     Ok(Action::Print(Seq::from_vec(fields)))
 }

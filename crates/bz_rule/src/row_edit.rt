@@ -27,8 +27,9 @@ use bz_command::{Attributes, Commented, Setting, Text};
 use bz_list_commands::add::add;
 use bz_list_commands::remove::remove;
 use bz_list_commands::replace::{Change, replace};
+use bz_memory::NoMemory;
 use bz_tree::Part;
-use std::alloc::{AllocError, Global};
+use std::alloc::Global;
 
 /// The parts of a rule, beside the text of its kind.
 #[derive(Clone, Copy)]
@@ -76,7 +77,7 @@ fn edit_by_tree<'a>(
     command: &Command,
     parts: &[Part<'a>],
     new: &mut Parts<'a>,
-) -> Result<Edit, AllocError>
+) -> Result<Edit, NoMemory>
     requires { takes_tree command.now ≡ true }
     ensures { IfOk result (IsRowEdit (commands.args_after command.now env.entry.home.now)
         (commands.args_done command.now env.entry.home.now) (map part_view parts.now) (map part_view new.new.items)) }
@@ -99,7 +100,7 @@ fn set_new<'a>(
     words: &[Text],
     parts: &[Part<'a>],
     new: &mut Parts<'a>,
-) -> Result<Option<Edit>, AllocError>
+) -> Result<Option<Edit>, NoMemory>
     ensures { IfOk result (λ told. IfSome told (IsRowEdit (set attr.now words.now)
         (λ args. done None (sets attr.now words.now (first_named attr.now args)))
         (map part_view parts.now) (map part_view new.new.items))) }
@@ -119,7 +120,7 @@ fn set_absent<'a>(
     words: &[Text],
     parts: &[Part<'a>],
     new: &mut Parts<'a>,
-) -> Result<Edit, AllocError>
+) -> Result<Edit, NoMemory>
     ensures { IfOk result (IsRowEdit (set_if_absent attr.now words.now)
         (λ args. done None (not (has attr.now args))) (map part_view parts.now) (map part_view new.new.items)) }
 {
@@ -137,7 +138,7 @@ fn set_in_row<'a>(
     setting: &Setting,
     parts: &[Part<'a>],
     new: &mut Parts<'a>,
-) -> Result<Option<Edit>, AllocError>
+) -> Result<Option<Edit>, NoMemory>
     ensures { IfOk result (λ told. IfSome told (IsRowEdit (commands.args_after (Set setting.now) env.entry.home.now)
         (commands.args_done (Set setting.now) env.entry.home.now)
         (map part_view parts.now) (map part_view new.new.items))) }
@@ -157,7 +158,7 @@ fn comment_in_row<'a>(
     text: &str,
     parts: &[Part<'a>],
     new: &mut Parts<'a>,
-) -> Result<Option<Edit>, AllocError>
+) -> Result<Option<Edit>, NoMemory>
     ensures { IfOk result (λ told. IfSome told (IsRowEdit (comment_args commented.now env.entry.home.now text.now)
         (comment_done commented.now env.entry.home.now)
         (map part_view parts.now) (map part_view new.new.items))) }
@@ -177,7 +178,7 @@ fn edit_in_row<'a>(
     command: &Command,
     parts: &[Part<'a>],
     new: &mut Parts<'a>,
-) -> Result<Option<Edit>, AllocError>
+) -> Result<Option<Edit>, NoMemory>
     ensures { IfOk result (λ told. IfSome told (IsRowEdit (commands.args_after command.now env.entry.home.now)
         (commands.args_done command.now env.entry.home.now) (map part_view parts.now) (map part_view new.new.items))) }
 {
@@ -196,7 +197,7 @@ fn edit_others<'a>(
     command: &Command,
     parts: &[Part<'a>],
     new: &mut Parts<'a>,
-) -> Result<Edit, AllocError>
+) -> Result<Edit, NoMemory>
     requires { takes_tree command.now ≡ true }
     ensures { IfOk result (IsRowEdit (commands.args_after command.now env.entry.home.now)
         (commands.args_done command.now env.entry.home.now) (map part_view parts.now) (map part_view new.new.items)) }
@@ -213,7 +214,7 @@ fn edit_arguments<'a>(
     command: &Command,
     parts: &[Part<'a>],
     new: &mut Parts<'a>,
-) -> Result<Edit, AllocError>
+) -> Result<Edit, NoMemory>
     requires { edits_arguments command.now ≡ true }
     ensures { IfOk result (IsRowEdit (commands.args_after command.now env.entry.home.now)
         (commands.args_done command.now env.entry.home.now) (map part_view parts.now) (map part_view new.new.items)) }
@@ -244,7 +245,7 @@ fn edit_parts<'a>(
     kind: &str,
     parts: &[Part<'a>],
     new: &mut Parts<'a>,
-) -> Result<Edit, AllocError>
+) -> Result<Edit, NoMemory>
     requires { is_edit command.now ≡ true }
     ensures { IfOk result (IsEditOf command.now env.entry.home.now kind.now (map part_view parts.now)
         (map part_view new.new.items)) }
@@ -265,7 +266,7 @@ pub(crate) fn edit_rule<'a>(
     command: &Command,
     rule: RuleParts<'_, 'a>,
     new: &mut Parts<'a>,
-) -> Result<Edit, AllocError>
+) -> Result<Edit, NoMemory>
     requires edits { is_edit command.now ≡ true }
     requires fits { rule.comments ≤ length rule.parts.now }
     ensures within { IfOk result (λ e. IsWithin e.place (map part_view rule.entry.parts.now)) }

@@ -7,8 +7,8 @@ ghost use Rattle.bz_rule.specs.private.PartsOf.{parts_in};
 
 use bumpalo::Bump;
 use bz_attribute::{Parts, Place};
+use bz_memory::{NoMemory, extend_from_slice, with_room_for};
 use bz_tree::Part;
-use std::alloc::AllocError;
 
 // For the next edits, which mostly add.
 const ROOM: usize = 16;
@@ -38,7 +38,7 @@ impl<'a> RowParts<'a> {
         bump: &'a Bump,
         place: Place,
         new: &[Part<'a>],
-    ) -> Result<(), AllocError>
+    ) -> Result<(), NoMemory>
         requires { (place.from ≤ place.to) × (place.to ≤ length (parts_in self.old)) }
         ensures ok { OnOk result (parts_in self.new ≡ splice (parts_in self.old) place.from place.to new.now) }
         ensures err { OnErr result (parts_in self.new ≡ parts_in self.old) }
@@ -60,20 +60,20 @@ pub(crate) fn with_others<'a>(
     parts: &[Part<'a>],
     place: Place,
     new: &[Part<'a>],
-) -> Result<Parts<'a>, AllocError>
+) -> Result<Parts<'a>, NoMemory>
     requires { (place.from ≤ place.to) × (place.to ≤ length parts.now) }
     ensures { IfOk result (λ list. list.items ≡ splice parts.now place.from place.to new.now) }
 {
     let room = new.len().saturating_add(ROOM);
-    let mut list = Vec::with_capacity(bump, parts.len().saturating_add(room))?;
-    list.extend_from_slice(&parts[..place.from])?;
-    list.extend_from_slice(new)?;
-    list.extend_from_slice(&parts[place.to..])?;
+    let mut list = with_room_for(bump, parts, room)?;
+    extend_from_slice(&mut list, &parts[..place.from])?;
+    extend_from_slice(&mut list, new)?;
+    extend_from_slice(&mut list, &parts[place.to..])?;
     Ok(list)
 }
 
 // Puts others in a place of a list. `Err`: memory was refused, and the list is as it was.
-fn put_in<'a>(list: &mut Parts<'a>, place: Place, new: &[Part<'a>]) -> Result<(), AllocError>
+fn put_in<'a>(list: &mut Parts<'a>, place: Place, new: &[Part<'a>]) -> Result<(), NoMemory>
     requires { (place.from ≤ place.to) × (place.to ≤ length list.old.items) }
     ensures ok { OnOk result (list.new.items ≡ splice list.old.items place.from place.to new.now) }
     ensures err { OnErr result (list.new.items ≡ list.old.items) }
@@ -88,12 +88,12 @@ fn put_in<'a>(list: &mut Parts<'a>, place: Place, new: &[Part<'a>]) -> Result<()
 }
 
 // Makes a list longer where more is new than goes: by what is too much of the new.
-fn make_room<'a>(list: &mut Parts<'a>, gone: usize, new: &[Part<'a>]) -> Result<(), AllocError>
+fn make_room<'a>(list: &mut Parts<'a>, gone: usize, new: &[Part<'a>]) -> Result<(), NoMemory>
     ensures ok { OnOk result (list.new.items ≡ list.old.items ++ drop gone new.now) }
     ensures err { OnErr result (list.new.items ≡ list.old.items) }
 {
     if gone < new.len() {
-        list.extend_from_slice(&new[gone..])?;
+        extend_from_slice(list, &new[gone..])?;
     }
     Ok(())
 }

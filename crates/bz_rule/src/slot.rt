@@ -10,8 +10,9 @@ use crate::statement_row::{StatementRow, execute};
 use bumpalo::Bump;
 use bz_attribute::{Done, Env, Executed, call_at};
 use bz_command::Package;
+use bz_memory::NoMemory;
 use bz_tree::Stmt;
-use std::alloc::{AllocError, Global};
+use std::alloc::Global;
 
 /// Applies a command to what a slot holds, in the package of its file. A slot that holds no rule stays as it is, and so
 /// does each statement where the answer has a note that is a failure. An `Err` leaves the slot as it was. Parts and new
@@ -49,7 +50,7 @@ pub fn apply<'a>(
 fn tree_of<'a>(
     alloc: Global,
     slot: &Option<StatementRow<'a>>,
-) -> Result<Option<Stmt<'a>>, AllocError>
+) -> Result<Option<Stmt<'a>>, NoMemory>
     ensures { IfOk result (λ left. slot_view left ≡ slot.now) }
 {
     match slot {

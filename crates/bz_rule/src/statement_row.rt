@@ -25,8 +25,9 @@ use bz_attribute::{Done, Env, Executed, Head, Parts, Place, call_at, push_stmt};
 use bz_attribute_commands::print::print;
 use bz_command::{Field, Package, Target};
 use bz_layout::put_row;
+use bz_memory::NoMemory;
 use bz_tree::{Class, Part, Row, Stmt, stmt_of_parts};
-use std::alloc::{AllocError, Global};
+use std::alloc::Global;
 use std::marker::Model;
 use std::mem;
 
@@ -69,7 +70,7 @@ impl<'a> StatementRow<'a> {
         alloc: Global,
         bump: &'a Bump,
         row: &Row<'a>,
-    ) -> Result<StatementRow<'a>, AllocError>
+    ) -> Result<StatementRow<'a>, NoMemory>
         requires { (s : Statement) × ((s.class ≡ class_of s.nodes) × IsRowOf s row.now) }
         ensures { IfOk result (λ stmt. (s : Statement) → IsRowOf s row.now → stmt ≡ s) }
     {
@@ -99,7 +100,7 @@ impl<'a> StatementRow<'a> {
         alloc: Global,
         bump: &'a Bump,
         stmt: &Stmt<'a>,
-    ) -> Result<StatementRow<'a>, AllocError>
+    ) -> Result<StatementRow<'a>, NoMemory>
         ensures { IfOk result (λ row. row ≡ view stmt.now) }
     {
         let mut parts = Vec::new(bump);
@@ -151,7 +152,7 @@ impl<'a> StatementRow<'a> {
     }
 
     /// The rule that it is, by its name or by `%` and its kind; empty for a statement that is no rule.
-    pub fn shown(&self, alloc: Global, home: &Package) -> Result<String, AllocError>
+    pub fn shown(&self, alloc: Global, home: &Package) -> Result<String, NoMemory>
         ensures { IfOk result (λ text. string_bytes text ≡ shown_text home.now self.now) }
     {
         match &self.head {
@@ -162,7 +163,7 @@ impl<'a> StatementRow<'a> {
 
     /// Appends the canonical text of the statement, with its last newline. `Err`: memory was refused, and `out` is as
     /// it was.
-    pub fn put(&self, alloc: Global, out: &mut Vec<u8>) -> Result<(), AllocError>
+    pub fn put(&self, alloc: Global, out: &mut Vec<u8>) -> Result<(), NoMemory>
         ensures appended { OnOk result (out.new.items ≡ out.old.items ++ layout_text self.now) }
         ensures unchanged { OnErr result (out.new.items ≡ out.old.items) }
     {
@@ -176,7 +177,7 @@ impl<'a> StatementRow<'a> {
     }
 
     /// Its tree. `Err`: memory was refused.
-    pub(crate) fn tree(&self, alloc: Global) -> Result<Stmt<'a>, AllocError>
+    pub(crate) fn tree(&self, alloc: Global) -> Result<Stmt<'a>, NoMemory>
         ensures { IfOk result (λ stmt. view stmt ≡ self.now) }
     {
         let parts = self.parts.as_slice();
@@ -214,7 +215,7 @@ impl<'a> StatementRow<'a> {
     }
 
     // Takes other parts. `Err`: memory was refused, and all is as it was.
-    fn take(&mut self, alloc: Global, new: Parts<'a>) -> Result<(), AllocError>
+    fn take(&mut self, alloc: Global, new: Parts<'a>) -> Result<(), NoMemory>
         requires { (s : Statement) × IsNextOf self.old (map part_view new.items) s }
         ensures taken { OnOk result ((s : Statement) → IsNextOf self.old (map part_view new.entry.items) s → self.new ≡ s) }
         ensures err { OnErr result (self.new ≡ self.old) }
@@ -232,7 +233,7 @@ impl<'a> StatementRow<'a> {
         place: Place,
         new: &[Part<'a>],
         comments: usize,
-    ) -> Result<(), AllocError>
+    ) -> Result<(), NoMemory>
         requires within { IsWithin place (parts_of self.old) }
         requires next { (s : Statement) × (IsNextOf self.old (replaced_at place (map part_view new.now) (parts_of self.old)) s
             × (KeepsHead self.old s × HasMore comments self.old s)) }
@@ -252,7 +253,7 @@ impl<'a> StatementRow<'a> {
         command: &Command,
         place: Place,
         new: &[Part<'a>],
-    ) -> Result<(), AllocError>
+    ) -> Result<(), NoMemory>
         requires rule { is_some (rule_of self.old.nodes) ≡ true }
         requires within { IsWithin place (parts_of self.old) }
         requires next { replaced_at place (map part_view new.now) (parts_of self.old)
@@ -293,7 +294,7 @@ fn head_of<'a>(
     bump: &'a Bump,
     stmt: &Stmt<'a>,
     parts: &[Part<'a>],
-) -> Result<Option<Head<'a>>, AllocError>
+) -> Result<Option<Head<'a>>, NoMemory>
     requires { map part_view parts.now ≡ parts_of (view stmt.now) }
     ensures { IfOk result (λ head. HasHead head (view stmt.now)) }
 {

@@ -1,5 +1,6 @@
 //! Command files: a group on each line.
 
+ghost use Rattle.bz_memory.specs.NoMemory.{no_memory};
 ghost use Rattle.std.specs.Prelude.{◌≡◌, ◌≢◌, map, Err, IfOk};
 ghost use Rattle.std.specs.List.{slice_split};
 ghost use Rattle.std.specs.Str.Lines.{strip_carriage_return};
@@ -8,8 +9,9 @@ ghost use Rattle.bz_script.specs.Results.{map_ok};
 
 use crate::group::{Script, read_group};
 use crate::usage::UsageFault;
+use bz_memory::{NoMemory, append};
 use bz_token::check_utf8;
-use std::alloc::{AllocError, Global};
+use std::alloc::Global;
 
 /// Reads a command file (buildozer README, "Usage", -f): each line is a group, its fields separated by `|`.
 ///
@@ -17,7 +19,7 @@ use std::alloc::{AllocError, Global};
 /// whose first other character is `#`, are skipped. Faults tell lines from 1, and the first group with one decides;
 /// bytes that are not UTF-8 are told before all else. A file without groups gives an empty script.
 pub fn read_command_file(alloc: Global, bytes: &[u8]) -> Result<Script, UsageFault>
-    ensures { result ≢ Err UsageFault.OutOfMemory
+    ensures { result ≢ Err (UsageFault.OutOfMemory no_memory)
         → map_ok (λ script. script.items) result ≡ spec.command_file_of bytes.now }
 {
     match check_utf8(bytes) {
@@ -27,13 +29,13 @@ pub fn read_command_file(alloc: Global, bytes: &[u8]) -> Result<Script, UsageFau
 }
 
 fn read_lines(alloc: Global, text: &str) -> Result<Script, UsageFault>
-    ensures { result ≢ Err UsageFault.OutOfMemory
+    ensures { result ≢ Err (UsageFault.OutOfMemory no_memory)
         → map_ok (λ script. script.items) result ≡ spec.lines_steps 1 (slice_split spec.is_newline text.now) }
 {
     let mut script = Vec::new(alloc);
     for (index, line) in text.split('\n').enumerate() {
         match read_line(alloc, index as u64 + 1, without_return(line)) {
-            Ok(mut steps) => script.append(&mut steps)?,
+            Ok(mut steps) => append(&mut script, &mut steps)?,
             Err(fault) => return Err(fault),
         }
     }
@@ -49,7 +51,7 @@ fn without_return(line: &str) -> &str
 
 /// Reads one line. `number` is its own, for faults.
 fn read_line(alloc: Global, number: u64, line: &str) -> Result<Script, UsageFault>
-    ensures { result ≢ Err UsageFault.OutOfMemory
+    ensures { result ≢ Err (UsageFault.OutOfMemory no_memory)
         → map_ok (λ script. script.items) result ≡ spec.line_steps number line.now }
 {
     if is_skipped(line) {
@@ -72,7 +74,7 @@ fn is_skipped(line: &str) -> bool
 }
 
 /// The fields of a line, which are a group's words.
-fn fields_in<'a>(alloc: Global, line: &'a str) -> Result<Vec<&'a str>, AllocError>
+fn fields_in<'a>(alloc: Global, line: &'a str) -> Result<Vec<&'a str>, NoMemory>
     ensures { IfOk result (λ fields. map (λ field. field.now) fields.items ≡ spec.fields_of line.now) }
 {
     line.split('|').map(trimmed).collect(alloc)

@@ -1,5 +1,6 @@
 //! The flags of the command line, in the syntax of Go's `flag` package.
 
+ghost use Rattle.bz_memory.specs.NoMemory.{no_memory};
 ghost use Rattle.std.specs.Prelude.{◌≡◌, ◌≢◌, ◌+◌, ◌∷◌, [], map, string_bytes, length, Err, None, IfOk, IfSome, MatchOption, option_map};
 ghost use Rattle.bz_script.specs.private.FlagViews.{argument_view};
 ghost use Rattle.bz_script.specs.Flags as spec;
@@ -8,7 +9,8 @@ ghost use Rattle.bz_script.specs.Results.{map_ok};
 
 use crate::usage::{FlagFault, Refused, UsageFault};
 use bz_command::Text;
-use std::alloc::{AllocError, Global};
+use bz_memory::NoMemory;
+use std::alloc::Global;
 
 /// The line that stands for the command line in faults.
 pub const COMMAND_LINE: u64 = 0;
@@ -60,7 +62,7 @@ enum Argument<'a> {
 /// A fault of a flag is told at the first word that has one, counted from 1. After all flags are read, words that are
 /// left beside a command file are a fault.
 pub fn read_flags(alloc: Global, words: &[String]) -> Result<(Flags, &[String]), UsageFault>
-    ensures { result ≢ Err UsageFault.OutOfMemory → map_ok (λ read. (read.0, map string_bytes read.1.now)) result
+    ensures { result ≢ Err (UsageFault.OutOfMemory no_memory) → map_ok (λ read. (read.0, map string_bytes read.1.now)) result
         ≡ spec.flags_of (map string_bytes words.now) }
 {
     let (flags, rest) = read_leading(alloc, words)?;
@@ -76,7 +78,7 @@ pub fn read_flags(alloc: Global, words: &[String]) -> Result<(Flags, &[String]),
 
 /// Reads words until the flags end.
 fn read_leading(alloc: Global, words: &[String]) -> Result<(Flags, &[String]), UsageFault>
-    ensures { result ≢ Err UsageFault.OutOfMemory → map_ok (λ read. (read.0, map string_bytes read.1.now)) result
+    ensures { result ≢ Err (UsageFault.OutOfMemory no_memory) → map_ok (λ read. (read.0, map string_bytes read.1.now)) result
         ≡ spec.leading 1 spec.no_flags None (map string_bytes words.now) }
 {
     let mut flags = Flags {
@@ -116,11 +118,11 @@ fn read_leading(alloc: Global, words: &[String]) -> Result<(Flags, &[String]), U
 
 /// The fault of a word of the command line.
 fn refused(alloc: Global, number: u64, word: &str, fault: FlagFault) -> UsageFault
-    ensures { result ≢ UsageFault.OutOfMemory → result ≡ UsageFault.Flag (place.refused 0 number word.now) fault }
+    ensures { result ≢ UsageFault.OutOfMemory no_memory → result ≡ UsageFault.Flag (place.refused 0 number word.now) fault }
 {
     match Refused::new(alloc, COMMAND_LINE, number, word) {
         Ok(refused) => UsageFault::Flag { refused, fault },
-        Err(_) => UsageFault::OutOfMemory,
+        Err(why) => UsageFault::OutOfMemory(why),
     }
 }
 
@@ -146,7 +148,7 @@ fn set_switch(flags: &mut Flags, switch: Switch, on: bool)
 }
 
 /// The file of a path. An empty one names none.
-fn file_named(alloc: Global, path: &str) -> Result<Option<Text>, AllocError>
+fn file_named(alloc: Global, path: &str) -> Result<Option<Text>, NoMemory>
     ensures { IfOk result (λ file. file ≡ spec.file_of path.now) }
 {
     if path.is_empty() {

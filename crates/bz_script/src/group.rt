@@ -1,5 +1,6 @@
 //! Groups: commands, and the labels of the rules that they are for.
 
+ghost use Rattle.bz_memory.specs.NoMemory.{no_memory};
 ghost use Rattle.std.specs.Prelude.{◌≡◌, ◌≢◌, ◌++◌, map, Err, IfOk, OnOk};
 ghost use Rattle.std.specs.List.{filter};
 ghost use Rattle.std.specs.Option.{option_to_list};
@@ -8,8 +9,9 @@ ghost use Rattle.bz_script.specs.Groups as spec;
 
 use crate::usage::{Refused, UsageFault};
 use bz_command::{LabelFault, Package, Pass, Target, read_label};
+use bz_memory::{NoMemory, push, with_room_for};
 use bz_rule::{Command, CommandFault, read_command};
-use std::alloc::{AllocError, Global};
+use std::alloc::Global;
 
 /// Passes in the order in which they are made, each with the package that it is for.
 pub type Script = Vec<(Package, Pass<Target, Command>)>;
@@ -19,7 +21,7 @@ pub type Script = Vec<(Package, Pass<Target, Command>)>;
 /// A word whose own first word is a command's name is a command, and any other is a label. Faults of words come first,
 /// from left to right, then a missing command, then a missing target.
 pub fn read_group(alloc: Global, line: u64, words: &[&str]) -> Result<Script, UsageFault>
-    ensures { result ≢ Err UsageFault.OutOfMemory
+    ensures { result ≢ Err (UsageFault.OutOfMemory no_memory)
         → map_ok (λ script. script.items) result ≡ spec.group_of line (map (λ word. word.now) words.now) }
 {
     let labels = read_labels(alloc, line, words)?;
@@ -52,12 +54,12 @@ fn read_word(
     number: u64,
     word: &str,
 ) -> Result<Option<(Package, Target)>, UsageFault>
-    ensures { result ≢ Err UsageFault.OutOfMemory → result ≡ spec.label_in line number word.now }
+    ensures { result ≢ Err (UsageFault.OutOfMemory no_memory) → result ≡ spec.label_in line number word.now }
 {
     match read_command(alloc, word) {
         Ok(Some(_)) => return Ok(None),
         Ok(None) => {}
-        Err(CommandFault::OutOfMemory) => return Err(UsageFault::OutOfMemory),
+        Err(CommandFault::OutOfMemory(why)) => return Err(UsageFault::OutOfMemory(why)),
         Err(fault) => {
             let refused = Refused::new(alloc, line, number, word)?;
             return Err(UsageFault::Command { refused, fault });
@@ -65,7 +67,7 @@ fn read_word(
     }
     match read_label(alloc, word) {
         Ok(label) => Ok(Some(label)),
-        Err(LabelFault::OutOfMemory) => Err(UsageFault::OutOfMemory),
+        Err(LabelFault::OutOfMemory(why)) => Err(UsageFault::OutOfMemory(why)),
         Err(fault) => {
             let refused = Refused::new(alloc, line, number, word)?;
             Err(UsageFault::Label { refused, fault })
@@ -76,11 +78,11 @@ fn read_word(
 fn keep_label(
     label: Option<(Package, Target)>,
     labels: &mut Vec<(Package, Target)>,
-) -> Result<(), AllocError>
+) -> Result<(), NoMemory>
     ensures { OnOk result (labels.new.items ≡ labels.old.items ++ option_to_list label) }
 {
     match label {
-        Some(label) => Ok(labels.push(label)?),
+        Some(label) => Ok(push(labels, label)?),
         None => Ok(()),
     }
 }
@@ -91,7 +93,7 @@ fn read_labels(
     line: u64,
     words: &[&str],
 ) -> Result<Vec<(Package, Target)>, UsageFault>
-    ensures { result ≢ Err UsageFault.OutOfMemory
+    ensures { result ≢ Err (UsageFault.OutOfMemory no_memory)
         → map_ok (λ labels. labels.items) result ≡ spec.labels_of line 1 (map (λ word. word.now) words.now) }
 {
     let mut labels = Vec::new(alloc);
@@ -105,38 +107,38 @@ fn read_labels(
 }
 
 /// The command that a word is, where it is one without a fault.
-fn command_in(alloc: Global, word: &str) -> Result<Option<Command>, AllocError>
+fn command_in(alloc: Global, word: &str) -> Result<Option<Command>, NoMemory>
     ensures { IfOk result (λ command. command ≡ spec.command_in word.now) }
 {
     match read_command(alloc, word) {
         Ok(command) => Ok(command),
-        Err(CommandFault::OutOfMemory) => Err(AllocError),
+        Err(CommandFault::OutOfMemory(why)) => Err(why),
         Err(_) => Ok(None),
     }
 }
 
 /// The words that are commands.
-fn command_words<'a>(alloc: Global, words: &[&'a str]) -> Result<Vec<&'a str>, AllocError>
+fn command_words<'a>(alloc: Global, words: &[&'a str]) -> Result<Vec<&'a str>, NoMemory>
     ensures { IfOk result (λ commands. map (λ word. word.now) commands.items
         ≡ filter spec.is_command (map (λ word. word.now) words.now)) }
 {
     let mut commands = Vec::new(alloc);
     for &word in words {
         if command_in(alloc, word)?.is_some() {
-            commands.push(word)?;
+            push(&mut commands, word)?;
         }
     }
     Ok(commands)
 }
 
 /// The commands among the words. Other words are passed over.
-fn read_commands(alloc: Global, words: &[&str]) -> Result<Vec<Command>, AllocError>
+fn read_commands(alloc: Global, words: &[&str]) -> Result<Vec<Command>, NoMemory>
     ensures { IfOk result (λ commands. commands.items ≡ spec.commands_of (map (λ word. word.now) words.now)) }
 {
-    let mut commands = Vec::with_capacity(alloc, words.len())?;
+    let mut commands = with_room_for(alloc, words, 0)?;
     for word in words {
         if let Some(command) = command_in(alloc, *word)? {
-            commands.push(command)?;
+            push(&mut commands, command)?;
         }
     }
     Ok(commands)
@@ -147,14 +149,14 @@ fn passes_for(
     alloc: Global,
     commands: &[&str],
     labels: Vec<(Package, Target)>,
-) -> Result<Script, AllocError>
+) -> Result<Script, NoMemory>
     ensures { IfOk result (λ script. script.items
         ≡ map (spec.pass_for (spec.commands_of (map (λ word. word.now) commands.now))) labels.items) }
 {
-    let mut script = Vec::with_capacity(alloc, labels.len())?;
+    let mut script = with_room_for(alloc, labels, 0)?;
     for (package, target) in labels {
         let commands = read_commands(alloc, commands)?;
-        script.push((package, Pass { target, commands }))?;
+        push(&mut script, (package, Pass { target, commands }))?;
     }
     Ok(script)
 }

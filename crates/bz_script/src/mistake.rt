@@ -13,7 +13,7 @@ pub const DASHED_PACKAGE: &str =
 #[derive(Clone, Copy, Debug, PartialEq, Eq, Error)]
 pub enum Mistake {
     #[error("out of memory")]
-    OutOfMemory,
+    OutOfMemory(NoMemory),
 
     // A word that is no flag.
     #[error("no such flag; the flags are -k, -stdout, -quiet and -f FILE")]
@@ -139,7 +139,7 @@ impl Mistake {
     pub fn of_command(refused: &Refused, fault: CommandFault) -> Mistake {
         let word = refused.word.as_str();
         match fault {
-            CommandFault::OutOfMemory => Mistake::OutOfMemory,
+            CommandFault::OutOfMemory(why) => Mistake::OutOfMemory(why),
             CommandFault::WrongCount => of_count(word, refused.line),
             CommandFault::BadAttribute if prints_left_out(word) => Mistake::LeftOutField,
             CommandFault::BadAttribute => Mistake::BadAttribute,
@@ -160,7 +160,7 @@ impl Mistake {
             None => (word, ""),
         };
         match fault {
-            LabelFault::OutOfMemory => Mistake::OutOfMemory,
+            LabelFault::OutOfMemory(why) => Mistake::OutOfMemory(why),
             LabelFault::BadPackage => of_package(package),
             LabelFault::BadTarget => of_target(target),
         }

@@ -3,7 +3,8 @@
 ghost use Rattle.std.specs.Prelude.{◌≡◌, string_bytes, codes, IfOk};
 ghost use Rattle.bz_script.specs.Names.{in_folder};
 
-use std::alloc::{AllocError, Global};
+use bz_memory::{NoMemory, from_str, push_char, push_str};
+use std::alloc::Global;
 
 /// The paths at which a package's BUILD file may stand, in the order in which they are tried.
 #[derive(Drop)]
@@ -14,7 +15,7 @@ pub struct BuildFiles {
 
 impl BuildFiles {
     /// The paths in a folder, which is empty for the root (buildozer README: `BUILD.bazel` is tried before `BUILD`).
-    pub fn of(alloc: Global, folder: &str) -> Result<BuildFiles, AllocError>
+    pub fn of(alloc: Global, folder: &str) -> Result<BuildFiles, NoMemory>
         ensures first { IfOk result (λ files. string_bytes files.first ≡ in_folder folder.now (codes "BUILD.bazel")) }
         ensures second { IfOk result (λ files. string_bytes files.second ≡ in_folder folder.now (codes "BUILD")) }
     {
@@ -24,13 +25,13 @@ impl BuildFiles {
     }
 }
 
-fn in_folder(alloc: Global, folder: &str, name: &str) -> Result<String, AllocError>
+fn in_folder(alloc: Global, folder: &str, name: &str) -> Result<String, NoMemory>
     ensures { IfOk result (λ path. string_bytes path ≡ in_folder folder.now name.now) }
 {
-    let mut path = String::from_str(alloc, folder)?;
+    let mut path = from_str(alloc, folder)?;
     if !folder.is_empty() {
-        path.push('/')?;
+        push_char(&mut path, '/')?;
     }
-    path.push_str(name)?;
+    push_str(&mut path, name)?;
     Ok(path)
 }

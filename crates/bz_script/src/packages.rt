@@ -4,15 +4,16 @@ ghost use Rattle.std.specs.Prelude.{◌≡◌, ◌++◌, [], ◌∷◌, List, ma
 ghost use Rattle.bz_script.specs.Packages as spec;
 
 use bz_command::Package;
+use bz_memory::{NoMemory, push};
 use indexmap::IndexMap;
-use std::alloc::{AllocError, Global};
+use std::alloc::Global;
 use std::hash::Hash;
 
 /// The packages of a script in the order of their first mention, each with its passes in the script's order.
 pub fn by_package<T: Drop>(
     alloc: Global,
     script: Vec<(Package, T)>,
-) -> Result<IndexMap<Package, Vec<T>>, AllocError>
+) -> Result<IndexMap<Package, Vec<T>>, NoMemory>
     ensures { IfOk result (λ packages. map (λ e. (e.0, e.1.items)) packages.entries ≡ spec.by_package script.items) }
 {
     group_by_key(alloc, script)
@@ -22,7 +23,7 @@ pub fn by_package<T: Drop>(
 fn group_by_key<K: Eq + Hash + Drop, T: Drop>(
     alloc: Global,
     pairs: Vec<(K, T)>,
-) -> Result<IndexMap<K, Vec<T>>, AllocError>
+) -> Result<IndexMap<K, Vec<T>>, NoMemory>
     ensures { IfOk result (λ lists. map (λ e. (e.0, e.1.items)) lists.entries ≡ spec.by_key K.eq pairs.items) }
 {
     let mut lists = IndexMap::new(alloc);
@@ -38,17 +39,17 @@ fn append<K: Eq + Hash + Drop, T: Drop>(
     lists: &mut IndexMap<K, Vec<T>>,
     key: K,
     value: T,
-) -> Result<(), AllocError>
+) -> Result<(), NoMemory>
     // A map that has grouped some pairs has then grouped one pair more.
     ensures { OnOk result ((pairs : List (K × T))
         → map (λ e. (e.0, e.1.items)) lists.old.entries ≡ spec.by_key K.eq pairs
         → map (λ e. (e.0, e.1.items)) lists.new.entries ≡ spec.by_key K.eq (pairs ++ (key, value) ∷ [])) }
 {
     match lists.get_index_of(&key) {
-        Some(index) => lists[index].push(value)?,
+        Some(index) => push(&mut lists[index], value)?,
         None => {
             let mut values = Vec::new(alloc);
-            values.push(value)?;
+            push(&mut values, value)?;
             lists.insert(key, values)?;
         }
     }

@@ -3,7 +3,8 @@
 ghost use Rattle.std.specs.Prelude.{◌≡◌, IfOk};
 
 use bz_command::Text;
-use std::alloc::{AllocError, Global};
+use bz_memory::NoMemory;
+use std::alloc::Global;
 use std::fmt;
 use std::marker::Model;
 
@@ -26,7 +27,7 @@ impl Model for Quoted {
 }
 
 impl Quoted {
-    pub fn from_str(alloc: Global, text: &str) -> Result<Quoted, AllocError>
+    pub fn from_str(alloc: Global, text: &str) -> Result<Quoted, NoMemory>
         ensures { IfOk result (λ quoted. quoted ≡ text.now) }
     {
         let text = Text::from_str(alloc, text)?;

@@ -8,7 +8,8 @@ use crate::group::{Script, read_group};
 use crate::inputs::check_inputs;
 use crate::quoted::Quoted;
 use crate::usage::{StartFault, UsageFault};
-use std::alloc::{AllocError, Global};
+use bz_memory::{NoMemory, push, with_room_for};
+use std::alloc::Global;
 use std::fs::File;
 use std::io;
 use std::io::Read;
@@ -78,12 +79,12 @@ fn read_fault(error: io::Error, name: Quoted) -> StartFault {
 }
 
 /// The words as texts.
-fn texts<'a>(alloc: Global, words: &'a [String]) -> Result<Vec<&'a str>, AllocError>
+fn texts<'a>(alloc: Global, words: &'a [String]) -> Result<Vec<&'a str>, NoMemory>
     ensures { IfOk result (λ texts. map (λ text. text.now) texts.items ≡ map string_bytes words.now) }
 {
-    let mut texts = Vec::with_capacity(alloc, words.len())?;
+    let mut texts = with_room_for(alloc, words, 0)?;
     for word in words {
-        texts.push(word.as_str())?;
+        push(&mut texts, word.as_str())?;
     }
     Ok(texts)
 }

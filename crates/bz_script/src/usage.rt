@@ -6,8 +6,9 @@ ghost use Rattle.bz_script.specs.Refused.{refused};
 use crate::mistake::Mistake;
 use crate::quoted::Quoted;
 use bz_command::LabelFault;
+use bz_memory::NoMemory;
 use bz_rule::CommandFault;
-use std::alloc::{AllocError, AllocFailed, Global};
+use std::alloc::Global;
 use std::fmt;
 use thiserror::Error;
 
@@ -23,7 +24,7 @@ pub struct Refused {
 }
 
 impl Refused {
-    pub fn new(alloc: Global, line: u64, number: u64, word: &str) -> Result<Refused, AllocError>
+    pub fn new(alloc: Global, line: u64, number: u64, word: &str) -> Result<Refused, NoMemory>
         ensures { IfOk result (λ it. it ≡ refused line number word.now) }
     {
         let word = Quoted::from_str(alloc, word)?;
@@ -54,8 +55,8 @@ pub enum FlagFault {
 /// Why the words of the command line, or a command file, ask for nothing.
 #[derive(Debug, Drop, Error)]
 pub enum UsageFault {
-    #[error("{}", Mistake::OutOfMemory)]
-    OutOfMemory,
+    #[error("{}", Mistake::OutOfMemory(*why))]
+    OutOfMemory(NoMemory),
     #[error("{refused}: {}", Mistake::of_flag(refused, *fault))]
     Flag {
         refused: Refused,
@@ -123,23 +124,13 @@ impl<'a> fmt::Display for NoCommand<'a> {
     }
 }
 
-impl From<AllocError> for UsageFault {
+impl From<NoMemory> for UsageFault {
     ghost use Rattle.bz_script.specs.declared.usage.UsageFault.TheVariants.{OutOfMemory};
 
-    ghost from_gives = { λ _ e. e ≡ OutOfMemory };
+    ghost from_gives = { λ why e. e ≡ OutOfMemory why };
 
-    fn from(_: AllocError) -> UsageFault {
-        UsageFault::OutOfMemory
-    }
-}
-
-impl<T: Drop> From<AllocFailed<T>> for UsageFault {
-    ghost use Rattle.bz_script.specs.declared.usage.UsageFault.TheVariants.{OutOfMemory};
-
-    ghost from_gives = { λ _ e. e ≡ OutOfMemory };
-
-    fn from(_: AllocFailed<T>) -> UsageFault {
-        UsageFault::OutOfMemory
+    fn from(why: NoMemory) -> UsageFault {
+        UsageFault::OutOfMemory(why)
     }
 }
 

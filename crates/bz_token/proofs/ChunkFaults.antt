@@ -208,7 +208,7 @@ none_unclosed first depth c line col f ended =
 
 -- the first fault of logical lines is that of a text that begins with them, after the same pieces
 fault_at_front : (first depth : ℕ) (c r : List ℕ) (f : LexFault) → is_ended (run start c).inside ≡ true → ends_in_newline c ≡ true → (is : IsFault first depth c f) → (more : IsFault first depth (c ++ r) f) × (read_before first depth (c ++ r) f more ≡ read_before first depth c f is)
-fault_at_front first depth c r faults.OutOfMemory ended ends is = (is, refl)
+fault_at_front first depth c r (faults.OutOfMemory _) ended ends is = (is, refl)
 fault_at_front first depth c r (faults.BadCharacter line col) ended ends is =
     let h = place_newline first depth c (λ opened. IsBadCharacter) line col is ends is.bad.some in
     fault_more first depth c r (λ opened. IsBadCharacter) line col is h (character_more is.place r h is.bad)

@@ -74,7 +74,7 @@ unclosed_joined first depth a b ts line col x f =
 
 -- the first fault of a text after lines is that of the whole
 pub fault_after_lines : (first depth : ℕ) (a b : List ℕ) (ts : List Placed) (f : LexFault) → AreLinesOf first depth a ts → IsFault (line_at first a) depth b f → IsFault first depth (a ++ b) f
-fault_after_lines first depth a b ts faults.OutOfMemory x is = is
+fault_after_lines first depth a b ts (faults.OutOfMemory _) x is = is
 fault_after_lines first depth a b ts (faults.BadCharacter line col) x is = fault_joined first depth a b ts (λ opened. IsBadCharacter) line col x is
 fault_after_lines first depth a b ts (faults.BadNumber line col) x is = fault_joined first depth a b ts (λ opened. IsBadNumber) line col x is
 fault_after_lines first depth a b ts (faults.OpenText line col) x is = fault_joined first depth a b ts (λ opened. IsOpenText) line col x is

@@ -1,4 +1,5 @@
 -- What stands after lines is read as a text of its own.
+use Rattle.bz_memory.specs.NoMemory.{no_memory}
 use Rattle.std.proofs.Common.{◌≡◌, ℕ, List, [], ◌∷◌, ◌++◌, refl, sym, ap, ap₂, subst, ◌∙◌, arith, inl, inr}
 use Rattle.std.specs.Prelude.{Option, Some, None}
 use Rattle.std.specs.List.{concat}
@@ -53,7 +54,7 @@ rest_split first depth cs ds d bytes rest ts vs fault e t whole r =
     read_split first depth (concat cs) rest ts vs fault l.3 (subst (λ x. IsReadAs first depth x vs fault) whole r)
 
 -- where no chunk has a fault, all have tokens
-pub chunks_without_fault : (first depth : ℕ) (cs : List (List ℕ)) → ((before after : List (List ℕ)) (c : List ℕ) (f : LexFault) → cs ≡ before ++ c ∷ after → IsFault (line_at first (concat before)) depth c f → f ≡ OutOfMemory) → (ts : List Placed) × AreTokensOfChunks first depth cs ts
+pub chunks_without_fault : (first depth : ℕ) (cs : List (List ℕ)) → ((before after : List (List ℕ)) (c : List ℕ) (f : LexFault) → cs ≡ before ++ c ∷ after → IsFault (line_at first (concat before)) depth c f → f ≡ OutOfMemory no_memory) → (ts : List Placed) × AreTokensOfChunks first depth cs ts
 chunks_without_fault first depth [] none = ([], refl)
 chunks_without_fault first depth (c ∷ cs) none = elim (tokens_or_fault first depth c) [
   | inr f ↦ absurd (f.1 (none [] cs c f.0 refl (subst (λ line. IsFault line depth c f.0) (no_line first) f.2)))

@@ -1,4 +1,5 @@
 -- On which lines tokens and faults stand.
+use Rattle.bz_memory.specs.NoMemory.{no_memory}
 use Rattle.std.proofs.Common.{◌≡◌, ℕ, ◌<◌, ◌≤◌, ◌&&◌, List, [], ◌∷◌, ◌++◌, length, drop, Bool, true, false, refl, sym, ap, subst, ◌∙◌, arith, inl, inr, append_assoc, append-nil}
 use Rattle.std.specs.Prelude.{Option, Some, None, nat_le, nat_lt}
 use Rattle.std.specs.List.{list_all, filter}
@@ -84,8 +85,8 @@ fault_at_line first depth d IsBad line col f some =
     ap (is_line_of first d) f.line_is ∙ place_line first d (bytes_of f.pieces ++ f.gap) f.place whole some
 
 -- and so does its fault
-pub fault_line : (first depth : ℕ) (d : List ℕ) (f : LexFault) → (f ≡ faults.OutOfMemory → ⊥) → IsFault first depth d f → is_line_of first d (line_of f) ≡ true
-fault_line first depth d faults.OutOfMemory some is = absurd (some refl)
+pub fault_line : (first depth : ℕ) (d : List ℕ) (f : LexFault) → (f ≡ faults.OutOfMemory no_memory → ⊥) → IsFault first depth d f → is_line_of first d (line_of f) ≡ true
+fault_line first depth d (faults.OutOfMemory _) some is = absurd (some refl)
 fault_line first depth d (faults.BadCharacter line col) some is = fault_at_line first depth d _ line col is (character_sort depth (open_after [] is.pieces) is.place is.bad).some
 fault_line first depth d (faults.BadNumber line col) some is = fault_at_line first depth d _ line col is (number_sort depth (open_after [] is.pieces) is.place is.bad).some
 fault_line first depth d (faults.OpenText line col) some is = fault_at_line first depth d _ line col is (open_text_sort depth (open_after [] is.pieces) is.place is.bad).some

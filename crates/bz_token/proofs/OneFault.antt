@@ -1,4 +1,5 @@
 -- A text has one list of tokens or one first fault.
+use Rattle.bz_memory.specs.NoMemory.{no_memory}
 use Rattle.std.proofs.Common.{◌≡◌, ℕ, ◌<◌, ◌≤◌, ◌==◌, ◌||◌, List, [], ◌∷◌, ◌++◌, length, Bool, true, false, not, refl, sym, ap, ap₂, subst, ◌∙◌, arith, inl, inr, length-append, append-nil}
 use Rattle.std.specs.Prelude.{Option, Some, None, is_some, nat_lt, if◌then◌else◌}
 use Rattle.std.specs.Char.{is_ascii_digit}
@@ -47,7 +48,7 @@ told too_deep line col = faults.TooDeep line col
 told bad_character line col = faults.BadCharacter line col
 
 abbrev pub told_open : List Placed → LexFault
-told_open [] = faults.OutOfMemory
+told_open [] = faults.OutOfMemory no_memory
 told_open (t ∷ ts) = faults.OpenBracket t.line t.col
 
 -- the fault after pieces and a gap
@@ -257,8 +258,8 @@ told_unclosed first depth bytes line col f = record {
   is = ap₂ faults.OpenBracket f.line_is f.col_is ∙ sym (ap told_open f.opened);
 }
 
-pub fault_told : (first depth : ℕ) (bytes : List ℕ) (f : LexFault) → IsFault first depth bytes f → (f ≡ faults.OutOfMemory → ⊥) → IsToldAt first depth bytes f
-fault_told first depth bytes faults.OutOfMemory is some = absurd (some refl)
+pub fault_told : (first depth : ℕ) (bytes : List ℕ) (f : LexFault) → IsFault first depth bytes f → (f ≡ faults.OutOfMemory no_memory → ⊥) → IsToldAt first depth bytes f
+fault_told first depth bytes (faults.OutOfMemory _) is some = absurd (some refl)
 fault_told first depth bytes (faults.BadCharacter line col) is some = told_at first depth bytes (λ opened. IsBadCharacter) line col bad_character (character_sort depth) is
 fault_told first depth bytes (faults.BadNumber line col) is some = told_at first depth bytes (λ opened. IsBadNumber) line col bad_number (number_sort depth) is
 fault_told first depth bytes (faults.OpenText line col) is some = told_at first depth bytes (λ opened. IsOpenText) line col open_text (open_text_sort depth) is
@@ -291,7 +292,7 @@ same_told first depth bytes f g a b =
     a.is ∙ ap (λ ps. fault_of first ps a.gap a.place) one.0 ∙ ap₂ (fault_of first b.pieces) places.0 places.1 ∙ sym b.is
 
 -- a text has one first fault
-pub one_fault : (first depth : ℕ) (bytes : List ℕ) (f g : LexFault) → (f ≡ faults.OutOfMemory → ⊥) → (g ≡ faults.OutOfMemory → ⊥) → IsFault first depth bytes f → IsFault first depth bytes g → f ≡ g
+pub one_fault : (first depth : ℕ) (bytes : List ℕ) (f g : LexFault) → (f ≡ faults.OutOfMemory no_memory → ⊥) → (g ≡ faults.OutOfMemory no_memory → ⊥) → IsFault first depth bytes f → IsFault first depth bytes g → f ≡ g
 one_fault first depth bytes f g some some2 a b = same_told first depth bytes f g (fault_told first depth bytes f a some) (fault_told first depth bytes g b some2)
 
 -- a text has one list of tokens
@@ -301,7 +302,7 @@ one_tokens first depth bytes ts us a b =
     a.5 ∙ ap (tokens_of first [] []) one.0 ∙ sym b.5
 
 -- a text with tokens has no fault
-pub no_fault : (first depth : ℕ) (bytes : List ℕ) (ts : List Placed) (f : LexFault) → AreTokensOf first depth bytes ts → IsFault first depth bytes f → (f ≡ faults.OutOfMemory → ⊥) → ⊥
+pub no_fault : (first depth : ℕ) (bytes : List ℕ) (ts : List Placed) (f : LexFault) → AreTokensOf first depth bytes ts → IsFault first depth bytes f → (f ≡ faults.OutOfMemory no_memory → ⊥) → ⊥
 no_fault first depth bytes ts f a is some =
     let b = fault_told first depth bytes f is some in
     let one = one_reading depth [] a.0 b.pieces a.1 (b.gap ++ b.place) bytes a.2 (gap_stuck depth (open_after [] a.0) a.1 (ap (λ o. is_gap (is_inside o) a.1) a.4 ∙ a.3)) b.reading b.stuck in
@@ -311,8 +312,8 @@ no_fault first depth bytes ts f a is some =
     let lengths = open_lengths first [] [] [] [] b.pieces refl in
     omega (arith, b.unclosed (sym (ap length places.1)), lengths, ap length none)
 
-pub no_fault_but_memory : (first depth : ℕ) (bytes : List ℕ) (ts : List Placed) (f : LexFault) → AreTokensOf first depth bytes ts → IsFault first depth bytes f → f ≡ faults.OutOfMemory
-no_fault_but_memory first depth bytes ts faults.OutOfMemory a is = refl
+pub no_fault_but_memory : (first depth : ℕ) (bytes : List ℕ) (ts : List Placed) (f : LexFault) → AreTokensOf first depth bytes ts → IsFault first depth bytes f → f ≡ faults.OutOfMemory no_memory
+no_fault_but_memory first depth bytes ts (faults.OutOfMemory _) a is = refl
 no_fault_but_memory first depth bytes ts (faults.BadCharacter line col) a is = absurd (no_fault first depth bytes ts (faults.BadCharacter line col) a is (λ e. cc))
 no_fault_but_memory first depth bytes ts (faults.BadNumber line col) a is = absurd (no_fault first depth bytes ts (faults.BadNumber line col) a is (λ e. cc))
 no_fault_but_memory first depth bytes ts (faults.OpenText line col) a is = absurd (no_fault first depth bytes ts (faults.OpenText line col) a is (λ e. cc))

@@ -1,4 +1,5 @@
 -- A text is read in one way up to its first fault.
+use Rattle.bz_memory.specs.NoMemory.{no_memory}
 use Rattle.std.proofs.Common.{◌≡◌, ℕ, ◌⊎◌, List, [], ◌++◌, refl, sym, ap, ◌∙◌, inl, inr}
 use Rattle.std.specs.Prelude.{◌↔◌, Option, Some, None}
 use Rattle.bz_token.specs.declared.fault.LexFault.{LexFault}
@@ -15,8 +16,8 @@ use Rattle.bz_token.proofs.SomeReading.{some_reading}
 abbrev pub StopsAfter : ℕ → List ℕ → List Piece → Type 0
 StopsAfter depth bytes ps = (rest : List ℕ) × IsReading depth [] ps rest bytes × IsStuck depth (open_after [] ps) rest
 
-pub read_stops : (first depth : ℕ) (bytes : List ℕ) (f : LexFault) (is : IsFault first depth bytes f) → (f ≡ faults.OutOfMemory → ⊥) → StopsAfter depth bytes (read_before first depth bytes f is)
-read_stops first depth bytes faults.OutOfMemory is some = absurd (some refl)
+pub read_stops : (first depth : ℕ) (bytes : List ℕ) (f : LexFault) (is : IsFault first depth bytes f) → (f ≡ faults.OutOfMemory no_memory → ⊥) → StopsAfter depth bytes (read_before first depth bytes f is)
+read_stops first depth bytes (faults.OutOfMemory _) is some = absurd (some refl)
 read_stops first depth bytes (faults.BadCharacter line col) is some = (is.gap ++ is.place, is.reading, place_stuck depth (open_after [] is.pieces) is.gap is.place is.is_gap is.after_gap (character_sort depth (open_after [] is.pieces) is.place is.bad).never)
 read_stops first depth bytes (faults.BadNumber line col) is some = (is.gap ++ is.place, is.reading, place_stuck depth (open_after [] is.pieces) is.gap is.place is.is_gap is.after_gap (number_sort depth (open_after [] is.pieces) is.place is.bad).never)
 read_stops first depth bytes (faults.OpenText line col) is some = (is.gap ++ is.place, is.reading, place_stuck depth (open_after [] is.pieces) is.gap is.place is.is_gap is.after_gap (open_text_sort depth (open_after [] is.pieces) is.place is.bad).never)
@@ -29,7 +30,7 @@ pub same_pieces : (depth : ℕ) (bytes : List ℕ) (ps qs : List Piece) → Stop
 same_pieces depth bytes ps qs a b = (one_reading depth [] ps qs a.0 b.0 bytes a.1 a.2 b.1 b.2).0
 
 -- pieces after which no further one stands are those before the fault
-pub tokens_before : (first depth : ℕ) (bytes : List ℕ) (f : LexFault) (is : IsFault first depth bytes f) → (f ≡ faults.OutOfMemory → ⊥) → (ps : List Piece) → StopsAfter depth bytes ps → tokens_of first [] [] ps ≡ tokens_of first [] [] (read_before first depth bytes f is)
+pub tokens_before : (first depth : ℕ) (bytes : List ℕ) (f : LexFault) (is : IsFault first depth bytes f) → (f ≡ faults.OutOfMemory no_memory → ⊥) → (ps : List Piece) → StopsAfter depth bytes ps → tokens_of first [] [] ps ≡ tokens_of first [] [] (read_before first depth bytes f is)
 tokens_before first depth bytes f is some ps stops = ap (tokens_of first [] []) (same_pieces depth bytes ps (read_before first depth bytes f is) stops (read_stops first depth bytes f is some))
 
 -- a text is read in one way
@@ -45,13 +46,13 @@ one_way first depth bytes ts us (Some f) (Some g) a b = (
 pub whole_read : (first depth : ℕ) (bytes : List ℕ) (ts : List Placed) → (AreTokensOf first depth bytes ts ↔ IsReadAs first depth bytes ts None)
 whole_read first depth bytes ts = (λ h. h, λ h. h)
 
-pub fault_read : (first depth : ℕ) (bytes : List ℕ) (f : LexFault) → (f ≡ faults.OutOfMemory → ⊥) → (IsFault first depth bytes f ↔ ((ts : List Placed) × IsReadAs first depth bytes ts (Some f)))
+pub fault_read : (first depth : ℕ) (bytes : List ℕ) (f : LexFault) → (f ≡ faults.OutOfMemory no_memory → ⊥) → (IsFault first depth bytes f ↔ ((ts : List Placed) × IsReadAs first depth bytes ts (Some f)))
 fault_read first depth bytes f some = (λ is. (tokens_of first [] [] (read_before first depth bytes f is), (some, is, refl)), λ h. h.1.1)
 
 -- a text has tokens or a fault
-pub tokens_or_fault : (first depth : ℕ) (bytes : List ℕ) → ((ts : List Placed) × AreTokensOf first depth bytes ts) ⊎ ((f : LexFault) × (f ≡ faults.OutOfMemory → ⊥) × IsFault first depth bytes f)
+pub tokens_or_fault : (first depth : ℕ) (bytes : List ℕ) → ((ts : List Placed) × AreTokensOf first depth bytes ts) ⊎ ((f : LexFault) × (f ≡ faults.OutOfMemory no_memory → ⊥) × IsFault first depth bytes f)
 tokens_or_fault first depth bytes = by_fault (some_reading first depth bytes).0 (some_reading first depth bytes).1 (some_reading first depth bytes).2
   where
-    by_fault : (ts : List Placed) (fault : Option LexFault) → IsReadAs first depth bytes ts fault → ((ts : List Placed) × AreTokensOf first depth bytes ts) ⊎ ((f : LexFault) × (f ≡ faults.OutOfMemory → ⊥) × IsFault first depth bytes f)
+    by_fault : (ts : List Placed) (fault : Option LexFault) → IsReadAs first depth bytes ts fault → ((ts : List Placed) × AreTokensOf first depth bytes ts) ⊎ ((f : LexFault) × (f ≡ faults.OutOfMemory no_memory → ⊥) × IsFault first depth bytes f)
     by_fault ts None r = inl (ts, r)
     by_fault ts (Some f) r = inr (f, r.0, r.1)

@@ -65,7 +65,7 @@ pub record IsOpenBracket (first depth : ℕ) (bytes : List ℕ) (line col : ℕ)
 
 -- The first fault of the text from left to right; want of memory is none of the text's.
 abbrev pub IsFault : ℕ → ℕ → List ℕ → LexFault → Type 0
-IsFault first depth bytes OutOfMemory = Unit {0}
+IsFault first depth bytes (OutOfMemory _) = Unit {0}
 IsFault first depth bytes (BadCharacter line col) = IsFaultAt first depth bytes (λ opened. IsBadCharacter) line col
 IsFault first depth bytes (BadNumber line col) = IsFaultAt first depth bytes (λ opened. IsBadNumber) line col
 IsFault first depth bytes (OpenText line col) = IsFaultAt first depth bytes (λ opened. IsOpenText) line col

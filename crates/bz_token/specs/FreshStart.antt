@@ -39,7 +39,7 @@ abbrev pub tokens_on_lines : ℕ → List ℕ → List Placed → List Placed
 tokens_on_lines first bytes tokens = filter (λ t. is_line_of first bytes t.line) tokens
 
 abbrev pub line_of : LexFault → ℕ
-line_of OutOfMemory = 0
+line_of (OutOfMemory _) = 0
 line_of (BadCharacter line col) = line
 line_of (BadNumber line col) = line
 line_of (OpenText line col) = line

@@ -1,4 +1,5 @@
 -- What a text is read as: its tokens up to its first lexical fault, and that fault, if it has one.
+use Rattle.bz_memory.specs.NoMemory.{no_memory}
 use Rattle.std.specs.Prelude.{◌≡◌, ℕ, List, [], Option, Some, None}
 use Rattle.bz_token.specs.declared.fault.LexFault.{LexFault}
 use Rattle.bz_token.specs.declared.fault.LexFault.TheVariants.{OutOfMemory, BadCharacter, BadNumber, OpenText, BadBracket, OpenBracket, TooDeep, BadBackslash}
@@ -9,7 +10,7 @@ use Rattle.bz_token.specs.Faults.{IsFault}
 -- The gaps and tokens after which a text has its fault. An open bracket is told at the end of a text that has no other
 -- fault, so all its tokens stand before that fault.
 abbrev pub read_before : (first depth : ℕ) (bytes : List ℕ) (fault : LexFault) → IsFault first depth bytes fault → List Piece
-read_before first depth bytes OutOfMemory is = []
+read_before first depth bytes (OutOfMemory _) is = []
 read_before first depth bytes (BadCharacter line col) is = is.pieces
 read_before first depth bytes (BadNumber line col) is = is.pieces
 read_before first depth bytes (OpenText line col) is = is.pieces
@@ -23,4 +24,4 @@ read_before first depth bytes (BadBackslash line col) is = is.pieces
 abbrev pub IsReadAs : ℕ → ℕ → List ℕ → List Placed → Option LexFault → Type 0
 IsReadAs first depth bytes tokens None = AreTokensOf first depth bytes tokens
 IsReadAs first depth bytes tokens (Some fault) =
-    (fault ≡ OutOfMemory → ⊥) × (is : IsFault first depth bytes fault) × (tokens ≡ tokens_of first [] [] (read_before first depth bytes fault is))
+    (fault ≡ OutOfMemory no_memory → ⊥) × (is : IsFault first depth bytes fault) × (tokens ≡ tokens_of first [] [] (read_before first depth bytes fault is))

@@ -12,7 +12,7 @@ use crate::lexer::{Cursor, Lexer};
 use crate::token::{Kind, Token};
 use bumpalo::Bump;
 use bumpalo::collections::into_bump_slice;
-use std::alloc::AllocError;
+use bz_memory::NoMemory;
 
 /// The chunk that a text begins with, and its tokens, a list in the caller's arena.
 #[derive(Clone, Copy)]
@@ -113,7 +113,7 @@ pub fn first_chunk<'a>(
     text: &'a str,
     first_line: u64,
     max_depth: u8,
-) -> Result<Front<'a>, AllocError>
+) -> Result<Front<'a>, NoMemory>
     requires { first_line + count_by (λ b. b == 10) text.now < 2 ^ 64 }
     ensures front { IfOk result (IsFront first_line max_depth text.now) }
 {
@@ -124,7 +124,7 @@ pub fn first_chunk<'a>(
     while !cursor.rest.is_empty() {
         let (next, ends) = match lexer.read_line(cursor, max_depth, usize::MAX) {
             Ok(passed) => passed,
-            Err(LexFault::OutOfMemory) => return Err(AllocError),
+            Err(LexFault::OutOfMemory(why)) => return Err(why),
             Err(fault) => return Ok(short_if(is_open_on(fault, cursor.end_line()))),
         };
         if !ends {

@@ -1,14 +1,15 @@
 //! Why a text has no tokens.
 
+use bz_memory::NoMemory;
+
 ghost use Rattle.std.specs.Prelude.{◌≡◌};
 
-use std::alloc::{AllocError, AllocFailed};
 
 /// Why a text has no tokens: its first fault from left to right, with the line and the column of its first byte, or that
 /// allocation failed. The caller gives the number of the text's first line; columns are in bytes, from 1.
 #[derive(Clone, Copy, Debug, PartialEq, Eq)]
 pub enum LexFault {
-    OutOfMemory,
+    OutOfMemory(NoMemory),
     /// No token begins with the character here.
     BadCharacter { line: u64, col: u64 },
     /// Letters and digits that are no number begin here.
@@ -25,22 +26,12 @@ pub enum LexFault {
     BadBackslash { line: u64, col: u64 },
 }
 
-impl From<AllocError> for LexFault {
+impl From<NoMemory> for LexFault {
     ghost use Rattle.bz_token.specs.declared.fault.LexFault.TheVariants.{OutOfMemory};
 
-    ghost from_gives = { λ _ e. e ≡ OutOfMemory };
+    ghost from_gives = { λ why e. e ≡ OutOfMemory why };
 
-    fn from(_: AllocError) -> LexFault {
-        LexFault::OutOfMemory
-    }
-}
-
-impl<T: Drop> From<AllocFailed<T>> for LexFault {
-    ghost use Rattle.bz_token.specs.declared.fault.LexFault.TheVariants.{OutOfMemory};
-
-    ghost from_gives = { λ _ e. e ≡ OutOfMemory };
-
-    fn from(_: AllocFailed<T>) -> LexFault {
-        LexFault::OutOfMemory
+    fn from(why: NoMemory) -> LexFault {
+        LexFault::OutOfMemory(why)
     }
 }

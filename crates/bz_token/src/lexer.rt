@@ -20,7 +20,7 @@ use crate::scan_token::{Bad, GapOrToken, scan_bracket, step_at};
 use crate::token::{Kind, Token};
 use bumpalo::Bump;
 use bumpalo::collections::into_bump_slice;
-use std::alloc::AllocError;
+use bz_memory::{NoMemory, push, with_capacity};
 
 /// The place after a token.
 #[inline(always)]
@@ -142,11 +142,11 @@ pub struct Lexer<'b, 'a> {
 impl<'b, 'a> Lexer<'b, 'a> {
     /// Nothing is read yet.
     #[inline(always)]
-    pub fn new(bump: &'b Bump, capacity: usize) -> Result<Lexer<'b, 'a>, AllocError>
+    pub fn new(bump: &'b Bump, capacity: usize) -> Result<Lexer<'b, 'a>, NoMemory>
         ensures { IfOk result (λ lexer. (lexer.tokens.items ≡ []) × (opened lexer.brackets ≡ [])) }
     {
         Ok(Lexer {
-            tokens: Vec::with_capacity(bump, capacity)?,
+            tokens: with_capacity(bump, capacity)?,
             brackets: Brackets::new(),
         })
     }
@@ -221,7 +221,7 @@ impl<'b, 'a> Lexer<'b, 'a> {
             Ok(GapOrToken::Token(scanned)) => {
                 let Position { line, col } = place;
                 let (token, following) = rest.split_at(scanned.len);
-                self.tokens.push(Token {
+                push(&mut self.tokens, Token {
                     kind: scanned.kind,
                     text: token,
                     line,

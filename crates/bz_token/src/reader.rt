@@ -9,7 +9,7 @@ use crate::fault::LexFault;
 use crate::lexer::{Cursor, Lexer};
 use crate::token::Token;
 use bumpalo::Bump;
-use std::alloc::AllocError;
+use bz_memory::NoMemory;
 
 // So many tokens are a batch, or fewer.
 const MOST: usize = 256;
@@ -30,7 +30,7 @@ impl<'b, 'a> TokenReader<'b, 'a> {
         text: &'a str,
         first_line: u64,
         max_depth: u8,
-    ) -> Result<TokenReader<'b, 'a>, AllocError>
+    ) -> Result<TokenReader<'b, 'a>, NoMemory>
         requires { first_line + count_by (λ b. b == 10) text.now < 2 ^ 64 }
         ensures { IfOk result (HasGiven first_line max_depth text.now []) }
     {
@@ -56,7 +56,7 @@ impl<'b, 'a> TokenReader<'b, 'a> {
     }
 
     /// Reads the next batch, in place of the last. False: the text has a lexical fault. `Err`: allocation failed.
-    pub fn read(&mut self) -> Result<bool, AllocError>
+    pub fn read(&mut self) -> Result<bool, NoMemory>
         requires some { 0 < left self.old }
         requires reader { (first : ℕ) × (depth : ℕ) × (text : List ℕ) × (given : List Placed)
             × HasGiven first depth text given self.old }
@@ -71,7 +71,7 @@ impl<'b, 'a> TokenReader<'b, 'a> {
                 self.cursor = cursor;
                 Ok(true)
             }
-            Err(LexFault::OutOfMemory) => Err(AllocError),
+            Err(LexFault::OutOfMemory(why)) => Err(why),
             Err(_) => Ok(false),
         }
     }

@@ -52,7 +52,7 @@ pub record IsNoStatement (first : ℕ) (bytes : List ℕ) (tokens : List Placed)
 
 -- the fault of a chunk with these tokens
 abbrev pub IsTokenFault : ℕ → List ℕ → List Placed → ParseFault → Type 0
-IsTokenFault first bytes tokens OutOfMemory = Unit {0}
+IsTokenFault first bytes tokens (OutOfMemory _) = Unit {0}
 IsTokenFault first bytes tokens (Lex fault) = ⊥
 IsTokenFault first bytes tokens (Indented line) = indent_fault tokens ≡ Some line
 IsTokenFault first bytes tokens (NotAStatement line) = IsNoStatement first bytes tokens line
@@ -82,6 +82,6 @@ IsLexical fault = Unit {0}
 -- The first fault of a chunk: lexical faults come before wrong indents, and these before the grammar. Want of memory is none of the
 -- chunk's.
 abbrev pub IsFaultIn : ℕ → ℕ → List ℕ → ParseFault → Type 0
-IsFaultIn first depth bytes OutOfMemory = Unit {0}
+IsFaultIn first depth bytes (OutOfMemory _) = Unit {0}
 IsFaultIn first depth bytes (Lex fault) = IsFault first depth bytes fault × IsLexical fault
 IsFaultIn first depth bytes fault = HasTokenFault first depth bytes fault

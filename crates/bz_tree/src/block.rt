@@ -12,8 +12,9 @@ ghost use Rattle.bz_tree.specs.Borrowed.{owned_in};
 
 use crate::kinds::{Mark, mark_of};
 use crate::span::last_token;
+use bz_memory::{NoMemory, push};
 use bz_token::{Kind, Token};
-use std::alloc::{AllocError, Global};
+use std::alloc::Global;
 use std::borrow::CowStr;
 
 /// Whether the token begins a block.
@@ -53,7 +54,7 @@ fn popped(columns: &mut Vec<u64>, column: u64) -> bool
 }
 
 // False: the column is not to the right of the line above.
-fn pushed(columns: &mut Vec<u64>, column: u64) -> Result<bool, AllocError>
+fn pushed(columns: &mut Vec<u64>, column: u64) -> Result<bool, NoMemory>
     ensures { IfOk result (λ some. then_some some (reverse columns.new.items)
         ≡ pushed column (reverse columns.old.items)) }
 {
@@ -62,12 +63,12 @@ fn pushed(columns: &mut Vec<u64>, column: u64) -> Result<bool, AllocError>
             return Ok(false);
         }
     }
-    columns.push(column)?;
+    push(columns, column)?;
     Ok(true)
 }
 
 // False: a line is indented wrongly.
-fn indented(opens: bool, column: u64, columns: &mut Vec<u64>) -> Result<bool, AllocError>
+fn indented(opens: bool, column: u64, columns: &mut Vec<u64>) -> Result<bool, NoMemory>
     ensures { IfOk result (λ some. then_some some (reverse columns.new.items)
         ≡ indented opens column (reverse columns.old.items)) }
 {
@@ -78,7 +79,7 @@ fn indented(opens: bool, column: u64, columns: &mut Vec<u64>) -> Result<bool, Al
     }
 }
 
-fn next_counted(lines: &mut Indents, token: &Token<'_>) -> Result<bool, AllocError>
+fn next_counted(lines: &mut Indents, token: &Token<'_>) -> Result<bool, NoMemory>
     ensures { IfOk result (λ some. then_some some (lines_view lines.new)
         ≡ next_counted lines.old.inside (placed token.now) (lines_view lines.old)) }
 {
@@ -91,7 +92,7 @@ fn next_counted(lines: &mut Indents, token: &Token<'_>) -> Result<bool, AllocErr
 }
 
 // The lines after a token. False: it is indented wrongly.
-fn next_indent(lines: &mut Indents, token: &Token<'_>) -> Result<bool, AllocError>
+fn next_indent(lines: &mut Indents, token: &Token<'_>) -> Result<bool, NoMemory>
     ensures { IfOk result (λ some. then_some some (lines_view lines.new)
         ≡ next_indent (mark_of (placed token.now)) (placed token.now) (lines_view lines.old)) }
 {
@@ -105,11 +106,11 @@ fn next_indent(lines: &mut Indents, token: &Token<'_>) -> Result<bool, AllocErro
     }
 }
 
-fn first_lines(alloc: Global) -> Result<Indents, AllocError>
+fn first_lines(alloc: Global) -> Result<Indents, NoMemory>
     ensures { IfOk result (λ i. lines_view i ≡ first_lines) }
 {
     let mut columns = Vec::new(alloc);
-    columns.push(1)?;
+    push(&mut columns, 1)?;
     Ok(Indents {
         columns,
         opens: false,
@@ -118,7 +119,7 @@ fn first_lines(alloc: Global) -> Result<Indents, AllocError>
 }
 
 /// The line of the first logical line of a block that is indented wrongly.
-pub(crate) fn block_indent(alloc: Global, tokens: &[Token<'_>]) -> Result<Option<u64>, AllocError>
+pub(crate) fn block_indent(alloc: Global, tokens: &[Token<'_>]) -> Result<Option<u64>, NoMemory>
     ensures { IfOk result (λ o. o ≡ block_indent (map placed tokens.now)) }
 {
     let mut lines = first_lines(alloc)?;
@@ -177,14 +178,14 @@ pub(crate) fn is_block(tokens: &[Token<'_>]) -> bool
 pub(crate) fn comments_above<'a>(
     alloc: Global,
     tokens: &[Token<'a>],
-) -> Result<Vec<CowStr<'a>>, AllocError>
+) -> Result<Vec<CowStr<'a>>, NoMemory>
     ensures value { IfOk result (λ v. texts v.items ≡ above (map placed tokens.now)) }
     ensures borrowed { IfOk result (λ v. owned_in v.items ≡ 0) }
 {
     let mut comments = Vec::new(alloc);
     for token in tokens {
         match mark_of(token) {
-            Mark::Comment => comments.push(CowStr::Borrowed(token.text))?,
+            Mark::Comment => push(&mut comments, CowStr::Borrowed(token.text))?,
             Mark::Newline => {}
             _ => return Ok(comments),
         }

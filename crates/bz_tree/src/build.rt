@@ -20,8 +20,9 @@ use crate::kinds::{
 };
 use crate::owners::{Content, Walk};
 use crate::stmt::{Group, GroupKind, Leaf, Node, Seg};
+use bz_memory::{NoMemory, append, push};
 use bz_token::Token;
-use std::alloc::{AllocError, Global};
+use std::alloc::Global;
 use std::borrow::CowStr;
 use std::mem;
 
@@ -53,7 +54,7 @@ fn leaf_of<'a>(token: &Token<'a>) -> Leaf<'a>
 
 // None: a segment is empty.
 #[inline(always)]
-fn closed<'a>(kind: GroupKind, walk: Walk<'a>) -> Result<Option<Group<'a>>, AllocError>
+fn closed<'a>(kind: GroupKind, walk: Walk<'a>) -> Result<Option<Group<'a>>, NoMemory>
     ensures value { IfOk result (λ o. option_map group_view o ≡ closed (Some kind) (so_far walk.entry)) }
     ensures borrowed { IfOk result (λ o. IfSome o (λ g. group_owned g ≤ walk_owned walk.entry)) }
 {
@@ -107,7 +108,7 @@ impl<'a> Frame<'a> {
     }
 
     #[inline(always)]
-    fn add_leaf(&mut self, token: &Token<'a>) -> Result<(), AllocError>
+    fn add_leaf(&mut self, token: &Token<'a>) -> Result<(), NoMemory>
         ensures value { OnOk result (level self.new ≡ with_own (level self.old) (own_of Plain (placed token.now))) }
         ensures borrowed { OnOk result (frame_owned self.new ≤ frame_owned self.old) }
     {
@@ -118,7 +119,7 @@ impl<'a> Frame<'a> {
     }
 
     #[inline(always)]
-    fn add_comma(&mut self, alloc: Global, token: &Token<'a>) -> Result<(), AllocError>
+    fn add_comma(&mut self, alloc: Global, token: &Token<'a>) -> Result<(), NoMemory>
         ensures value { OnOk result (level self.new ≡ with_own (level self.old) (own_of Comma (placed token.now))) }
         ensures borrowed { OnOk result (frame_owned self.new ≤ frame_owned self.old) }
     {
@@ -132,7 +133,7 @@ impl<'a> Frame<'a> {
     }
 
     #[inline(always)]
-    fn add_comment(&mut self, token: &Token<'a>) -> Result<(), AllocError>
+    fn add_comment(&mut self, token: &Token<'a>) -> Result<(), NoMemory>
         ensures value { OnOk result (level self.new ≡ with_own (level self.old) (own_of Comment (placed token.now))) }
         ensures borrowed { OnOk result (frame_owned self.new ≤ frame_owned self.old) }
     {
@@ -141,7 +142,7 @@ impl<'a> Frame<'a> {
     }
 
     #[inline(always)]
-    fn add_group(&mut self, group: Group<'a>, line: u64) -> Result<(), AllocError>
+    fn add_group(&mut self, group: Group<'a>, line: u64) -> Result<(), NoMemory>
         ensures value { OnOk result (level self.new ≡ with_own (level self.old) (node line (group_view group.entry))) }
         ensures borrowed { OnOk result (frame_owned self.new ≤ frame_owned self.old + group_owned group.entry) }
     {
@@ -152,7 +153,7 @@ impl<'a> Frame<'a> {
 
 impl<'a> State<'a> {
     #[inline(always)]
-    fn open(&mut self, alloc: Global, shape: Shape) -> Result<(), AllocError>
+    fn open(&mut self, alloc: Global, shape: Shape) -> Result<(), NoMemory>
         ensures value { OnOk result (state self.new ≡ (
           new_level (Some (group_kind shape self.old.top.at false)),
           level self.old.top ∷ levels self.old.outer.items,
@@ -160,12 +161,12 @@ impl<'a> State<'a> {
         ensures borrowed { OnOk result (state_owned self.new ≤ state_owned self.old) }
     {
         let frame = Frame::new(alloc, Some(group_kind(shape, self.top.at, false)));
-        self.outer.push(mem::replace(&mut self.top, frame))?;
+        push(&mut self.outer, mem::replace(&mut self.top, frame))?;
         Ok(())
     }
 
     // False: no bracket of this shape is open, or a segment is empty.
-    fn close(&mut self, shape: Shape, token: &Token<'a>) -> Result<bool, AllocError>
+    fn close(&mut self, shape: Shape, token: &Token<'a>) -> Result<bool, NoMemory>
         ensures value { IfOk result (λ some. then_some some (state self.new)
             ≡ next_at (Close shape) (placed token.now) (level self.old.top) (levels self.old.outer.items)) }
         ensures borrowed { OnOk result (state_owned self.new ≤ state_owned self.old) }
@@ -189,7 +190,7 @@ impl<'a> State<'a> {
 
     // False: there is no tree.
     #[inline(always)]
-    fn step(&mut self, alloc: Global, token: &Token<'a>) -> Result<bool, AllocError>
+    fn step(&mut self, alloc: Global, token: &Token<'a>) -> Result<bool, NoMemory>
         ensures value { IfOk result (λ some. then_some some (state self.new)
             ≡ next (placed token.now) (state self.old)) }
         ensures borrowed { OnOk result (state_owned self.new ≤ state_owned self.old) }
@@ -206,7 +207,7 @@ impl<'a> State<'a> {
     }
 
     // The steps over all tokens. False: there is no tree.
-    fn walk(&mut self, alloc: Global, tokens: &[Token<'a>]) -> Result<bool, AllocError>
+    fn walk(&mut self, alloc: Global, tokens: &[Token<'a>]) -> Result<bool, NoMemory>
         ensures value { IfOk result (λ some. option_and_then finished (then_some some (state self.new))
             ≡ run (level self.old.top) (levels self.old.outer.items) (map placed tokens.now)) }
         ensures borrowed { OnOk result (state_owned self.new ≤ state_owned self.old) }
@@ -220,7 +221,7 @@ impl<'a> State<'a> {
     }
 
     // None: a bracket is open, or a segment is empty.
-    fn finish(self, alloc: Global) -> Result<Option<Seg<'a>>, AllocError>
+    fn finish(self, alloc: Global) -> Result<Option<Seg<'a>>, NoMemory>
         ensures value { IfOk result (λ o. option_map seg_view o ≡ finished (state self.entry)) }
         ensures borrowed { IfOk result (λ o. IfSome o (λ s. seg_owned s ≤ state_owned self.entry)) }
     {
@@ -232,7 +233,7 @@ impl<'a> State<'a> {
 }
 
 // At depth 0 a statement is one segment, and all comments but its suffix stand before it.
-fn one_segment<'a>(alloc: Global, content: Content<'a>) -> Result<Seg<'a>, AllocError>
+fn one_segment<'a>(alloc: Global, content: Content<'a>) -> Result<Seg<'a>, NoMemory>
     ensures value { IfOk result
         (λ s. seg_view s ≡ one_segment (content_view content.entry).segs (content_view content.entry).end) }
     ensures borrowed { IfOk result (λ s. seg_owned s ≤ content_owned content.entry) }
@@ -250,11 +251,11 @@ fn one_segment<'a>(alloc: Global, content: Content<'a>) -> Result<Seg<'a>, Alloc
         });
     }
     let mut seg = segs.remove(0);
-    seg.before.append(&mut end)?;
+    append(&mut seg.before, &mut end)?;
     Ok(seg)
 }
 
-fn statement<'a>(alloc: Global, walk: Walk<'a>) -> Result<Option<Seg<'a>>, AllocError>
+fn statement<'a>(alloc: Global, walk: Walk<'a>) -> Result<Option<Seg<'a>>, NoMemory>
     ensures value { IfOk result
         (λ o. option_map seg_view o ≡ option_map segment_with (option_map done (so_far walk.entry))) }
     ensures borrowed { IfOk result (λ o. IfSome o (λ s. seg_owned s ≤ walk_owned walk.entry)) }
@@ -267,7 +268,7 @@ fn statement<'a>(alloc: Global, walk: Walk<'a>) -> Result<Option<Seg<'a>>, Alloc
 }
 
 /// The statement's segment. None: there is no tree.
-pub(crate) fn run<'a>(alloc: Global, tokens: &[Token<'a>]) -> Result<Option<Seg<'a>>, AllocError>
+pub(crate) fn run<'a>(alloc: Global, tokens: &[Token<'a>]) -> Result<Option<Seg<'a>>, NoMemory>
     ensures value { IfOk result (λ o. option_map seg_view o ≡ run (new_level None) [] (map placed tokens.now)) }
     ensures borrowed { IfOk result (λ o. IfSome o (λ s. seg_owned s ≡ 0)) }
 {

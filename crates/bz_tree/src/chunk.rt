@@ -20,8 +20,9 @@ use crate::kept::kept_text;
 use crate::span::{end_line, end_of, first_seen, first_token, last_seen, start_of};
 use crate::stmt::{Class, Leaf, Node, Seg, Stmt};
 use bumpalo::Bump;
+use bz_memory::{NoMemory, with_capacity};
 use bz_token::{Kind, LexFault, Token, tokens};
-use std::alloc::{AllocError, Global};
+use std::alloc::Global;
 use std::borrow::CowStr;
 
 // The statement of these nodes and comments.
@@ -47,7 +48,7 @@ fn with_class<'a>(seg: Seg<'a>, tokens: &[Token<'a>]) -> Stmt<'a>
 }
 
 // The statement of the tokens, which are no block. None: they have none.
-fn plain_statement<'a>(alloc: Global, tokens: &[Token<'a>]) -> Result<Option<Stmt<'a>>, AllocError>
+fn plain_statement<'a>(alloc: Global, tokens: &[Token<'a>]) -> Result<Option<Stmt<'a>>, NoMemory>
     requires { EndsFit (map placed tokens.now) }
     ensures statement { IfOk result (λ o. IfSome o (λ s. IsPlain (map placed tokens.now) (view s))) }
     ensures none { IfOk result (λ o. IfNone o ((t : Statement) → IsPlain (map placed tokens.now) t → ⊥)) }
@@ -69,12 +70,12 @@ fn kept_statement<'a>(
     kept: &'a str,
     header: &Token<'a>,
     end: u64,
-) -> Result<Stmt<'a>, AllocError>
+) -> Result<Stmt<'a>, NoMemory>
     ensures value { IfOk result
         (λ s. view s ≡ kept_statement (texts before.entry.items) kept.now (placed header.now) end) }
     ensures borrowed { IfOk result (λ s. owned_texts s ≡ owned_in before.entry.items) }
 {
-    let mut nodes = Vec::with_capacity(alloc, 1)?;
+    let mut nodes = with_capacity(alloc, 1)?;
     nodes.push_reserved(Node::Token(Leaf {
         kind: Kind::Kept,
         text: CowStr::Borrowed(kept),
@@ -95,7 +96,7 @@ fn block_statement<'a>(
     text: &'a str,
     first_line: u64,
     tokens: &[Token<'a>],
-) -> Result<Option<Stmt<'a>>, AllocError>
+) -> Result<Option<Stmt<'a>>, NoMemory>
     requires lines { first_line + count_by (λ b. b == 10) text.now < 2 ^ 64 }
     requires ends { EndsFit (map placed tokens.now) }
     requires standing { AreStanding first_line text.now (map placed tokens.now) }
@@ -135,7 +136,7 @@ fn chunk_statement<'a>(
     text: &'a str,
     first_line: u64,
     tokens: &[Token<'a>],
-) -> Result<Option<Stmt<'a>>, AllocError>
+) -> Result<Option<Stmt<'a>>, NoMemory>
     requires lines { first_line + count_by (λ b. b == 10) text.now < 2 ^ 64 }
     requires ends { EndsFit (map placed tokens.now) }
     requires standing { AreStanding first_line text.now (map placed tokens.now) }
@@ -153,7 +154,7 @@ fn chunk_statement<'a>(
 }
 
 // The line at which a chunk is indented wrongly.
-fn indent_fault(alloc: Global, tokens: &[Token<'_>]) -> Result<Option<u64>, AllocError>
+fn indent_fault(alloc: Global, tokens: &[Token<'_>]) -> Result<Option<u64>, NoMemory>
     ensures { IfOk result (λ o. o ≡ indent_fault (map placed tokens.now)) }
 {
     match first_token(tokens) {
@@ -215,7 +216,7 @@ pub fn parse<'a>(
     let bump = Bump::new(alloc);
     match tokens(&bump, text, first_line, max_depth) {
         Ok(tokens) => parse_tokens(alloc, text, first_line, tokens),
-        Err(LexFault::OutOfMemory) => Err(ParseFault::OutOfMemory),
+        Err(LexFault::OutOfMemory(why)) => Err(ParseFault::OutOfMemory(why)),
         Err(fault) => Err(ParseFault::Lex(fault)),
     }
 }

@@ -2,14 +2,14 @@
 
 ghost use Rattle.std.specs.Prelude.{◌≡◌};
 
+use bz_memory::NoMemory;
 use bz_token::LexFault;
-use std::alloc::{AllocError, AllocFailed};
 
 /// Says why a chunk has no statement, or that memory was refused. Lines count from the file's first line, 1.
 #[derive(Clone, Copy, Debug, PartialEq, Eq)]
 pub enum ParseFault {
     /// Memory was refused.
-    OutOfMemory,
+    OutOfMemory(NoMemory),
     /// The first lexical fault of the chunk, which is never that memory was refused.
     Lex(LexFault),
     /// The logical line that begins on this line stands on another column than it should.
@@ -18,22 +18,12 @@ pub enum ParseFault {
     NotAStatement { line: u64 },
 }
 
-impl From<AllocError> for ParseFault {
+impl From<NoMemory> for ParseFault {
     ghost use Rattle.bz_tree.specs.declared.fault.ParseFault.TheVariants.{OutOfMemory};
 
-    ghost from_gives = { λ _ e. e ≡ OutOfMemory };
+    ghost from_gives = { λ why e. e ≡ OutOfMemory why };
 
-    fn from(_: AllocError) -> ParseFault {
-        ParseFault::OutOfMemory
-    }
-}
-
-impl<T: Drop> From<AllocFailed<T>> for ParseFault {
-    ghost use Rattle.bz_tree.specs.declared.fault.ParseFault.TheVariants.{OutOfMemory};
-
-    ghost from_gives = { λ _ e. e ≡ OutOfMemory };
-
-    fn from(_: AllocFailed<T>) -> ParseFault {
-        ParseFault::OutOfMemory
+    fn from(why: NoMemory) -> ParseFault {
+        ParseFault::OutOfMemory(why)
     }
 }

@@ -10,7 +10,8 @@ ghost use Rattle.bz_tree.specs.private.PartSteps.{beside_text, content, content_
 use crate::parts::push_parts;
 use crate::row::Part;
 use crate::stmt::{Class, Group, GroupKind, Leaf, Node, Seg, Stmt};
-use std::alloc::{AllocError, Global};
+use bz_memory::{NoMemory, push, reserve_exact};
+use std::alloc::Global;
 use std::borrow::CowStr;
 use std::mem;
 
@@ -64,11 +65,11 @@ fn nodes_with(following: &[Part<'_>]) -> usize {
 
 // Short segments, as most are, take no more room than they need.
 #[inline(always)]
-fn reserve_nodes(nodes: &mut Vec<Node<'_>>, following: &[Part<'_>]) -> Result<(), AllocError>
+fn reserve_nodes(nodes: &mut Vec<Node<'_>>, following: &[Part<'_>]) -> Result<(), NoMemory>
     ensures { OnOk result (nodes.new.items ≡ nodes.old.items) }
 {
     if nodes.is_empty() {
-        nodes.reserve_exact(nodes_with(following))
+        reserve_exact(nodes, nodes_with(following))
     } else {
         Ok(())
     }
@@ -76,22 +77,22 @@ fn reserve_nodes(nodes: &mut Vec<Node<'_>>, following: &[Part<'_>]) -> Result<()
 
 // Room for the segments of a bracket. A rule has some arguments, and may get one more.
 #[inline(always)]
-fn reserve_arguments(segs: &mut Vec<Seg<'_>>, kind: GroupKind) -> Result<(), AllocError>
+fn reserve_arguments(segs: &mut Vec<Seg<'_>>, kind: GroupKind) -> Result<(), NoMemory>
     ensures { OnOk result (segs.new.items ≡ segs.old.items) }
 {
     if kind == GroupKind::RuleCall {
-        segs.reserve_exact(FIRST_ARGUMENTS)
+        reserve_exact(segs, FIRST_ARGUMENTS)
     } else {
         Ok(())
     }
 }
 
 #[inline(always)]
-fn reserve_segs(segs: &mut Vec<Seg<'_>>, last: bool) -> Result<(), AllocError>
+fn reserve_segs(segs: &mut Vec<Seg<'_>>, last: bool) -> Result<(), NoMemory>
     ensures { OnOk result (segs.new.items ≡ segs.old.items) }
 {
     if last && segs.is_empty() {
-        segs.reserve_exact(1)
+        reserve_exact(segs, 1)
     } else {
         Ok(())
     }
@@ -110,19 +111,19 @@ impl<'a> Inside<'a> {
     }
 
     #[inline(always)]
-    fn add_node(&mut self, node: Node<'a>, following: &[Part<'a>]) -> Result<(), AllocError>
+    fn add_node(&mut self, node: Node<'a>, following: &[Part<'a>]) -> Result<(), NoMemory>
         ensures { OnOk result (content self.new ≡ with_node (node_view node.entry) (content self.old)) }
     {
         reserve_nodes(&mut self.nodes, following)?;
-        self.nodes.push(node)?;
+        push(&mut self.nodes, node)?;
         Ok(())
     }
 
-    fn end_segment(&mut self, alloc: Global, last: bool) -> Result<(), AllocError>
+    fn end_segment(&mut self, alloc: Global, last: bool) -> Result<(), NoMemory>
         ensures { OnOk result (content self.new ≡ with_segment (content self.old)) }
     {
         reserve_segs(&mut self.segs, last)?;
-        self.segs.push(Seg {
+        push(&mut self.segs, Seg {
             before: mem::replace(&mut self.comments, Vec::new(alloc)),
             nodes: mem::replace(&mut self.nodes, Vec::new(alloc)),
             suffix: None,
@@ -140,17 +141,17 @@ impl<'a> Inside<'a> {
 }
 
 impl<'a> Nesting<'a> {
-    fn open(&mut self, alloc: Global, kind: GroupKind) -> Result<(), AllocError>
+    fn open(&mut self, alloc: Global, kind: GroupKind) -> Result<(), NoMemory>
         ensures { OnOk result (nest self.new ≡ opened kind (nest self.old)) }
     {
         let mut inner = Inside::new(alloc);
         reserve_arguments(&mut inner.segs, kind)?;
         let inside = mem::replace(&mut self.here, inner);
-        self.outer.push(Around { kind, inside })?;
+        push(&mut self.outer, Around { kind, inside })?;
         Ok(())
     }
 
-    fn close(&mut self, one_comma: bool, following: &[Part<'a>]) -> Result<(), AllocError>
+    fn close(&mut self, one_comma: bool, following: &[Part<'a>]) -> Result<(), NoMemory>
         ensures { OnOk result (nest self.new
             ≡ closed one_comma (content self.old.here) (outers self.old.outer.items)) }
     {
@@ -173,7 +174,7 @@ impl<'a> Nesting<'a> {
         alloc: Global,
         part: Part<'a>,
         following: &[Part<'a>],
-    ) -> Result<(), AllocError>
+    ) -> Result<(), NoMemory>
         ensures { OnOk result (nest self.new ≡ step (part_view part.entry) (nest self.old)) }
     {
         match part {
@@ -185,7 +186,7 @@ impl<'a> Nesting<'a> {
             Part::Open(kind) => self.open(alloc, kind),
             Part::Close(one_comma) => self.close(one_comma, following),
             Part::End => self.here.end_segment(alloc, is_last(following.first())),
-            Part::Above(text) => Ok(self.here.comments.push(CowStr::Borrowed(text))?),
+            Part::Above(text) => Ok(push(&mut self.here.comments, CowStr::Borrowed(text))?),
             Part::Beside(text) => {
                 self.here.put_beside(text);
                 Ok(())
@@ -195,7 +196,7 @@ impl<'a> Nesting<'a> {
 }
 
 // What the parts come to.
-fn read_parts<'a>(alloc: Global, parts: &[Part<'a>]) -> Result<Inside<'a>, AllocError>
+fn read_parts<'a>(alloc: Global, parts: &[Part<'a>]) -> Result<Inside<'a>, NoMemory>
     ensures { IfOk result (λ inside. content inside ≡ content_of (map part_view parts.now)) }
 {
     let mut nesting = Nesting {
@@ -210,7 +211,7 @@ fn read_parts<'a>(alloc: Global, parts: &[Part<'a>]) -> Result<Inside<'a>, Alloc
 }
 
 /// Builds the nodes whose parts these are. Each text is a slice of the same chunk. `Err`: memory was refused.
-pub fn nodes_of_parts<'a>(alloc: Global, parts: &[Part<'a>]) -> Result<Vec<Node<'a>>, AllocError>
+pub fn nodes_of_parts<'a>(alloc: Global, parts: &[Part<'a>]) -> Result<Vec<Node<'a>>, NoMemory>
     ensures { IfOk result (λ nodes. nodes_view nodes.items ≡ nodes_of_parts (map part_view parts.now)) }
 {
     let Inside { nodes, .. } = read_parts(alloc, parts)?;
@@ -243,7 +244,7 @@ pub fn stmt_of_parts<'a>(
     class: Class,
     start: u64,
     end: u64,
-) -> Result<Stmt<'a>, AllocError>
+) -> Result<Stmt<'a>, NoMemory>
     ensures { IfOk result (λ stmt. (s : Statement) → map part_view parts.now ≡ parts_of s
         → view stmt ≡ record s { class = class; start = start; end = end }) }
 {
@@ -266,7 +267,7 @@ impl<'a> Stmt<'a> {
     ghost use Rattle.bz_tree.specs.View.{view};
 
     /// An equal statement, line numbers included, whose texts are slices of those of this one. `Err`: memory was refused.
-    pub fn copy(&self, alloc: Global) -> Result<Stmt<'_>, AllocError>
+    pub fn copy(&self, alloc: Global) -> Result<Stmt<'_>, NoMemory>
         ensures equal { IfOk result (λ s. view s ≡ view self.now) }
     {
         let mut parts = Vec::new(alloc);

@@ -8,7 +8,8 @@ ghost use Rattle.bz_tree.specs.private.BorrowedSteps.{segs_owned, walk_owned, co
 
 use crate::span::newlines;
 use crate::stmt::{Node, Seg};
-use std::alloc::{AllocError, Global};
+use bz_memory::{NoMemory, append, push};
+use std::alloc::Global;
 use std::borrow::CowStr;
 use std::mem;
 
@@ -42,19 +43,19 @@ pub(crate) struct Content<'a> {
 }
 
 // One more comment after a segment's comma.
-fn add_beside<'a>(seg: &mut Seg<'a>, text: CowStr<'a>) -> Result<(), AllocError>
+fn add_beside<'a>(seg: &mut Seg<'a>, text: CowStr<'a>) -> Result<(), NoMemory>
     ensures value { OnOk result (seg_view seg.new ≡ add_beside (text_of text.entry) (seg_view seg.old)) }
     ensures borrowed { OnOk result (seg_owned seg.new ≤ seg_owned seg.old + owned text.entry) }
 {
     if seg.suffix.is_some() {
-        seg.before.push(text)?;
+        push(&mut seg.before, text)?;
     } else {
         seg.suffix = Some(text);
     }
     Ok(())
 }
 
-fn add_to_last<'a>(segs: &mut Vec<Seg<'a>>, text: CowStr<'a>) -> Result<(), AllocError>
+fn add_to_last<'a>(segs: &mut Vec<Seg<'a>>, text: CowStr<'a>) -> Result<(), NoMemory>
     ensures value { OnOk result (map seg_view segs.new.items
         ≡ to_last (text_of text.entry) (map seg_view segs.old.items)) }
     ensures borrowed { OnOk result (segs_owned segs.new.items ≤ segs_owned segs.old.items + owned text.entry) }
@@ -68,7 +69,7 @@ fn add_to_last<'a>(segs: &mut Vec<Seg<'a>>, text: CowStr<'a>) -> Result<(), Allo
 
 // A suffix so far is none once a node stands after it.
 #[inline(always)]
-fn put_before(seg: &mut Seg<'_>) -> Result<(), AllocError>
+fn put_before(seg: &mut Seg<'_>) -> Result<(), NoMemory>
     ensures nodes { seg.new.nodes ≡ seg.old.nodes }
     ensures taken { seg.new.suffix ≡ None }
     ensures value { OnOk result (texts seg.new.before.items
@@ -78,7 +79,7 @@ fn put_before(seg: &mut Seg<'_>) -> Result<(), AllocError>
 {
     if seg.suffix.is_some() {
         if let Some(text) = seg.suffix.take() {
-            seg.before.push(text)?;
+            push(&mut seg.before, text)?;
         }
     }
     Ok(())
@@ -89,7 +90,7 @@ fn put_before(seg: &mut Seg<'_>) -> Result<(), AllocError>
 fn put_above<'a>(
     before: &mut Vec<CowStr<'a>>,
     after: &mut Vec<CowStr<'a>>,
-) -> Result<(), AllocError>
+) -> Result<(), NoMemory>
     ensures before { OnOk result (before.new.items ≡ before.old.items ++ after.old.items) }
     ensures after { OnOk result (after.new.items ≡ []) }
 {
@@ -100,7 +101,7 @@ fn put_above<'a>(
         mem::swap(before, after);
         return Ok(());
     }
-    before.append(after)
+    append(before, after)
 }
 
 #[inline(always)]
@@ -161,7 +162,7 @@ impl<'a> Walk<'a> {
         node: Node<'a>,
         line: u64,
         text: &'a str,
-    ) -> Result<(), AllocError>
+    ) -> Result<(), NoMemory>
         ensures value { OnOk result (walked self.new
             ≡ after_node (line + count_by (λ b. b == 10) text.now) (node_view node.entry) (walked self.old)) }
         ensures whole { self.new.whole ≡ self.old.whole }
@@ -169,12 +170,12 @@ impl<'a> Walk<'a> {
     {
         self.last = Before::Node(line, text);
         self.trailing = false;
-        self.here.nodes.push(node)?;
+        push(&mut self.here.nodes, node)?;
         put_before(&mut self.here)?;
         put_above(&mut self.here.before, &mut self.after)
     }
 
-    pub(crate) fn add_comma(&mut self, alloc: Global, line: u64) -> Result<(), AllocError>
+    pub(crate) fn add_comma(&mut self, alloc: Global, line: u64) -> Result<(), NoMemory>
         ensures value { OnOk result (so_far self.new ≡ option_and_then (after_comma line) (so_far self.old)) }
         ensures borrowed { OnOk result (walk_owned self.new ≤ walk_owned self.old) }
     {
@@ -183,14 +184,13 @@ impl<'a> Walk<'a> {
             return Ok(());
         }
         put_above(&mut self.here.before, &mut self.after)?;
-        self.segs
-            .push(mem::replace(&mut self.here, empty_segment(alloc)))?;
+        push(&mut self.segs, mem::replace(&mut self.here, empty_segment(alloc)))?;
         self.last = Before::Comma(line);
         self.trailing = true;
         Ok(())
     }
 
-    pub(crate) fn add_comment(&mut self, line: u64, text: CowStr<'a>) -> Result<(), AllocError>
+    pub(crate) fn add_comment(&mut self, line: u64, text: CowStr<'a>) -> Result<(), NoMemory>
         ensures value { OnOk result (walked self.new ≡ after_comment line (text_of text.entry) (walked self.old)) }
         ensures whole { self.new.whole ≡ self.old.whole }
         ensures borrowed { OnOk result (walk_owned self.new ≤ walk_owned self.old + owned text.entry) }
@@ -202,7 +202,7 @@ impl<'a> Walk<'a> {
             }
             Before::Comma(end) if end == line => add_to_last(&mut self.segs, text),
             _ => {
-                self.after.push(text)?;
+                push(&mut self.after, text)?;
                 Ok(())
             }
         }
@@ -210,7 +210,7 @@ impl<'a> Walk<'a> {
 
     // None: a segment is empty.
     #[inline(always)]
-    pub(crate) fn finish(self) -> Result<Option<Content<'a>>, AllocError>
+    pub(crate) fn finish(self) -> Result<Option<Content<'a>>, NoMemory>
         ensures value { IfOk result (λ o. option_map content_view o ≡ option_map done (so_far self.entry)) }
         ensures borrowed { IfOk result (λ o. IfSome o (λ c. content_owned c ≤ walk_owned self.entry)) }
     {
@@ -231,7 +231,7 @@ impl<'a> Walk<'a> {
                 end: after,
             }));
         }
-        segs.push(here)?;
+        push(&mut segs, here)?;
         Ok(Some(Content {
             segs,
             trailing,

@@ -7,11 +7,11 @@ ghost use Rattle.bz_tree.specs.Rows.{above, beside_part, item_parts, items_parts
 
 use crate::row::Part;
 use crate::stmt::{Group, Node, Seg, Stmt};
-use std::alloc::AllocError;
+use bz_memory::{NoMemory, push};
 use std::borrow::CowStr;
 
 /// Appends the parts of a statement. `Err`: memory was refused, and some of them may have been appended.
-pub fn push_parts<'s>(stmt: &'s Stmt<'_>, parts: &mut Vec<Part<'s>>) -> Result<(), AllocError>
+pub fn push_parts<'s>(stmt: &'s Stmt<'_>, parts: &mut Vec<Part<'s>>) -> Result<(), NoMemory>
     ensures { OnOk result (map part_view parts.new.items ≡ map part_view parts.old.items ++ parts_of (view stmt.now)) }
 {
     push_above(&stmt.before, parts)?;
@@ -23,12 +23,12 @@ pub fn push_parts<'s>(stmt: &'s Stmt<'_>, parts: &mut Vec<Part<'s>>) -> Result<(
 pub fn push_above<'s>(
     comments: &'s [CowStr<'_>],
     parts: &mut Vec<Part<'s>>,
-) -> Result<(), AllocError>
+) -> Result<(), NoMemory>
     ensures { OnOk result (map part_view parts.new.items
         ≡ map part_view parts.old.items ++ map above (texts comments.now)) }
 {
     for comment in comments {
-        parts.push(Part::Above(comment.as_str()))?;
+        push(parts, Part::Above(comment.as_str()))?;
     }
     Ok(())
 }
@@ -37,42 +37,42 @@ pub fn push_above<'s>(
 pub fn push_beside<'s>(
     comment: &'s Option<CowStr<'_>>,
     parts: &mut Vec<Part<'s>>,
-) -> Result<(), AllocError>
+) -> Result<(), NoMemory>
     ensures { OnOk result
         (map part_view parts.new.items ≡ map part_view parts.old.items ++ beside_part (option_map text_of comment.now)) }
 {
     match comment {
         None => Ok(()),
-        Some(text) => Ok(parts.push(Part::Beside(text.as_str()))?),
+        Some(text) => Ok(push(parts, Part::Beside(text.as_str()))?),
     }
 }
 
 #[cycle(parts)]
-fn push_node<'s>(node: &'s Node<'_>, parts: &mut Vec<Part<'s>>) -> Result<(), AllocError>
+fn push_node<'s>(node: &'s Node<'_>, parts: &mut Vec<Part<'s>>) -> Result<(), NoMemory>
     ensures { OnOk result
         (map part_view parts.new.items ≡ map part_view parts.old.items ++ item_parts (node_view node.now)) }
 {
     match node {
-        Node::Token(leaf) => Ok(parts.push(Part::Token(leaf.kind, leaf.text.as_str()))?),
+        Node::Token(leaf) => Ok(push(parts, Part::Token(leaf.kind, leaf.text.as_str()))?),
         Node::Group(group) => push_group(group, parts),
     }
 }
 
 #[cycle(parts)]
-fn push_group<'s>(group: &'s Group<'_>, parts: &mut Vec<Part<'s>>) -> Result<(), AllocError>
+fn push_group<'s>(group: &'s Group<'_>, parts: &mut Vec<Part<'s>>) -> Result<(), NoMemory>
     ensures { OnOk result
         (map part_view parts.new.items ≡ map part_view parts.old.items ++ item_parts (group_view group.now)) }
 {
-    parts.push(Part::Open(group.kind))?;
+    push(parts, Part::Open(group.kind))?;
     push_segs(&group.segs, parts)?;
     push_above(&group.end, parts)?;
-    parts.push(Part::Close(group.one_comma))?;
+    push(parts, Part::Close(group.one_comma))?;
     Ok(())
 }
 
 /// Appends the parts of these nodes. `Err`: memory was refused, and some of them may have been appended.
 #[cycle(parts)]
-pub fn push_nodes<'s>(nodes: &'s [Node<'_>], parts: &mut Vec<Part<'s>>) -> Result<(), AllocError>
+pub fn push_nodes<'s>(nodes: &'s [Node<'_>], parts: &mut Vec<Part<'s>>) -> Result<(), NoMemory>
     ensures { OnOk result
         (map part_view parts.new.items
         ≡ map part_view parts.old.items ++ items_parts (items_of (nodes_view nodes.now))) }
@@ -84,7 +84,7 @@ pub fn push_nodes<'s>(nodes: &'s [Node<'_>], parts: &mut Vec<Part<'s>>) -> Resul
 }
 
 #[cycle(parts)]
-fn push_segs<'s>(segs: &'s [Seg<'_>], parts: &mut Vec<Part<'s>>) -> Result<(), AllocError>
+fn push_segs<'s>(segs: &'s [Seg<'_>], parts: &mut Vec<Part<'s>>) -> Result<(), NoMemory>
     ensures { OnOk result
         (map part_view parts.new.items
         ≡ map part_view parts.old.items ++ segs_parts (segs_of (segs_view segs.now))) }
@@ -92,7 +92,7 @@ fn push_segs<'s>(segs: &'s [Seg<'_>], parts: &mut Vec<Part<'s>>) -> Result<(), A
     for seg in segs {
         push_above(&seg.before, parts)?;
         push_nodes(&seg.nodes, parts)?;
-        parts.push(Part::End)?;
+        push(parts, Part::End)?;
         push_beside(&seg.suffix, parts)?;
     }
     Ok(())

@@ -18,36 +18,37 @@ use crate::stmt::Stmt;
 use crate::text_row::row_of_text;
 use bumpalo::Bump;
 use bumpalo::collections::into_bump_slice;
+use bz_memory::{NoMemory, alloc_str, push, with_room_for};
 use bz_token::{LexFault, Token, tokens};
-use std::alloc::{AllocError, Global};
+use std::alloc::Global;
 
 // The same part, its text in the arena.
-fn part_in<'a>(bump: &'a Bump, part: Part<'_>) -> Result<Part<'a>, AllocError>
+fn part_in<'a>(bump: &'a Bump, part: Part<'_>) -> Result<Part<'a>, NoMemory>
     ensures { IfOk result (λ copy. part_view copy ≡ part_view part.entry) }
 {
     Ok(match part {
-        Part::Token(kind, text) => Part::Token(kind, bump.try_alloc_str(text)?),
+        Part::Token(kind, text) => Part::Token(kind, alloc_str(bump, text)?),
         Part::Open(kind) => Part::Open(kind),
         Part::Close(one_comma) => Part::Close(one_comma),
         Part::End => Part::End,
-        Part::Above(text) => Part::Above(bump.try_alloc_str(text)?),
-        Part::Beside(text) => Part::Beside(bump.try_alloc_str(text)?),
+        Part::Above(text) => Part::Above(alloc_str(bump, text)?),
+        Part::Beside(text) => Part::Beside(alloc_str(bump, text)?),
     })
 }
 
 // The same parts in the arena.
-fn parts_in<'a>(bump: &'a Bump, parts: &[Part<'_>]) -> Result<&'a [Part<'a>], AllocError>
+fn parts_in<'a>(bump: &'a Bump, parts: &[Part<'_>]) -> Result<&'a [Part<'a>], NoMemory>
     ensures { IfOk result (λ copies. map part_view copies.now ≡ map part_view parts.now) }
 {
-    let mut copies = Vec::with_capacity(bump, parts.len())?;
+    let mut copies = with_room_for(bump, parts, 0)?;
     for part in parts {
-        copies.push(part_in(bump, *part)?)?;
+        push(&mut copies, part_in(bump, *part)?)?;
     }
     Ok(into_bump_slice(copies))
 }
 
 // The row of a statement that has a tree.
-fn row_of_tree<'a>(alloc: Global, bump: &'a Bump, stmt: &Stmt<'_>) -> Result<Row<'a>, AllocError>
+fn row_of_tree<'a>(alloc: Global, bump: &'a Bump, stmt: &Stmt<'_>) -> Result<Row<'a>, NoMemory>
     ensures { IfOk result (IsRowOf (view stmt.now)) }
 {
     let mut parts = Vec::new(alloc);
@@ -119,7 +120,7 @@ pub fn read_text<'a>(
     }
     match tokens(bump, text, first_line, max_depth) {
         Ok(tokens) => read_tree(alloc, bump, text, first_line, tokens),
-        Err(LexFault::OutOfMemory) => Err(ParseFault::OutOfMemory),
+        Err(LexFault::OutOfMemory(why)) => Err(ParseFault::OutOfMemory(why)),
         Err(fault) => Err(ParseFault::Lex(fault)),
     }
 }

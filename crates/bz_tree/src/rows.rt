@@ -28,8 +28,8 @@ use crate::stage::may_end;
 use crate::stmt::GroupKind;
 use bumpalo::Bump;
 use bumpalo::collections::into_bump_slice;
+use bz_memory::{NoMemory, push, with_capacity};
 use bz_token::{Kind, Token};
-use std::alloc::AllocError;
 
 // The parts so far, the bracket that is open here, and those around it.
 #[derive(Drop)]
@@ -42,11 +42,11 @@ pub(crate) struct RowWalk<'a> {
 // False: the statement is left to its tree. So it is in all that follow.
 impl<'a> RowWalk<'a> {
     /// Before the first token, with room for so many parts.
-    pub(crate) fn new(bump: &'a Bump, room: usize) -> Result<RowWalk<'a>, AllocError>
+    pub(crate) fn new(bump: &'a Bump, room: usize) -> Result<RowWalk<'a>, NoMemory>
         ensures { IfOk result (λ walk. row_state walk ≡ row_start) }
     {
         Ok(RowWalk {
-            parts: Vec::with_capacity(bump, room)?,
+            parts: with_capacity(bump, room)?,
             outer: Vec::new(bump),
             top: Spot::new(None),
         })
@@ -54,7 +54,7 @@ impl<'a> RowWalk<'a> {
 
     // One more node, a token of this role.
     #[inline(always)]
-    fn push_leaf(&mut self, token: &Token<'a>, kind: Kind, role: Role) -> Result<bool, AllocError>
+    fn push_leaf(&mut self, token: &Token<'a>, kind: Kind, role: Role) -> Result<bool, NoMemory>
         requires kind { kind ≡ token.now.kind }
         requires role { role ≡ leaf_role token.now.kind token.now.text.now }
         ensures { IfOk result
@@ -64,7 +64,7 @@ impl<'a> RowWalk<'a> {
         if is_stray(role, kind, text) || is_for_at(kind, text) || self.top.is_ended() {
             return Ok(false);
         }
-        self.parts.push(Part::Token(kind, text))?;
+        push(&mut self.parts, Part::Token(kind, text))?;
         self.top.read.add_leaf(kind, text, role);
         self.top.here = Here::Node(token.line, text);
         Ok(true)
@@ -72,7 +72,7 @@ impl<'a> RowWalk<'a> {
 
     // A keyword or a number, or what stands in no row.
     #[inline(never)]
-    fn push_other(&mut self, token: &Token<'a>) -> Result<bool, AllocError>
+    fn push_other(&mut self, token: &Token<'a>) -> Result<bool, NoMemory>
         ensures { IfOk result
             (λ some. then_some some (row_state self.new) ≡ leaf_next (placed token.now) (row_state self.old)) }
     {
@@ -81,14 +81,14 @@ impl<'a> RowWalk<'a> {
 
     // At the top a comma is a node.
     #[inline(never)]
-    fn add_top_comma(&mut self, token: &Token<'a>) -> Result<bool, AllocError>
+    fn add_top_comma(&mut self, token: &Token<'a>) -> Result<bool, NoMemory>
         ensures { IfOk result
             (λ some. then_some some (row_state self.new) ≡ top_comma_next (placed token.now) (row_state self.old)) }
     {
         if self.top.is_ended() {
             return Ok(false);
         }
-        self.parts.push(Part::Token(token.kind, token.text))?;
+        push(&mut self.parts, Part::Token(token.kind, token.text))?;
         self.top
             .read
             .add_leaf(token.kind, token.text, token_role(token.kind, token.text));
@@ -96,7 +96,7 @@ impl<'a> RowWalk<'a> {
         Ok(true)
     }
 
-    fn add_comma(&mut self, token: &Token<'a>) -> Result<bool, AllocError>
+    fn add_comma(&mut self, token: &Token<'a>) -> Result<bool, NoMemory>
         ensures { IfOk result (λ some. then_some some (row_state self.new)
             ≡ comma_next self.old.top.kind (placed token.now) (row_state self.old)) }
     {
@@ -105,7 +105,7 @@ impl<'a> RowWalk<'a> {
         }
         match self.top.here {
             Here::Node(_, _) if may_end(self.top.read.stage) => {
-                self.parts.push(Part::End)?;
+                push(&mut self.parts, Part::End)?;
                 self.top.add_comma(token.line);
                 Ok(true)
             }
@@ -114,33 +114,32 @@ impl<'a> RowWalk<'a> {
     }
 
     // A comment after the last node of a segment, on its line or not.
-    fn add_last_comment(&mut self, on_line: bool, text: &'a str) -> Result<bool, AllocError>
+    fn add_last_comment(&mut self, on_line: bool, text: &'a str) -> Result<bool, NoMemory>
         ensures { IfOk result (λ some. then_some some (row_state self.new)
             ≡ after_comment_next self.old.top.kind on_line text.now (row_state self.old)) }
     {
         if self.top.kind.is_some() {
-            self.parts.push(Part::End)?;
+            push(&mut self.parts, Part::End)?;
         } else if !on_line {
             return Ok(false);
         }
-        self.parts.push(comment_part(on_line, text))?;
+        push(&mut self.parts, comment_part(on_line, text))?;
         self.top.here = Here::Ended;
         Ok(true)
     }
 
     #[inline(never)]
-    fn add_comment(&mut self, token: &Token<'a>) -> Result<bool, AllocError>
+    fn add_comment(&mut self, token: &Token<'a>) -> Result<bool, NoMemory>
         ensures { IfOk result (λ some. then_some some (row_state self.new)
             ≡ comment_next (here_view self.old.top.here) token.now.line token.now.text.now (row_state self.old)) }
     {
         match self.top.here {
             Here::Nothing => {
-                self.parts.push(Part::Above(token.text))?;
+                push(&mut self.parts, Part::Above(token.text))?;
                 Ok(true)
             }
             Here::Comma(end) => {
-                self.parts
-                    .push(comment_part(end == token.line, token.text))?;
+                push(&mut self.parts, comment_part(end == token.line, token.text))?;
                 self.top.here = Here::Nothing;
                 Ok(true)
             }
@@ -151,13 +150,13 @@ impl<'a> RowWalk<'a> {
                 if self.top.kind.is_none() {
                     return Ok(false);
                 }
-                self.parts.push(Part::Above(token.text))?;
+                push(&mut self.parts, Part::Above(token.text))?;
                 Ok(true)
             }
         }
     }
 
-    fn open(&mut self, shape: Shape) -> Result<bool, AllocError>
+    fn open(&mut self, shape: Shape) -> Result<bool, NoMemory>
         ensures { IfOk result (λ some. then_some some (row_state self.new)
             ≡ open_next (group_kind shape self.old.top.read.at false) (row_state self.old)) }
     {
@@ -165,9 +164,8 @@ impl<'a> RowWalk<'a> {
         if is_one(kind) {
             return Ok(false);
         }
-        self.parts
-            .push(Part::Open(shown_kind(self.top.read.naming, kind)))?;
-        self.outer.push(Around {
+        push(&mut self.parts, Part::Open(shown_kind(self.top.read.naming, kind)))?;
+        push(&mut self.outer, Around {
             kind: self.top.kind,
             done: self.top.done,
             ended: self.top.is_ended(),
@@ -178,7 +176,7 @@ impl<'a> RowWalk<'a> {
     }
 
     // The last segment of a bracket ends, if there is one.
-    fn end_last(&mut self) -> Result<bool, AllocError>
+    fn end_last(&mut self) -> Result<bool, NoMemory>
         ensures outer { self.new.outer ≡ self.old.outer }
         ensures top { self.new.top ≡ self.old.top }
         ensures parts { IfOk result (λ some. then_some some (map part_view self.new.parts.items)
@@ -190,7 +188,7 @@ impl<'a> RowWalk<'a> {
                 if !may_end(self.top.read.stage) {
                     return Ok(false);
                 }
-                self.parts.push(Part::End)?;
+                push(&mut self.parts, Part::End)?;
                 Ok(true)
             }
             Here::Ended => Ok(may_end(self.top.read.stage)),
@@ -198,7 +196,7 @@ impl<'a> RowWalk<'a> {
         }
     }
 
-    fn close(&mut self, shape: Shape, line: u64) -> Result<bool, AllocError>
+    fn close(&mut self, shape: Shape, line: u64) -> Result<bool, NoMemory>
         ensures { IfOk result (λ some. then_some some (row_state self.new)
             ≡ close_next self.old.top.kind shape line (row_state self.old)) }
     {
@@ -212,7 +210,7 @@ impl<'a> RowWalk<'a> {
             return Ok(false);
         }
         let one_comma = self.top.is_one_comma(kind);
-        self.parts.push(Part::Close(one_comma))?;
+        push(&mut self.parts, Part::Close(one_comma))?;
         let Some(below) = self.outer.pop() else {
             return Ok(false);
         };
@@ -229,7 +227,7 @@ impl<'a> RowWalk<'a> {
         Ok(true)
     }
 
-    fn add_operator(&mut self, token: &Token<'a>) -> Result<bool, AllocError>
+    fn add_operator(&mut self, token: &Token<'a>) -> Result<bool, NoMemory>
         requires { token.now.kind ≡ Operator }
         ensures { IfOk result (λ some. then_some some (row_state self.new)
             ≡ row_next_at (operator_mark token.now.text.now) (placed token.now) (row_state self.old)) }
@@ -246,7 +244,7 @@ impl<'a> RowWalk<'a> {
 
     // The kinds are told apart once. What is rare is a call, so that the loop over the tokens stays small.
     #[inline(always)]
-    fn step(&mut self, token: &Token<'a>) -> Result<bool, AllocError>
+    fn step(&mut self, token: &Token<'a>) -> Result<bool, NoMemory>
         ensures { IfOk result
             (λ some. then_some some (row_state self.new) ≡ row_next (placed token.now) (row_state self.old)) }
     {
@@ -261,7 +259,7 @@ impl<'a> RowWalk<'a> {
     }
 
     /// Goes over these tokens, whatever follows them.
-    pub(crate) fn add_tokens(&mut self, tokens: &[Token<'a>]) -> Result<bool, AllocError>
+    pub(crate) fn add_tokens(&mut self, tokens: &[Token<'a>]) -> Result<bool, NoMemory>
         ensures { (rest : List Placed) → IfOk result (λ some. IsTrue some
             → row_run (row_state self.new) rest ≡ row_run (row_state self.old) (map placed tokens.now ++ rest)) }
     {
@@ -326,7 +324,7 @@ pub(crate) fn is_upright(first: Option<Token<'_>>) -> bool
 /// statement has these tokens, or it is one of those that `parse_tokens` alone reads: a block, a comprehension, an
 /// index, more after what would be a rule, a comment in the middle of a segment or before its comma. `Err`: memory was
 /// refused.
-pub fn read_row<'a>(bump: &'a Bump, tokens: &[Token<'a>]) -> Result<Option<Row<'a>>, AllocError>
+pub fn read_row<'a>(bump: &'a Bump, tokens: &[Token<'a>]) -> Result<Option<Row<'a>>, NoMemory>
     ensures row { IfOk result (λ o. IfSome o (λ row. (first depth : ℕ) (text : List ℕ)
         → AreTokensOf first depth text (map placed tokens.now)
         → (s : Statement) × IsStatementIn first depth text s × IsRowOf s row)) }

@@ -9,8 +9,8 @@ use crate::row::Row;
 use crate::rows::{RowWalk, is_upright};
 use crate::span::{end_line, first_token, last_token};
 use bumpalo::Bump;
+use bz_memory::NoMemory;
 use bz_token::TokenReader;
-use std::alloc::AllocError;
 
 // The commas of so many bytes tell how many parts a long text has.
 const FRONT: usize = 4096;
@@ -37,7 +37,7 @@ pub(crate) fn row_of_text<'a>(
     text: &'a str,
     first_line: u64,
     max_depth: u8,
-) -> Result<Option<Row<'a>>, AllocError>
+) -> Result<Option<Row<'a>>, NoMemory>
     requires { first_line + count_by (λ b. b == 10) text.now < 2 ^ 64 }
     ensures row { IfOk result (λ o. IfSome o
         (λ row. (s : Statement) × IsStatementIn first_line max_depth text.now s × IsRowOf s row)) }

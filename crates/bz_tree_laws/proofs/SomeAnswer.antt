@@ -1,4 +1,5 @@
 -- A chunk has an answer.
+use Rattle.bz_memory.specs.NoMemory.{no_memory}
 use Rattle.std.proofs.Common.{◌≡◌, ℕ, List, ◌++◌, [], Bool, true, false, Option, None, Some, IsNone, IsSome, refl, sym, ap, subst, ◌∙◌, ◌⊎◌, inl, inr}
 use Rattle.std.proofs.lemmas.Bool.{false≢true}
 use Rattle.bz_token.specs.declared.fault.LexFault.{LexFault}
@@ -67,17 +68,17 @@ chunk_or_none first bytes ts stand = at_word (begins_block (first_token ts)) ref
     at_word true begins = subst (λ b. Either (IsOneOf b first bytes ts)) (sym begins) (block_or_none first bytes ts stand begins)
     at_word false begins = subst (λ b. Either (IsOneOf b first bytes ts)) (sym begins) (plain_or_none ts)
 
-lexical : (f : LexFault) → (f ≡ lex.OutOfMemory → ⊥) → IsLexical f
-lexical lex.OutOfMemory some = absurd (some refl)
+lexical : (f : LexFault) → (f ≡ lex.OutOfMemory no_memory → ⊥) → IsLexical f
+lexical (lex.OutOfMemory _) some = absurd (some refl)
 lexical _ some = tt
 
-lex_some : (f : LexFault) → Lex f ≡ OutOfMemory → ⊥
+lex_some : (f : LexFault) → Lex f ≡ OutOfMemory no_memory → ⊥
 lex_some f e = cc
 
-indented_some : (line : ℕ) → Indented line ≡ OutOfMemory → ⊥
+indented_some : (line : ℕ) → Indented line ≡ OutOfMemory no_memory → ⊥
 indented_some line e = cc
 
-refused_some : (line : ℕ) → NotAStatement line ≡ OutOfMemory → ⊥
+refused_some : (line : ℕ) → NotAStatement line ≡ OutOfMemory no_memory → ⊥
 refused_some line e = cc
 
 by_tokens : (first depth : ℕ) (bytes : List ℕ) (ts : List Placed) → AreTokensOf first depth bytes ts → HasAnswer first depth bytes
@@ -98,6 +99,6 @@ by_tokens first depth bytes ts are = at_seen (first_seen ts) refl
 pub some_answer : (first depth : ℕ) (bytes : List ℕ) → HasAnswer first depth bytes
 some_answer first depth bytes = by_reading (tokens_or_fault first depth bytes)
   where
-    by_reading : ((ts : List Placed) × AreTokensOf first depth bytes ts) ⊎ ((f : LexFault) × (f ≡ lex.OutOfMemory → ⊥) × IsFault first depth bytes f) → HasAnswer first depth bytes
+    by_reading : ((ts : List Placed) × AreTokensOf first depth bytes ts) ⊎ ((f : LexFault) × (f ≡ lex.OutOfMemory no_memory → ⊥) × IsFault first depth bytes f) → HasAnswer first depth bytes
     by_reading (inl found) = by_tokens first depth bytes found.0 found.1
     by_reading (inr fault) = inr (inr (Lex fault.0, lex_some fault.0, (fault.2, lexical fault.0 fault.1)))

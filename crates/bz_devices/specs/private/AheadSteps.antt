@@ -1,4 +1,5 @@
 -- What the functions answer that find the next chunk, for private clauses.
+use Rattle.bz_memory.specs.NoMemory.{no_memory}
 use Rattle.std.specs.Prelude.{◌≡◌, ℕ, ◌-◌, ◌<◌, ◌≤◌, ◌⊎◌, IsTrue, List, [], ◌∷◌, ◌++◌, length, take, drop}
 use Rattle.bz_token.specs.Chunks.{chunks}
 use Rattle.bz_token.specs.Cuts.{EndsBefore, IsLonger, first_line, ends_in_newline}
@@ -11,7 +12,7 @@ use Rattle.bz_devices.specs.declared.ahead.ChunkFault.{ChunkFault}
 use Rattle.bz_devices.specs.declared.ahead.ChunkFault.TheVariants.{OutOfMemory, ReadFailed, InputTooLong}
 
 abbrev pub chunk_fault : ReadFault → ChunkFault
-chunk_fault NoMemory = OutOfMemory
+chunk_fault NoMemory = OutOfMemory no_memory
 chunk_fault Failed = ReadFailed
 chunk_fault TooManyReads = InputTooLong
 

@@ -52,7 +52,7 @@ wanted_of (Err e) text mode = None
 -- the cause of an error after the author's writes
 abbrev pub IsFinishCaused : Type 0 → Result Bool Trouble → List Event → Type 0
 IsFinishCaused Before (Ok kept) events = ⊤
-IsFinishCaused Before (Err OutOfMemory) events = ⊥
+IsFinishCaused Before (Err (OutOfMemory _)) events = ⊥
 IsFinishCaused Before (Err Clean) events = AnyFails events ⊎ Before
 IsFinishCaused Before (Err LeftBehind) events = AnyFails events
 

@@ -1,3 +1,4 @@
+use Rattle.bz_memory.specs.NoMemory.{no_memory}
 use Rattle.std.proofs.Common.{◌≡◌, ◌+◌, Err, ap, ◌∙◌, map, drop}
 use Rattle.bz_script.specs.Groups as spec
 use Rattle.bz_script.specs.declared.usage.UsageFault.TheVariants.{OutOfMemory}
@@ -8,7 +9,7 @@ pub returns-in-Err : goal.returns-in-Err
 returns-in-Err c = λ sound.
     labels-fault c.args.line (λ word. word.now) c.loop-index.labels.items _ c.args.words.now c.loop-index.index _ c.in-Err.fault
     c.loop-index-test.true
-    (c.in-Err.ensures (λ e. sound (let same : c.in-Err.fault ≡ OutOfMemory = cc in ap Err same))
+    (c.in-Err.ensures (λ e. sound (let same : c.in-Err.fault ≡ OutOfMemory no_memory = cc in ap Err same))
     )
     c.loop-index.invariant
 

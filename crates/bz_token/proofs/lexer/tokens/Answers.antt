@@ -1,3 +1,4 @@
+use Rattle.bz_memory.specs.NoMemory.{no_memory}
 use Rattle.std.proofs.Common.{rules, ◌≡◌, ◌∙◌, map, sym, ap, subst, []}
 use Rattle.bz_token.specs.Places.{placed}
 use Rattle.bz_token.specs.Reading.{AreTokensOf}
@@ -48,4 +49,4 @@ returns-then-is_inside-clause-fault c =
     if_err _ _ c.closed.result (λ fault left. left_open _ _ _ _ _ _ _ _ _ _ fault b done (subst (λ ts. IsLeftOpen (map placed ts) fault) c.into_bump_slice-tokens.ensures left)) c.closed.ensures.fault
 
 pub returns-in_err-lexer-clause-fault : goal.returns-in_err-lexer-clause-fault
-returns-in_err-lexer-clause-fault c = passed_on c.from_residual.result OutOfMemory (IsFault c.args.first_line c.args.max_depth c.args.text.now) c.from_residual.ensures.1 tt
+returns-in_err-lexer-clause-fault c = passed_on c.from_residual.result (OutOfMemory no_memory) (IsFault c.args.first_line c.args.max_depth c.args.text.now) c.from_residual.ensures.1 tt

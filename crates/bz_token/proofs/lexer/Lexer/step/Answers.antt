@@ -1,3 +1,4 @@
+use Rattle.bz_memory.specs.NoMemory.{no_memory}
 use Rattle.std.proofs.Common.{rules, ◌≡◌, ◌++◌, length, map, is_ok, sym, refl, ap, ◌∙◌, arith, length-drop, take-append-drop, append_assoc, not}
 use Rattle.std.proofs.ResultArms.{chosen}
 use Rattle.std.proofs.lemmas.Str.{IsUtf8-drop}
@@ -66,7 +67,7 @@ returns-in_ok-push-in-Ok-Token-clause-read c first bytes given before =
 
 pub returns-in_err-push-in-Ok-Token-clause-fault : goal.returns-in_err-push-in-Ok-Token-clause-fault
 returns-in_err-push-in-Ok-Token-clause-fault c first bytes given before =
-    passed_on c.from_residual.result OutOfMemory (IsFault first c.args.max_depth bytes) c.from_residual.ensures.1 tt
+    passed_on c.from_residual.result (OutOfMemory no_memory) (IsFault first c.args.max_depth bytes) c.from_residual.ensures.1 tt
 
 pub returns-in-Ok-Gap-clause-shorter : goal.returns-in-Ok-Gap-clause-shorter
 returns-in-Ok-Gap-clause-shorter c = c.pass_gap.ensures.shorter
