@@ -11,7 +11,7 @@ mod run;
 
 use bz_engine::{FromRead, ToWrite};
 use bz_folder::{Draft, OnDisk};
-use bz_memory::{NoMemory, push};
+use bz_memory::{NoMemory, WordsFault, push, words};
 use bz_script::flags::Flags;
 use bz_script::group::Script;
 use bz_script::help;
@@ -22,25 +22,23 @@ use edit_all::edit_all;
 use package::Devices;
 use std::alloc::Global;
 use std::process::ExitCode;
-use std::{env, io};
 
 /// The exit status where the words ask for nothing (buildozer README, "Error codes").
 const USAGE: u8 = 1;
 
 /// The words of the command line after the program's name.
 fn command_line(rt: &HostRuntime, alloc: Global) -> Result<Vec<String>, StartFault> {
-    let mut words = Vec::new(alloc);
-    for word in env::args(rt).map_err(start_fault)?.skip(1) {
-        push(&mut words, word).map_err(|_| UsageFault::OutOfMemory)?;
+    let mut list = Vec::new(alloc);
+    for word in words(rt).map_err(start_fault)?.skip(1) {
+        push(&mut list, word).map_err(UsageFault::from)?;
     }
-    Ok(words)
+    Ok(list)
 }
 
-/// The operating system gives the words as bytes.
-fn start_fault(error: io::Error) -> StartFault {
-    match error.kind() {
-        io::ErrorKind::InvalidData => StartFault::NotUtf8,
-        _ => StartFault::Usage(UsageFault::OutOfMemory),
+fn start_fault(fault: WordsFault) -> StartFault {
+    match fault {
+        WordsFault::NotUtf8 => StartFault::NotUtf8,
+        WordsFault::OutOfMemory(why) => StartFault::Usage(UsageFault::OutOfMemory(why)),
     }
 }
 

@@ -7,7 +7,7 @@ ghost use Rattle.bz_tree.specs.Tree.{leaf};
 ghost use Rattle.bz_attribute.specs.Effects as spec;
 
 use bz_command::{Text, quote};
-use bz_memory::{NoMemory, from_str, push, with_room_for};
+use bz_memory::{NoMemory, from_array, from_str, push, with_room_for};
 use bz_token::Kind;
 use bz_tree::{Group, GroupKind, Leaf, Node, Seg};
 use std::alloc::Global;
@@ -50,7 +50,7 @@ pub fn literal<'a>(alloc: Global, value: &str) -> Result<Node<'a>, NoMemory>
 pub fn string<'a>(alloc: Global, value: &str) -> Result<Seg<'a>, NoMemory>
     ensures { IfOk result (λ seg. seg_view seg ≡ spec.string value.now) }
 {
-    Ok(segment(alloc, vec![in alloc; literal(alloc, value)?]?))
+    Ok(segment(alloc, from_array(alloc, [literal(alloc, value)?])?))
 }
 
 /// Adds an element that is a new string.
@@ -100,7 +100,7 @@ pub fn argument<'a>(alloc: Global, attr: &str, value: Node<'a>) -> Result<Seg<'a
     ensures { IfOk result (λ seg. seg_view seg ≡ spec.argument attr.now (node_view value.entry ∷ [])) }
 {
     let name = token(alloc, Kind::Identifier, attr)?;
-    let nodes = vec![in alloc; name, operator("="), value]?;
+    let nodes = from_array(alloc, [name, operator("="), value])?;
     Ok(segment(alloc, nodes))
 }
 

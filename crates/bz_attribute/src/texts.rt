@@ -4,7 +4,7 @@ ghost use Rattle.std.specs.Prelude.{◌≡◌, ◌++◌, IfOk, OnOk, string_byte
 ghost use Rattle.bz_attribute.specs.Texts as spec;
 
 use bz_command::{Marked, Package, Target};
-use bz_memory::{NoMemory, push_str};
+use bz_memory::{NoMemory, push_number, push_str};
 use std::alloc::Global;
 
 /// A label, `//PATH:TARGET`; standard input is `-:TARGET`.
@@ -28,7 +28,10 @@ fn push_target(text: &mut String, target: &Target) -> Result<(), NoMemory>
             push_str(text, "%")?;
             push_str(text, kind.as_str())
         }
-        Marked::Line(line) => write!(text, "%{line}"),
+        Marked::Line(line) => {
+            push_str(text, "%")?;
+            push_number(text, *line)
+        }
     }
 }
 

@@ -21,7 +21,7 @@ use bz_attribute::{
 };
 use bz_command::{Field, Text, quote, read_value};
 use bz_layout::flat;
-use bz_memory::{NoMemory, push_char, push_str, with_length_of};
+use bz_memory::{NoMemory, push_char, push_number, push_str, with_length_of};
 use bz_tree::{GroupKind, Node, Part, Seg};
 use std::alloc::Global;
 
@@ -160,8 +160,8 @@ fn push_field<'f>(
             return push_attribute(env, text, head, parts, attr.as_str());
         }
         Field::Kind => push_str(text, head.kind)?,
-        Field::StartLine => write!(text, "{}", head.start)?,
-        Field::EndLine => write!(text, "{}", head.end)?,
+        Field::StartLine => push_number(text, head.start)?,
+        Field::EndLine => push_number(text, head.end)?,
     }
     Ok(None)
 }

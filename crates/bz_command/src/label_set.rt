@@ -9,7 +9,7 @@ ghost use Rattle.bz_command.specs.LabelSetViews as spec;
 use crate::bytes::Bytes;
 use crate::label::Label;
 use crate::package::Package;
-use bz_memory::NoMemory;
+use bz_memory::{NoMemory, insert};
 use std::alloc::Global;
 use std::collections::BTreeSet;
 
@@ -42,6 +42,6 @@ impl<'a> LabelSet<'a> {
         ensures home { self.new.home.now ≡ self.old.home.now }
     {
         let label = Label::new(self.home, text);
-        Ok(self.labels.insert(label)?)
+        insert(&mut self.labels, label)
     }
 }

@@ -5,7 +5,7 @@ ghost use Rattle.bz_devices.specs.Device.{joined, ends, NoneEnds, Rises};
 ghost use Rattle.bz_devices.specs.declared.input.ReadFault.TheVariants.{OutOfMemory};
 
 use crate::device::{Failed, Source};
-use bz_memory::{NoMemory, resize};
+use bz_memory::{NoMemory, lengthen};
 use std::alloc::Global;
 
 /// The greatest number of bytes that one read asks for.
@@ -55,7 +55,7 @@ pub fn read_at_most<S: Source>(
         return Err(ReadFault::InputTooLong);
     }
     let start = bytes.len();
-    resize(bytes, start + most, 0)?;
+    lengthen(bytes, most)?;
     match source.read(&mut bytes[start..]) {
         Ok(n) => {
             bytes.truncate(start + n);

@@ -4,7 +4,7 @@ ghost use Rattle.std.specs.Prelude.{◌≡◌, ◌++◌, IfOk};
 ghost use Rattle.bz_engine.specs.Messages.{not_found_text, note_text, lex_text, parse_text, fault_text, placed, lined};
 
 use crate::report::SyntaxFault;
-use bz_memory::{NoMemory, push_str};
+use bz_memory::{NoMemory, from_str, push_number, push_str};
 use bz_rule::{Note, Package, Target, Text, label};
 use bz_token::LexFault;
 use bz_tree::ParseFault;
@@ -56,14 +56,22 @@ fn of_attribute(
 ) -> Result<Text, NoMemory>
     ensures { IfOk result (λ t. t ≡ rule.now ++ before.now ++ attr.now ++ after.now) }
 {
-    let text = format!(in alloc; "{rule}{before}{attr}{after}")?;
+    let mut text = from_str(alloc, rule)?;
+    push_str(&mut text, before)?;
+    push_str(&mut text, attr)?;
+    push_str(&mut text, after)?;
     Ok(Text::from_string(text))
 }
 
 fn no_value(alloc: Global, rule: &str, attr: &str, value: &str) -> Result<Text, NoMemory>
     ensures { IfOk result (λ t. t ≡ note_text rule.now (Note.NoValue attr.now value.now)) }
 {
-    let text = format!(in alloc; "{rule}: no value '{value}' in attribute '{attr}'")?;
+    let mut text = from_str(alloc, rule)?;
+    push_str(&mut text, ": no value '")?;
+    push_str(&mut text, value)?;
+    push_str(&mut text, "' in attribute '")?;
+    push_str(&mut text, attr)?;
+    push_str(&mut text, "'")?;
     Ok(Text::from_string(text))
 }
 
@@ -71,7 +79,12 @@ fn no_value(alloc: Global, rule: &str, attr: &str, value: &str) -> Result<Text, 
 fn placed(alloc: Global, line: u64, col: u64, what: &str) -> Result<Text, NoMemory>
     ensures { IfOk result (λ t. t ≡ placed line col what.now) }
 {
-    let text = format!(in alloc; "{line}:{col}: {what}")?;
+    let mut text = String::new(alloc);
+    push_number(&mut text, line)?;
+    push_str(&mut text, ":")?;
+    push_number(&mut text, col)?;
+    push_str(&mut text, ": ")?;
+    push_str(&mut text, what)?;
     Ok(Text::from_string(text))
 }
 
@@ -79,7 +92,10 @@ fn placed(alloc: Global, line: u64, col: u64, what: &str) -> Result<Text, NoMemo
 fn lined(alloc: Global, line: u64, what: &str) -> Result<Text, NoMemory>
     ensures { IfOk result (λ t. t ≡ lined line what.now) }
 {
-    let text = format!(in alloc; "{line}: {what}")?;
+    let mut text = String::new(alloc);
+    push_number(&mut text, line)?;
+    push_str(&mut text, ": ")?;
+    push_str(&mut text, what)?;
     Ok(Text::from_string(text))
 }
 

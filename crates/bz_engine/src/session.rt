@@ -321,7 +321,7 @@ impl Session {
     {
         // The lists of the last chunk are given up.
         if self.bump.reset().is_err() {
-            return Err(NoMemory);
+            self.bump = Bump::new(self.alloc);
         }
         let max_statement = self.options.max_statement;
         let script = Script {

@@ -53,8 +53,8 @@ pub fn replace_file<D: Folder, A: Author>(
     ensures unwanted { result ≡ Ok false → (text : List ℕ) × A.gives author.old text (Ok false) author.new
         × (length text < capacity → D.did draft.old.folder [] draft.new.folder) }
 {
-    if draft.begin(file).is_err() {
-        return Err(Trouble::OutOfMemory);
+    if let Err(why) = draft.begin(file) {
+        return Err(Trouble::OutOfMemory(why));
     }
     let answer = author.write_to(draft);
     finish(draft, file, mode, answer)

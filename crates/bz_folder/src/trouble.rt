@@ -1,5 +1,7 @@
 //! Why a file was not replaced.
 
+use bz_memory::NoMemory;
+
 /// Why a file was not replaced. It is as it was.
 #[derive(Clone, Copy, Debug, PartialEq, Eq)]
 pub enum Trouble {

@@ -167,6 +167,7 @@ impl Walk {
     }
 
     fn open<T: NewLine>(&mut self, kind: GroupKind, out: &mut T) -> Result<(), NoMemory>
+        requires { self.old.level < usize_max }
         ensures laid { OnOk result (laid self.new (T.bytes out.new) ≡ opened kind (laid self.old (T.bytes out.old))) }
         ensures begun { IsBegunBy (T.bytes out.old) (T.bytes out.new) }
     {
@@ -178,11 +179,7 @@ impl Walk {
             None => Frame::top(None).mark,
         };
         if mark.broken {
-            // No memory holds a text with more levels.
-            let Some(inner) = self.level.checked_add(1) else {
-                return Err(NoMemory);
-            };
-            self.level = inner;
+            self.level += 1;
         }
         self.here = Frame {
             within: Some(kind),
@@ -237,6 +234,7 @@ impl Walk {
 
     #[inline(always)]
     fn step<T: NewLine>(&mut self, part: &Part<'_>, out: &mut T) -> Result<(), NoMemory>
+        requires { self.old.level < usize_max }
         ensures laid { OnOk result
             (laid self.new (T.bytes out.new) ≡ step (part_view part.now) (laid self.old (T.bytes out.old))) }
         ensures begun { IsBegunBy (T.bytes out.old) (T.bytes out.new) }

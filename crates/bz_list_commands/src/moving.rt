@@ -99,7 +99,7 @@ fn move_chosen(
         },
         value_at(args, new),
     )?;
-    let room = count.checked_add(there).ok_or(NoMemory)?;
+    let room = count.saturating_add(there);
     let mut elements = with_capacity(env.alloc, room)?;
     give_list(env.alloc, new, args)?;
     take_from(choice, old, args, &mut elements);

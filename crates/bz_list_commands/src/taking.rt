@@ -42,7 +42,7 @@ pub(crate) fn count_in(choice: Choice<'_, '_, '_>, value: &[Node<'_>]) -> Result
     while let Some(i) = next_part(value, at) {
         for element in elements_at(&value[i]) {
             if is_chosen(choice.home, choice.chosen, element) {
-                count = count.checked_add(1).ok_or(NoMemory)?;
+                count = count.saturating_add(1);
             }
         }
         at = i + 1;

@@ -5,16 +5,18 @@
 #![tactic(auto)]
 
 mod arena;
+mod input;
 mod list;
 mod map;
 mod no_memory;
 mod string;
 
 pub use arena::alloc_str;
+pub use input::{BytesFault, WordsFault, bytes_of_file, bytes_of_input, words};
 pub use list::{
-    append, extend_from_slice, from_array, lengthen, push, reserve, reserve_exact, with_capacity,
-    with_room_for,
+    append, collect, extend_from_slice, from_array, lengthen, push, reserve, reserve_exact,
+    with_capacity, with_room_for,
 };
-pub use map::insert;
+pub use map::{entry, insert, insert_last};
 pub use no_memory::NoMemory;
 pub use string::{from_str, push_char, push_number, push_str, with_length_of};

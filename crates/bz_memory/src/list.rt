@@ -1,9 +1,10 @@
 //! Lists that grow.
 
-ghost use Rattle.std.specs.Prelude.{◌≡◌, ◌≤◌, ◌<◌, ◌+◌, [], ◌∷◌, ◌++◌, is_ok, if◌then◌else◌, IfOk, OnOk, OnErr, length, take, vec_len, vec_capacity};
+ghost use Rattle.std.specs.Iterator.{DrainsIf, IsFinite};
+ghost use Rattle.std.specs.Prelude.{⊤, List, ◌≡◌, ◌≤◌, ◌<◌, ◌+◌, [], ◌∷◌, ◌++◌, is_ok, if◌then◌else◌, IfOk, OnOk, OnErr, length, take, vec_len, vec_capacity};
 
 use crate::no_memory::{NoMemory, refused};
-use std::alloc::Allocator;
+use std::alloc::{Allocator, Global};
 
 /// Puts a value at the end of a list.
 #[inline(always)]
@@ -129,6 +130,21 @@ pub fn lengthen<A: Allocator>(bytes: &mut Vec<u8, A>, more: usize) -> Result<(),
     let start = bytes.len();
     match bytes.resize(start + more, 0) {
         Ok(()) => Ok(()),
+        Err(_) => Err(refused()),
+    }
+}
+
+/// The items of an iterator.
+pub fn collect<T: Drop, I: Iterator<Item = T> + Drop>(
+    alloc: Global,
+    items: I,
+) -> Result<Vec<T>, NoMemory>
+    requires can { I.can_next items }
+    requires finite { IsFinite (I.remaining items) }
+    ensures ran { IfOk result (λ v. (xs : List T) × DrainsIf I.next_gives ⊤ items xs × ((v.items ≡ xs) × (vec_len v ≡ length xs))) }
+{
+    match items.collect(alloc) {
+        Ok(list) => Ok(list),
         Err(_) => Err(refused()),
     }
 }

@@ -3,7 +3,7 @@
 ghost use Rattle.std.specs.Prelude.{◌≡◌, ℕ, ◌++◌, [], ◌∷◌, List, Bool, if◌then◌else◌, Option, option_map, IfOk, OnOk, is_none, bytes_eq};
 ghost use Rattle.bz_passes.specs.private.Indexes as spec;
 
-use bz_memory::{NoMemory, from_str, push};
+use bz_memory::{NoMemory, entry, from_str, push};
 use std::alloc::Global;
 use std::collections::BTreeMap;
 
@@ -79,7 +79,7 @@ fn add_named(
         ++ (if bytes_eq q name.now then position ∷ [] else [])) }
 {
     let name = from_str(alloc, name)?;
-    let positions = named.entry(name)?.or_insert(Vec::new(alloc));
+    let positions = entry(named, name)?.or_insert(Vec::new(alloc));
     push(positions, position)?;
     Ok(())
 }

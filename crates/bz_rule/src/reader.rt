@@ -170,7 +170,7 @@ fn breaks_line(text: &str) -> bool
 fn read_print(alloc: Global, words: Vec<Text>) -> Result<Action, CommandFault>
     ensures { result ≢ Err (CommandFault.OutOfMemory no_memory) → result ≡ spec.print_of words.items }
 {
-    let mut fields = with_room_for(alloc, words, 0)?;
+    let mut fields = with_room_for(alloc, words.as_slice(), 0)?;
     for word in words {
         push(&mut fields, field(word)?)?;
     }

@@ -9,7 +9,7 @@ ghost use Rattle.bz_script.specs.Results.{map_ok};
 
 use crate::group::{Script, read_group};
 use crate::usage::UsageFault;
-use bz_memory::{NoMemory, append};
+use bz_memory::{NoMemory, append, collect};
 use bz_token::check_utf8;
 use std::alloc::Global;
 
@@ -77,7 +77,7 @@ fn is_skipped(line: &str) -> bool
 fn fields_in<'a>(alloc: Global, line: &'a str) -> Result<Vec<&'a str>, NoMemory>
     ensures { IfOk result (λ fields. map (λ field. field.now) fields.items ≡ spec.fields_of line.now) }
 {
-    line.split('|').map(trimmed).collect(alloc)
+    collect(alloc, line.split('|').map(trimmed))
 }
 
 /// The part without the spaces round it. Tabs stay.

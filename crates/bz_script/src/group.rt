@@ -153,7 +153,7 @@ fn passes_for(
     ensures { IfOk result (λ script. script.items
         ≡ map (spec.pass_for (spec.commands_of (map (λ word. word.now) commands.now))) labels.items) }
 {
-    let mut script = with_room_for(alloc, labels, 0)?;
+    let mut script = with_room_for(alloc, labels.as_slice(), 0)?;
     for (package, target) in labels {
         let commands = read_commands(alloc, commands)?;
         push(&mut script, (package, Pass { target, commands }))?;

@@ -4,7 +4,7 @@ ghost use Rattle.std.specs.Prelude.{◌≡◌, ◌++◌, [], ◌∷◌, List, ma
 ghost use Rattle.bz_script.specs.Packages as spec;
 
 use bz_command::Package;
-use bz_memory::{NoMemory, push};
+use bz_memory::{NoMemory, insert_last, push};
 use indexmap::IndexMap;
 use std::alloc::Global;
 use std::hash::Hash;
@@ -50,7 +50,7 @@ fn append<K: Eq + Hash + Drop, T: Drop>(
         None => {
             let mut values = Vec::new(alloc);
             push(&mut values, value)?;
-            lists.insert(key, values)?;
+            insert_last(lists, key, values)?;
         }
     }
     Ok(())

@@ -8,11 +8,8 @@ use crate::group::{Script, read_group};
 use crate::inputs::check_inputs;
 use crate::quoted::Quoted;
 use crate::usage::{StartFault, UsageFault};
-use bz_memory::{NoMemory, push, with_room_for};
+use bz_memory::{BytesFault, NoMemory, bytes_of_file, bytes_of_input, push, with_room_for};
 use std::alloc::Global;
-use std::fs::File;
-use std::io;
-use std::io::Read;
 
 /// The most bytes of a command file.
 const MAX_COMMANDS: u64 = 16_777_216;
@@ -48,33 +45,16 @@ fn script_of_words(alloc: Global, words: &[String]) -> Result<Script, UsageFault
 /// The bytes of a command file; `-` is standard input.
 fn command_bytes(rt: &HostRuntime, alloc: Global, path: &str) -> Result<Vec<u8>, StartFault> {
     let name = Quoted::from_str(alloc, path).map_err(UsageFault::from)?;
-    if path == "-" {
-        return read_bytes(alloc, rt.stdin(), name);
-    }
-    match File::open(rt, path) {
-        Ok(file) => read_bytes(alloc, file, name),
-        Err(error) => Err(read_fault(error, name)),
-    }
-}
-
-/// All bytes of a command file, whose name faults tell.
-fn read_bytes<R: Read + Drop>(
-    alloc: Global,
-    reader: R,
-    name: Quoted,
-) -> Result<Vec<u8>, StartFault> {
-    let mut bytes = Vec::new(alloc);
-    match reader.take(MAX_COMMANDS + 1).read_to_end(&mut bytes) {
-        Ok(n) if n as u64 > MAX_COMMANDS => Err(StartFault::LongCommands(name)),
-        Ok(_) => Ok(bytes),
-        Err(error) => Err(read_fault(error, name)),
-    }
-}
-
-fn read_fault(error: io::Error, name: Quoted) -> StartFault {
-    match error.kind() {
-        io::ErrorKind::OutOfMemory => StartFault::Usage(UsageFault::OutOfMemory),
-        _ => StartFault::UnreadCommands(name),
+    let read = if path == "-" {
+        bytes_of_input(rt, alloc, MAX_COMMANDS + 1)
+    } else {
+        bytes_of_file(rt, alloc, path, MAX_COMMANDS + 1)
+    };
+    match read {
+        Ok(bytes) if bytes.len() as u64 > MAX_COMMANDS => Err(StartFault::LongCommands(name)),
+        Ok(bytes) => Ok(bytes),
+        Err(BytesFault::OutOfMemory(why)) => Err(StartFault::from(UsageFault::OutOfMemory(why))),
+        Err(BytesFault::Failed) => Err(StartFault::UnreadCommands(name)),
     }
 }
 

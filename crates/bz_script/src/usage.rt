@@ -55,7 +55,7 @@ pub enum FlagFault {
 /// Why the words of the command line, or a command file, ask for nothing.
 #[derive(Debug, Drop, Error)]
 pub enum UsageFault {
-    #[error("{}", Mistake::OutOfMemory(*why))]
+    #[error("out of memory")]
     OutOfMemory(NoMemory),
     #[error("{refused}: {}", Mistake::of_flag(refused, *fault))]
     Flag {
