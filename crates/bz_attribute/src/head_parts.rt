@@ -64,11 +64,7 @@ pub(crate) fn kind_of<'a>(
     }
 }
 
-fn joined_tokens<'a>(
-    alloc: Global,
-    bump: &'a Bump,
-    parts: &[Part<'a>],
-) -> Result<&'a str, NoMemory>
+fn joined_tokens<'a>(alloc: Global, bump: &'a Bump, parts: &[Part<'a>]) -> Result<&'a str, NoMemory>
     ensures { IfOk result (λ kind. kind.now ≡ spec.token_texts (map part_view parts.now)) }
 {
     let mut kind = String::new(alloc);

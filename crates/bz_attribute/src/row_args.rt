@@ -104,11 +104,7 @@ fn push_node<'a>(bump: &'a Bump, node: &Node<'a>, parts: &mut Parts<'a>) -> Resu
 }
 
 #[cycle(parts)]
-fn push_group<'a>(
-    bump: &'a Bump,
-    group: &Group<'a>,
-    parts: &mut Parts<'a>,
-) -> Result<(), NoMemory>
+fn push_group<'a>(bump: &'a Bump, group: &Group<'a>, parts: &mut Parts<'a>) -> Result<(), NoMemory>
     ensures { OnOk result
         (map part_view parts.new.items ≡ map part_view parts.old.items ++ item_parts (group_view group.now)) }
 {
@@ -120,11 +116,7 @@ fn push_group<'a>(
 }
 
 #[cycle(parts)]
-fn push_nodes<'a>(
-    bump: &'a Bump,
-    nodes: &[Node<'a>],
-    parts: &mut Parts<'a>,
-) -> Result<(), NoMemory>
+fn push_nodes<'a>(bump: &'a Bump, nodes: &[Node<'a>], parts: &mut Parts<'a>) -> Result<(), NoMemory>
     ensures { OnOk result
         (map part_view parts.new.items
         ≡ map part_view parts.old.items ++ items_parts (items_of (nodes_view nodes.now))) }
@@ -157,11 +149,7 @@ fn push_arguments<'a>(
 
 /// Appends the parts of a statement. Texts that it owns are copied into the arena. `Err`: memory was refused, and some of
 /// them may have been appended.
-pub fn push_stmt<'a>(
-    bump: &'a Bump,
-    stmt: &Stmt<'a>,
-    parts: &mut Parts<'a>,
-) -> Result<(), NoMemory>
+pub fn push_stmt<'a>(bump: &'a Bump, stmt: &Stmt<'a>, parts: &mut Parts<'a>) -> Result<(), NoMemory>
     ensures { OnOk result (map part_view parts.new.items ≡ map part_view parts.old.items ++ parts_of (view stmt.now)) }
 {
     push_above(bump, &stmt.before, parts)?;

@@ -221,7 +221,10 @@ fn push_value(alloc: Global, text: &mut String, value: &[Node<'_>]) -> Result<()
         [node] if is_list(node) && are_strings(elements_at(node)) => {
             push_words(alloc, text, elements_at(node))
         }
-        _ => push_str(text, flat(alloc, value, Some(GroupKind::RuleCall))?.as_str()),
+        _ => push_str(
+            text,
+            flat(alloc, value, Some(GroupKind::RuleCall))?.as_str(),
+        ),
     }
 }
 

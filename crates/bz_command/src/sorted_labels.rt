@@ -38,7 +38,10 @@ impl<'a> SortedLabels<'a> {
     {
         let mut labels = with_room_for(alloc, words, 0)?;
         for word in words {
-            push(&mut labels, Label::new(home, Bytes::Plain(word.as_str().as_bytes())))?;
+            push(
+                &mut labels,
+                Label::new(home, Bytes::Plain(word.as_str().as_bytes())),
+            )?;
         }
         labels.sort_unstable();
         Ok(SortedLabels { home, labels })

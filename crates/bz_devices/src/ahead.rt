@@ -9,10 +9,10 @@ ghost use Rattle.bz_devices.specs.Ahead.{IsReadOn, AreNeeded, IsNextChunk, IsToo
 ghost use Rattle.bz_devices.specs.Search.{Searches};
 ghost use Rattle.bz_devices.specs.private.AheadSteps.{IsOpen, IsLine, IsLineAt, IsBegun, GoesOn, EndsAt, IsEnd};
 
-use bz_memory::NoMemory;
 use crate::device::Source;
 use crate::input::{PIECE, ReadFault, read_at_most};
 use crate::limits::Limits;
+use bz_memory::NoMemory;
 use bz_token::{Cut, Cutter, Next, check_utf8};
 use memchr::memchr;
 use std::alloc::Global;

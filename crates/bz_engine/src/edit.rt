@@ -222,11 +222,7 @@ fn put_after(
 }
 
 /// Writes what stands between two statements of these classes.
-pub(crate) fn put_gap(
-    last: Option<Class>,
-    class: Class,
-    text: &mut Vec<u8>,
-) -> Result<(), NoMemory>
+pub(crate) fn put_gap(last: Option<Class>, class: Class, text: &mut Vec<u8>) -> Result<(), NoMemory>
     ensures { OnOk result (text.new.items ≡ text.old.items ++ gap_text (is_gap last class)) }
 {
     if blank_between(last, class) {

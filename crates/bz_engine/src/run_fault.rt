@@ -1,9 +1,8 @@
 //! Why a run ended before its report.
 
-use bz_memory::NoMemory;
-
 ghost use Rattle.std.specs.Prelude.{◌≡◌};
 
+use bz_memory::NoMemory;
 
 /// Why a run ended before its report.
 #[derive(Clone, Copy, Debug, PartialEq, Eq)]

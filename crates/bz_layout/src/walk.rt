@@ -1,6 +1,6 @@
 //! The walk forwards over the parts of a statement, which writes them.
 
-ghost use Rattle.std.specs.Prelude.{◌≡◌, ◌++◌, ℕ, List, IfOk, OnOk, map, reverse};
+ghost use Rattle.std.specs.Prelude.{◌≡◌, ◌<◌, ◌^◌, ◌+◌, ◌++◌, ℕ, List, IfOk, OnOk, map, reverse};
 ghost use Rattle.bz_tree.specs.Rows.{part_view};
 ghost use Rattle.bz_layout.specs.declared.spacing.Edge.TheVariants.{Start};
 ghost use Rattle.bz_layout.specs.private.Kept.{IsBegunBy};
@@ -72,8 +72,9 @@ impl Walk {
         marks: Vec<Mark>,
         within: Option<GroupKind>,
     ) -> Result<Walk, NoMemory>
-        ensures { IfOk result
+        ensures laid { IfOk result
             (λ walk. (text : List ℕ) → laid walk text ≡ start text (reverse marks.items) within) }
+        ensures level { IfOk result (λ walk. walk.level ≡ 0) }
     {
         let depth = min(marks.len(), FIRST_DEPTH);
         Ok(Walk {
@@ -119,12 +120,7 @@ impl Walk {
     }
 
     #[inline(always)]
-    fn put_token<T: NewLine>(
-        &mut self,
-        kind: Kind,
-        text: &str,
-        out: &mut T,
-    ) -> Result<(), NoMemory>
+    fn put_token<T: NewLine>(&mut self, kind: Kind, text: &str, out: &mut T) -> Result<(), NoMemory>
         ensures laid { OnOk result
             (laid self.new (T.bytes out.new) ≡ with_token kind text.now (laid self.old (T.bytes out.old))) }
         ensures begun { IsBegunBy (T.bytes out.old) (T.bytes out.new) }
@@ -136,12 +132,7 @@ impl Walk {
     }
 
     #[inline(never)]
-    fn put_rarer<T: NewLine>(
-        &mut self,
-        kind: Kind,
-        text: &str,
-        out: &mut T,
-    ) -> Result<(), NoMemory>
+    fn put_rarer<T: NewLine>(&mut self, kind: Kind, text: &str, out: &mut T) -> Result<(), NoMemory>
         ensures laid { OnOk result
             (laid self.new (T.bytes out.new) ≡ with_token kind text.now (laid self.old (T.bytes out.old))) }
         ensures begun { IsBegunBy (T.bytes out.old) (T.bytes out.new) }
@@ -167,7 +158,7 @@ impl Walk {
     }
 
     fn open<T: NewLine>(&mut self, kind: GroupKind, out: &mut T) -> Result<(), NoMemory>
-        requires { self.old.level < usize_max }
+        requires { self.old.level + 1 < 2 ^ 64 }
         ensures laid { OnOk result (laid self.new (T.bytes out.new) ≡ opened kind (laid self.old (T.bytes out.old))) }
         ensures begun { IsBegunBy (T.bytes out.old) (T.bytes out.new) }
     {
@@ -234,7 +225,7 @@ impl Walk {
 
     #[inline(always)]
     fn step<T: NewLine>(&mut self, part: &Part<'_>, out: &mut T) -> Result<(), NoMemory>
-        requires { self.old.level < usize_max }
+        requires { self.old.level + 1 < 2 ^ 64 }
         ensures laid { OnOk result
             (laid self.new (T.bytes out.new) ≡ step (part_view part.now) (laid self.old (T.bytes out.old))) }
         ensures begun { IsBegunBy (T.bytes out.old) (T.bytes out.new) }
@@ -250,11 +241,13 @@ impl Walk {
         }
     }
 
+    // From the start: so there are no more levels than parts.
     pub(crate) fn run<T: NewLine>(
         &mut self,
         parts: &[Part<'_>],
         out: &mut T,
     ) -> Result<(), NoMemory>
+        requires { self.old.level ≡ 0 }
         ensures laid { OnOk result
             (laid self.new (T.bytes out.new) ≡ run (map part_view parts.now) (laid self.old (T.bytes out.old))) }
         ensures begun { IsBegunBy (T.bytes out.old) (T.bytes out.new) }

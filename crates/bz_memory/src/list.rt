@@ -46,40 +46,55 @@ pub fn append<T, A: Allocator>(list: &mut Vec<T, A>, other: &mut Vec<T, A>) -> R
     }
 }
 
-/// Makes room for so many values more.
+/// Makes room for a few values more.
 #[inline(always)]
-pub fn reserve<T, A: Allocator>(list: &mut Vec<T, A>, more: usize) -> Result<(), NoMemory>
+pub fn reserve<T, A: Allocator>(list: &mut Vec<T, A>, few: usize) -> Result<(), NoMemory>
+    requires { few ≤ 131072 }
     ensures items { list.new.items ≡ list.old.items }
-    ensures ok { OnOk result (vec_len list.new + more ≤ vec_capacity list.new) }
-    ensures full { OnErr result (vec_capacity list.old < vec_len list.old + more) }
+    ensures ok { OnOk result (vec_len list.new + few ≤ vec_capacity list.new) }
+    ensures full { OnErr result (vec_capacity list.old < vec_len list.old + few) }
 {
-    match list.reserve(more) {
+    match list.reserve(few) {
         Ok(()) => Ok(()),
         Err(_) => Err(refused()),
     }
 }
 
-/// Makes room for so many values more, and takes no more memory than that.
+/// Makes room for as many values more as another list has.
 #[inline(always)]
-pub fn reserve_exact<T, A: Allocator>(list: &mut Vec<T, A>, more: usize) -> Result<(), NoMemory>
+pub fn reserve_for<T, U, A: Allocator>(list: &mut Vec<T, A>, like: &[U]) -> Result<(), NoMemory>
     ensures items { list.new.items ≡ list.old.items }
-    ensures ok { OnOk result (vec_len list.new + more ≤ vec_capacity list.new) }
-    ensures full { OnErr result (vec_capacity list.old < vec_len list.old + more) }
+    ensures ok { OnOk result (vec_len list.new + length like.now ≤ vec_capacity list.new) }
+    ensures full { OnErr result (vec_capacity list.old < vec_len list.old + length like.now) }
 {
-    match list.reserve_exact(more) {
+    match list.reserve(like.len()) {
         Ok(()) => Ok(()),
         Err(_) => Err(refused()),
     }
 }
 
-/// An empty list with room for so many values.
+/// Makes room for a few values more, and takes no more memory than that.
 #[inline(always)]
-pub fn with_capacity<T, A: Allocator>(alloc: A, capacity: usize) -> Result<Vec<T, A>, NoMemory>
-    requires { capacity ≤ 131072 }
+pub fn reserve_exact<T, A: Allocator>(list: &mut Vec<T, A>, few: usize) -> Result<(), NoMemory>
+    requires { few ≤ 131072 }
+    ensures items { list.new.items ≡ list.old.items }
+    ensures ok { OnOk result (vec_len list.new + few ≤ vec_capacity list.new) }
+    ensures full { OnErr result (vec_capacity list.old < vec_len list.old + few) }
+{
+    match list.reserve_exact(few) {
+        Ok(()) => Ok(()),
+        Err(_) => Err(refused()),
+    }
+}
+
+/// An empty list with room for a few values.
+#[inline(always)]
+pub fn with_capacity<T, A: Allocator>(alloc: A, few: usize) -> Result<Vec<T, A>, NoMemory>
+    requires { few ≤ 131072 }
     ensures items { IfOk result (λ v. v.items ≡ []) }
-    ensures capacity { IfOk result (λ v. capacity ≤ vec_capacity v) }
+    ensures capacity { IfOk result (λ v. few ≤ vec_capacity v) }
 {
-    match Vec::with_capacity(alloc, capacity) {
+    match Vec::with_capacity(alloc, few) {
         Ok(list) => Ok(list),
         Err(_) => Err(refused()),
     }
@@ -93,13 +108,40 @@ pub fn with_room_for<T, U, A: Allocator>(
     few: usize,
 ) -> Result<Vec<T, A>, NoMemory>
     requires { few ≤ 131072 }
-    ensures items { IfOk result (λ v. v.items ≡ []) }
-    ensures capacity { IfOk result (λ v. length like.now + few ≤ vec_capacity v) }
+    ensures { IfOk result (λ v. v.items ≡ []) }
 {
-    let Some(capacity) = like.len().checked_add(few) else {
-        return Err(refused());
-    };
-    match Vec::with_capacity(alloc, capacity) {
+    with_room_within(alloc, like.len().saturating_add(few), like)
+}
+
+/// An empty list with room for as many values as two other lists have, and a few.
+#[inline(always)]
+pub fn with_room_for_both<T, U, A: Allocator>(
+    alloc: A,
+    first: &[U],
+    second: &[U],
+    few: usize,
+) -> Result<Vec<T, A>, NoMemory>
+    requires { few ≤ 131072 }
+    ensures { IfOk result (λ v. v.items ≡ []) }
+{
+    let room = first.len().saturating_add(second.len()).saturating_add(few);
+    match Vec::with_capacity(alloc, room) {
+        Ok(list) => Ok(list),
+        Err(_) => Err(refused()),
+    }
+}
+
+/// An empty list with room for so many values: at most as many as another list has, and a few.
+#[inline(always)]
+pub fn with_room_within<T, U, A: Allocator>(
+    alloc: A,
+    room: usize,
+    like: &[U],
+) -> Result<Vec<T, A>, NoMemory>
+    requires { room ≤ length like.now + 131072 }
+    ensures { IfOk result (λ v. v.items ≡ []) }
+{
+    match Vec::with_capacity(alloc, room) {
         Ok(list) => Ok(list),
         Err(_) => Err(refused()),
     }

@@ -2,7 +2,7 @@
 
 ghost use Rattle.std.specs.Prelude.{◌≡◌, ℕ, List, [], ◌∷◌, ◌++◌, length, ◌==◌, OnOk, OnErr, IfSome, IfNone};
 
-use bz_memory::{NoMemory, extend_from_slice, push, reserve};
+use bz_memory::{NoMemory, extend_from_slice, push, reserve, reserve_for};
 use std::alloc::Global;
 use std::marker::Model;
 use std::str::from_utf8;
@@ -71,7 +71,7 @@ impl Texts {
             *self = other;
             return Ok(());
         }
-        reserve(&mut self.lens, other.lens.len())?;
+        reserve_for(&mut self.lens, other.lens.as_slice())?;
         extend_from_slice(&mut self.bytes, other.bytes.as_slice())?;
         extend_from_slice(&mut self.lens, other.lens.as_slice())?;
         Ok(())

@@ -7,7 +7,7 @@ ghost use Rattle.bz_rule.specs.private.PartsOf.{parts_in};
 
 use bumpalo::Bump;
 use bz_attribute::{Parts, Place};
-use bz_memory::{NoMemory, extend_from_slice, with_room_for};
+use bz_memory::{NoMemory, extend_from_slice, with_room_for_both};
 use bz_tree::Part;
 
 // For the next edits, which mostly add.
@@ -64,8 +64,7 @@ pub(crate) fn with_others<'a>(
     requires { (place.from ≤ place.to) × (place.to ≤ length parts.now) }
     ensures { IfOk result (λ list. list.items ≡ splice parts.now place.from place.to new.now) }
 {
-    let room = new.len().saturating_add(ROOM);
-    let mut list = with_room_for(bump, parts, room)?;
+    let mut list = with_room_for_both(bump, parts, new, ROOM)?;
     extend_from_slice(&mut list, &parts[..place.from])?;
     extend_from_slice(&mut list, new)?;
     extend_from_slice(&mut list, &parts[place.to..])?;

@@ -47,10 +47,7 @@ pub fn apply<'a>(
 }
 
 // The tree of what a slot holds.
-fn tree_of<'a>(
-    alloc: Global,
-    slot: &Option<StatementRow<'a>>,
-) -> Result<Option<Stmt<'a>>, NoMemory>
+fn tree_of<'a>(alloc: Global, slot: &Option<StatementRow<'a>>) -> Result<Option<Stmt<'a>>, NoMemory>
     ensures { IfOk result (λ left. slot_view left ≡ slot.now) }
 {
     match slot {

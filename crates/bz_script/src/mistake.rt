@@ -1,8 +1,8 @@
 //! What is wrong with the words of a call, by kind, and the text that is told of each kind.
 
-use bz_memory::NoMemory;
 use crate::usage::{FlagFault, Refused};
 use bz_command::LabelFault;
+use bz_memory::NoMemory;
 use bz_rule::{CommandFault, LEFT_OUT, USAGE};
 use thiserror::Error;
 

@@ -1,9 +1,8 @@
 //! Why a text has no tokens.
 
-use bz_memory::NoMemory;
-
 ghost use Rattle.std.specs.Prelude.{◌≡◌};
 
+use bz_memory::NoMemory;
 
 /// Why a text has no tokens: its first fault from left to right, with the line and the column of its first byte, or that
 /// allocation failed. The caller gives the number of the text's first line; columns are in bytes, from 1.

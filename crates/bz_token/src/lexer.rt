@@ -143,6 +143,7 @@ impl<'b, 'a> Lexer<'b, 'a> {
     /// Nothing is read yet.
     #[inline(always)]
     pub fn new(bump: &'b Bump, capacity: usize) -> Result<Lexer<'b, 'a>, NoMemory>
+        requires { capacity ≤ 4096 }
         ensures { IfOk result (λ lexer. (lexer.tokens.items ≡ []) × (opened lexer.brackets ≡ [])) }
     {
         Ok(Lexer {
@@ -221,13 +222,16 @@ impl<'b, 'a> Lexer<'b, 'a> {
             Ok(GapOrToken::Token(scanned)) => {
                 let Position { line, col } = place;
                 let (token, following) = rest.split_at(scanned.len);
-                push(&mut self.tokens, Token {
-                    kind: scanned.kind,
-                    text: token,
-                    line,
-                    col,
-                    fresh: is_fresh(last_line, line),
-                })?;
+                push(
+                    &mut self.tokens,
+                    Token {
+                        kind: scanned.kind,
+                        text: token,
+                        line,
+                        col,
+                        fresh: is_fresh(last_line, line),
+                    },
+                )?;
                 let cursor = Cursor {
                     rest: following,
                     place: pass(place, token.as_bytes(), scanned.has_newline),
@@ -283,7 +287,9 @@ impl<'b, 'a> Lexer<'b, 'a> {
 
 // Room for the tokens of a statement of so many bytes; the list of a long text grows.
 #[inline(always)]
-fn first_capacity(len: usize) -> usize {
+fn first_capacity(len: usize) -> usize
+    ensures { result ≤ 4096 }
+{
     len.min(4096) / 6
 }
 

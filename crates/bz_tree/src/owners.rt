@@ -87,10 +87,7 @@ fn put_before(seg: &mut Seg<'_>) -> Result<(), NoMemory>
 
 // The comments after the last node stand above it once another node, or the comma, comes.
 #[inline(always)]
-fn put_above<'a>(
-    before: &mut Vec<CowStr<'a>>,
-    after: &mut Vec<CowStr<'a>>,
-) -> Result<(), NoMemory>
+fn put_above<'a>(before: &mut Vec<CowStr<'a>>, after: &mut Vec<CowStr<'a>>) -> Result<(), NoMemory>
     ensures before { OnOk result (before.new.items ≡ before.old.items ++ after.old.items) }
     ensures after { OnOk result (after.new.items ≡ []) }
 {
@@ -184,7 +181,10 @@ impl<'a> Walk<'a> {
             return Ok(());
         }
         put_above(&mut self.here.before, &mut self.after)?;
-        push(&mut self.segs, mem::replace(&mut self.here, empty_segment(alloc)))?;
+        push(
+            &mut self.segs,
+            mem::replace(&mut self.here, empty_segment(alloc)),
+        )?;
         self.last = Before::Comma(line);
         self.trailing = true;
         Ok(())

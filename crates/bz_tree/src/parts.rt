@@ -20,10 +20,7 @@ pub fn push_parts<'s>(stmt: &'s Stmt<'_>, parts: &mut Vec<Part<'s>>) -> Result<(
 }
 
 /// Appends a part `Above` for each comment. `Err`: memory was refused, and some of them may have been appended.
-pub fn push_above<'s>(
-    comments: &'s [CowStr<'_>],
-    parts: &mut Vec<Part<'s>>,
-) -> Result<(), NoMemory>
+pub fn push_above<'s>(comments: &'s [CowStr<'_>], parts: &mut Vec<Part<'s>>) -> Result<(), NoMemory>
     ensures { OnOk result (map part_view parts.new.items
         ≡ map part_view parts.old.items ++ map above (texts comments.now)) }
 {

@@ -1,6 +1,6 @@
 //! The row of a chunk's statement: a walk over the tokens that pushes its parts in order.
 
-ghost use Rattle.std.specs.Prelude.{ℕ, List, [], ◌≡◌, ◌++◌, ◌&&◌, not, false, map, IfOk, IfSome, IsTrue, option_map};
+ghost use Rattle.std.specs.Prelude.{ℕ, List, [], ◌≡◌, ◌++◌, ◌&&◌, ◌≤◌, ◌+◌, length, not, false, map, IfOk, IfSome, IsTrue, option_map};
 ghost use Rattle.std.specs.Bool.{then_some};
 ghost use Rattle.bz_token.specs.Places.{Placed, placed};
 ghost use Rattle.bz_token.specs.Reading.{AreTokensOf};
@@ -28,8 +28,12 @@ use crate::stage::may_end;
 use crate::stmt::GroupKind;
 use bumpalo::Bump;
 use bumpalo::collections::into_bump_slice;
-use bz_memory::{NoMemory, push, with_capacity};
+use bz_memory::{NoMemory, push, with_room_within};
 use bz_token::{Kind, Token};
+use std::cmp::min;
+
+// The most room beside a part for each token.
+const MOST_MORE: usize = 4096;
 
 // The parts so far, the bracket that is open here, and those around it.
 #[derive(Drop)]
@@ -41,12 +45,13 @@ pub(crate) struct RowWalk<'a> {
 
 // False: the statement is left to its tree. So it is in all that follow.
 impl<'a> RowWalk<'a> {
-    /// Before the first token, with room for so many parts.
-    pub(crate) fn new(bump: &'a Bump, room: usize) -> Result<RowWalk<'a>, NoMemory>
+    /// Before the first token, with room for so many parts: at most one for each of these, and a few.
+    pub(crate) fn new<T>(bump: &'a Bump, room: usize, of: &[T]) -> Result<RowWalk<'a>, NoMemory>
+        requires { room ≤ length of.now + 131072 }
         ensures { IfOk result (λ walk. row_state walk ≡ row_start) }
     {
         Ok(RowWalk {
-            parts: with_capacity(bump, room)?,
+            parts: with_room_within(bump, room, of)?,
             outer: Vec::new(bump),
             top: Spot::new(None),
         })
@@ -164,13 +169,19 @@ impl<'a> RowWalk<'a> {
         if is_one(kind) {
             return Ok(false);
         }
-        push(&mut self.parts, Part::Open(shown_kind(self.top.read.naming, kind)))?;
-        push(&mut self.outer, Around {
-            kind: self.top.kind,
-            done: self.top.done,
-            ended: self.top.is_ended(),
-            read: self.top.read,
-        })?;
+        push(
+            &mut self.parts,
+            Part::Open(shown_kind(self.top.read.naming, kind)),
+        )?;
+        push(
+            &mut self.outer,
+            Around {
+                kind: self.top.kind,
+                done: self.top.done,
+                ended: self.top.is_ended(),
+                read: self.top.read,
+            },
+        )?;
         self.top = Spot::new(Some(kind));
         Ok(true)
     }
@@ -335,7 +346,11 @@ pub fn read_row<'a>(bump: &'a Bump, tokens: &[Token<'a>]) -> Result<Option<Row<'
     let Some(end) = counted_end_of(tokens) else {
         return Ok(None);
     };
-    let mut walk = RowWalk::new(bump, tokens.len().saturating_add(tokens.len() / 4))?;
+    let mut walk = RowWalk::new(
+        bump,
+        tokens.len() + min(tokens.len() / 4, MOST_MORE),
+        tokens,
+    )?;
     if !walk.add_tokens(tokens)? {
         return Ok(None);
     }

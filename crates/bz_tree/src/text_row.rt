@@ -1,6 +1,6 @@
 //! The row of a text, whose tokens are read and dropped a batch at a time.
 
-ghost use Rattle.std.specs.Prelude.{◌≡◌, ◌+◌, ◌<◌, ◌^◌, ◌==◌, count_by, IfOk, IfSome};
+ghost use Rattle.std.specs.Prelude.{◌≡◌, ◌+◌, ◌≤◌, ◌<◌, length, ◌^◌, ◌==◌, count_by, IfOk, IfSome};
 ghost use Rattle.bz_tree.specs.Tree.{Statement};
 ghost use Rattle.bz_tree.specs.Chunk.{IsStatementIn};
 ghost use Rattle.bz_tree.specs.Rows.{IsRowOf};
@@ -17,7 +17,9 @@ const FRONT: usize = 4096;
 
 // Room for the parts of a text: most often two go with a comma, an element and the end of its segment, and a few with
 // what stands around. A long list that grows in an arena leaves much room unused there.
-fn first_room(text: &str) -> usize {
+fn first_room(text: &str) -> usize
+    ensures { result ≤ length text.now + 8 }
+{
     if text.len() < FRONT {
         return text.len() / 4 + 8;
     }
@@ -27,6 +29,7 @@ fn first_room(text: &str) -> usize {
         .saturating_add(32)
         .saturating_mul(2)
         .saturating_mul(fronts)
+        .min(text.len())
 }
 
 /// Reads the row that `read_row` gives for the tokens of a chunk, whose list is never there: it would take more memory
@@ -43,7 +46,7 @@ pub(crate) fn row_of_text<'a>(
         (λ row. (s : Statement) × IsStatementIn first_line max_depth text.now s × IsRowOf s row)) }
 {
     let mut reader = TokenReader::new(bump, text, first_line, max_depth)?;
-    let mut walk = RowWalk::new(bump, first_room(text))?;
+    let mut walk = RowWalk::new(bump, first_room(text), text.as_bytes())?;
     let mut first = None;
     let mut last = None;
     while !reader.is_at_end() {
