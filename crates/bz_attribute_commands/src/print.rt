@@ -263,7 +263,7 @@ fn push_words(alloc: Global, text: &mut String, list: &[Seg<'_>]) -> Result<(), 
         let _ = push_string(alloc, text, &element.nodes)?;
         space = " ";
     }
-    push_char(text, ')')
+    push_char(text, ']')
 }
 
 // Writes a value as a word.

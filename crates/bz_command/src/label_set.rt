@@ -42,6 +42,7 @@ impl<'a> LabelSet<'a> {
         ensures home { self.new.home.now ≡ self.old.home.now }
     {
         let label = Label::new(self.home, text);
-        insert(&mut self.labels, label)
+        let new = insert(&mut self.labels, label)?;
+        Ok(new)
     }
 }

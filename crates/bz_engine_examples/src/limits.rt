@@ -4,7 +4,7 @@ use crate::drip::Drip;
 use crate::feed::{Feed, Input, Piece};
 use crate::script::{limited, plain, read_script};
 use bz_engine::{RunFault, Session, run};
-use std::alloc::{AllocError, Global};
+use std::alloc::Global;
 use std::process::Abort;
 use std::test::Fail;
 
@@ -83,7 +83,7 @@ fn reads_what_is_needed(rt: HostRuntime) -> Result<(), Fail> {
 }
 
 /// So many brackets in one another.
-fn nested(alloc: Global, depth: usize) -> Result<String, AllocError> {
+fn nested(alloc: Global, depth: usize) -> Result<String, Fail> {
     let mut text = String::from_str(alloc, "x = ")?;
     for bracket in ['[', ']'] {
         for _ in 0..depth {

@@ -5,7 +5,7 @@ use crate::drip::Drip;
 use crate::feed::{Feed, Input, Piece};
 use crate::script::{plain, program, read_script};
 use bz_engine::{End, Report, run};
-use std::alloc::{AllocError, Global};
+use std::alloc::Global;
 use std::process::Abort;
 use std::test::Fail;
 
@@ -248,7 +248,7 @@ fn run_all(alloc: Global, script: &str, input: &[u8], most: usize) -> Result<Out
 }
 
 /// What a report tells.
-fn told(alloc: Global, report: &Report) -> Result<String, AllocError> {
+fn told(alloc: Global, report: &Report) -> Result<String, Fail> {
     let mut out = String::new(alloc);
     let mut lines = report.lines.iter();
     while let Some(line) = lines.next() {

@@ -4,11 +4,11 @@ ghost use Rattle.std.specs.Prelude.{◌≤◌, ◌^◌};
 
 use bz_engine::{Options, Pass};
 use bz_rule::{Command, Package, Target, read_command, read_label};
-use std::alloc::{AllocError, Global};
+use std::alloc::Global;
 use std::test::Fail;
 
 /// The text that a part of a row stands for: `␉`, `␊` and `␍` are a tab, a newline and a carriage return, and `␄` ends it.
-pub fn plain(alloc: Global, part: &str) -> Result<String, AllocError> {
+pub fn plain(alloc: Global, part: &str) -> Result<String, Fail> {
     let mut text = String::new(alloc);
     for c in part.chars() {
         match c {

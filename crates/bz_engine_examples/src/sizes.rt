@@ -4,12 +4,12 @@ use crate::drip::Drip;
 use crate::feed::{Feed, Input, Piece};
 use crate::script::{program, read_script};
 use bz_engine::run;
-use std::alloc::{AllocError, Global};
+use std::alloc::Global;
 use std::process::Abort;
 use std::test::Fail;
 
 /// The numbers from 10,000 on, so many, each with a text before and one after it.
-fn numbered(alloc: Global, before: &str, count: u64, after: &str) -> Result<String, AllocError> {
+fn numbered(alloc: Global, before: &str, count: u64, after: &str) -> Result<String, Fail> {
     let mut text = String::new(alloc);
     for i in 0..count {
         let number = i.saturating_add(10_000);
@@ -20,9 +20,9 @@ fn numbered(alloc: Global, before: &str, count: u64, after: &str) -> Result<Stri
 }
 
 /// A rule whose attribute is a list of so many labels, as it is written.
-fn rule(alloc: Global, attr: &str, count: u64) -> Result<String, AllocError> {
+fn rule(alloc: Global, attr: &str, count: u64) -> Result<String, Fail> {
     let labels = numbered(alloc, "        \"//some/package:", count, "\",\n")?;
-    format!(in alloc; "f(\n    name = \"a\",\n    {attr} = [\n{labels}    ],\n)\n")
+    Ok(format!(in alloc; "f(\n    name = \"a\",\n    {attr} = [\n{labels}    ],\n)\n")?)
 }
 
 /// A run over an input writes this text, and its status is 0 where that is another.

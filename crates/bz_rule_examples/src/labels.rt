@@ -4,7 +4,7 @@ use crate::table::{check_lines, plain, statement};
 use bumpalo::Bump;
 use bz_rule::{Package, StatementRow, Target, label, quote, read_label, same, value_is};
 use bz_token::{Kind, Token};
-use std::alloc::{AllocError, Global};
+use std::alloc::Global;
 use std::collections::HashMap;
 use std::process::Abort;
 use std::test::Fail;
@@ -38,7 +38,7 @@ b'a' ! a
 'a' ! b
 a ! a"##;
 
-fn is_value(alloc: Global, literal: &str, value: &str) -> Result<bool, AllocError> {
+fn is_value(alloc: Global, literal: &str, value: &str) -> Result<bool, Fail> {
     let literal = plain(alloc, literal)?;
     let value = plain(alloc, value)?;
     let token = token(Kind::String, literal.as_str());
@@ -106,7 +106,7 @@ new f x ! BadPackage
 //p:%for ! BadTarget
 //p:%18446744073709551616 ! BadTarget"##;
 
-fn shown_target(alloc: Global, home: &Package, target: &Target) -> Result<String, AllocError> {
+fn shown_target(alloc: Global, home: &Package, target: &Target) -> Result<String, Fail> {
     let mut shown = label(alloc, home, target)?;
     shown.push_str(if target.must_mark() {
         ", has to mark"

@@ -4,7 +4,7 @@ use crate::table::{check_lines, plain, read, statement};
 use crate::trees;
 use bz_layout::{blank_between, flat, put_stmt};
 use bz_tree::{Class, Group, Node, ParseFault};
-use std::alloc::{AllocError, Global};
+use std::alloc::Global;
 use std::test::Fail;
 
 /// A chunk, and the canonical text of its statement.
@@ -375,7 +375,7 @@ x[
 "##;
 
 /// The canonical text of the copy of a chunk's statement, after a comment.
-fn written(alloc: Global, text: &str) -> Result<Vec<u8>, ParseFault> {
+fn written(alloc: Global, text: &str) -> Result<Vec<u8>, Fail> {
     let mut out = b"# above\n".to_vec(alloc)?;
     if let Some(stmt) = read(alloc, text)? {
         put_stmt(alloc, &stmt.copy(alloc)?, &mut out)?;
@@ -384,18 +384,18 @@ fn written(alloc: Global, text: &str) -> Result<Vec<u8>, ParseFault> {
 }
 
 /// Whether these bytes are written for the statement of a chunk.
-fn is_written(alloc: Global, text: &str, wanted: &str) -> Result<bool, ParseFault> {
+fn is_written(alloc: Global, text: &str, wanted: &str) -> Result<bool, Fail> {
     let all = format!(in alloc; "# above\n{wanted}")?;
     Ok(written(alloc, text)?.as_slice() == all.as_bytes())
 }
 
 /// Whether two chunks have one statement, but where strings may be respelled.
-fn is_same_statement(alloc: Global, a: &str, b: &str) -> Result<bool, AllocError> {
+fn is_same_statement(alloc: Global, a: &str, b: &str) -> Result<bool, Fail> {
     Ok(a.contains('\'') || trees::shown(alloc, a)? == trees::shown(alloc, b)?)
 }
 
 /// What is wrong with a text that has to be written for a chunk.
-fn fault_of(alloc: Global, text: &str, wanted: &str) -> Result<&'static str, ParseFault> {
+fn fault_of(alloc: Global, text: &str, wanted: &str) -> Result<&'static str, Fail> {
     if !is_written(alloc, text, wanted)? {
         Ok("not written")
     } else if !is_written(alloc, wanted, wanted)? {
@@ -407,7 +407,7 @@ fn fault_of(alloc: Global, text: &str, wanted: &str) -> Result<&'static str, Par
     }
 }
 
-fn fault_of_row(alloc: Global, text: &str, wanted: &str) -> Result<&'static str, ParseFault> {
+fn fault_of_row(alloc: Global, text: &str, wanted: &str) -> Result<&'static str, Fail> {
     let text = plain(alloc, text)?;
     fault_of(alloc, text.as_str(), wanted)
 }

@@ -5,7 +5,7 @@ use crate::trees::{class_name, kind_name};
 use bumpalo::Bump;
 use bz_token::{LexFault, tokens};
 use bz_tree::{ParseFault, Part, Row, read_row, read_statement, read_text};
-use std::alloc::{AllocError, Global};
+use std::alloc::Global;
 use std::test::Fail;
 
 /// A chunk, and its parts with its class at the end. A bracket's kind stands where it opens; `,)` closes `(x,)`, `;` ends a
@@ -185,7 +185,7 @@ f ( ) #a
 #b
 "##;
 
-fn put_part(part: Part<'_>, out: &mut String) -> Result<(), AllocError> {
+fn put_part(part: Part<'_>, out: &mut String) -> Result<(), Fail> {
     match part {
         Part::Token(_, text) => out.push_str(text)?,
         Part::Open(kind) => out.push_str(kind_name(kind))?,
@@ -201,17 +201,18 @@ fn put_part(part: Part<'_>, out: &mut String) -> Result<(), AllocError> {
             out.push_str(text)?;
         }
     }
-    out.push(' ')
+    out.push(' ')?;
+    Ok(())
 }
 
-fn put_parts(row: &Row<'_>, out: &mut String) -> Result<(), AllocError> {
+fn put_parts(row: &Row<'_>, out: &mut String) -> Result<(), Fail> {
     for part in row.parts {
         put_part(*part, out)?;
     }
     Ok(())
 }
 
-fn shown_row(alloc: Global, row: &Row<'_>) -> Result<String, AllocError> {
+fn shown_row(alloc: Global, row: &Row<'_>) -> Result<String, Fail> {
     let mut out = String::new(alloc);
     put_parts(row, &mut out)?;
     out.push_str(class_name(row.class))?;
@@ -220,13 +221,12 @@ fn shown_row(alloc: Global, row: &Row<'_>) -> Result<String, AllocError> {
 }
 
 /// The row of a short chunk. None: it has none, or no tokens.
-fn row_of<'a>(bump: &'a Bump, text: &'a str) -> Result<Option<Row<'a>>, AllocError> {
+fn row_of<'a>(bump: &'a Bump, text: &'a str) -> Result<Option<Row<'a>>, Fail> {
     if text.len() > 1000 {
-        return Err(AllocError);
+        return Ok(None);
     }
     match tokens(bump, text, 1, 100) {
-        Ok(tokens) => read_row(bump, tokens),
-        Err(LexFault::OutOfMemory) => Err(AllocError),
+        Ok(tokens) => Ok(read_row(bump, tokens)?),
         Err(_) => Ok(None),
     }
 }
@@ -240,21 +240,18 @@ fn shown(alloc: Global, text: &str) -> Result<String, Fail> {
 }
 
 /// What a chunk is read as.
-fn shown_read(
-    alloc: Global,
-    read: Result<Option<Row<'_>>, ParseFault>,
-) -> Result<String, AllocError> {
+fn shown_read(alloc: Global, read: Result<Option<Row<'_>>, ParseFault>) -> Result<String, Fail> {
     match read {
-        Ok(None) => String::from_str(alloc, "blank\n"),
+        Ok(None) => Ok(String::from_str(alloc, "blank\n")?),
         Ok(Some(row)) => shown_row(alloc, &row),
-        Err(fault) => format!(in alloc; "{fault:?}\n"),
+        Err(fault) => Ok(format!(in alloc; "{fault:?}\n")?),
     }
 }
 
 /// What a short chunk is read as.
 fn shown_text(alloc: Global, text: &str) -> Result<String, Fail> {
     if text.len() > 1000 {
-        return Err(AllocError)?;
+        return Ok(String::from_str(alloc, "long")?);
     }
     let bump = Bump::new(alloc);
     let read = read_text(alloc, &bump, text, 1, 100);
@@ -264,7 +261,7 @@ fn shown_text(alloc: Global, text: &str) -> Result<String, Fail> {
 /// What a short chunk is read as by its tokens.
 fn shown_tokens(alloc: Global, text: &str) -> Result<String, Fail> {
     if text.len() > 1000 {
-        return Err(AllocError)?;
+        return Ok(String::from_str(alloc, "long")?);
     }
     let bump = Bump::new(alloc);
     match tokens(&bump, text, 1, 100) {
@@ -276,7 +273,7 @@ fn shown_tokens(alloc: Global, text: &str) -> Result<String, Fail> {
     }
 }
 
-fn has_row(alloc: Global, text: &str) -> Result<bool, AllocError> {
+fn has_row(alloc: Global, text: &str) -> Result<bool, Fail> {
     let text = plain(alloc, text)?;
     let bump = Bump::new(alloc);
     Ok(row_of(&bump, text.as_str())?.is_some())

@@ -2,12 +2,12 @@
 //! between.
 
 use bz_tree::{ParseFault, Stmt, parse};
-use std::alloc::{AllocError, Global};
+use std::alloc::Global;
 use std::process::Abort;
 use std::test::Fail;
 
 /// The text that a part of a row stands for: `␉`, `␊` and `␍` are a tab, a newline and a carriage return, and `␄` ends it.
-pub fn plain(alloc: Global, part: &str) -> Result<String, AllocError> {
+pub fn plain(alloc: Global, part: &str) -> Result<String, Fail> {
     let mut text = String::new(alloc);
     for c in part.chars() {
         match c {
@@ -71,7 +71,7 @@ pub fn check_lines<F: Fn(&str) -> Result<String, Fail>>(
 /// The statement of a short chunk.
 pub fn read<'a>(alloc: Global, text: &'a str) -> Result<Option<Stmt<'a>>, ParseFault> {
     if text.len() > 1000 {
-        return Err(ParseFault::OutOfMemory);
+        return Err(ParseFault::NotAStatement { line: 1 });
     }
     parse(alloc, text, 1, 100)
 }

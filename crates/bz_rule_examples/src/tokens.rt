@@ -6,7 +6,7 @@ ghost use Rattle.bz_token.specs.Cuts.{is_physical_line};
 use crate::table::{check_lines, check_rows};
 use bumpalo::Bump;
 use bz_token::{Cut, Cutter, Front, LexFault, Next, Token, check_utf8, first_chunk, tokens};
-use std::alloc::{AllocError, Global};
+use std::alloc::Global;
 use std::test::Fail;
 
 /// A text, and its tokens or its first fault.
@@ -103,7 +103,7 @@ OpenText { line: 2, col: 1 }
 BadBracket { line: 1, col: 2 }
 "##;
 
-fn put_token(alloc: Global, token: &Token<'_>, out: &mut String) -> Result<(), AllocError> {
+fn put_token(alloc: Global, token: &Token<'_>, out: &mut String) -> Result<(), Fail> {
     let Token {
         kind,
         text,
@@ -113,10 +113,11 @@ fn put_token(alloc: Global, token: &Token<'_>, out: &mut String) -> Result<(), A
     } = *token;
     let first = if fresh { " first" } else { "" };
     let shown = format!(in alloc; "{kind:?} {text:?} {line}:{col}{first}\n")?;
-    out.push_str(shown.as_str())
+    out.push_str(shown.as_str())?;
+    Ok(())
 }
 
-fn shown_tokens(alloc: Global, tokens: &[Token<'_>]) -> Result<String, AllocError> {
+fn shown_tokens(alloc: Global, tokens: &[Token<'_>]) -> Result<String, Fail> {
     let mut out = String::new(alloc);
     for token in tokens {
         put_token(alloc, token, &mut out)?;
@@ -236,18 +237,18 @@ x = $␊␊ ! other
 )␊␊ ! other"##;
 
 /// What a text begins with: the length of a chunk and the number of its tokens, or a word.
-fn shown_chunk(alloc: Global, text: &str) -> Result<String, AllocError> {
+fn shown_chunk(alloc: Global, text: &str) -> Result<String, Fail> {
     if text.len() > 1000 {
-        return String::from_str(alloc, "none");
+        return Ok(String::from_str(alloc, "none")?);
     }
     let bump = Bump::new(alloc);
     match first_chunk(&bump, text, 1, 100)? {
         Front::Chunk(chunk) => {
             let (length, tokens) = (chunk.text.len(), chunk.tokens.len());
-            format!(in alloc; "{length} {tokens}")
+            Ok(format!(in alloc; "{length} {tokens}")?)
         }
-        Front::Short => String::from_str(alloc, "short"),
-        Front::Other => String::from_str(alloc, "other"),
+        Front::Short => Ok(String::from_str(alloc, "short")?),
+        Front::Other => Ok(String::from_str(alloc, "other")?),
     }
 }
 

@@ -2,7 +2,7 @@
 
 use crate::table::{check_rows, read, statement};
 use bz_tree::{Class, Group, GroupKind, Node, Seg, Stmt};
-use std::alloc::{AllocError, Global};
+use std::alloc::Global;
 use std::borrow::CowStr;
 use std::test::Fail;
 
@@ -317,7 +317,7 @@ Lex(BadBracket { line: 1, col: 5 })
 Lex(OpenText { line: 1, col: 6 })
 "##;
 
-fn put_texts(texts: &[CowStr<'_>], out: &mut String) -> Result<(), AllocError> {
+fn put_texts(texts: &[CowStr<'_>], out: &mut String) -> Result<(), Fail> {
     for text in texts {
         out.push_str(text.as_str())?;
         out.push(' ')?;
@@ -325,7 +325,7 @@ fn put_texts(texts: &[CowStr<'_>], out: &mut String) -> Result<(), AllocError> {
     Ok(())
 }
 
-fn put_suffix(suffix: Option<&CowStr<'_>>, out: &mut String) -> Result<(), AllocError> {
+fn put_suffix(suffix: Option<&CowStr<'_>>, out: &mut String) -> Result<(), Fail> {
     out.push(':')?;
     if let Some(text) = suffix {
         out.push_str(text.as_str())?;
@@ -334,17 +334,18 @@ fn put_suffix(suffix: Option<&CowStr<'_>>, out: &mut String) -> Result<(), Alloc
 }
 
 /// The end of a bracket.
-fn put_close(group: &Group<'_>, out: &mut String) -> Result<(), AllocError> {
+fn put_close(group: &Group<'_>, out: &mut String) -> Result<(), Fail> {
     if group.one_comma {
         out.push(',')?;
     }
     out.push('|')?;
     put_texts(&group.end, out)?;
-    out.push('}')
+    out.push('}')?;
+    Ok(())
 }
 
 #[cycle(show)]
-fn put_nodes(nodes: &[Node<'_>], out: &mut String) -> Result<(), AllocError> {
+fn put_nodes(nodes: &[Node<'_>], out: &mut String) -> Result<(), Fail> {
     for node in nodes {
         match node {
             Node::Token(leaf) => out.push_str(leaf.text.as_str())?,
@@ -356,13 +357,14 @@ fn put_nodes(nodes: &[Node<'_>], out: &mut String) -> Result<(), AllocError> {
 }
 
 #[cycle(show)]
-fn put_seg(seg: &Seg<'_>, out: &mut String) -> Result<(), AllocError> {
+fn put_seg(seg: &Seg<'_>, out: &mut String) -> Result<(), Fail> {
     out.push('<')?;
     put_texts(&seg.before, out)?;
     out.push(':')?;
     put_nodes(&seg.nodes, out)?;
     put_suffix(seg.suffix.as_ref(), out)?;
-    out.push('>')
+    out.push('>')?;
+    Ok(())
 }
 
 pub fn kind_name(kind: GroupKind) -> &'static str {
@@ -380,7 +382,7 @@ pub fn kind_name(kind: GroupKind) -> &'static str {
 }
 
 #[cycle(show)]
-fn put_group(group: &Group<'_>, out: &mut String) -> Result<(), AllocError> {
+fn put_group(group: &Group<'_>, out: &mut String) -> Result<(), Fail> {
     out.push_str(kind_name(group.kind))?;
     out.push('{')?;
     for seg in &group.segs {
@@ -400,7 +402,7 @@ pub fn class_name(class: Class) -> &'static str {
     }
 }
 
-fn put_tree(stmt: &Stmt<'_>, out: &mut String) -> Result<(), AllocError> {
+fn put_tree(stmt: &Stmt<'_>, out: &mut String) -> Result<(), Fail> {
     out.push_str(class_name(stmt.class))?;
     out.push(' ')?;
     put_texts(&stmt.before, out)?;
@@ -410,7 +412,7 @@ fn put_tree(stmt: &Stmt<'_>, out: &mut String) -> Result<(), AllocError> {
 }
 
 /// The copy of a statement.
-fn shown_tree(alloc: Global, stmt: &Stmt<'_>) -> Result<String, AllocError> {
+fn shown_tree(alloc: Global, stmt: &Stmt<'_>) -> Result<String, Fail> {
     let copy = stmt.copy(alloc)?;
     let mut out = String::new(alloc);
     put_tree(&copy, &mut out)?;
@@ -419,11 +421,11 @@ fn shown_tree(alloc: Global, stmt: &Stmt<'_>) -> Result<String, AllocError> {
 }
 
 /// The copy of the statement of a chunk, or its fault.
-pub fn shown(alloc: Global, text: &str) -> Result<String, AllocError> {
+pub fn shown(alloc: Global, text: &str) -> Result<String, Fail> {
     match read(alloc, text) {
-        Ok(None) => String::from_str(alloc, "blank\n"),
+        Ok(None) => Ok(String::from_str(alloc, "blank\n")?),
         Ok(Some(stmt)) => shown_tree(alloc, &stmt),
-        Err(fault) => format!(in alloc; "{fault:?}\n"),
+        Err(fault) => Ok(format!(in alloc; "{fault:?}\n")?),
     }
 }
 

@@ -1,7 +1,7 @@
 -- The statement of a chunk, or its fault, by the chunk's tokens.
 use Rattle.std.specs.Prelude.{ℕ, List, Bool, true, false, if◌then◌else◌, ◌≡◌, ◌==◌, Option, Some, None, IsSome, IsNone}
 use Rattle.bz_token.specs.declared.fault.LexFault.{LexFault}
-use Rattle.bz_token.specs.declared.fault.LexFault.TheVariants.{OutOfMemory as NoMemory}
+use Rattle.bz_token.specs.declared.fault.LexFault.TheVariants.{OutOfMemory as no_tokens}
 use Rattle.bz_token.specs.Places.{Placed}
 use Rattle.bz_token.specs.Reading.{AreTokensOf}
 use Rattle.bz_token.specs.Faults.{IsFault}
@@ -76,7 +76,7 @@ pub record HasTokenFault (first depth : ℕ) (bytes : List ℕ) (fault : ParseFa
   pub is : IsTokenFault first bytes tokens fault
 
 abbrev pub IsLexical : LexFault → Type 0
-IsLexical NoMemory = ⊥
+IsLexical (no_tokens _) = ⊥
 IsLexical fault = Unit {0}
 
 -- The first fault of a chunk: lexical faults come before wrong indents, and these before the grammar. Want of memory is none of the

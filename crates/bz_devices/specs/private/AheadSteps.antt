@@ -1,5 +1,4 @@
 -- What the functions answer that find the next chunk, for private clauses.
-use Rattle.bz_memory.specs.NoMemory.{no_memory}
 use Rattle.std.specs.Prelude.{◌≡◌, ℕ, ◌-◌, ◌<◌, ◌≤◌, ◌⊎◌, IsTrue, List, [], ◌∷◌, ◌++◌, length, take, drop}
 use Rattle.bz_token.specs.Chunks.{chunks}
 use Rattle.bz_token.specs.Cuts.{EndsBefore, IsLonger, first_line, ends_in_newline}
@@ -7,12 +6,12 @@ use Rattle.bz_token.specs.CutterState.{IsAfter, Takes}
 use Rattle.bz_token.specs.declared.cutter.Cutter.{Cutter}
 use Rattle.bz_devices.specs.Ahead.{Ahead, MayFollow}
 use Rattle.bz_devices.specs.declared.input.ReadFault.{ReadFault}
-use Rattle.bz_devices.specs.declared.input.ReadFault.TheVariants.{OutOfMemory as NoMemory, ReadFailed as Failed, InputTooLong as TooManyReads}
+use Rattle.bz_devices.specs.declared.input.ReadFault.TheVariants.{OutOfMemory as no_bytes, ReadFailed as Failed, InputTooLong as TooManyReads}
 use Rattle.bz_devices.specs.declared.ahead.ChunkFault.{ChunkFault}
 use Rattle.bz_devices.specs.declared.ahead.ChunkFault.TheVariants.{OutOfMemory, ReadFailed, InputTooLong}
 
 abbrev pub chunk_fault : ReadFault → ChunkFault
-chunk_fault NoMemory = OutOfMemory no_memory
+chunk_fault (no_bytes why) = OutOfMemory why
 chunk_fault Failed = ReadFailed
 chunk_fault TooManyReads = InputTooLong
 

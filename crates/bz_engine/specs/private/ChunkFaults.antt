@@ -1,5 +1,4 @@
 -- What a run answers where it finds no next chunk, for private clauses.
-use Rattle.bz_memory.specs.NoMemory.{no_memory}
 use Rattle.std.specs.Prelude.{ℕ}
 use Rattle.bz_devices.specs.declared.ahead.ChunkFault.{ChunkFault}
 use Rattle.bz_devices.specs.declared.ahead.ChunkFault.TheVariants as chunk
@@ -8,7 +7,7 @@ use Rattle.bz_engine.specs.declared.run_fault.RunFault.TheVariants.{OutOfMemory,
 
 -- the fault of a chunk that begins on this line
 abbrev pub fault_at : ℕ → ChunkFault → RunFault
-fault_at line (chunk.OutOfMemory _) = OutOfMemory no_memory
+fault_at line (chunk.OutOfMemory why) = OutOfMemory why
 fault_at line chunk.ReadFailed = ReadFailed
 fault_at line chunk.InputTooLong = InputTooLong
 fault_at line chunk.StatementTooLong = StatementTooLong line

@@ -16,7 +16,7 @@ returns c =
     let value : new_view c.new_of.result ≡ new_of attr c.args.words.now None = c.new_of.ensures None refl in
     let name : map part_view c.push_token.new.new.items ≡ a_token Identifier attr ∷ [] =
     c.in_ok-push_token.ensures ∙ ap (λ (ps : List Part). map part_view ps ++ a_token Identifier attr ∷ []) c.clear.ensures.items in
-    let begun : map part_view c.push.new.self.items ≡ a_token Identifier attr ∷ a_token Operator (codes "=") ∷ [] =
+    let begun : map part_view c.push.new.list.items ≡ a_token Identifier attr ∷ a_token Operator (codes "=") ∷ [] =
     one_more _ _ _ c.in_ok-push.ensures.items ∙ ap (λ (ps : List RowPart). ps ++ a_token Operator (codes "=") ∷ []) name in
     one_more _ _ _ c.in_ok-push-2.ensures.items
     ∙ ap (λ (ps : List RowPart). ps ++ segment_end ∷ []) (c.in_ok-push_value.ensures ∙ ap (λ (ps : List RowPart). ps ++ items_parts (items_of (new_value (new_view c.new_of.result)))) begun)

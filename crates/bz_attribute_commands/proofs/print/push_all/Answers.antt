@@ -12,7 +12,7 @@ returns-in_ok-push_str-in-empty-2 c =
     let home = c.args.env.home.now in
     let ps = map part_view c.args.parts.now in
     let old = string_bytes c.args.text.now in
-    let new = string_bytes c.push_str-in-empty.new.self in
+    let new = string_bytes c.push_str-in-empty.new.string in
     let told = option_map (λ (name : Bor (List ℕ)). Missing name.now) c.in_ok-missing-in-empty.missing in
     subst (λ (fields : List Field). HasPrinted home (fields_of fields) c.args.head ps old new told) (no_fields c.args.fields.now c.in-empty.len_below)
     (name_and_kind home c.args.head ps old (string_bytes c.push_attribute.new.text) new told c.in_ok-missing-in-empty.ensures

@@ -52,5 +52,5 @@ returns-in_ok-flat-in_default c =
     let before : string_bytes c.push_string.new.text ≡ string_bytes c.args.text.now =
     c.in_ok-push_string.ensures.word ∙ ap (λ (v : Option (List ℕ)). string_bytes c.args.text.now ++ word_of v) (none (string_value (nodes_view c.args.value.now)) string) ∙ append-nil (string_bytes c.args.text.now) in
     then_ok c.push_str.result
-    (λ (is : string_bytes c.push_str.new.self ≡ string_bytes c.push_string.new.text ++ c.as_str.result.now). is ∙ (λ j. before j ++ flat j))
-    (written c.push_str.result (string_bytes c.push_str.new.self) (string_bytes c.push_string.new.text) c.as_str.result.now c.push_str.ensures.bytes)
+    (λ (is : string_bytes c.push_str.new.string ≡ string_bytes c.push_string.new.text ++ c.as_str.result.now). is ∙ (λ j. before j ++ flat j))
+    (written c.push_str.result (string_bytes c.push_str.new.string) (string_bytes c.push_string.new.text) c.as_str.result.now c.push_str.ensures.bytes)

@@ -12,7 +12,7 @@ use Rattle.bz_attribute_commands.proofs.print.push_words.Goals as goal
 pub loop-element-init : goal.loop-element-init
 loop-element-init c =
     let words = map element_word (segs_view c.args.list.now) in
-    let opened : string_bytes c.push.new.self ≡ string_bytes c.args.text.now ++ 91 ∷ [] = search rules in
+    let opened : string_bytes c.push.new.list ≡ string_bytes c.args.text.now ++ 91 ∷ [] = search rules in
     record {
       utf8 = search rules;
       written = ap (λ (z : List ℕ). z ++ spaced_from [] words) opened ∙ ap (λ (z : List ℕ). (string_bytes c.args.text.now ++ 91 ∷ []) ++ z) (spaced_all words);
@@ -26,6 +26,6 @@ loop-element-preserved c =
       utf8 = search rules;
       written =
           next_viewed element_word seg_view c.args.list.now c.element-item.result c.loop-element.element-index _ _ _ c.loop-element.space.now c.loop-element-test.true c.element-item.is
-          c.in_ok-push_str.ensures.bytes (c.in_ok-push_string.ensures.word ∙ ap (λ (w : List ℕ). string_bytes c.push_str.new.self ++ w) word)
+          c.in_ok-push_str.ensures.bytes (c.in_ok-push_string.ensures.word ∙ ap (λ (w : List ℕ). string_bytes c.push_str.new.string ++ w) word)
           ∙ c.loop-element.invariant.written;
     }

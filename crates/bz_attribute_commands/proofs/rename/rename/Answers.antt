@@ -50,7 +50,7 @@ returns c =
     let at : ℕ = c.in-Some.at in
     let free = λ (s : Statement) (r : Rule) (h : IsRuleRow s r ps). none c.args.new.now s r ps c.find_argument-2.result h c.find_argument-2.ensures.found (sym c.is_some.ensures ∙ c.if-is_some.false) in
     let there = λ (s : Statement) (r : Rule) (h : IsRuleRow s r ps). some c.args.old.now s r ps c.find_argument.result h c.find_argument.ensures.found (ap is_some c.in-Some.is) in
-    let name : map part_view c.push.new.self.items ≡ a_token Identifier c.args.new.now ∷ [] =
+    let name : map part_view c.push.new.list.items ≡ a_token Identifier c.args.new.now ∷ [] =
     ap (map part_view) (c.in_ok-push.ensures.items ∙ ap (λ (qs : List Part). qs ++ Part.Token Identifier c.in_ok-name.name ∷ []) c.clear.ensures.items) ∙ ap (λ (text : List ℕ). a_token Identifier text ∷ []) c.in_ok-name.ensures in
     let within : at + 1 ≤ length parts = grind (arith, c.in-Some.is, c.find_argument.ensures.within) in
     changed _ _ ps _ _ _ c.at.ensures (omega arith, omega (arith, within, length-map parts part_view))

@@ -31,12 +31,12 @@ range_from-run-requires-then-left-after-gt1 c = λ _.
     after_escape c.loop-byte.run.now c.loop-byte.left.rest.now c.in-Some-next_in.after.rest.now c.in-Some-next_in.byte walk.utf8 walk.fits walk.place c.if-left-after-gt1.true
     (escaped c.loop-byte.left.raw _ c.loop-byte.left.rest.now c.in-Some-next_in.after.rest.now c.in-Some-next_in.byte c.in-Some-next_in.ensures.unit c.if-left-after-gt1.true)
 
-pub loop-byte-preserved-in_ok-push : goal.loop-byte-preserved-in_ok-push
-loop-byte-preserved-in_ok-push c =
+pub loop-byte-preserved-in_ok-push_char : goal.loop-byte-preserved-in_ok-push_char
+loop-byte-preserved-in_ok-push_char c =
     let ascii = escaped c.loop-byte.left.raw _ c.loop-byte.left.rest.now c.in-Some-next_in.after.rest.now c.in-Some-next_in.byte c.in-Some-next_in.ensures.unit c.if-left-after-gt1.true in
     let all : length c.loop-byte.run.now - length c.loop-byte.left.rest.now - 0 ≡ length c.loop-byte.run.now - length c.loop-byte.left.rest.now = omega arith in
-    let done : string_bytes c.push.new.self ≡ string_bytes c.loop-byte.value ++ read c.loop-byte.run.now c.loop-byte.left.rest.now ++ c.in-Some-next_in.byte ∷ [] =
-    c.in_ok-push.ensures.bytes
+    let done : string_bytes c.push_char.new.string ≡ string_bytes c.loop-byte.value ++ read c.loop-byte.run.now c.loop-byte.left.rest.now ++ c.in-Some-next_in.byte ∷ [] =
+    c.in_ok-push_char.ensures.bytes
     ∙ ap (λ (w : List ℕ). w ++ encode_utf8 c.from.result) c.in_ok-push_str.ensures.bytes
     ∙ ap (λ (w : List ℕ). string_bytes c.loop-byte.value ++ w ++ encode_utf8 c.from.result) (c.range.ensures.value ∙ ap (λ k. take k c.loop-byte.run.now) all)
     ∙ ap (λ (b : ℕ). string_bytes c.loop-byte.value ++ read c.loop-byte.run.now c.loop-byte.left.rest.now ++ encode_utf8 b) c.from.ensures

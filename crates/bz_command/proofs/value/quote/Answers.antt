@@ -12,5 +12,5 @@ loop-c-preserved c =
 pub returns : goal.returns
 returns c =
     let none : length (chars_rest c.loop-c.c-iterator) ≡ 0 = c.in-None.ensures.steps.0.0 in
-    let more : string_bytes c.push.new.self ≡ string_bytes c.loop-c.text ++ 34 ∷ [] = c.in_ok-push.ensures.bytes ∙ ap (λ w. string_bytes c.loop-c.text ++ w) (encode_ascii 34 (omega arith)) in
-    ends (string_bytes c.loop-c.text) (string_bytes c.push.new.self) c.args.value.now _ c.loop-c.invariant none more
+    let more : string_bytes c.push_char.new.string ≡ string_bytes c.loop-c.text ++ 34 ∷ [] = c.in_ok-push_char.ensures.bytes ∙ ap (λ w. string_bytes c.loop-c.text ++ w) (encode_ascii 34 (omega arith)) in
+    ends (string_bytes c.loop-c.text) (string_bytes c.push_char.new.string) c.args.value.now _ c.loop-c.invariant none more

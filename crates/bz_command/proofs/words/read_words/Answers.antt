@@ -6,15 +6,15 @@ use Rattle.bz_command.proofs.Cuts.{some_part}
 use Rattle.bz_command.proofs.Mended.{kept_utf8, on, not_on, step_on, step_apart}
 use Rattle.bz_command.proofs.words.read_words.Goals as goal
 
-pub loop-part-preserved-in_ok-push-in-Some-strip_suffix :
-    goal.loop-part-preserved-in_ok-push-in-Some-strip_suffix
-loop-part-preserved-in_ok-push-in-Some-strip_suffix c =
+pub loop-part-preserved-in_ok-push_char-in-Some-strip_suffix :
+    goal.loop-part-preserved-in_ok-push_char-in-Some-strip_suffix
+loop-part-preserved-in_ok-push_char-in-Some-strip_suffix c =
     let parts : List (List ℕ) = slice_split is_space c.in-Some.rest.now in
     let ends = c.in-Some-strip_suffix.ensures.cases in
     let joins = on c.in-Some.part.now c.in-Some-strip_suffix.front.now (ends.1.1 ∙ ap (λ (xs : List ℕ). xs ++ 92 ∷ []) (sym ends.2)) in
-    let word : string_bytes c.push.new.self ≡ string_bytes c.loop-part.word ++ with_space c.in-Some.part.now =
-    c.in_ok-push-in-Some-strip_suffix.ensures.bytes
-    ∙ ap (λ (w : List ℕ). string_bytes c.push_str.new.self ++ w) (encode_ascii 32 (omega arith))
+    let word : string_bytes c.push_char.new.string ≡ string_bytes c.loop-part.word ++ with_space c.in-Some.part.now =
+    c.in_ok-push_char-in-Some-strip_suffix.ensures.bytes
+    ∙ ap (λ (w : List ℕ). string_bytes c.push_str.new.string ++ w) (encode_ascii 32 (omega arith))
     ∙ ap (λ (w : List ℕ). w ++ 32 ∷ []) c.in_ok-push_str-in-Some-strip_suffix.ensures.bytes
     ∙ append_assoc (string_bytes c.loop-part.word) c.in-Some-strip_suffix.front.now (32 ∷ [])
     ∙ ap (λ (w : List ℕ). string_bytes c.loop-part.word ++ w) (sym joins.1) in
@@ -23,7 +23,7 @@ loop-part-preserved-in_ok-push-in-Some-strip_suffix c =
       words = c.loop-part.invariant.words;
       same =
           ap (λ (us : List (List ℕ)). c.loop-part.words.items ++ filter is_word us)
-          (step_on (string_bytes c.loop-part.word) (string_bytes c.push.new.self) c.in-Some.part.now parts (some_part is_space c.in-Some.rest.now) joins.0 word
+          (step_on (string_bytes c.loop-part.word) (string_bytes c.push_char.new.string) c.in-Some.part.now parts (some_part is_space c.in-Some.rest.now) joins.0 word
           ∙ ap (λ (ps : List (List ℕ)). onto_word (string_bytes c.loop-part.word) (mended ps)) (sym c.in-Some.ensures.parts))
           ∙ c.loop-part.invariant.same;
     }
@@ -35,12 +35,12 @@ loop-part-preserved c =
     let empty : string_bytes c.new-word-in-None.result ≡ [] = search rules in
     record {
       utf8 = search rules;
-      words = rw c.in_ok-keep-in-None.ensures (kept_utf8 c.loop-part.words.items (string_bytes c.push_str-in-None.new.self) (IsUtf8-string_bytes c.push_str-in-None.new.self) c.loop-part.invariant.words);
+      words = rw c.in_ok-keep-in-None.ensures (kept_utf8 c.loop-part.words.items (string_bytes c.push_str-in-None.new.string) (IsUtf8-string_bytes c.push_str-in-None.new.string) c.loop-part.invariant.words);
       same =
-          step_apart c.loop-part.words.items c.keep.new.words.items parts (string_bytes c.loop-part.word) (string_bytes c.push_str-in-None.new.self) (string_bytes c.new-word-in-None.result) c.in-Some.part.now (some_part is_space c.in-Some.rest.now) apart c.in_ok-push_str-in-None.ensures.bytes c.in_ok-keep-in-None.ensures empty
+          step_apart c.loop-part.words.items c.keep.new.words.items parts (string_bytes c.loop-part.word) (string_bytes c.push_str-in-None.new.string) (string_bytes c.new-word-in-None.result) c.in-Some.part.now (some_part is_space c.in-Some.rest.now) apart c.in_ok-push_str-in-None.ensures.bytes c.in_ok-keep-in-None.ensures empty
           ∙ ap (λ (ps : List (List ℕ)). c.loop-part.words.items ++ filter is_word (onto_word (string_bytes c.loop-part.word) (mended ps))) (sym c.in-Some.ensures.parts)
           ∙ c.loop-part.invariant.same;
     }
 
 pub returns-clause-utf8 : goal.returns-clause-utf8
-returns-clause-utf8 c = rw c.in_ok-keep.ensures (kept_utf8 _ _ (IsUtf8-string_bytes c.push_str-2.new.self) c.loop-part.invariant.words)
+returns-clause-utf8 c = rw c.in_ok-keep.ensures (kept_utf8 _ _ (IsUtf8-string_bytes c.push_str-2.new.string) c.loop-part.invariant.words)

@@ -22,7 +22,7 @@ pub loop-i-preserved : goal.loop-i-preserved
 loop-i-preserved c = record {
   home = c.in_ok-is_new.ensures.home ∙ c.loop-i.invariant.home;
   made =
-      flags_step c.args.env.home.now (has c.loop-i.there) (has c.is_new.new.there) c.args.elements.now c.loop-i.i c.index-elements-i.result _ c.in_ok-is_new.field-0 c.loop-i.arrive.items c.push.new.self.items
+      flags_step c.args.env.home.now (has c.loop-i.there) (has c.is_new.new.there) c.args.elements.now c.loop-i.i c.index-elements-i.result _ c.in_ok-is_new.field-0 c.loop-i.arrive.items c.push.new.list.items
       (omega (arith, c.loop-i-test.true)) c.index-elements-i.is c.in_ok-is_new.ensures.new
       (λ text. c.in_ok-is_new.ensures.there text ∙ ap (λ (home : Package). equals home text (seg_view c.index-elements-i.result) || has c.loop-i.there text) c.loop-i.invariant.home)
       c.in_ok-push.ensures.items

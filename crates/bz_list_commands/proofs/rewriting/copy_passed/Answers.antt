@@ -7,4 +7,4 @@ pub returns-then-not-written : goal.returns-then-not-written
 returns-then-not-written c = none_copied c.args.written (map part_view c.args.parts.now) (map part_view c.args.out.now.items) _ c.requires (is_false c.args.written.changed c.if-not-written.true)
 
 pub returns : goal.returns
-returns c = some_copied c.args.written c.args.parts.now c.args.out.now.items c.extend_from_slice.new.self.items _ c.requires c.in_ok-extend_from_slice.ensures.items
+returns c = some_copied c.args.written c.args.parts.now c.args.out.now.items c.extend_from_slice.new.list.items _ c.requires c.in_ok-extend_from_slice.ensures.items

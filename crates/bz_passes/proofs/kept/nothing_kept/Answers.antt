@@ -11,7 +11,7 @@ loop-pass-preserved g c =
     let logs : c.in_ok-logs.logs.items ≡ map (λ command. []) pass.commands =
     c.in_ok-logs.ensures
     ∙ ap (map (λ command. [])) (c.as_slice.ensures.value ∙ ap (λ (p : Pass g.row.T.Denot g.row.C.Denot). p.commands) (c.pass.view_is ∙ c.pass-item.is)) in
-    mapped_more no_slot c.loop-pass.kept.items c.push.new.self.items _ c.args.passes.now c.loop-pass.pass-index c.pass-item.result c.loop-pass-test.true c.in_ok-push.ensures.items (ap (λ logs. record { found = false; logs = logs }) logs) c.loop-pass.invariant
+    mapped_more no_slot c.loop-pass.kept.items c.push.new.list.items _ c.args.passes.now c.loop-pass.pass-index c.pass-item.result c.loop-pass-test.true c.in_ok-push.ensures.items (ap (λ logs. record { found = false; logs = logs }) logs) c.loop-pass.invariant
 
 pub returns-clause-nothing : goal.returns-clause-nothing
 returns-clause-nothing g c = c.loop-pass.invariant ∙ ap (map no_slot) (take_all c.loop-pass.pass-index c.args.passes.now c.loop-pass-test.false)

@@ -7,10 +7,10 @@ use Rattle.bz_command.proofs.LabelSets.{is_new, one_more}
 use Rattle.bz_command.proofs.label_set.LabelSet.insert.Goals as goal
 
 pub returns-clause-new : goal.returns-clause-new
-returns-clause-new c = is_new c.new-label.result (completed c.args.self.now.home.now (left c.args.text)) c.args.self.now.labels.keys c.in_ok-insert.field-0 c.new-label.ensures c.in_ok-insert.ensures.added
+returns-clause-new c = is_new c.new-label.result (completed c.args.self.now.home.now (left c.args.text)) c.args.self.now.labels.keys c.in_ok-new.new c.new-label.ensures c.in_ok-new.ensures.added
 
 pub returns-clause-ok : goal.returns-clause-ok
 returns-clause-ok c = λ other.
     let full = completed c.args.self.now.home.now other in
-    one_more c.new-label.result full c.args.self.now.labels.keys c.insert.new.self.keys (c.in_ok-insert.ensures.updates.0 full)
+    one_more c.new-label.result full c.args.self.now.labels.keys c.insert.new.set.keys (c.in_ok-new.ensures.updates.0 full)
     ∙ ap (λ (label : List ℕ). bytes_eq full label || has c.args.self.now other) c.new-label.ensures

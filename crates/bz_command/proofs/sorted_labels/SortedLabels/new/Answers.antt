@@ -17,7 +17,7 @@ pub loop-word-preserved : goal.loop-word-preserved
 loop-word-preserved c = λ q.
     let word = get_or c.args.words.now c.loop-word.word-index c.word-item.result in
     let is : c.new.result ≡ completed c.args.home.now word = c.new.ensures ∙ ap (completed c.args.home.now) (c.as_bytes.ensures.value ∙ c.as_str.ensures ∙ c.word-item.is) in
-    more (bytes_eq q) (λ text. bytes_eq q (completed c.args.home.now text)) c.loop-word.labels.items c.push.new.self.items c.new.result c.args.words.now c.loop-word.word-index c.word-item.result c.loop-word-test.true c.in_ok-push.ensures.items
+    more (bytes_eq q) (λ text. bytes_eq q (completed c.args.home.now text)) c.loop-word.labels.items c.push.new.list.items c.new.result c.args.words.now c.loop-word.word-index c.word-item.result c.loop-word-test.true c.in_ok-push.ensures.items
     (ap (bytes_eq q) is) (c.loop-word.invariant q)
 
 pub returns-clause-all : goal.returns-clause-all

@@ -9,8 +9,8 @@ returns-clause-put c =
     let len : c.len-len.result ≡ length c.args.self.now.items = omega arith in
     let level : c.args.level ≤ 4 = omega arith in
     c.truncate.ensures.items
-    ∙ ap (λ (n : ℕ). take (n + 1 + 4 * c.args.level) c.extend_from_slice.new.self.items) len
-    ∙ line_cut c.args.self.now.items c.extend_from_slice.new.self.items c.args.level level longer
+    ∙ ap (λ (n : ℕ). take (n + 1 + 4 * c.args.level) c.extend_from_slice.new.list.items) len
+    ∙ line_cut c.args.self.now.items c.extend_from_slice.new.list.items c.args.level level longer
 
 pub returns-clause-begun : goal.returns-clause-begun
 returns-clause-begun c = record { more = 10 ∷ indent c.args.level; is = returns-clause-put c }

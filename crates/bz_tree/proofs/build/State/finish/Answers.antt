@@ -1,5 +1,5 @@
 use Rattle.std.proofs.Common.{◌≡◌, ◌==◌, ℕ, suc, ◌≤◌, List, [], ◌∷◌, length, map, true, false, Option, Some, None, Result, Ok, Err, IfOk, IfSome, is_some, option_map, arith, refl, sym, ap, ◌∙◌}
-use Rattle.std.specs.declared.alloc.AllocError.{AllocError}
+use Rattle.bz_memory.specs.declared.no_memory.NoMemory.{NoMemory}
 use Rattle.std.proofs.lemmas.Bool.{false≢true}
 use Rattle.std.proofs.lemmas.Bool.Decides.{nat_tests}
 use Rattle.std.proofs.lemmas.List.{length-map, length-reverse}
@@ -30,7 +30,7 @@ finish_closed None w [] here around = refl
 finish_closed None w (f ∷ outer) here around = absurd (false≢true (sym (no_zero (length outer)) ∙ around))
 finish_closed (Some kind) w outer here around = absurd (false≢true (sym here))
 
-at_most_more : (r : Result (Option Seg) AllocError) (a b : ℕ) → a ≤ b → IfOk r (λ o. IfSome o (λ s. seg_owned s ≤ a)) → IfOk r (λ o. IfSome o (λ s. seg_owned s ≤ b))
+at_most_more : (r : Result (Option Seg) NoMemory) (a b : ℕ) → a ≤ b → IfOk r (λ o. IfSome o (λ s. seg_owned s ≤ a)) → IfOk r (λ o. IfSome o (λ s. seg_owned s ≤ b))
 at_most_more (Ok (Some s)) a b more h = omega arith
 at_most_more (Ok None) a b more h = tt
 at_most_more (Err e) a b more h = tt

@@ -92,5 +92,5 @@ pub returns : goal.returns
 returns c =
     let outer = popped c.args.self.now.outer.items c.pop.new.self.items c.pop.result c.in-Some-pop.below (ap (λ v. v.items) (sym c.in_ok-end_last.ensures.outer) ∙ c.pop.ensures.items) c.in-Some-pop.is in
     let one = c.is_one_comma-one_comma.ensures ∙ ap (λ (s : Spot). is_one_comma c.in-Some.kind (stand s)) c.in_ok-end_last.ensures.top in
-    row_is c.args.line c.in-Some.kind c.in-Some-pop.below c.add_group.new.self _ c.end_last.new.self.parts.items c.push.new.self.items c.is_one_comma-one_comma.result _ c.add_group.ensures c.in_ok-push.ensures.items one
+    row_is c.args.line c.in-Some.kind c.in-Some-pop.below c.add_group.new.self _ c.end_last.new.self.parts.items c.push.new.list.items c.is_one_comma-one_comma.result _ c.add_group.ensures c.in_ok-push.ensures.items one
     ∙ closes c.args.self.now.top.kind c.in-Some.kind c.shape_of.result c.args.shape c.args.line _ _ _ _ c.in_ok-end_last.field-0 false c.in-Some.is c.shape_of.ensures c.if-not-same_shape.ensures c.if-not-branch.false c.in_ok-end_last.ensures.parts outer (sym c.if-below.false ∙ sym (ended_is c.in-Some-pop.below.ended))
