@@ -7,4 +7,4 @@ pub returns : goal.returns
 returns c =
     c.segment.ensures
     ∙ ap {B = Segment} (λ (ns : List Item). record { before = []; nodes = ns; suffix = None })
-    (ap nodes_view c.in_ok-vec.ensures.items ∙ ap (λ (x : Item). x ∷ []) c.in_ok-literal.ensures)
+    (ap nodes_view c.in_ok-from_array.ensures.items ∙ ap (λ (x : Item). x ∷ []) c.in_ok-literal.ensures)

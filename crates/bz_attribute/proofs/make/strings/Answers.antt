@@ -19,7 +19,7 @@ loop-value-preserved c =
     (c.in_ok-push_string.ensures ∙ ap (λ (w : List ℕ). segs_view c.loop-value.segs.items ++ string w ∷ []) c.as_str.ensures) ∙ c.loop-value.invariant
 
 pub loop-value-init : goal.loop-value-init
-loop-value-init c = ap (λ (ss : List Seg). segs_view ss ++ map string c.args.values.now) c.in_ok-segs.ensures.items
+loop-value-init c = ap (λ (ss : List Seg). segs_view ss ++ map string c.args.values.now) c.in_ok-segs.ensures
 
 pub returns : goal.returns
 returns c =

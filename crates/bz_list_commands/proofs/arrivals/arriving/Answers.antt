@@ -14,7 +14,7 @@ loop-i-init c =
     record {
       home = c.in_ok-there.ensures.home;
       made =
-          ap (λ (flags : List Bool). flags ++ flags_by home (has c.in_ok-there.there) (segs_view c.args.elements.now)) c.in_ok-arrive.ensures.items
+          ap (λ (flags : List Bool). flags ++ flags_by home (has c.in_ok-there.there) (segs_view c.args.elements.now)) c.in_ok-arrive.ensures
           ∙ told home (has c.in_ok-there.there) (joined lists) (segs_view c.args.elements.now) (λ text. c.in_ok-there.ensures.all text ∙ in_joined home lists text);
     }
 
