@@ -11,5 +11,5 @@ pub returns : goal.returns
 returns c =
     let nodes = nodes_view c.args.nodes.now in
     let parts : map part_view c.push_nodes.new.parts.items ≡ items_parts (items_of nodes) = grind (arith, common_steps) in
-    let ran : laid c.run.new.self (string_bytes c.run.new.out) ≡ run (map part_view c.push_nodes.new.parts.items) (start [] [] c.args.in_group) = grind (arith, common_steps, c.in_ok-walk.ensures []) in
+    let ran : laid c.run.new.self (string_bytes c.run.new.out) ≡ run (map part_view c.push_nodes.new.parts.items) (start [] [] c.args.in_group) = grind (arith, common_steps, c.in_ok-walk.ensures.laid []) in
     record { text = ap (λ (l : Laid). l.text) (rw parts at ran) ∙ flat_laid c.args.in_group nodes }

@@ -31,7 +31,7 @@ pub returns-clause-text : goal.returns-clause-text
 returns-clause-text c =
     on_ok c.put.result
     (line_row _ _ _ (map part_view c.args.parts.now) c.args.class _ _ (laid c.run.new.self c.run.new.out.items) (sym c.is_comment.ensures ∙ c.if-is_comment.false) c.in_ok-put_leading.ensures.text c.in_ok-marks.ensures
-    (c.in_ok-walk.ensures c.put_leading.new.out.items) c.in_ok-run.ensures.laid)
+    (c.in_ok-walk.ensures.laid c.put_leading.new.out.items) c.in_ok-run.ensures.laid)
     c.put.ensures.put
 
 pub returns-clause-begun : goal.returns-clause-begun

@@ -27,16 +27,21 @@ level_rises segment_end s = omega arith
 level_rises (above text) s = omega arith
 level_rises (beside text) s = omega arith
 
+step_rises : (p : RowPart) (s t : Laid) → t ≡ step p s → t.level ≤ s.level + 1
+step_rises p s t is = omega (arith, level_rises p s, ap (λ (l : Laid). l.level) is)
+
 pub loop-part-init : goal.loop-part-init
 loop-part-init g c = record { laid = refl; level = omega (arith, c.requires); begun = begun_here (g.T.Append.bytes c.args.out.now) }
 
 pub loop-part-preserved : goal.loop-part-preserved
-loop-part-preserved g c = record {
+loop-part-preserved g c =
+    let rises : c.step.new.self.level ≤ c.loop-part.self.level + 1 = step_rises (part_view (get_or c.args.parts.now c.loop-part.part-index _)) (laid c.loop-part.self (g.T.Append.bytes c.loop-part.out)) (laid c.step.new.self (g.T.Append.bytes c.step.new.out)) c.in_ok-step.ensures.laid in
+    record {
   laid =
       ap (run (map part_view (drop (c.loop-part.part-index + 1) c.args.parts.now))) c.in_ok-step.ensures.laid
       ∙ next_part c.args.parts.now c.loop-part.part-index _ (laid c.loop-part.self (g.T.Append.bytes c.loop-part.out)) c.loop-part-test.true
       ∙ c.loop-part.invariant.laid;
-  level = omega (arith, level_rises (part_view c.part.now) (laid c.loop-part.self (g.T.Append.bytes c.loop-part.out)), ap (λ (s : Laid). s.level) c.in_ok-step.ensures.laid, c.loop-part.invariant.level);
+  level = omega (arith, rises, c.loop-part.invariant.level);
   begun = begun_further _ _ _ c.loop-part.invariant.begun c.step.ensures.begun;
 }
 
