@@ -111,8 +111,3 @@ module _ {D A : Type 0} (did : D → List Event → D → Type 0) (gives : A →
       where
         starts : length text < capacity → length {A = ℕ} [] + length text < capacity
         starts few = omega (arith, few)
-
--- what holds of a result that is no error
-pub where_ok : {X E : Type 0} (r : Result X E) (P : Type 0) (b : Bool) → b ≡ is_err r → b ≡ false → OnOk r P → P
-where_ok (Ok x) P b e f h = h
-where_ok (Err x) P b e f h = absurd (false≢true (sym f ∙ e))

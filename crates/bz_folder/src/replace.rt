@@ -53,9 +53,11 @@ pub fn replace_file<D: Folder, A: Author>(
     ensures unwanted { result ≡ Ok false → (text : List ℕ) × A.gives author.old text (Ok false) author.new
         × (length text < capacity → D.did draft.old.folder [] draft.new.folder) }
 {
-    if let Err(why) = draft.begin(file) {
-        return Err(Trouble::OutOfMemory(why));
+    match draft.begin(file) {
+        Ok(()) => {
+            let answer = author.write_to(draft);
+            finish(draft, file, mode, answer)
+        }
+        Err(why) => Err(Trouble::OutOfMemory(why)),
     }
-    let answer = author.write_to(draft);
-    finish(draft, file, mode, answer)
 }

@@ -10,7 +10,7 @@ returns-in_err-make_room-clause-err g c =
 pub returns-clause-ok : goal.returns-clause-ok
 returns-clause-ok g c =
     let did = g.D.Folder.did in
-    pushes did g.met.D.Folder.did_nothing g.met.D.Folder.did_more c.args.self.now _ c.push.new.list _
+    pushes did g.met.D.Folder.did_nothing g.met.D.Folder.did_more c.args.self.now _ c.push.new.self _
     (subst (λ d. Sent did c.args.self.now d []) (sym c.self.view_is) c.make_room.ensures.sent)
     (λ few. c.self.view_is ∙ c.make_room.ensures.idle few)
     c.push.ensures.taken
