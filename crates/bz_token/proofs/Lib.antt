@@ -10,6 +10,7 @@ pub mod Openings
 pub mod Ends
 pub mod Operators
 pub mod Tables
+pub mod ReadWhole
 pub mod Scanning
 pub mod Singles
 pub mod Progress

@@ -309,7 +309,7 @@ open_lengths first before lines opened brackets (p ∷ ps) same =
       ]
     ])
 
-none_left : (xs : List ℕ) → length xs ≡ 0 → xs ≡ []
+pub none_left : (xs : List ℕ) → length xs ≡ 0 → xs ≡ []
 none_left [] e = refl
 none_left (x ∷ xs) e = absurd (omega arith)
 

@@ -1,6 +1,6 @@
 //! The tokens of a text.
 
-ghost use Rattle.std.specs.Prelude.{◌≡◌, ◌≤◌, ◌<◌, ◌+◌, ◌^◌, ◌==◌, ◌∷◌, [], List, ℕ, true, false, not, length, take, drop, count_by, map, IfOk, IfErr, IfSome, IfNone, IsTrue, Some, None, nat_eq};
+ghost use Rattle.std.specs.Prelude.{◌≡◌, ◌≤◌, ◌<◌, ◌+◌, ◌^◌, ◌==◌, ◌⊎◌, ◌∷◌, [], List, ℕ, max, true, false, not, length, take, drop, count_by, map, IfOk, IfErr, IfSome, IfNone, IsTrue, Some, None, nat_eq};
 ghost use Rattle.std.specs.Option.{option_eq};
 ghost use Rattle.std.specs.List.{list_any};
 ghost use Rattle.bz_token.specs.Places.{Placed, placed, column_from};
@@ -205,6 +205,7 @@ impl<'b, 'a> Lexer<'b, 'a> {
             → IfOk result (λ passed. (after : HasRead first max_depth bytes given self.new passed.0)
             × Grows passed.1 before.pieces after.pieces after.gap) }
         ensures shorter { IfOk result (λ passed. length passed.0.rest.now < length cursor.entry.rest.now) }
+        ensures one_more { IfOk result (λ passed. length self.new.tokens.items ≤ length self.old.tokens.items + 1) }
         ensures fault { (first : ℕ) (bytes : List ℕ) (given : List Placed)
             → HasRead first max_depth bytes given self.old cursor.entry → IfErr result (IsFault first max_depth bytes) }
         ensures open_text { IfErr result (IsOnLine cursor.entry.place.line) }
@@ -263,6 +264,10 @@ impl<'b, 'a> Lexer<'b, 'a> {
             → IsInLine first max_depth bytes self.old cursor.entry start
             → IfErr result (IsOpenInLine first max_depth bytes start) }
         ensures shorter { IfOk result (λ passed. length passed.0.rest.now < length cursor.entry.rest.now) }
+        ensures open { IfOk result (λ passed. passed.1 ≡ false
+            → (passed.0.rest.now ≡ []) ⊎ (most ≤ length self.new.tokens.items)) }
+        ensures few { IfOk result (λ passed.
+            length self.new.tokens.items ≤ max most (length self.old.tokens.items + 1)) }
         ensures fault { (first : ℕ) (bytes : List ℕ) (given : List Placed)
             → HasRead first max_depth bytes given self.old cursor.entry → IfErr result (IsFault first max_depth bytes) }
     {
@@ -283,7 +288,9 @@ impl<'b, 'a> Lexer<'b, 'a> {
 
 // Room for the tokens of a statement of so many bytes; the list of a long text grows.
 #[inline(always)]
-fn first_capacity(len: usize) -> usize {
+fn first_capacity(len: usize) -> usize
+    ensures { result ≤ 682 }
+{
     len.min(4096) / 6
 }
 

@@ -1,4 +1,4 @@
-use Rattle.std.proofs.Common.{rules, tests, arith, sym, [], None}
+use Rattle.std.proofs.Common.{rules, tests, arith, sym, [], None, inr}
 use Rattle.bz_token.specs.Faults.{IsFault}
 use Rattle.bz_token.specs.private.LinesRead.{IsOpenInLine}
 use Rattle.bz_token.proofs.Progress.{passed_on}
@@ -42,6 +42,7 @@ loop-self-preserved c =
           let next = stays first depth bytes c.loop-self.self c.step.new.self c.loop-self.cursor c.in_ok-next.next start c.in_ok-next.kind here r.0 r.1 (λ e. search (rules, tests)) in
           let w = white.read first depth bytes [] next.read in
           stays first depth bytes c.step.new.self c.step.new.self c.in_ok-next.next c.pass_white-cursor.result start None next w.0 w.1 (λ e. search (rules, tests));
+      few = inr (search (rules, tests));
       shorter = omega (arith, i.shorter, passed.shorter, white.not_longer);
     }
 
