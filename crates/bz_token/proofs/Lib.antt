@@ -61,4 +61,5 @@ pub mod LineEnds
 pub mod LineFronts
 pub mod LinesRead
 pub mod OpenLines
+pub mod Stopped
 mod ChunkExamples

@@ -1,10 +1,10 @@
 -- What a reader has given at the end of its text.
-use Rattle.std.proofs.Common.{◌≡◌, ℕ, List, [], ◌++◌, Bool, true, false, not, length, refl, sym, ap, subst, ◌∙◌, append-nil}
+use Rattle.std.proofs.Common.{◌≡◌, ℕ, List, [], ◌++◌, Bool, true, false, not, refl, sym, ap, subst, ◌∙◌, append-nil}
 use Rattle.std.specs.Prelude.{◌↔◌, IsTrue}
 use Rattle.bz_token.specs.declared.reader.TokenReader.{TokenReader}
 use Rattle.bz_token.specs.Places.{Placed}
 use Rattle.bz_token.specs.Brackets.{is_inside}
-use Rattle.bz_token.specs.Reading.{Piece, IsReading, is_gap, open_after, tokens_of, AreTokensOf}
+use Rattle.bz_token.specs.Reading.{IsReading, is_gap, open_after, AreTokensOf}
 use Rattle.bz_token.specs.Batches.{HasGiven, left}
 use Rattle.bz_token.specs.private.Scans.{opened}
 use Rattle.bz_token.proofs.Progress.{outside, none_left}
@@ -37,7 +37,7 @@ complete first depth text given reader inside h none is = (λ out. (none, whole 
         (h.read.pieces, h.read.gap, end.0, rw outer at end.1, outer, h.read.tokens_are)
 
     closed : AreTokensOf first depth text given → IsTrue (not inside)
-    closed (pieces , rest , reading , gap , outer , tokens) =
+    closed (pieces, rest, reading, gap, outer, tokens) =
         let stop : StopsAfter depth text pieces = (rest, reading, gap_stuck depth (open_after [] pieces) rest (rw outer gap)) in
         let mine : StopsAfter depth text h.read.pieces = (h.read.gap, end.0, gap_stuck depth (open_after [] h.read.pieces) h.read.gap end.1) in
         let same : open_after [] h.read.pieces ≡ [] = ap (open_after []) (same_pieces depth text h.read.pieces pieces mine stop) ∙ outer in

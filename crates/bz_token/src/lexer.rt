@@ -10,7 +10,7 @@ ghost use Rattle.bz_token.specs.Faults.{IsFault};
 ghost use Rattle.bz_token.specs.Lexical.{is_newline};
 ghost use Rattle.bz_token.specs.private.Scans.{opened, bad_fault, misfit_fault, IsLeftOpen};
 ghost use Rattle.bz_token.specs.private.Steps.{IsGapHere, IsTaken, IsRefused};
-ghost use Rattle.bz_token.specs.private.LinesRead.{IsInLine, IsAfterLine, IsOnLine, IsOpenInLine};
+ghost use Rattle.bz_token.specs.private.LinesRead.{IsInLine, IsAfterLine, IsOnLine, IsOpenInLine, IsStopped, IsFaultInLine};
 ghost use Rattle.bz_token.specs.private.Progress.{HasRead, Grows, PlacesFit, IsReadTo, PassesWhite};
 
 use crate::brackets::{Brackets, Misfit, innermost, is_bracket_byte};
@@ -208,6 +208,9 @@ impl<'b, 'a> Lexer<'b, 'a> {
         ensures one_more { IfOk result (λ passed. length self.new.tokens.items ≤ length self.old.tokens.items + 1) }
         ensures fault { (first : ℕ) (bytes : List ℕ) (given : List Placed)
             → HasRead first max_depth bytes given self.old cursor.entry → IfErr result (IsFault first max_depth bytes) }
+        ensures stands { (first : ℕ) (bytes : List ℕ) (given : List Placed)
+            (before : HasRead first max_depth bytes given self.old cursor.entry)
+            → IfErr result (IsStopped first max_depth bytes before.pieces) }
         ensures open_text { IfErr result (IsOnLine cursor.entry.place.line) }
     {
         let Cursor {
@@ -263,6 +266,9 @@ impl<'b, 'a> Lexer<'b, 'a> {
         ensures open_text { (first : ℕ) (bytes : List ℕ) (start : ℕ)
             → IsInLine first max_depth bytes self.old cursor.entry start
             → IfErr result (IsOpenInLine first max_depth bytes start) }
+        ensures fault_in_line { (first : ℕ) (bytes : List ℕ) (start : ℕ)
+            → IsInLine first max_depth bytes self.old cursor.entry start
+            → IfErr result (IsFaultInLine first max_depth bytes) }
         ensures shorter { IfOk result (λ passed. length passed.0.rest.now < length cursor.entry.rest.now) }
         ensures open { IfOk result (λ passed. passed.1 ≡ false
             → (passed.0.rest.now ≡ []) ⊎ (most ≤ length self.new.tokens.items)) }

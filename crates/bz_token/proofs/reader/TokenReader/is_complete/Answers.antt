@@ -1,4 +1,4 @@
-use Rattle.std.proofs.Common.{rules, ◌≡◌, ℕ, []}
+use Rattle.std.proofs.Common.{rules, ◌≡◌}
 use Rattle.bz_token.specs.Batches.{left}
 use Rattle.bz_token.proofs.ReadWhole.{complete}
 use Rattle.bz_token.proofs.reader.TokenReader.is_complete.Goals as goal
