@@ -12,7 +12,7 @@ loop-reader-preserved c =
     let upright = ap (λ o. is_upright (option_map placed o)) (sym c.or-first.ensures) ∙ sym c.is_upright.ensures ∙ c.if-not-is_upright.false in
     rw (c.or-first.ensures, c.or-last.ensures)
     (goes_on c.args.first_line c.args.max_depth c.args.text.now c.loop-reader.reader c.read.new.self c.loop-reader.walk c.add_tokens.new.self c.loop-reader.first c.loop-reader.last c.first_token.result c.last_token.result i read
-    (λ rest. c.in_ok-add_tokens.ensures rest (search rules) ∙ ap (λ ts. row_run (row_state c.loop-reader.walk) (ts ++ rest)) c.tokens-else-not-is_upright.ensures)
+    (λ rest. c.in_ok-add_tokens.ensures.some rest (search rules) ∙ ap (λ ts. row_run (row_state c.loop-reader.walk) (ts ++ rest)) c.tokens-else-not-is_upright.ensures)
     (c.first_token.ensures ∙ ap first_token c.tokens.ensures) (c.last_token.ensures ∙ ap last_token c.tokens-in-loop-reader.ensures) upright)
 
 pub end_line-requires : goal.end_line-requires
