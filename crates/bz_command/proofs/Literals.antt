@@ -279,29 +279,29 @@ whole q bs = take_all (length (q ∷ bs) - 1) bs (omega arith)
 pub opened_plain : (literal value : List ℕ) (triple : Bool) (n : ℕ) → IsQuoted literal value
     → triple ≡ starts_with nat_eq (take (length literal - 1) (drop 1 literal)) (get_or literal 0 0 ∷ get_or literal 0 0 ∷ []) → (triple ≡ false → n ≡ 1)
     → (quote : ℕ) × (take n literal ≡ quote ∷ []) × (take (length literal - n) (drop n literal) ≡ value ++ quote ∷ []) × (list_all (is_plain quote) value ≡ true)
-opened_plain literal value triple n (q , _ , plain , e) is single =
+opened_plain literal value triple n (q, _, plain, e) is single =
     let text : literal ≡ q ∷ (value ++ q ∷ []) = e in
     let no : triple ≡ false = rw (text, whole q (value ++ q ∷ [])) at is ∙ not_twice q value plain in
     let one : n ≡ 1 = single no in
-    (q , rw (one, text) refl , rw (one, text) (whole q (value ++ q ∷ [])) , plain)
+    (q, rw (one, text) refl, rw (one, text) (whole q (value ++ q ∷ [])), plain)
 
 -- a plain text without its prefix
 pub quoted_after : (text literal value : List ℕ) → bytes_eq (take 1 text) (codes "r") ≡ true → literal ≡ drop 1 text → IsPlain text value → IsQuoted literal value
-quoted_after text literal value is e (inl (q , quote , _ , starts)) =
+quoted_after text literal value is e (inl (q, quote, _, starts)) =
     let first : q == 114 && true ≡ true = rw starts at is in
     let letter : q ≡ 114 = eqb-true q 114 (and_parts (q == 114) true first).0 in
     let clash : false ≡ true = rw letter at quote in
     absurd (cc)
-quoted_after text literal value is e (inr (bs , starts , quoted)) = rw (e ∙ ap (drop 1) starts) quoted
+quoted_after text literal value is e (inr (bs, starts, quoted)) = rw (e ∙ ap (drop 1) starts) quoted
 
 -- a plain text that has none
 pub quoted_here : (text value : List ℕ) → bytes_eq (take 1 text) (codes "r") ≡ false → IsPlain text value → IsQuoted text value
 quoted_here text value is (inl quoted) = quoted
-quoted_here text value is (inr (bs , starts , quoted)) = let clash : true ≡ false = rw starts at is in absurd (cc)
+quoted_here text value is (inr (bs, starts, quoted)) = let clash : true ≡ false = rw starts at is in absurd (cc)
 
 -- what a plain value and its closing quote are
 pub plain_left : (value quotes rest : List ℕ) (q : ℕ) → quotes ≡ q ∷ [] → rest ≡ value ++ q ∷ [] → list_all (is_plain q) value ≡ true
     → (get_or rest (length rest - 1) 0 ≡ get_or quotes 0 0) × (fold (plain_too (get_or quotes 0 0)) true (take (length rest - 1) rest) ≡ true)
 plain_left value quotes rest q e f plain =
     let last : length value ≡ length (value ++ q ∷ []) - 1 = omega (arith, length-append value (q ∷ [])) in
-    rw (e, f) (get_or_at value q [] 0 _ last , ap (fold (plain_too q) true) (take_at value (q ∷ []) _ last) ∙ plain_all q true value ∙ plain)
+    rw (e, f) (get_or_at value q [] 0 _ last, ap (fold (plain_too q) true) (take_at value (q ∷ []) _ last) ∙ plain_all q true value ∙ plain)

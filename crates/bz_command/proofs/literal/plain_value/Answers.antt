@@ -35,7 +35,7 @@ returns-clause-back c =
     ∙ ap (λ (bs : List ℕ). take (length rest - 1) rest ++ bs) (sym (one_item quotes c.in-len1.len_at_least c.in-len1.len_below))
 
 pub returns-then-last-quote-clause-none : goal.returns-then-last-quote-clause-none
-returns-then-last-quote-clause-none c = λ value (q , quotes , rest , plain).
+returns-then-last-quote-clause-none c = λ value (q, quotes, rest, plain).
     let is = plain_left value c.args.literal.quotes.now c.args.literal.rest.now q quotes rest plain in
     elim c.then-last-quote.branch [
       | then-last-quote-via-then-last-quote w ↦ w.if-last-quote.true is.0

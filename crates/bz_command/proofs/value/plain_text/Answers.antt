@@ -7,13 +7,13 @@ pub returns-in_err-literal-clause-none : goal.returns-in_err-literal-clause-none
 returns-in_err-literal-clause-none c =
     let none : c.open.result ≡ None = search rules in
     if_none c.from_residual.result (λ value is.
-        let opened : IsOpened value c.open.result = c.open.ensures.plain value (rw c.as_bytes.ensures.value is) in
-        rw none at opened)
+    let opened : IsOpened value c.open.result = c.open.ensures.plain value (rw c.as_bytes.ensures.value is) in
+    rw none at opened)
 
 pub returns-in_err-value-clause-none : goal.returns-in_err-value-clause-none
 returns-in_err-value-clause-none c =
     if_none c.from_residual-in_err-value.result (λ value is.
-        c.in_err-value.ensures.none value (c.in_ok-literal.ensures.plain value (rw c.as_bytes.ensures.value is)))
+    c.in_err-value.ensures.none value (c.in_ok-literal.ensures.plain value (rw c.as_bytes.ensures.value is)))
 
 pub returns-clause-none : goal.returns-clause-none
 returns-clause-none c =
