@@ -1,14 +1,14 @@
 -- A literal read unit by unit.
-use Rattle.std.proofs.Common.{◌≡◌, ℕ, suc, ◌+◌, ◌<◌, ◌==◌, ◌&&◌, ◌||◌, not, List, [], ◌∷◌, ◌++◌, length, take, drop, Bool, true, false, Option, Some, None, nat_eq, refl, sym, ap, ap₂, ◌∙◌, arith, inl, inr, append_assoc, eqb-true}
+use Rattle.std.proofs.Common.{◌≡◌, ℕ, suc, ◌+◌, ◌-◌, ◌<◌, ◌==◌, ◌&&◌, ◌||◌, not, List, [], ◌∷◌, ◌++◌, length, take, drop, get_or, Bool, true, false, Option, Some, None, nat_eq, refl, sym, ap, ap₂, ◌∙◌, arith, inl, inr, append_assoc, eqb-true}
 use Rattle.std.specs.Prelude.{if◌then◌else◌, option_map, bytes_eq, codes}
 use Rattle.std.specs.List.{starts_with, prefix_len, fold, list_all}
 use Rattle.std.proofs.lemmas.Bool.{cases_Bool, and_parts, or_parts, eq-eqb, ne_eqb, false_from_ne_true}
-use Rattle.std.proofs.lemmas.List.{take_all}
+use Rattle.std.proofs.lemmas.List.{take_all, take_at, get_or_at, length-append}
 use Rattle.std.proofs.Math.Bool.{and_assoc}
 use Rattle.std.proofs.lemmas.Slice.Eq.{bytes_eq-Decides}
 use Rattle.bz_token.specs.Pieces.{is_quote}
-use Rattle.bz_command.specs.Values.{grouped_from, takes, units, joined, content, is_newline, unit_value, values_in, and_then, prefix_of, inner_of, value_of}
-use Rattle.bz_command.specs.private.ValueSteps.{is_plain, plain_too, first_len, is_value, inner_value, value_in, taken, opened_value}
+use Rattle.bz_command.specs.Values.{is_plain, IsQuoted, IsPlain, grouped_from, takes, units, joined, content, is_newline, unit_value, values_in, and_then, prefix_of, inner_of, value_of}
+use Rattle.bz_command.specs.private.ValueSteps.{plain_too, first_len, is_value, inner_value, value_in, taken, opened_value}
 
 -- nothing more joins a group
 apart : (g xs : List ℕ) → ((x : ℕ) → takes g x ≡ false) → grouped_from takes g xs ≡ g ∷ units xs
@@ -264,3 +264,44 @@ plain_value raw q [] h =
 plain_value raw q (b ∷ bs) h =
     let both = and_parts (is_plain q b) (list_all (is_plain q) bs) h in
     plain_first raw q b (bs ++ q ∷ []) both.0 ∙ ap (and_then (Some b)) (plain_value raw q bs both.1)
+
+-- the closing quote of a plain value and what stands before it are no two quotes
+not_twice : (q : ℕ) (value : List ℕ) → list_all (is_plain q) value ≡ true → starts_with nat_eq (value ++ q ∷ []) (q ∷ q ∷ []) ≡ false
+not_twice q [] h = rw (eq-eqb q) refl
+not_twice q (b ∷ bs) h =
+    let both = and_parts (is_plain q b) (list_all (is_plain q) bs) h in
+    rw (off (q == b) (and_parts (not (q == b)) (not (b == 92) && (not (b == 13) && not (b == 10))) both.0).0) refl
+
+whole : (q : ℕ) (bs : List ℕ) → take (length (q ∷ bs) - 1) bs ≡ bs
+whole q bs = take_all (length (q ∷ bs) - 1) bs (omega arith)
+
+-- a plain literal is opened by one quote
+pub opened_plain : (literal value : List ℕ) (triple : Bool) (n : ℕ) → IsQuoted literal value
+    → triple ≡ starts_with nat_eq (take (length literal - 1) (drop 1 literal)) (get_or literal 0 0 ∷ get_or literal 0 0 ∷ []) → (triple ≡ false → n ≡ 1)
+    → (quote : ℕ) × (take n literal ≡ quote ∷ []) × (take (length literal - n) (drop n literal) ≡ value ++ quote ∷ []) × (list_all (is_plain quote) value ≡ true)
+opened_plain literal value triple n (q, _, plain, e) is single =
+    let text : literal ≡ q ∷ (value ++ q ∷ []) = e in
+    let no : triple ≡ false = rw (text, whole q (value ++ q ∷ [])) at is ∙ not_twice q value plain in
+    let one : n ≡ 1 = single no in
+    (q, rw (one, text) refl, rw (one, text) (whole q (value ++ q ∷ [])), plain)
+
+-- a plain text without its prefix
+pub quoted_after : (text literal value : List ℕ) → bytes_eq (take 1 text) (codes "r") ≡ true → literal ≡ drop 1 text → IsPlain text value → IsQuoted literal value
+quoted_after text literal value is e (inl (q, quote, _, starts)) =
+    let first : q == 114 && true ≡ true = rw starts at is in
+    let letter : q ≡ 114 = eqb-true q 114 (and_parts (q == 114) true first).0 in
+    let clash : false ≡ true = rw letter at quote in
+    absurd (cc)
+quoted_after text literal value is e (inr (bs, starts, quoted)) = rw (e ∙ ap (drop 1) starts) quoted
+
+-- a plain text that has none
+pub quoted_here : (text value : List ℕ) → bytes_eq (take 1 text) (codes "r") ≡ false → IsPlain text value → IsQuoted text value
+quoted_here text value is (inl quoted) = quoted
+quoted_here text value is (inr (bs, starts, quoted)) = let clash : true ≡ false = rw starts at is in absurd (cc)
+
+-- what a plain value and its closing quote are
+pub plain_left : (value quotes rest : List ℕ) (q : ℕ) → quotes ≡ q ∷ [] → rest ≡ value ++ q ∷ [] → list_all (is_plain q) value ≡ true
+    → (get_or rest (length rest - 1) 0 ≡ get_or quotes 0 0) × (fold (plain_too (get_or quotes 0 0)) true (take (length rest - 1) rest) ≡ true)
+plain_left value quotes rest q e f plain =
+    let last : length value ≡ length (value ++ q ∷ []) - 1 = omega (arith, length-append value (q ∷ [])) in
+    rw (e, f) (get_or_at value q [] 0 _ last, ap (fold (plain_too q) true) (take_at value (q ∷ []) _ last) ∙ plain_all q true value ∙ plain)

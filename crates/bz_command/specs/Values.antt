@@ -1,6 +1,6 @@
 -- String literals (Starlark specification, lexical elements): which texts are one, what value one has, and how a value is written as one.
-use Rattle.std.specs.Prelude.{ℕ, nat_eq, ◌==◌, List, [], ◌∷◌, ◌++◌, Bool, true, false, ◌&&◌, ◌||◌, if◌then◌else◌, Option, Some, None, option_map, is_some, codes, length, drop, bytes_eq}
-use Rattle.std.specs.List.{before_first, starts_with, list_any, flat_map}
+use Rattle.std.specs.Prelude.{ℕ, ◌≡◌, ◌⊎◌, nat_eq, not, ◌==◌, List, [], ◌∷◌, ◌++◌, Bool, true, false, ◌&&◌, ◌||◌, if◌then◌else◌, Option, Some, None, option_map, is_some, codes, length, drop, bytes_eq}
+use Rattle.std.specs.List.{before_first, starts_with, list_any, list_all, flat_map}
 use Rattle.bz_token.specs.declared.token.Kind.{Kind}
 use Rattle.bz_token.specs.declared.token.Kind.TheVariants.{String}
 use Rattle.bz_token.specs.declared.token.Token.{Token}
@@ -87,6 +87,18 @@ abbrev pub value_of : List ℕ → Option (List ℕ)
 value_of text =
     if bytes_eq (prefix_of text) [] then values_in false (inner_of text)
     else (if bytes_eq (prefix_of text) (codes "r") then values_in true (inner_of (drop 1 text)) else None)
+
+-- a byte that stands for itself in a string of one quote
+abbrev pub is_plain : ℕ → ℕ → Bool
+is_plain quote b = not (quote == b) && (not (b == 92) && (not (b == 13) && not (b == 10)))
+
+-- a value between one quote and another, each byte of which stands for itself
+abbrev pub IsQuoted : List ℕ → List ℕ → Type 0
+IsQuoted literal value = (quote : ℕ) × (is_quote quote ≡ true) × (list_all (is_plain quote) value ≡ true) × (literal ≡ quote ∷ (value ++ quote ∷ []))
+
+-- such a literal, or one after the prefix `r`
+abbrev pub IsPlain : List ℕ → List ℕ → Type 0
+IsPlain text value = IsQuoted text value ⊎ ((literal : List ℕ) × (text ≡ 114 ∷ literal) × IsQuoted literal value)
 
 -- the value of a token: only a string has one
 abbrev pub value_at : Kind → List ℕ → Option (List ℕ)

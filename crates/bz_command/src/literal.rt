@@ -1,10 +1,11 @@
 //! A string literal, opened and read byte by byte: the one reader of its escapes.
 
-ghost use Rattle.std.specs.Prelude.{◌≡◌, ◌<◌, MatchOption, IfSome, Some, length, take, option_map, true};
+ghost use Rattle.std.specs.Prelude.{◌≡◌, ◌<◌, ◌++◌, ℕ, List, MatchOption, IfSome, IfNone, Some, length, take, option_map, true};
 ghost use Rattle.std.specs.List.{fold};
 ghost use Rattle.bz_command.specs.Values as spec;
-ghost use Rattle.bz_command.specs.private.ValueSteps.{is_plain, opened_value, plain_too, taken};
-ghost use Rattle.bz_command.specs.private.ByteSteps.{inner_of, opened, ended, is_closed, StandsIn, taken_of};
+ghost use Rattle.bz_command.specs.Values.{is_plain, IsQuoted, IsPlain};
+ghost use Rattle.bz_command.specs.private.ValueSteps.{opened_value, plain_too, taken};
+ghost use Rattle.bz_command.specs.private.ByteSteps.{inner_of, opened, ended, is_closed, StandsIn, taken_of, IsPlainLeft, IsOpened};
 
 /// What is left to read of a literal after its opening quotes.
 #[derive(Clone, Copy)]
@@ -18,6 +19,7 @@ pub struct Literal<'a> {
 pub(crate) fn open(text: &[u8]) -> Option<Literal<'_>>
     ensures value { opened result ≡ spec.value_of text.now }
     ensures place { IfSome result (λ literal. StandsIn text.now literal) }
+    ensures plain { (value : List ℕ) → IsPlain text.now value → IsOpened value result }
 {
     match text.strip_prefix(b"r") {
         Some(literal) => open_quotes(true, literal),
@@ -29,6 +31,7 @@ pub(crate) fn open(text: &[u8]) -> Option<Literal<'_>>
 fn open_quotes(raw: bool, literal: &[u8]) -> Option<Literal<'_>>
     ensures value { opened result ≡ opened_value raw literal.now }
     ensures place { IfSome result (λ opened. StandsIn literal.now opened) }
+    ensures plain { (value : List ℕ) → IsQuoted literal.now value → IsOpened value result }
 {
     let [quote @ (b'"' | b'\''), rest @ ..] = literal else {
         return None;
@@ -61,6 +64,8 @@ pub(crate) fn next_in<'a>(literal: Literal<'a>) -> Option<(u8, Literal<'a>)>
 pub(crate) fn plain_value(literal: Literal<'_>) -> Option<&[u8]>
     ensures value { IfSome result (λ value. inner_of literal.entry ≡ Some value.now) }
     ensures front { IfSome result (λ value. value.now ≡ take (length value.now) literal.entry.rest.now) }
+    ensures back { IfSome result (λ value. literal.entry.rest.now ≡ value.now ++ literal.entry.quotes.now) }
+    ensures none { IfNone result ((value : List ℕ) → IsPlainLeft value literal.entry → ⊥) }
 {
     let [quote] = literal.quotes else {
         return None;

@@ -1,6 +1,6 @@
 //! The labels that words are in one package, sorted once: in these any text is looked up, and takes no memory.
 
-ghost use Rattle.std.specs.Prelude.{◌≡◌, ℕ, List, true, IsTrue, IfOk};
+ghost use Rattle.std.specs.Prelude.{◌≡◌, ◌↔◌, ℕ, List, IsTrue, IfOk};
 ghost use Rattle.std.specs.List.{list_any};
 ghost use Rattle.std.specs.List.Sorted.{IsSorted};
 ghost use Rattle.std.specs.Str.{bytes_eq};
@@ -49,7 +49,7 @@ impl<'a> SortedLabels<'a> {
 
     /// Whether they are labels of this package.
     pub fn are_of(&self, home: &Package) -> bool
-        ensures { result ≡ true → self.now.home.now ≡ home.now }
+        ensures { IsTrue result ↔ (self.now.home.now ≡ home.now) }
     {
         self.home == home
     }

@@ -1,6 +1,6 @@
 //! The value of a string literal, and the literal that is written for a value.
 
-ghost use Rattle.std.specs.Prelude.{◌≡◌, ◌==◌, ◌+◌, ◌<◌, ◌↔◌, OnOk, IfOk, IfSome, IsTrue, Some, string_bytes, ◌++◌, encode_utf8};
+ghost use Rattle.std.specs.Prelude.{◌≡◌, ◌==◌, ◌+◌, ◌<◌, ◌↔◌, ℕ, List, OnOk, IfOk, IfSome, IfNone, IsTrue, Some, string_bytes, ◌++◌, encode_utf8};
 ghost use Rattle.std.specs.List.{flat_map};
 ghost use Rattle.bz_command.specs.Values as spec;
 ghost use Rattle.bz_command.specs.private.ValueSteps.{is_value};
@@ -47,7 +47,8 @@ fn push_written(text: &mut String, c: char) -> Result<(), NoMemory>
 /// The value of a string literal in which each byte stands for itself, between one quote and another: a slice of the
 /// text. None: the text is no such literal.
 pub fn plain_text(text: &str) -> Option<&str>
-    ensures { IfSome result (λ value. spec.value_of text.now ≡ Some value.now) }
+    ensures value { IfSome result (λ value. spec.value_of text.now ≡ Some value.now) }
+    ensures none { IfNone result ((value : List ℕ) → spec.IsPlain text.now value → ⊥) }
 {
     let literal = open(text.as_bytes())?;
     let value = plain_value(literal)?;

@@ -103,7 +103,7 @@ pub bytes_of-append : (ps qs : List Piece) → bytes_of (ps ++ qs) ≡ bytes_of 
 bytes_of-append [] qs = refl
 bytes_of-append (p ∷ ps) qs = ap (λ x. p.gap ++ (p.text ++ x)) (bytes_of-append ps qs) ∙ simp append_assoc
 
-tokens_of-append : (first : ℕ) (before lines : List ℕ) (ps qs : List Piece) → tokens_of first before lines (ps ++ qs) ≡ tokens_of first before lines ps ++ tokens_of first (before ++ bytes_of ps) (lines_of first before lines ps) qs
+pub tokens_of-append : (first : ℕ) (before lines : List ℕ) (ps qs : List Piece) → tokens_of first before lines (ps ++ qs) ≡ tokens_of first before lines ps ++ tokens_of first (before ++ bytes_of ps) (lines_of first before lines ps) qs
 tokens_of-append first before lines [] qs = ap (λ x. tokens_of first x lines qs) (sym (append-nil before))
 tokens_of-append first before lines (p ∷ ps) qs =
     let more = line_at first (before ++ p.gap) ∷ lines in

@@ -10,6 +10,7 @@ pub mod Openings
 pub mod Ends
 pub mod Operators
 pub mod Tables
+pub mod ReadWhole
 pub mod Scanning
 pub mod Singles
 pub mod Progress
@@ -60,4 +61,5 @@ pub mod LineEnds
 pub mod LineFronts
 pub mod LinesRead
 pub mod OpenLines
+pub mod Stopped
 mod ChunkExamples

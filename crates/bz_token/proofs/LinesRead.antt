@@ -111,7 +111,7 @@ start_within first depth bytes lexer cursor start a =
     omega (arith, token_count first depth bytes lexer cursor a.read, ap length a.pieces_are, length-append a.done (a.line ++ a.last ∷ []), a.start_is)
 
 -- the tokens of the line
-line_tokens : (first depth : ℕ) (bytes : List ℕ) (lexer : Lexer) (cursor : Cursor) (start : ℕ) (a : IsAfterLine first depth bytes lexer cursor start) → (b ls : List ℕ) × (map placed (drop start lexer.tokens.items) ≡ tokens_of first b ls (a.line ++ a.last ∷ []))
+pub line_tokens : (first depth : ℕ) (bytes : List ℕ) (lexer : Lexer) (cursor : Cursor) (start : ℕ) (a : IsAfterLine first depth bytes lexer cursor start) → (b ls : List ℕ) × (map placed (drop start lexer.tokens.items) ≡ tokens_of first b ls (a.line ++ a.last ∷ []))
 line_tokens first depth bytes lexer cursor start a =
     let t = tokens_after first [] [] a.done (a.line ++ a.last ∷ []) in
     (t.0, t.1, map_drop start lexer.tokens.items ∙ ap (drop start) (a.read.tokens_are ∙ ap (tokens_of first [] []) a.pieces_are) ∙ ap (λ n. drop n (tokens_of first [] [] (a.done ++ (a.line ++ a.last ∷ [])))) a.start_is ∙ t.2)

@@ -20,7 +20,7 @@ use Rattle.bz_token.specs.Reading.{is_gap, Piece, IsReading, open_after, bytes_o
 use Rattle.bz_token.specs.Chunks.{is_comment_line, is_followed, chunk_goes_on, text_of, chunks}
 use Rattle.bz_token.specs.ChunkForms.{are_comments}
 use Rattle.bz_token.specs.Cuts.{is_physical_line, first_line, IsLonger, IsPart}
-use Rattle.bz_token.specs.FirstChunk.{IsFront}
+use Rattle.bz_token.specs.FirstChunk.{IsFront, HasFaultyChunk}
 use Rattle.bz_token.specs.FreshStart.{ends_in_line}
 use Rattle.bz_token.specs.TokenLines.{is_newline_piece, lines_from, lines_of}
 use Rattle.bz_token.specs.private.CutSteps.{is_ended, seen_chunks, next, start, run, fresh}
@@ -260,6 +260,6 @@ pub none_left : (rest : List ℕ) → rest ≡ [] → has_newline rest ≡ false
 none_left rest none = ap has_newline none
 
 -- an answer that shows no chunk
-pub short_front : (first depth : ℕ) (bytes : List ℕ) (is_short : Bool) (front : Front) → front ≡ (if is_short then Short else Other) → (is_short ≡ true → IsPart bytes) → IsFront first depth bytes front
-short_front first depth bytes true front is part = subst (IsFront first depth bytes) (sym is) (part refl)
-short_front first depth bytes false front is part = subst (IsFront first depth bytes) (sym is) tt
+pub short_front : (first depth : ℕ) (bytes : List ℕ) (is_short : Bool) (front : Front) → front ≡ (if is_short then Short else Other) → (is_short ≡ true → IsPart bytes) → (is_short ≡ false → HasFaultyChunk first depth bytes) → IsFront first depth bytes front
+short_front first depth bytes true front is part faulty = subst (IsFront first depth bytes) (sym is) (part refl)
+short_front first depth bytes false front is part faulty = subst (IsFront first depth bytes) (sym is) (inl (faulty refl))

@@ -209,7 +209,7 @@ gap_read first depth bytes tokens opened last rest following line col l c n p wh
     (read_gap first depth bytes tokens opened last rest following line col l c n p white cut rest_is line_moves col_moves, refl)
 
 -- no gap stands here
-pub after_gap : (first depth : ℕ) (bytes : List ℕ) (tokens : List Placed) (opened : List ℕ) (last : Option ℕ) (rest : List ℕ) (line col : ℕ) (p : Progress first depth bytes tokens opened last rest line col) → begins_gap (is_inside opened) rest ≡ false
+unfoldable pub after_gap : (first depth : ℕ) (bytes : List ℕ) (tokens : List Placed) (opened : List ℕ) (last : Option ℕ) (rest : List ℕ) (line col : ℕ) (p : Progress first depth bytes tokens opened last rest line col) → begins_gap (is_inside opened) rest ≡ false
     → AfterGap first depth bytes tokens opened last p.gap rest line col
 after_gap first depth bytes tokens opened last rest line col p none = record {
   pieces = p.pieces;
@@ -271,7 +271,7 @@ token_read first depth bytes tokens opened opened' last rest text following kind
 )
 
 -- a fault after a gap
-pub fault_at : (first depth : ℕ) (bytes : List ℕ) (tokens : List Placed) (opened : List ℕ) (last : Option ℕ) (gap after : List ℕ) (line col : ℕ) (IsBad : List ℕ → List ℕ → Type 0) → AfterGap first depth bytes tokens opened last gap after line col → IsBad opened after
+unfoldable pub fault_at : (first depth : ℕ) (bytes : List ℕ) (tokens : List Placed) (opened : List ℕ) (last : Option ℕ) (gap after : List ℕ) (line col : ℕ) (IsBad : List ℕ → List ℕ → Type 0) → AfterGap first depth bytes tokens opened last gap after line col → IsBad opened after
     → IsFaultAt first depth bytes IsBad line col
 fault_at first depth bytes tokens opened last gap after line col IsBad b bad = record {
   pieces = b.pieces;
@@ -309,7 +309,7 @@ open_lengths first before lines opened brackets (p ∷ ps) same =
       ]
     ])
 
-none_left : (xs : List ℕ) → length xs ≡ 0 → xs ≡ []
+pub none_left : (xs : List ℕ) → length xs ≡ 0 → xs ≡ []
 none_left [] e = refl
 none_left (x ∷ xs) e = absurd (omega arith)
 
@@ -369,18 +369,18 @@ pub passed_on : {V E : Type 0} (r : Result V E) (x : E) (P : E → Type 0) → I
 passed_on (Ok v) x P h is = tt
 passed_on (Err e) x P h is = subst P (sym h) is
 
-both : (x y : Bool) → x ≡ true → y ≡ false → (x && not y) ≡ true
+pub both : (x y : Bool) → x ≡ true → y ≡ false → (x && not y) ≡ true
 both x y p q = rw (p, q) refl
 
 -- the faults that end a reading
-pub bad_at : (first depth : ℕ) (bytes : List ℕ) (tokens : List Placed) (opened : List ℕ) (last : Option ℕ) (gap after : List ℕ) (line col : ℕ) (bad : Bad) → AfterGap first depth bytes tokens opened last gap after line col → IsBadPlace after bad
+unfoldable pub bad_at : (first depth : ℕ) (bytes : List ℕ) (tokens : List Placed) (opened : List ℕ) (last : Option ℕ) (gap after : List ℕ) (line col : ℕ) (bad : Bad) → AfterGap first depth bytes tokens opened last gap after line col → IsBadPlace after bad
     → IsFault first depth bytes (bad_fault bad line col)
 bad_at first depth bytes tokens opened last gap after line col Character b is = fault_at first depth bytes tokens opened last gap after line col (λ opened. IsBadCharacter) b is
 bad_at first depth bytes tokens opened last gap after line col Number b is = fault_at first depth bytes tokens opened last gap after line col (λ opened. IsBadNumber) b is
 bad_at first depth bytes tokens opened last gap after line col OpenText b is = fault_at first depth bytes tokens opened last gap after line col (λ opened. IsOpenText) b is
 bad_at first depth bytes tokens opened last gap after line col Backslash b is = fault_at first depth bytes tokens opened last gap after line col (λ opened. IsBadBackslash) b is
 
-pub misfit_at : (first depth : ℕ) (bytes : List ℕ) (tokens : List Placed) (opened : List ℕ) (last : Option ℕ) (gap after : List ℕ) (line col : ℕ) (misfit : Misfit) → AfterGap first depth bytes tokens opened last gap after line col → 0 < length after → IsMisfit depth opened (get_or after 0 0) misfit
+unfoldable pub misfit_at : (first depth : ℕ) (bytes : List ℕ) (tokens : List Placed) (opened : List ℕ) (last : Option ℕ) (gap after : List ℕ) (line col : ℕ) (misfit : Misfit) → AfterGap first depth bytes tokens opened last gap after line col → 0 < length after → IsMisfit depth opened (get_or after 0 0) misfit
     → IsFault first depth bytes (misfit_fault misfit line col)
 misfit_at first depth bytes tokens opened last gap after line col TooDeep b some is =
     fault_at first depth bytes tokens opened last gap after line col (IsTooDeep depth) b (record { bracket = begins_at is_opening_bracket after some is.0; deep = is.1 })

@@ -1,5 +1,6 @@
 -- The first lexical fault of a text, and its place: what stands after the gaps and tokens that could be read.
-use Rattle.std.specs.Prelude.{◌≡◌, ℕ, ◌≤◌, ◌<◌, List, [], ◌∷◌, ◌++◌, length, true, false, not, ◌&&◌, ◌==◌, is_some}
+use Rattle.bz_memory.specs.NoMemory.{no_memory}
+use Rattle.std.specs.Prelude.{◌≡◌, ◌≢◌, ℕ, ◌≤◌, ◌<◌, List, [], ◌∷◌, ◌++◌, length, true, false, not, ◌&&◌, ◌==◌, is_some}
 use Rattle.std.specs.Char.{is_ascii_digit}
 use Rattle.bz_token.specs.declared.fault.LexFault.{LexFault}
 use Rattle.bz_token.specs.declared.fault.LexFault.TheVariants.{OutOfMemory, BadCharacter, BadNumber, OpenText, BadBracket, OpenBracket, TooDeep, BadBackslash}
@@ -73,3 +74,7 @@ IsFault first depth bytes (BadBracket line col) = IsFaultAt first depth bytes Is
 IsFault first depth bytes (OpenBracket line col) = IsOpenBracket first depth bytes line col
 IsFault first depth bytes (TooDeep line col) = IsFaultAt first depth bytes (IsTooDeep depth) line col
 IsFault first depth bytes (BadBackslash line col) = IsFaultAt first depth bytes (λ opened. IsBadBackslash) line col
+
+-- the text has a lexical fault
+abbrev pub HasFault : ℕ → ℕ → List ℕ → Type 0
+HasFault first depth bytes = (fault : LexFault) × (fault ≢ OutOfMemory no_memory) × IsFault first depth bytes fault

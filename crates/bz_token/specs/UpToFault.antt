@@ -1,6 +1,6 @@
 -- What a text is read as: its tokens up to its first lexical fault, and that fault, if it has one.
 use Rattle.bz_memory.specs.NoMemory.{no_memory}
-use Rattle.std.specs.Prelude.{◌≡◌, ℕ, List, [], Option, Some, None}
+use Rattle.std.specs.Prelude.{◌≡◌, ℕ, List, [], Option, Some, None, ◌≢◌}
 use Rattle.bz_token.specs.declared.fault.LexFault.{LexFault}
 use Rattle.bz_token.specs.declared.fault.LexFault.TheVariants.{OutOfMemory, BadCharacter, BadNumber, OpenText, BadBracket, OpenBracket, TooDeep, BadBackslash}
 use Rattle.bz_token.specs.Places.{Placed}
@@ -18,6 +18,11 @@ read_before first depth bytes (BadBracket line col) is = is.pieces
 read_before first depth bytes (OpenBracket line col) is = is.pieces
 read_before first depth bytes (TooDeep line col) is = is.pieces
 read_before first depth bytes (BadBackslash line col) is = is.pieces
+
+-- this is the first fault, and these gaps and tokens stand before it
+abbrev pub IsFaultAfter : ℕ → ℕ → List ℕ → List Piece → LexFault → Type 0
+IsFaultAfter first depth bytes pieces fault =
+    (fault ≢ OutOfMemory no_memory) × (is : IsFault first depth bytes fault) × (read_before first depth bytes fault is ≡ pieces)
 
 -- These are the tokens of the whole text, and it has no fault; or this is its first fault, and these are the tokens before.
 -- Want of memory is none of the text's.

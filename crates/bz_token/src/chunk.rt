@@ -1,6 +1,6 @@
 //! The chunk that a text begins with, and its tokens, in one walk.
 
-ghost use Rattle.std.specs.Prelude.{◌≡◌, ◌+◌, ◌<◌, ◌^◌, ◌==◌, ℕ, count_by, map, IfOk, IsTrue, if◌then◌else◌};
+ghost use Rattle.std.specs.Prelude.{◌≡◌, ◌↔◌, ◌+◌, ◌<◌, ◌^◌, ◌==◌, ℕ, count_by, map, IfOk, IsTrue, if◌then◌else◌};
 ghost use Rattle.std.specs.List.{list_all};
 ghost use Rattle.bz_token.specs.Places.{placed};
 ghost use Rattle.bz_token.specs.FirstChunk.{IsFront};
@@ -90,7 +90,7 @@ const FIRST_CAPACITY: usize = 128;
 
 // Whether the fault is a string that nothing closes and that begins on this line.
 fn is_open_on(fault: LexFault, at: u64) -> bool
-    ensures { IsTrue result → (col : ℕ) × (fault ≡ LexFault.OpenText at col) }
+    ensures { IsTrue result ↔ ((col : ℕ) × (fault ≡ LexFault.OpenText at col)) }
 {
     match fault {
         LexFault::OpenText { line, .. } => line == at,
@@ -127,8 +127,9 @@ pub fn first_chunk<'a>(
             Err(LexFault::OutOfMemory(why)) => return Err(why),
             Err(fault) => return Ok(short_if(is_open_on(fault, cursor.end_line()))),
         };
+        // The list of tokens is never full.
         if !ends {
-            return Ok(short_if(next.rest.is_empty()));
+            return Ok(Front::Short);
         }
         cursor = next;
         match line_end(lexer.tokens_from(line_start)) {

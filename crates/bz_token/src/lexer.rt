@@ -1,6 +1,6 @@
 //! The tokens of a text.
 
-ghost use Rattle.std.specs.Prelude.{◌≡◌, ◌≤◌, ◌<◌, ◌+◌, ◌^◌, ◌==◌, ◌∷◌, [], List, ℕ, true, false, not, length, take, drop, count_by, map, IfOk, IfErr, IfSome, IfNone, IsTrue, Some, None, nat_eq};
+ghost use Rattle.std.specs.Prelude.{◌≡◌, ◌≤◌, ◌<◌, ◌+◌, ◌^◌, ◌==◌, ◌⊎◌, ◌∷◌, [], List, ℕ, max, true, false, not, length, take, drop, count_by, map, IfOk, IfErr, IfSome, IfNone, IsTrue, Some, None, nat_eq};
 ghost use Rattle.std.specs.Option.{option_eq};
 ghost use Rattle.std.specs.List.{list_any};
 ghost use Rattle.bz_token.specs.Places.{Placed, placed, column_from};
@@ -10,7 +10,7 @@ ghost use Rattle.bz_token.specs.Faults.{IsFault};
 ghost use Rattle.bz_token.specs.Lexical.{is_newline};
 ghost use Rattle.bz_token.specs.private.Scans.{opened, bad_fault, misfit_fault, IsLeftOpen};
 ghost use Rattle.bz_token.specs.private.Steps.{IsGapHere, IsTaken, IsRefused};
-ghost use Rattle.bz_token.specs.private.LinesRead.{IsInLine, IsAfterLine, IsOnLine, IsOpenInLine};
+ghost use Rattle.bz_token.specs.private.LinesRead.{IsInLine, IsAfterLine, IsOnLine, IsOpenInLine, IsStopped, IsFaultInLine};
 ghost use Rattle.bz_token.specs.private.Progress.{HasRead, Grows, PlacesFit, IsReadTo, PassesWhite};
 
 use crate::brackets::{Brackets, Misfit, innermost, is_bracket_byte};
@@ -206,8 +206,12 @@ impl<'b, 'a> Lexer<'b, 'a> {
             → IfOk result (λ passed. (after : HasRead first max_depth bytes given self.new passed.0)
             × Grows passed.1 before.pieces after.pieces after.gap) }
         ensures shorter { IfOk result (λ passed. length passed.0.rest.now < length cursor.entry.rest.now) }
+        ensures one_more { IfOk result (λ passed. length self.new.tokens.items ≤ length self.old.tokens.items + 1) }
         ensures fault { (first : ℕ) (bytes : List ℕ) (given : List Placed)
             → HasRead first max_depth bytes given self.old cursor.entry → IfErr result (IsFault first max_depth bytes) }
+        ensures stands { (first : ℕ) (bytes : List ℕ) (given : List Placed)
+            (before : HasRead first max_depth bytes given self.old cursor.entry)
+            → IfErr result (IsStopped first max_depth bytes before.pieces) }
         ensures open_text { IfErr result (IsOnLine cursor.entry.place.line) }
     {
         let Cursor {
@@ -266,7 +270,14 @@ impl<'b, 'a> Lexer<'b, 'a> {
         ensures open_text { (first : ℕ) (bytes : List ℕ) (start : ℕ)
             → IsInLine first max_depth bytes self.old cursor.entry start
             → IfErr result (IsOpenInLine first max_depth bytes start) }
+        ensures fault_in_line { (first : ℕ) (bytes : List ℕ) (start : ℕ)
+            → IsInLine first max_depth bytes self.old cursor.entry start
+            → IfErr result (IsFaultInLine first max_depth bytes) }
         ensures shorter { IfOk result (λ passed. length passed.0.rest.now < length cursor.entry.rest.now) }
+        ensures open { IfOk result (λ passed. passed.1 ≡ false
+            → (passed.0.rest.now ≡ []) ⊎ (most ≤ length self.new.tokens.items)) }
+        ensures few { IfOk result (λ passed.
+            length self.new.tokens.items ≤ max most (length self.old.tokens.items + 1)) }
         ensures fault { (first : ℕ) (bytes : List ℕ) (given : List Placed)
             → HasRead first max_depth bytes given self.old cursor.entry → IfErr result (IsFault first max_depth bytes) }
     {
@@ -288,7 +299,7 @@ impl<'b, 'a> Lexer<'b, 'a> {
 // Room for the tokens of a statement of so many bytes; the list of a long text grows.
 #[inline(always)]
 fn first_capacity(len: usize) -> usize
-    ensures { result ≤ 4096 }
+    ensures { result ≤ 682 }
 {
     len.min(4096) / 6
 }

@@ -1,8 +1,9 @@
 //! The tokens of a text, a batch at a time.
 
-ghost use Rattle.std.specs.Prelude.{◌≡◌, ◌+◌, ◌++◌, ◌<◌, ◌^◌, ◌==◌, ℕ, List, [], true, length, count_by, map, IfOk, IsTrue};
+ghost use Rattle.std.specs.Prelude.{◌≡◌, ◌+◌, ◌++◌, ◌<◌, ◌≤◌, ◌^◌, ◌==◌, ◌↔◌, ℕ, List, [], true, false, length, count_by, map, IfOk, IsTrue};
 ghost use Rattle.bz_token.specs.Places.{Placed, placed};
 ghost use Rattle.bz_token.specs.Reading.{AreTokensOf};
+ghost use Rattle.bz_token.specs.Faults.{HasFault};
 ghost use Rattle.bz_token.specs.Batches.{HasGiven, batch, left};
 
 use crate::fault::LexFault;
@@ -64,6 +65,10 @@ impl<'b, 'a> TokenReader<'b, 'a> {
             → HasGiven first depth text given self.old
             → IfOk result (λ read. IsTrue read → HasGiven first depth text (given ++ batch self.new) self.new) }
         ensures shorter { IfOk result (λ read. IsTrue read → left self.new < left self.old) }
+        ensures few { IfOk result (λ read. IsTrue read → length (batch self.new) ≤ 256) }
+        ensures fault { (first : ℕ) (depth : ℕ) (text : List ℕ) (given : List Placed)
+            → HasGiven first depth text given self.old
+            → IfOk result (λ read. read ≡ false → HasFault first depth text) }
     {
         self.lexer.tokens.clear();
         match self.lexer.read_line(self.cursor, self.max_depth, MOST) {
@@ -79,7 +84,8 @@ impl<'b, 'a> TokenReader<'b, 'a> {
     /// Whether the whole text was read, and no bracket is open.
     pub fn is_complete(&self) -> bool
         ensures { (first : ℕ) (depth : ℕ) (text : List ℕ) (given : List Placed)
-            → HasGiven first depth text given self.now → IsTrue result → AreTokensOf first depth text given }
+            → HasGiven first depth text given self.now
+            → IsTrue result ↔ ((left self.now ≡ 0) × AreTokensOf first depth text given) }
     {
         self.cursor.rest.is_empty() && !self.lexer.brackets.is_inside()
     }

@@ -22,6 +22,7 @@ pub mod RowWalk
 pub mod RowClass
 pub mod RowLoad
 pub mod RowFound
+pub mod RowNone
 pub mod RowBatches
 pub mod Examples
 pub mod CellExamples

@@ -1,13 +1,16 @@
 -- The row of a text whose tokens come in batches.
-use Rattle.std.proofs.Common.{◌≡◌, ℕ, ◌+◌, ◌<◌, ◌^◌, ◌==◌, List, [], ◌∷◌, ◌++◌, Bool, true, false, cond, Option, Some, None, IfSome, IsSome, option_map, rules, refl, sym, ap, subst, ◌∙◌, append-nil, append_assoc}
-use Rattle.std.specs.Prelude.{count_by}
+use Rattle.std.proofs.Common.{◌≡◌, ℕ, ◌+◌, ◌<◌, ◌^◌, ◌==◌, ◌&&◌, List, [], ◌∷◌, ◌++◌, Bool, true, false, cond, Option, Some, None, IfSome, IfNone, IsSome, option_map, rules, refl, sym, ap, subst, ◌∙◌, append-nil, append_assoc}
+use Rattle.std.specs.Prelude.{count_by, is_some}
 use Rattle.std.specs.Option.{option_or}
 use Rattle.std.proofs.lemmas.Bool.{false≢true}
 use Rattle.bz_token.specs.declared.token.Token.{Token}
 use Rattle.bz_token.specs.declared.reader.TokenReader.{TokenReader}
 use Rattle.bz_token.specs.Places.{Placed, placed}
 use Rattle.bz_token.specs.Reading.{AreTokensOf}
-use Rattle.bz_token.specs.Batches.{HasGiven, batch}
+use Rattle.bz_token.specs.Faults.{HasFault}
+use Rattle.bz_token.specs.Batches.{HasGiven, batch, left}
+use Rattle.bz_token.proofs.OneFault.{no_fault}
+use Rattle.bz_token.proofs.ReadWhole.{given_front, given_all}
 use Rattle.bz_tree.specs.declared.rows.RowWalk.{RowWalk}
 use Rattle.bz_tree.specs.declared.row.Row.{Row}
 use Rattle.bz_tree.specs.Tree.{Statement}
@@ -16,9 +19,11 @@ use Rattle.bz_tree.specs.Kinds.{mark_of}
 use Rattle.bz_tree.specs.Brackets.{is_line, without_lines, end_line}
 use Rattle.bz_tree.specs.Statement.{is_aside, bare_tokens, first_of, last_of, first_token, first_seen, last_token, last_seen, either, line_of, end_line_of, start_of, end_of}
 use Rattle.bz_tree.specs.Rows.{IsRowOf}
+use Rattle.bz_tree.specs.RowReads.{has_row}
 use Rattle.bz_tree.specs.private.RowSteps.{row_state, row_run, row_start, row_view, is_upright}
 use Rattle.bz_tree.proofs.LastToken.{bare_append}
 use Rattle.bz_tree.proofs.Plain.{FitsLast, bare_fits}
+use Rattle.bz_tree.proofs.RowNone.{walk_stops}
 use Rattle.bz_tree.proofs.RowFound.{IsRowIn, upright_rows}
 use Rattle.bz_tree.proofs.Standing.{ends_fit}
 
@@ -121,3 +126,79 @@ row_of_batches first depth text reader walk begins ends begin end o line i begin
     told : (o : Option Row) → IfSome o (IsRowIn i.given) → IfSome o (λ row. (s : Statement) × IsStatementIn first depth text s × IsRowOf s row)
     told None h = tt
     told (Some row) h = h first depth text are
+
+-- no row, by the tokens of the text
+abbrev pub NoRow : ℕ → ℕ → List ℕ → Type 0
+NoRow first depth text = (tokens : List Placed) → AreTokensOf first depth text tokens → (is_some (first_token tokens) && has_row tokens) ≡ false
+
+pub faulty : (first depth : ℕ) (text : List ℕ) → HasFault first depth text → NoRow first depth text
+faulty first depth text (fault, lexical, is) tokens are = absurd (no_fault first depth text tokens fault are is lexical)
+
+second_off : (a b : Bool) → b ≡ false → (a && b) ≡ false
+second_off true b off = off
+second_off false b off = refl
+
+first_off : (a b : Bool) → a ≡ false → (a && b) ≡ false
+first_off true b off = absurd (false≢true (sym off))
+first_off false b off = refl
+
+stops_at : (first depth : ℕ) (text : List ℕ) (given : List Placed) (reader : TokenReader) → HasGiven first depth text given reader → ((more : List Placed) → row_run row_start (given ++ more) ≡ None) → NoRow first depth text
+stops_at first depth text given reader read none tokens are =
+    let front = given_front first depth text given tokens reader read are in
+    second_off (is_some (first_token tokens)) (has_row tokens) (walk_stops tokens (ap (row_run row_start) front.1 ∙ none front.0))
+
+-- the walk stops in a batch
+pub stopped : (first depth : ℕ) (text : List ℕ) (before reader : TokenReader) (walk : RowWalk) (begin end : Option Token) (i : IsRowSoFar first depth text before walk begin end) → HasGiven first depth text (i.given ++ batch reader) reader
+    → ((rest : List Placed) → row_run (row_state walk) (batch reader ++ rest) ≡ None) → NoRow first depth text
+stopped first depth text before reader walk begin end i read none =
+    stops_at first depth text (i.given ++ batch reader) reader read (λ more. ap (row_run row_start) (append_assoc i.given (batch reader) more) ∙ sym (i.run (batch reader ++ more)) ∙ none more)
+
+-- the first token of a batch, or one before it, is not upright
+pub indented : (first depth : ℕ) (text : List ℕ) (before reader : TokenReader) (walk : RowWalk) (begin end front : Option Token) (i : IsRowSoFar first depth text before walk begin end) → HasGiven first depth text (i.given ++ batch reader) reader
+    → option_map placed front ≡ first_token (batch reader) → is_upright (option_map placed (option_or begin front)) ≡ false → NoRow first depth text
+indented first depth text before reader walk begin end front i read front_is off tokens are =
+    let b = batch reader in
+    let more = given_front first depth text (i.given ++ b) tokens reader read are in
+    let here : option_map placed (option_or begin front) ≡ first_token (i.given ++ b) = either_placed begin front ∙ ap (λ o. option_or o (option_map placed front)) i.begin_is ∙ ap (option_or (first_token i.given)) front_is ∙ sym (first_more i.given b) in
+    let whole : first_token tokens ≡ option_or (first_token (i.given ++ b)) (first_token more.0) = ap first_token more.1 ∙ first_more (i.given ++ b) more.0 in
+    leans (first_token (i.given ++ b)) (first_token more.0) (first_token tokens) (is_some (first_seen tokens)) (is_some (row_run row_start tokens)) whole (ap is_upright (sym here) ∙ off)
+  where
+    middle_off : (a b c d : Bool) → c ≡ false → (a && (b && (c && d))) ≡ false
+    middle_off a b c d off = second_off a (b && (c && d)) (second_off b (c && d) (first_off c d off))
+
+    leans : (o p whole : Option Placed) (b d : Bool) → whole ≡ option_or o p → is_upright o ≡ false → (is_some whole && (b && (is_upright whole && d))) ≡ false
+    leans None p whole b d is off = absurd (false≢true (sym off))
+    leans (Some t) p whole b d is off = middle_off (is_some whole) b (is_upright whole) d (ap is_upright is ∙ off)
+
+no_first : (tokens : List Placed) → first_token tokens ≡ None → (is_some (first_token tokens) && has_row tokens) ≡ false
+no_first tokens none = first_off (is_some (first_token tokens)) (has_row tokens) (ap is_some none)
+
+-- comments alone
+pub nothing_first : (first depth : ℕ) (text : List ℕ) (reader : TokenReader) (walk : RowWalk) (begin end : Option Token) → IsRowSoFar first depth text reader walk begin end → left reader ≡ 0 → begin ≡ None → NoRow first depth text
+nothing_first first depth text reader walk begin end i done none tokens are =
+    no_first tokens (ap first_token (given_all first depth text i.given tokens reader i.read done are) ∙ sym i.begin_is ∙ ap (option_map placed) none)
+
+last_none : (ts : List Placed) (o : Option Placed) → last_of o ts ≡ None → first_of ts ≡ None
+last_none [] o none = refl
+last_none (t ∷ ts) o none = absurd (later t ts none)
+  where
+    later : (t : Placed) (ts : List Placed) → last_of (Some t) ts ≡ None → ⊥
+    later t [] e = cc
+    later t (u ∷ us) e = later u us e
+
+pub nothing_last : (first depth : ℕ) (text : List ℕ) (reader : TokenReader) (walk : RowWalk) (begin end : Option Token) → IsRowSoFar first depth text reader walk begin end → left reader ≡ 0 → end ≡ None → NoRow first depth text
+nothing_last first depth text reader walk begin end i done none tokens are =
+    let last : last_token i.given ≡ None = sym i.end_is ∙ ap (option_map placed) none in
+    no_first tokens (ap first_token (given_all first depth text i.given tokens reader i.read done are) ∙ last_none (bare_tokens i.given) None last)
+
+-- a bracket is open at the end
+pub incomplete : (first depth : ℕ) (text : List ℕ) (reader : TokenReader) (walk : RowWalk) (begin end : Option Token) (i : IsRowSoFar first depth text reader walk begin end) → left reader ≡ 0 → (AreTokensOf first depth text i.given → ⊥) → NoRow first depth text
+incomplete first depth text reader walk begin end i done none tokens are =
+    absurd (none (subst (AreTokensOf first depth text) (given_all first depth text i.given tokens reader i.read done are) are))
+
+-- the walk has no row at the end
+pub unfinished : (first depth : ℕ) (text : List ℕ) (reader : TokenReader) (walk : RowWalk) (begin end : Option Token) (o : Option Row) (i : IsRowSoFar first depth text reader walk begin end) → left reader ≡ 0 → option_map row_view o ≡ row_run (row_state walk) [] → IfNone o (NoRow first depth text)
+unfinished first depth text reader walk begin end (Some row) i done same = tt
+unfinished first depth text reader walk begin end None i done same = λ tokens are.
+    let run : row_run row_start i.given ≡ None = ap (row_run row_start) (sym (append-nil i.given)) ∙ sym (i.run []) ∙ sym same in
+    second_off (is_some (first_token tokens)) (has_row tokens) (ap has_row (given_all first depth text i.given tokens reader i.read done are) ∙ walk_stops i.given run)

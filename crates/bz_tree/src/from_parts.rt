@@ -1,6 +1,6 @@
 //! The nodes that parts are of: one walk over the parts, with a stack of open brackets.
 
-ghost use Rattle.std.specs.Prelude.{◌≡◌, ◌≤◌, map, IfOk, OnOk, option_map};
+ghost use Rattle.std.specs.Prelude.{◌≡◌, ◌≤◌, map, IfOk, OnOk, option_map, ◌<◌};
 ghost use Rattle.bz_tree.specs.Tree.{Statement};
 ghost use Rattle.bz_tree.specs.View.{node_view, nodes_view, text_of, view};
 ghost use Rattle.bz_tree.specs.Rows.{part_view, parts_of};
@@ -52,7 +52,7 @@ fn is_last(following: Option<&Part<'_>>) -> bool {
 // How many nodes a segment has, as far as these parts tell that stand after its first.
 #[inline(always)]
 fn nodes_with(following: &[Part<'_>]) -> usize
-    ensures { result ≤ 4 }
+    ensures { (0 < result) × (result ≤ 4) }
 {
     if is_last(following.first()) {
         1

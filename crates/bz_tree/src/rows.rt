@@ -1,15 +1,16 @@
 //! The row of a chunk's statement: a walk over the tokens that pushes its parts in order.
 
-ghost use Rattle.std.specs.Prelude.{ℕ, List, [], ◌≡◌, ◌++◌, ◌&&◌, ◌≤◌, ◌+◌, length, not, false, map, IfOk, IfSome, IsTrue, option_map};
+ghost use Rattle.std.specs.Prelude.{ℕ, List, [], ◌≡◌, ◌++◌, ◌&&◌, ◌≤◌, ◌+◌, length, not, false, map, IfOk, IfSome, IsTrue, option_map, ◌^◌, ◌⊎◌, IfNone, None};
 ghost use Rattle.std.specs.Bool.{then_some};
 ghost use Rattle.bz_token.specs.Places.{Placed, placed};
 ghost use Rattle.bz_token.specs.Reading.{AreTokensOf};
 ghost use Rattle.bz_tree.specs.Tree.{leaf, Statement};
-ghost use Rattle.bz_tree.specs.Statement.{is_load_word};
+ghost use Rattle.bz_tree.specs.Statement.{end_of, is_load_word};
 ghost use Rattle.bz_tree.specs.Grammar.{leaf_role};
 ghost use Rattle.bz_tree.specs.Chunk.{IsStatementIn};
 ghost use Rattle.bz_token.specs.declared.token.Kind.TheVariants.{Operator};
 ghost use Rattle.bz_tree.specs.Kinds.{group_kind, operator_mark};
+ghost use Rattle.bz_tree.specs.RowReads.{has_row};
 ghost use Rattle.bz_tree.specs.Rows.{IsRowOf, part_view};
 ghost use Rattle.bz_tree.specs.private.Machine.{may_end};
 ghost use Rattle.bz_tree.specs.private.RowSteps.{here_view, row_state, leaf_next, top_comma_next, comma_next, comment_part, after_comment_next, comment_next, open_next, last_end, close_next, row_next, row_next_at, row_view, row_run, row_start, is_stray, is_upright};
@@ -271,8 +272,10 @@ impl<'a> RowWalk<'a> {
 
     /// Goes over these tokens, whatever follows them.
     pub(crate) fn add_tokens(&mut self, tokens: &[Token<'a>]) -> Result<bool, NoMemory>
-        ensures { (rest : List Placed) → IfOk result (λ some. IsTrue some
+        ensures some { (rest : List Placed) → IfOk result (λ some. IsTrue some
             → row_run (row_state self.new) rest ≡ row_run (row_state self.old) (map placed tokens.now ++ rest)) }
+        ensures none { (rest : List Placed) → IfOk result (λ some. some ≡ false
+            → row_run (row_state self.old) (map placed tokens.now ++ rest) ≡ None) }
     {
         for token in tokens {
             if !self.step(token)? {
@@ -339,6 +342,8 @@ pub fn read_row<'a>(bump: &'a Bump, tokens: &[Token<'a>]) -> Result<Option<Row<'
     ensures row { IfOk result (λ o. IfSome o (λ row. (first depth : ℕ) (text : List ℕ)
         → AreTokensOf first depth text (map placed tokens.now)
         → (s : Statement) × IsStatementIn first depth text s × IsRowOf s row)) }
+    ensures none { IfOk result (λ o. IfNone o
+        ((has_row (map placed tokens.now) ≡ false) ⊎ (2 ^ 64 ≤ end_of (map placed tokens.now)))) }
 {
     if first_seen(tokens).is_none() || !is_upright(first_token(tokens)) {
         return Ok(None);

@@ -1,6 +1,6 @@
 //! Where a statement begins and ends.
 
-ghost use Rattle.std.specs.Prelude.{◌≡◌, ◌+◌, ◌<◌, ◌^◌, ◌==◌, map, None, option_map, count_by, IfSome};
+ghost use Rattle.std.specs.Prelude.{◌≡◌, ◌+◌, ◌<◌, ◌≤◌, ◌^◌, ◌==◌, map, None, option_map, count_by, IfSome, IfNone};
 ghost use Rattle.bz_token.specs.Places.{placed};
 ghost use Rattle.bz_tree.specs.Kinds.{mark_of};
 ghost use Rattle.bz_tree.specs.Brackets.{end_line, is_line};
@@ -106,7 +106,8 @@ pub(crate) fn end_line(token: &Token<'_>) -> u64
 
 // None: the line cannot be counted.
 fn counted_end_line(token: &Token<'_>) -> Option<u64>
-    ensures { IfSome result (λ end. end ≡ end_line (placed token.now)) }
+    ensures end { IfSome result (λ end. end ≡ end_line (placed token.now)) }
+    ensures none { IfNone result (2 ^ 64 ≤ end_line (placed token.now)) }
 {
     token.line.checked_add(newlines(token.text))
 }
@@ -114,7 +115,8 @@ fn counted_end_line(token: &Token<'_>) -> Option<u64>
 /// The line on which the last token ends, comments not counted where something else is there. None: it cannot be
 /// counted.
 pub(crate) fn counted_end_of(tokens: &[Token<'_>]) -> Option<u64>
-    ensures { IfSome result (λ end. end ≡ end_of (map placed tokens.now)) }
+    ensures end { IfSome result (λ end. end ≡ end_of (map placed tokens.now)) }
+    ensures none { IfNone result (2 ^ 64 ≤ end_of (map placed tokens.now)) }
 {
     match last_token(tokens) {
         Some(token) => counted_end_line(&token),

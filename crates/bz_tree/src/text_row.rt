@@ -1,8 +1,12 @@
 //! The row of a text, whose tokens are read and dropped a batch at a time.
 
-ghost use Rattle.std.specs.Prelude.{◌≡◌, ◌+◌, ◌≤◌, ◌<◌, length, ◌^◌, ◌==◌, count_by, IfOk, IfSome};
+ghost use Rattle.std.specs.Prelude.{◌≡◌, ◌+◌, ◌≤◌, ◌<◌, length, ◌^◌, ◌==◌, count_by, IfOk, IfSome, ◌&&◌, List, false, is_some, IfNone};
+ghost use Rattle.bz_token.specs.Places.{Placed};
+ghost use Rattle.bz_token.specs.Reading.{AreTokensOf};
 ghost use Rattle.bz_tree.specs.Tree.{Statement};
 ghost use Rattle.bz_tree.specs.Chunk.{IsStatementIn};
+ghost use Rattle.bz_tree.specs.Statement.{first_token};
+ghost use Rattle.bz_tree.specs.RowReads.{has_row};
 ghost use Rattle.bz_tree.specs.Rows.{IsRowOf};
 
 use crate::row::Row;
@@ -44,6 +48,9 @@ pub(crate) fn row_of_text<'a>(
     requires { first_line + count_by (λ b. b == 10) text.now < 2 ^ 64 }
     ensures row { IfOk result (λ o. IfSome o
         (λ row. (s : Statement) × IsStatementIn first_line max_depth text.now s × IsRowOf s row)) }
+    ensures none { IfOk result (λ o. IfNone o ((tokens : List Placed)
+        → AreTokensOf first_line max_depth text.now tokens
+        → (is_some (first_token tokens) && has_row tokens) ≡ false)) }
 {
     let mut reader = TokenReader::new(bump, text, first_line, max_depth)?;
     let mut walk = RowWalk::new(bump, first_room(text), text.as_bytes())?;
@@ -55,14 +62,21 @@ pub(crate) fn row_of_text<'a>(
         }
         first = first.or(first_token(reader.tokens()));
         last = last_token(reader.tokens()).or(last);
-        if !is_upright(first) || !walk.add_tokens(reader.tokens())? {
+        if !is_upright(first) {
+            return Ok(None);
+        }
+        if !walk.add_tokens(reader.tokens())? {
             return Ok(None);
         }
     }
-    match (first, last) {
-        (Some(first), Some(last)) if reader.is_complete() => {
-            Ok(walk.finish(first.line, end_line(&last)))
-        }
-        _ => Ok(None),
+    let Some(first) = first else {
+        return Ok(None);
+    };
+    let Some(last) = last else {
+        return Ok(None);
+    };
+    if !reader.is_complete() {
+        return Ok(None);
     }
+    Ok(walk.finish(first.line, end_line(&last)))
 }

@@ -1,5 +1,7 @@
 -- For private clauses alone: the bytes of a text, or of a literal's value, that are left to read.
-use Rattle.std.specs.Prelude.{ℕ, ◌==◌, ◌≡◌, ◌<◌, ◌-◌, length, drop, get_or, bytes_eq, List, [], Bool, not, ◌&&◌, if◌then◌else◌, Option, Some, None, is_some}
+use Rattle.std.specs.Prelude.{ℕ, ◌==◌, ◌≡◌, ◌<◌, ◌-◌, length, drop, get_or, bytes_eq, List, [], ◌∷◌, ◌++◌, Bool, true, not, ◌&&◌, if◌then◌else◌, Option, Some, None, is_some}
+use Rattle.std.specs.List.{list_all}
+use Rattle.bz_command.specs.Values.{is_plain}
 use Rattle.bz_command.specs.private.ValueSteps.{inner_value, taken}
 use Rattle.bz_command.specs.declared.bytes.Bytes.{Bytes}
 use Rattle.bz_command.specs.declared.bytes.Bytes.TheVariants.{Plain, Inner}
@@ -25,6 +27,15 @@ is_closed l = not (length l.rest.now == 0) && bytes_eq l.rest.now l.quotes.now
 
 abbrev pub ended : Literal → Option (List ℕ)
 ended l = if is_closed l then Some [] else None
+
+-- what is left is a value, each byte of which stands for itself, and the one closing quote
+abbrev pub IsPlainLeft : List ℕ → Literal → Type 0
+IsPlainLeft value l = (quote : ℕ) × (l.quotes.now ≡ quote ∷ []) × (l.rest.now ≡ value ++ quote ∷ []) × (list_all (is_plain quote) value ≡ true)
+
+-- the literal was opened, and this is left of it
+abbrev pub IsOpened : List ℕ → Option Literal → Type 0
+IsOpened value None = ⊥
+IsOpened value (Some l) = IsPlainLeft value l
 
 -- where a literal that was opened stands in its text: after a quote
 pub record StandsIn (text : List ℕ) (l : Literal) : Type 0 where

@@ -1,11 +1,7 @@
 -- For private clauses alone: a literal read unit by unit.
-use Rattle.std.specs.Prelude.{ℕ, ◌==◌, List, [], ◌∷◌, Bool, false, not, ◌&&◌, ◌||◌, if◌then◌else◌, Option, Some, None, bytes_eq, drop, take, option_map}
+use Rattle.std.specs.Prelude.{ℕ, ◌==◌, List, [], ◌∷◌, Bool, false, ◌&&◌, ◌||◌, if◌then◌else◌, Option, Some, None, bytes_eq, drop, take, option_map}
 use Rattle.bz_token.specs.Pieces.{is_quote}
-use Rattle.bz_command.specs.Values.{units, content, values_in, unit_value, is_newline, inner_of}
-
--- a byte that stands for itself in a string of one quote
-abbrev pub is_plain : ℕ → ℕ → Bool
-is_plain quote b = not (quote == b) && (not (b == 92) && (not (b == 13) && not (b == 10)))
+use Rattle.bz_command.specs.Values.{is_plain, units, content, values_in, unit_value, is_newline, inner_of}
 
 -- one byte more, and all are such
 abbrev pub plain_too : ℕ → Bool → ℕ → Bool

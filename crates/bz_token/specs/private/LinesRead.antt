@@ -1,12 +1,15 @@
 -- For private clauses: the lines of a chunk, as far as they were read.
-use Rattle.std.specs.Prelude.{◌≡◌, ℕ, List, [], ◌∷◌, ◌++◌, length, true, false}
+use Rattle.bz_memory.specs.NoMemory.{no_memory}
+use Rattle.std.specs.Prelude.{◌≡◌, ◌⊎◌, ℕ, List, [], ◌∷◌, ◌++◌, length, true, false}
 use Rattle.std.specs.List.{list_any}
 use Rattle.bz_token.specs.declared.fault.LexFault.{LexFault}
-use Rattle.bz_token.specs.declared.fault.LexFault.TheVariants.{OpenText}
+use Rattle.bz_token.specs.declared.fault.LexFault.TheVariants.{OutOfMemory, OpenText}
 use Rattle.bz_token.specs.declared.lexer.Lexer.{Lexer}
 use Rattle.bz_token.specs.declared.lexer.Cursor.{Cursor}
 use Rattle.bz_token.specs.Brackets.{is_line}
 use Rattle.bz_token.specs.Reading.{Piece}
+use Rattle.bz_token.specs.UpToFault.{IsFaultAfter}
+use Rattle.bz_token.specs.FirstChunk.{AreInChunk}
 use Rattle.bz_token.specs.FreshStart.{ends_in_line}
 use Rattle.bz_token.specs.TokenLines.{is_newline_piece, lines_of}
 use Rattle.bz_token.specs.ChunkForms.{are_comments}
@@ -36,6 +39,14 @@ pub record IsAfterLine (first depth : ℕ) (bytes : List ℕ) (lexer : Lexer) (c
   pub none : list_any is_newline_piece line ≡ false
   pub newline : is_line last.kind ≡ true
   pub start_is : start ≡ length done
+
+-- memory is wanted, or the text's first fault stands after these gaps and tokens
+abbrev pub IsStopped : ℕ → ℕ → List ℕ → List Piece → LexFault → Type 0
+IsStopped first depth bytes pieces fault = (fault ≡ OutOfMemory no_memory) ⊎ IsFaultAfter first depth bytes pieces fault
+
+-- and these are comment lines and the front of a line
+abbrev pub IsFaultInLine : ℕ → ℕ → List ℕ → LexFault → Type 0
+IsFaultInLine first depth bytes fault = (done line : List Piece) × AreInChunk done line × IsStopped first depth bytes (done ++ line) fault
 
 -- a string that nothing closes begins on this line
 abbrev pub IsOnLine : ℕ → LexFault → Type 0

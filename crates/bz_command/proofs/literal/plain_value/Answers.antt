@@ -1,9 +1,11 @@
-use Rattle.std.proofs.Common.{◌≡◌, ◌∙◌, ◌≤◌, ◌<◌, ◌+◌, ◌-◌, ◌++◌, List, ℕ, [], ◌∷◌, get_or, length, true, refl, sym, ap, take, arith}
+use Rattle.std.proofs.Common.{◌≡◌, ◌∙◌, ◌≤◌, ◌<◌, ◌+◌, ◌-◌, ◌++◌, List, ℕ, [], ◌∷◌, get_or, length, true, false, refl, sym, ap, take, arith}
 use Rattle.std.specs.List.{list_all}
 use Rattle.std.proofs.lemmas.List.{take_all, take_more}
-use Rattle.bz_command.specs.private.ValueSteps.{is_plain, inner_value}
-use Rattle.bz_command.proofs.Literals.{plain_all, plain_value}
+use Rattle.bz_command.specs.Values.{is_plain}
+use Rattle.bz_command.specs.private.ValueSteps.{inner_value}
+use Rattle.bz_command.proofs.Literals.{plain_all, plain_value, plain_left}
 use Rattle.bz_command.proofs.literal.plain_value.Goals as goal
+use Rattle.bz_command.proofs.literal.plain_value.Goals.{then-last-quote-via-then-last-quote, then-last-quote-via-else-last-quote+then-not-are_plain}
 
 one_item : (xs : List ℕ) → 1 ≤ length xs → length xs < 2 → xs ≡ get_or xs 0 0 ∷ []
 one_item [] h k = absurd (omega arith)
@@ -23,3 +25,19 @@ returns-clause-value c =
     let plain : list_all (is_plain quote) value ≡ true = sym (plain_all quote true value) ∙ sym c.are_plain.ensures ∙ c.if-not-are_plain.false in
     let parts : rest ≡ value ++ quote ∷ [] = last_apart rest c.in-len1-up.len_at_least ∙ ap (λ (b : ℕ). value ++ b ∷ []) c.if-last-quote.false in
     ap (λ (q : List ℕ). inner_value c.args.literal.raw q rest) one ∙ ap (inner_value c.args.literal.raw (quote ∷ [])) parts ∙ plain_value c.args.literal.raw quote value plain
+
+pub returns-clause-back : goal.returns-clause-back
+returns-clause-back c =
+    let quotes : List ℕ = c.args.literal.quotes.now in
+    let rest : List ℕ = c.args.literal.rest.now in
+    last_apart rest c.in-len1-up.len_at_least
+    ∙ ap (λ (b : ℕ). take (length rest - 1) rest ++ b ∷ []) c.if-last-quote.false
+    ∙ ap (λ (bs : List ℕ). take (length rest - 1) rest ++ bs) (sym (one_item quotes c.in-len1.len_at_least c.in-len1.len_below))
+
+pub returns-then-last-quote-clause-none : goal.returns-then-last-quote-clause-none
+returns-then-last-quote-clause-none c = λ value (q, quotes, rest, plain).
+    let is = plain_left value c.args.literal.quotes.now c.args.literal.rest.now q quotes rest plain in
+    elim c.then-last-quote.branch [
+      | then-last-quote-via-then-last-quote w ↦ w.if-last-quote.true is.0
+      | then-last-quote-via-else-last-quote+then-not-are_plain w ↦ let clash : true ≡ false = sym is.1 ∙ sym w.are_plain.ensures ∙ w.if-not-are_plain.true in absurd (cc)
+    ]

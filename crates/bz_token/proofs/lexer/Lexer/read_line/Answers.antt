@@ -1,7 +1,8 @@
-use Rattle.std.proofs.Common.{rules, tests, arith, sym, [], None}
+use Rattle.std.proofs.Common.{rules, tests, arith, sym, [], None, inr}
 use Rattle.bz_token.specs.Faults.{IsFault}
-use Rattle.bz_token.specs.private.LinesRead.{IsOpenInLine}
+use Rattle.bz_token.specs.private.LinesRead.{IsOpenInLine, IsFaultInLine}
 use Rattle.bz_token.proofs.Progress.{passed_on}
+use Rattle.bz_token.proofs.Stopped.{in_line}
 use Rattle.bz_token.proofs.LinesRead.{stays, line_read}
 use Rattle.bz_token.proofs.lexer.Lexer.read_line.Goals as goal
 
@@ -13,6 +14,12 @@ step-requires-clause-places c =
 pub returns-in_err-next-clause-fault : goal.returns-in_err-next-clause-fault
 returns-in_err-next-clause-fault c first bytes given before =
     passed_on c.from_residual.result c.in_err-next.field-0.0 (IsFault first c.args.max_depth bytes) c.from_residual.ensures.1 (c.in_err-next.ensures.fault first bytes given (c.loop-self.invariant.read first bytes given before))
+
+pub returns-in_err-next-clause-fault_in_line : goal.returns-in_err-next-clause-fault_in_line
+returns-in_err-next-clause-fault_in_line c first bytes start before =
+    let i = c.loop-self.invariant.line first bytes start before in
+    passed_on c.from_residual.result c.in_err-next.field-0.0 (IsFaultInLine first c.args.max_depth bytes) c.from_residual.ensures.1
+    (in_line first c.args.max_depth bytes c.loop-self.self c.loop-self.cursor start c.in_err-next.field-0.0 i (c.in_err-next.ensures.stands first bytes [] i.read))
 
 pub returns-then-eq-clause-read : goal.returns-then-eq-clause-read
 returns-then-eq-clause-read c first bytes given before = (c.in_ok-next.ensures.read first bytes given (c.loop-self.invariant.read first bytes given before)).0
@@ -42,6 +49,7 @@ loop-self-preserved c =
           let next = stays first depth bytes c.loop-self.self c.step.new.self c.loop-self.cursor c.in_ok-next.next start c.in_ok-next.kind here r.0 r.1 (λ e. search (rules, tests)) in
           let w = white.read first depth bytes [] next.read in
           stays first depth bytes c.step.new.self c.step.new.self c.in_ok-next.next c.pass_white-cursor.result start None next w.0 w.1 (λ e. search (rules, tests));
+      few = inr (search (rules, tests));
       shorter = omega (arith, i.shorter, passed.shorter, white.not_longer);
     }
 

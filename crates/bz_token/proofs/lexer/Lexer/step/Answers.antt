@@ -1,13 +1,15 @@
 use Rattle.bz_memory.specs.NoMemory.{no_memory}
-use Rattle.std.proofs.Common.{rules, ◌≡◌, ◌++◌, length, map, is_ok, sym, refl, ap, ◌∙◌, arith, length-drop, take-append-drop, append_assoc, not}
+use Rattle.std.proofs.Common.{rules, ◌≡◌, ◌++◌, length, map, is_ok, sym, refl, ap, ◌∙◌, arith, length-drop, take-append-drop, append_assoc, not, inl, inr}
 use Rattle.std.proofs.ResultArms.{chosen}
 use Rattle.std.proofs.lemmas.Str.{IsUtf8-drop}
 use Rattle.bz_token.specs.Places.{placed}
 use Rattle.bz_token.specs.Faults.{IsFault}
 use Rattle.bz_token.specs.declared.fault.LexFault.TheVariants.{OutOfMemory}
+use Rattle.bz_token.specs.private.LinesRead.{IsStopped}
 use Rattle.bz_token.specs.private.Scans.{opened}
 use Rattle.bz_token.proofs.Steps.{gap_of_step, token_of_step}
 use Rattle.bz_token.proofs.Progress.{places_fit, token_read, newlines_split, passed_on, refused_at, same_as}
+use Rattle.bz_token.proofs.Stopped.{stopped}
 use Rattle.bz_token.proofs.Innermost.{map_push}
 use Rattle.bz_token.proofs.Fitting.{token_fits}
 use Rattle.bz_token.proofs.lexer.Lexer.step.Goals as goal
@@ -15,6 +17,14 @@ use Rattle.bz_token.proofs.lexer.Lexer.step.Goals as goal
 pub returns-in-Err-clause-fault : goal.returns-in-Err-clause-fault
 returns-in-Err-clause-fault c first bytes given before =
     refused_at _ _ _ _ _ _ _ _ _ _ c.in-Err.fault before c.as_bytes-bytes.ensures.value (search rules) c.in-Err.ensures.fault
+
+pub returns-in-Err-clause-stands : goal.returns-in-Err-clause-stands
+returns-in-Err-clause-stands c first bytes given before =
+    inr (stopped _ _ _ _ _ _ _ _ _ _ c.in-Err.fault before c.as_bytes-bytes.ensures.value (search rules) c.in-Err.ensures.fault)
+
+pub returns-in_err-push-in-Ok-Token-clause-stands : goal.returns-in_err-push-in-Ok-Token-clause-stands
+returns-in_err-push-in-Ok-Token-clause-stands c first bytes given before =
+    passed_on c.from_residual.result (OutOfMemory no_memory) (IsStopped first c.args.max_depth bytes before.pieces) c.from_residual.ensures.1 (inl refl)
 
 pub pass_gap-requires-clause-gap : goal.pass_gap-requires-clause-gap
 pass_gap-requires-clause-gap c =
