@@ -1,6 +1,6 @@
 //! A whole script on one chunk.
 
-ghost use Rattle.std.specs.Prelude.{◌≡◌, ℕ, ◌+◌, ◌<◌, ◌≤◌, ◌^◌, ◌++◌, if◌then◌else◌, List, [], ◌∷◌, Option, None, Some, length, IfOk, OnOk, option_map, option_to_list};
+ghost use Rattle.std.specs.Prelude.{◌≡◌, ℕ, ◌+◌, ◌<◌, ◌≤◌, ◌^◌, ◌++◌, if◌then◌else◌, List, [], ◌∷◌, Option, None, Some, length, IfOk, OnOk, option_map, option_to_list, codes, take};
 ghost use Rattle.std.specs.List.{flat_map};
 ghost use Rattle.bz_tree.specs.Rows.{IsRowOf};
 ghost use Rattle.bz_tree.specs.Statement.{class_of};
@@ -8,8 +8,8 @@ ghost use Rattle.bz_tree.specs.Tree.{Statement};
 ghost use Rattle.bz_layout.specs.Gaps.{blank_between as is_gap};
 ghost use Rattle.bz_layout.specs.Layout.{layout_text};
 ghost use Rattle.bz_passes.specs.Exchange.{Fits, log_alone};
-ghost use Rattle.bz_engine.specs.Outcome.{is_query, gap_text};
-ghost use Rattle.bz_passes.specs.Entries.{failure_text, first_of};
+ghost use Rattle.bz_engine.specs.Outcome.{is_query};
+ghost use Rattle.bz_passes.specs.Entries.{failure_text};
 ghost use Rattle.bz_engine.specs.Progress.{last_class, text_following};
 ghost use Rattle.bz_engine.specs.private.ChunkRead.{IsReadAs};
 ghost use Rattle.bz_engine.specs.private.Edits.{EditsChunk, IsScripted, edited_of, run_of};
@@ -214,7 +214,7 @@ fn put_after(
     text: &mut Vec<u8>,
 ) -> Result<(), AllocError>
     ensures { OnOk result (text.new.items ≡ text.old.items
-        ++ (gap_text (is_gap last stmt.now.class) ++ layout_text stmt.now)) }
+        ++ ((if (is_gap last stmt.now.class) then codes "\n" else []) ++ layout_text stmt.now)) }
 {
     put_gap(last, stmt.class(), text)?;
     stmt.put(alloc, text)
@@ -226,7 +226,7 @@ pub(crate) fn put_gap(
     class: Class,
     text: &mut Vec<u8>,
 ) -> Result<(), AllocError>
-    ensures { OnOk result (text.new.items ≡ text.old.items ++ gap_text (is_gap last class)) }
+    ensures { OnOk result (text.new.items ≡ text.old.items ++ (if (is_gap last class) then codes "\n" else [])) }
 {
     if blank_between(last, class) {
         text.push(b'\n')?;
@@ -236,7 +236,7 @@ pub(crate) fn put_gap(
 
 /// The message of the first failure that was told, by pass and command.
 fn first_failure(alloc: Global, kept: &[Kept]) -> Result<Option<Text>, AllocError>
-    ensures { IfOk result (λ message. option_to_list message ≡ first_of (flat_map failure_text (log_alone kept.now))) }
+    ensures { IfOk result (λ message. option_to_list message ≡ take 1 (flat_map failure_text (log_alone kept.now))) }
 {
     for pass in kept {
         if let Some(message) = first_in_pass(pass) {
@@ -249,7 +249,7 @@ fn first_failure(alloc: Global, kept: &[Kept]) -> Result<Option<Text>, AllocErro
 
 fn first_in_pass(pass: &Kept) -> Option<&str>
     ensures { option_to_list (option_map (λ text. text.now) result)
-        ≡ first_of (flat_map failure_text (flat_map (λ log. log) pass.now.logs)) }
+        ≡ take 1 (flat_map failure_text (flat_map (λ log. log) pass.now.logs)) }
 {
     for log in &pass.logs {
         if let Some(message) = log.first_failure() {

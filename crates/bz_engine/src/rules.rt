@@ -3,7 +3,9 @@
 ghost use Rattle.std.specs.Prelude.{◌≡◌, [], ◌∷◌, ◌++◌, Some, Option, IfOk, OnOk, string_bytes};
 ghost use Rattle.bz_tree.specs.Tree.{Statement};
 ghost use Rattle.bz_attribute.specs.Effects.{fails};
-ghost use Rattle.bz_engine.specs.Meaning.{line_told, note_told, done_told, shown_slot};
+ghost use Rattle.bz_engine.specs.Meaning.{line_told, note_told};
+ghost use Rattle.bz_attribute.specs.Texts.{shown_text};
+ghost use Rattle.bz_token.specs.Common.{map_or};
 
 use crate::message;
 use bz_attribute::Env;
@@ -111,7 +113,7 @@ fn tell_done(
     done: &mut Done,
     log: &mut Log,
 ) -> Result<Facts, AllocError>
-    ensures told { OnOk result (log.new ≡ log.old ++ done_told (shown_slot home.now slot.now) done.old) }
+    ensures told { OnOk result (log.new ≡ log.old ++ (line_told done.old.line ++ note_told (map_or [] (shown_text home.now) slot.now) done.old.note)) }
     ensures changed { IfOk result (λ facts. facts.changed ≡ done.old.changed) }
     ensures failed { IfOk result (λ facts. facts.failed ≡ fails done.old.note) }
 {
@@ -137,7 +139,7 @@ fn tell_note(
     note: &Option<Note>,
     log: &mut Log,
 ) -> Result<(), AllocError>
-    ensures { OnOk result (log.new ≡ log.old ++ note_told (shown_slot home.now slot.now) note.now) }
+    ensures { OnOk result (log.new ≡ log.old ++ note_told (map_or [] (shown_text home.now) slot.now) note.now) }
 {
     if let Some(note) = note {
         log.push(entry_on(alloc, home, slot, note)?)?;
@@ -152,7 +154,7 @@ fn entry_on(
     slot: &Option<StatementRow<'_>>,
     note: &Note,
 ) -> Result<Entry, AllocError>
-    ensures { IfOk result (λ entry. entry ∷ [] ≡ note_told (shown_slot home.now slot.now) (Some note.now)) }
+    ensures { IfOk result (λ entry. entry ∷ [] ≡ note_told (map_or [] (shown_text home.now) slot.now) (Some note.now)) }
 {
     let rule = shown_slot(alloc, home, slot)?;
     note_entry(alloc, rule.as_str(), note)
@@ -164,7 +166,7 @@ fn shown_slot(
     home: &Package,
     slot: &Option<StatementRow<'_>>,
 ) -> Result<String, AllocError>
-    ensures { IfOk result (λ text. string_bytes text ≡ shown_slot home.now slot.now) }
+    ensures { IfOk result (λ text. string_bytes text ≡ map_or [] (shown_text home.now) slot.now) }
 {
     match slot {
         None => Ok(String::new(alloc)),

@@ -2,7 +2,7 @@
 
 ghost use Rattle.std.specs.Prelude.{◌≡◌, ◌≢◌, ℕ, ◌+◌, ◌<◌, ◌≤◌, ◌^◌, ◌++◌, false, List, [], length, take, drop, IfOk, OnOk, OnErr, IfSome, IfNone, IsTrue};
 ghost use Rattle.bz_token.specs.Cuts.{IsPart};
-ghost use Rattle.bz_devices.specs.Device.{joined, NoneEnds, Rises};
+ghost use Rattle.bz_devices.specs.Device.{NoneEnds, Rises};
 ghost use Rattle.bz_passes.specs.Exchange.{Fits};
 ghost use Rattle.bz_devices.specs.Ahead.{IsReadOn, IsNextChunk, IsTooLong, IsUncertain, IsFewAfter};
 ghost use Rattle.bz_engine.specs.Outcome.{told_by};

@@ -16,9 +16,10 @@ use Rattle.bz_tree.specs.Grammar.{token_role, is_prefix, is_operator, is_star, i
 use Rattle.bz_tree.specs.private.Machine.{ends, is_target, in_chain, after_part, next_wanted, next_after, next_after_number, next_begun, next_argument, next_keyword, next, accepts, role_of, each, is_whole, group_role, begin}
 use Rattle.std.specs.Prelude.{codes, [], ◌∷◌}
 use Rattle.std.specs.Str.{bytes_eq}
-use Rattle.bz_tree.specs.Grammar.{leaf_role, is_among, word_role, operator_role, IsExpr, last_test, test}
+use Rattle.bz_tree.specs.Grammar.{leaf_role, word_role, operator_role, IsExpr, last_test, test}
 use Rattle.bz_tree.specs.private.Machine.{may_end, may_be_empty, is_single, leaves, after_left, after_right, after_element, after_target, after_clause, at_colon, at_end, after_condition, next_name, next_excluded}
 use Rattle.bz_tree.proofs.Accepted.{join_empty, join_assoc}
+use Rattle.bz_token.specs.Lexical.{is_one_of}
 
 -- the operators and operands after the first of a chain
 data ChainRest : Items → Type 0 where
@@ -635,11 +636,11 @@ operator_chain false false false false false false false false false true = refl
 operator_chain false false false false false false false false false false = refl
 
 word_plain : (word : List ℕ) → is_suffix_role (word_role word) ≡ false
-word_plain word = word_chain (bytes_eq word (codes "if")) (bytes_eq word (codes "else")) (bytes_eq word (codes "for")) (bytes_eq word (codes "in")) (bytes_eq word (codes "not")) (is_among word (codes "and" ∷ codes "or" ∷ []))
+word_plain word = word_chain (bytes_eq word (codes "if")) (bytes_eq word (codes "else")) (bytes_eq word (codes "for")) (bytes_eq word (codes "in")) (bytes_eq word (codes "not")) (is_one_of (codes "and" ∷ codes "or" ∷ []) word)
 
 operator_plain : (word : List ℕ) → is_suffix_role (operator_role word) ≡ false
 operator_plain word =
-    operator_chain (bytes_eq word (codes ".")) (bytes_eq word (codes ",")) (bytes_eq word (codes ":")) (bytes_eq word (codes "=")) (bytes_eq word (codes "~")) (bytes_eq word (codes "*")) (bytes_eq word (codes "**")) (is_among word (codes "+" ∷ codes "-" ∷ [])) (is_among word (codes "+=" ∷ codes "-=" ∷ codes "*=" ∷ codes "/=" ∷ codes "//=" ∷ codes "%=" ∷ codes "&=" ∷ codes "|=" ∷ codes "^=" ∷ codes "<<=" ∷ codes ">>=" ∷ [])) (is_among word (codes "==" ∷ codes "!=" ∷ codes "<" ∷ codes ">" ∷ codes "<=" ∷ codes ">=" ∷ codes "|" ∷ codes "^" ∷ codes "&" ∷ codes "<<" ∷ codes ">>" ∷ codes "/" ∷ codes "//" ∷ codes "%" ∷ []))
+    operator_chain (bytes_eq word (codes ".")) (bytes_eq word (codes ",")) (bytes_eq word (codes ":")) (bytes_eq word (codes "=")) (bytes_eq word (codes "~")) (bytes_eq word (codes "*")) (bytes_eq word (codes "**")) (is_one_of (codes "+" ∷ codes "-" ∷ []) word) (is_one_of (codes "+=" ∷ codes "-=" ∷ codes "*=" ∷ codes "/=" ∷ codes "//=" ∷ codes "%=" ∷ codes "&=" ∷ codes "|=" ∷ codes "^=" ∷ codes "<<=" ∷ codes ">>=" ∷ []) word) (is_one_of (codes "==" ∷ codes "!=" ∷ codes "<" ∷ codes ">" ∷ codes "<=" ∷ codes ">=" ∷ codes "|" ∷ codes "^" ∷ codes "&" ∷ codes "<<" ∷ codes ">>" ∷ codes "/" ∷ codes "//" ∷ codes "%" ∷ []) word)
 
 leaf_plain : (kind : Kind) (word : List ℕ) → is_suffix_role (leaf_role kind word) ≡ false
 leaf_plain KeywordToken word = word_plain word

@@ -1,5 +1,5 @@
 -- For private clauses: the walk over the tokens of a statement that pushes the parts of its row.
-use Rattle.std.specs.Prelude.{ℕ, ◌+◌, ◌==◌, count_by, List, [], ◌∷◌, ◌++◌, map, reverse, Bool, true, false, not, ◌||◌, ◌&&◌, if◌then◌else◌, Option, Some, None, option_map, option_and_then}
+use Rattle.std.specs.Prelude.{ℕ, ◌+◌, ◌==◌, count_by, List, [], ◌∷◌, ◌++◌, map, reverse, Bool, true, false, not, ◌||◌, ◌&&◌, if◌then◌else◌, Option, Some, None, option_map, option_and_then, codes}
 use Rattle.std.specs.Bool.{then_some}
 use Rattle.bz_token.specs.declared.token.Kind.{Kind}
 use Rattle.bz_token.specs.Places.{Placed}
@@ -26,12 +26,12 @@ use Rattle.bz_tree.specs.declared.spot.Spot.{Spot}
 use Rattle.bz_tree.specs.declared.spot.Around.{Around}
 use Rattle.bz_tree.specs.declared.rows.RowWalk.{RowWalk}
 use Rattle.bz_tree.specs.declared.row.Row.{Row}
-use Rattle.bz_tree.specs.Kinds.{mark_of, kind_after, is_for_at, group_kind, is_one, same_shape}
+use Rattle.bz_tree.specs.Kinds.{mark_of, kind_after, is_for_at, group_kind, is_one, same_shape, is_operator_at}
 use Rattle.bz_tree.specs.Brackets.{is_paren, end_line}
 use Rattle.bz_tree.specs.Blocks.{is_block_word}
 use Rattle.bz_tree.specs.Tree.{leaf}
 use Rattle.bz_tree.specs.Grammar.{leaf_role, is_assignment}
-use Rattle.bz_tree.specs.Statement.{is_ident, is_dot, is_call, is_load_word}
+use Rattle.bz_tree.specs.Statement.{is_ident, is_call, is_load_word}
 use Rattle.bz_tree.specs.Rows.{RowPart, a_token, opening, closing, segment_end, above, beside, part_view}
 use Rattle.bz_tree.specs.private.Machine.{next, begin, may_end, group_role}
 use Rattle.bz_tree.specs.private.Steps.{shape_of}
@@ -58,7 +58,7 @@ is_ended _ = false
 -- the beginning of a rule, after one more token
 abbrev pub named : Naming → Kind → List ℕ → Naming
 named Name kind text = if is_ident kind then Join else Never
-named Join kind text = if is_dot kind text then Name else Never
+named Join kind text = if is_operator_at (codes ".") kind text then Name else Never
 named Never kind text = Never
 named End kind text = Lost
 named Lost kind text = Lost
