@@ -30,5 +30,4 @@ add home attr values args =
     else args ++ argument attr (list_item (new_elements home [] values) ∷ []) ∷ []
 
 abbrev pub adds : Package → List (List ℕ) → Option Segment → Bool
-adds home values None = true
-adds home values (Some a) = not (is_empty (new_elements home (parts (value a)) values))
+adds home values arg = map_or true (λ a. not (is_empty (new_elements home (parts (value a)) values))) arg

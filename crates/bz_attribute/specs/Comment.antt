@@ -53,8 +53,7 @@ abbrev pub comment_element : Package → List ℕ → List ℕ → Segment → S
 comment_element home v text a = with_value (edit_element (equals home v) (with_comment (comment_line text)) (value a)) a
 
 abbrev pub is_missing : Package → List ℕ → List ℕ → Option Segment → Option Note
-is_missing home attr v None = None
-is_missing home attr v (Some a) = if list_any (list_any (equals home v)) (parts (value a)) then None else Some (NoValue attr v)
+is_missing home attr v arg = option_and_then (λ a. if list_any (list_any (equals home v)) (parts (value a)) then None else Some (NoValue attr v)) arg
 
 -- the attribute absent, without list part, without such an element: the first of these
 abbrev pub comment_note : Package → List ℕ → List ℕ → List Segment → Option Note

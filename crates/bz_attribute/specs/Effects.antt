@@ -1,5 +1,5 @@
 -- What commands do to the arguments of a rule, as far as several do it: notes, the elements that a command means, new nodes, and the edit of a rule's arguments (buildozer README, edit commands; the failures are this project's own rule).
-use Rattle.std.specs.Prelude.{ℕ, List, [], ◌∷◌, ◌++◌, Bool, true, false, ◌&&◌, not, if◌then◌else◌, Option, Some, None, is_some, filter, codes}
+use Rattle.std.specs.Prelude.{ℕ, List, [], ◌∷◌, ◌++◌, Bool, true, false, ◌&&◌, not, if◌then◌else◌, Option, Some, None, is_some, filter, codes, option_and_then}
 use Rattle.std.specs.List.{list_any}
 use Rattle.bz_token.specs.declared.token.Kind.TheVariants.{Identifier, Operator, String}
 use Rattle.bz_tree.specs.declared.stmt.GroupKind.TheVariants.{RuleCall, List as ListKind}
@@ -71,8 +71,7 @@ argument attr nodes = record { before = []; nodes = leaf Identifier attr ∷ lea
 
 -- the attribute is there and has no list part
 abbrev pub not_a_list : List ℕ → Option Segment → Option Note
-not_a_list attr None = None
-not_a_list attr (Some a) = if is_empty (parts (value a)) then Some (NotAList attr) else None
+not_a_list attr arg = option_and_then (λ a. if is_empty (parts (value a)) then Some (NotAList attr) else None) arg
 
 abbrev pub is_absent : List ℕ → List Segment → Option Note
 is_absent attr args = if has attr args then None else Some (NoAttribute attr)
@@ -89,9 +88,7 @@ abbrev pub with_args : (List Segment → List Segment) → Statement → Stateme
 with_args f s = record s { nodes = nodes_after f s.nodes (rule_of s.nodes) }
 
 abbrev pub slot_done : (List Segment → Done) → Option Statement → Done
-slot_done f None = done None false
-slot_done f (Some s) = map_or (done None false) (λ r. f r.args) (rule_of s.nodes)
+slot_done f slot = map_or (done None false) (λ s. map_or (done None false) (λ r. f r.args) (rule_of s.nodes)) slot
 
 abbrev pub holds_rule : Option Statement → Bool
-holds_rule None = false
-holds_rule (Some s) = is_some (rule_of s.nodes)
+holds_rule slot = map_or false (λ s. is_some (rule_of s.nodes)) slot

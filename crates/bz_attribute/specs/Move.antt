@@ -21,12 +21,7 @@ joined [] = []
 joined (ss ∷ lists) = ss ++ joined lists
 
 abbrev pub elements_of : Option Segment → List Segment
-elements_of None = []
-elements_of (Some a) = joined (parts (value a))
-
--- those that are chosen
-abbrev pub chosen_of : Package → Moved → Option Segment → List Segment
-chosen_of home moved arg = filter (is_chosen home moved) (elements_of arg)
+elements_of arg = map_or [] (λ a. joined (parts (value a))) arg
 
 -- Of the elements that leave, those that arrive, where `there` are the elements of the new list: a string that is there
 -- already, or has just arrived, does not.
@@ -45,7 +40,7 @@ put_in new ss args =
 -- `move <old> <new> <v>..`: the chosen elements leave `old`, and each takes its comments with it
 abbrev pub moved : Package → List ℕ → List ℕ → Moved → List Segment → List Segment
 moved home old new chosen args =
-    put_in new (arrivals home (elements_of (first_named new args)) (chosen_of home chosen (first_named old args)))
+    put_in new (arrivals home (elements_of (first_named new args)) (filter (is_chosen home chosen) (elements_of (first_named old args))))
     (edit_first (is_named old) (filtered (unchosen home chosen)) args)
 
 abbrev pub moves : Package → List ℕ → Moved → List Segment → Bool

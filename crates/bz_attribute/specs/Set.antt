@@ -61,9 +61,8 @@ new_value (NewStrings words) = list_item (map string words) ∷ []
 -- strings with these values, one for each word
 abbrev pub are_strings : List (List ℕ) → List Segment → Bool
 are_strings [] [] = true
-are_strings [] (s ∷ ss) = false
-are_strings (word ∷ words) [] = false
 are_strings (word ∷ words) (s ∷ ss) = is_text word (string_value s.nodes) && are_strings words ss
+are_strings _ _ = false
 
 abbrev pub is_int : List ℕ → Item → Bool
 is_int digits (leaf Integer text) = bytes_eq text digits
@@ -91,8 +90,7 @@ set attr words args =
     else args ++ argument attr (new_value new) ∷ []
 
 abbrev pub sets : List ℕ → List (List ℕ) → Option Segment → Bool
-sets attr words None = true
-sets attr words (Some a) = not (is_value (new_of attr words (Some a)) (value a))
+sets attr words arg = map_or true (λ a. not (is_value (new_of attr words (Some a)) (value a))) arg
 
 -- `set_if_absent <attr> <v>..`
 abbrev pub set_if_absent : List ℕ → List (List ℕ) → List Segment → List Segment

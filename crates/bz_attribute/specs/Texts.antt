@@ -18,9 +18,6 @@ target_text All = codes "*"
 target_text (Kind kind) = 37 ∷ kind
 target_text (Line line) = 37 ∷ decimal line
 
-abbrev pub label_text : Package → Target → List ℕ
-label_text home target = home_text home ++ target_text target
-
 -- a rule by its name, or by its kind
 abbrev pub name_or_kind : Option (List ℕ) → List Item → List ℕ
 name_or_kind (Some name) kind = name

@@ -12,7 +12,7 @@ use Rattle.bz_attribute.specs.declared.done.Note.TheVariants.{Missing, NoAttribu
 use Rattle.bz_passes.specs.declared.entry.Entry.{Entry}
 use Rattle.bz_command.specs.Passes.{Slot}
 use Rattle.bz_passes.specs.Exchange.{Kept, IsLeftBy, log_alone, some_alone}
-use Rattle.bz_engine.specs.Meaning.{meaning, changes, fails_on, says, line_told, note_told}
+use Rattle.bz_engine.specs.Meaning.{meaning, changes, fails_on, line_told, note_told}
 use Rattle.bz_engine.specs.Outcome.{Run}
 use Rattle.bz_passes.specs.Entries.{failure_text}
 use Rattle.bz_engine.specs.Progress.{Progress}
@@ -34,7 +34,7 @@ no_failure rule line (Some (NotAList attr)) h = absurd (false≢true (sym h))
 no_failure rule line (Some (NoValue attr value)) h = absurd (false≢true (sym h))
 
 -- an execution that does not fail tells of no failure
-quiet : (home : Package) (c : Command) (slot : Slot Statement) → fails_on home c slot ≡ false → flat_map failure_text (says home c slot) ≡ []
+quiet : (home : Package) (c : Command) (slot : Slot Statement) → fails_on home c slot ≡ false → flat_map failure_text ((meaning home).says c slot) ≡ []
 quiet home c slot h = no_failure (map_or [] (shown_text home) slot) (done_of c home slot).line (done_of c home slot).note h
 
 or_then : (a b f : Bool) → f ≡ (a || b) → f ≡ true → a ≡ false → b ≡ true

@@ -19,7 +19,7 @@ use Rattle.bz_passes.specs.Exchange.{Fits, IsLeftBy, IsPassedBy, Kept, kept_alon
 use Rattle.bz_passes.specs.declared.entry.Entry.{Entry}
 use Rattle.bz_passes.proofs.ExchangeLaw.{left_more}
 use Rattle.bz_passes.proofs.PassedBy.{unmarked_passed}
-use Rattle.bz_engine.specs.Meaning.{meaning, changes, fails_on, line_told, note_told, says}
+use Rattle.bz_engine.specs.Meaning.{meaning, changes, fails_on, line_told, note_told}
 use Rattle.bz_engine.specs.Outcome.{Run, Script, is_query}
 use Rattle.bz_engine.specs.Progress.{Progress, last_class, text_following}
 use Rattle.bz_engine.specs.private.Edits.{IsLaidOut}
@@ -74,9 +74,9 @@ kept_by found log = record { found = found; logs = log ∷ [] } ∷ []
 kept_of_one : (home : Package) (target : Target) (command : Command) (s : Statement) (d : Done) → marks target s ≡ true → done_of command home (Some s) ≡ d → d.note ≡ None
     → kept_alone (meaning home) (one_pass target command) (Some s) ≡ one_told d.line
 kept_of_one home target command s d met told quiet =
-    let said : says home command (Some s) ≡ line_told d.line =
+    let said : (meaning home).says command (Some s) ≡ line_told d.line =
     ap (λ x0. line_told x0.line ++ note_told (map_or [] (shown_text home) (Some s)) x0.note) told ∙ ap (λ n. line_told d.line ++ note_told (map_or [] (shown_text home) (Some s)) n) quiet ∙ append-nil (line_told d.line) in
-    ap (λ b. kept_by b (if b then says home command (Some s) else [])) met ∙ ap (kept_by true) said
+    ap (λ b. kept_by b (if b then (meaning home).says command (Some s) else [])) met ∙ ap (kept_by true) said
 
 or_nothing : (b : Bool) → ((b || false) || false) ≡ b
 or_nothing true = refl

@@ -5,8 +5,8 @@ use Rattle.bz_token.specs.Chunks.{chunks}
 use Rattle.bz_tree.specs.Tree.{Statement}
 use Rattle.bz_engine.specs.declared.report.SyntaxFault.{SyntaxFault}
 use Rattle.std.proofs.lemmas.Bool.{false≢true}
-use Rattle.bz_engine.specs.declared.session.Stage.{Stage}
-use Rattle.bz_engine.specs.declared.session.Stage.TheVariants.{Going, Ended, Stopped}
+use Rattle.bz_engine.specs.declared.session.SessionState.{SessionState}
+use Rattle.bz_engine.specs.declared.session.SessionState.TheVariants.{Going, Ended, Stopped}
 use Rattle.bz_engine.specs.declared.report.End.{End}
 use Rattle.bz_engine.specs.declared.report.End.TheVariants.{Whole, Syntax, FirstFailure}
 use Rattle.bz_devices.specs.Device.{ends, NoneEnds}
@@ -163,10 +163,10 @@ ended_failure v mid progress message after max_reads most n pieces cs read text 
 }
 
 -- a stopped session keeps to little
-going_not_stopped : (s : Stage) → s ≡ Stopped → s ≡ Going → ⊥
+going_not_stopped : (s : SessionState) → s ≡ Stopped → s ≡ Going → ⊥
 going_not_stopped s h i = stopped_going (sym h ∙ i)
   where
-    is_stopped : Stage → Bool
+    is_stopped : SessionState → Bool
     is_stopped Going = false
     is_stopped (Ended end) = false
     is_stopped Stopped = true
@@ -174,10 +174,10 @@ going_not_stopped s h i = stopped_going (sym h ∙ i)
     stopped_going : Stopped ≡ Going → ⊥
     stopped_going k = false≢true (sym (ap is_stopped k))
 
-ended_not_stopped : (s : Stage) (end : End) → s ≡ Stopped → s ≡ Ended end → ⊥
+ended_not_stopped : (s : SessionState) (end : End) → s ≡ Stopped → s ≡ Ended end → ⊥
 ended_not_stopped s end h i = stopped_ended (sym h ∙ i)
   where
-    is_stopped : Stage → Bool
+    is_stopped : SessionState → Bool
     is_stopped Going = false
     is_stopped (Ended end) = false
     is_stopped Stopped = true

@@ -26,18 +26,15 @@ note_told rule None = []
 note_told rule (Some (Missing field)) = Warning (note_text rule (Missing field)) ∷ []
 note_told rule (Some note) = Failure (note_text rule note) ∷ []
 
--- the rule is shown as the command finds it
-abbrev pub says : Package → Command → Slot Statement → List Entry
-says home command slot = let done = done_of command home slot in line_told done.line ++ note_told (map_or [] (shown_text home) slot) done.note
-
--- an empty slot is never marked
+-- an empty slot is never marked; the rule is shown as the command finds it
 abbrev pub meaning : Package → Meaning Statement Target Command Entry
 meaning home = record {
   marks = λ target slot. map_or false (marks target) slot;
   must_mark = must_mark;
   not_found = λ target. Failure (not_found_text home target);
   after = λ command slot. after command home slot;
-  says = says home;
+  says = λ command slot.
+    let done = done_of command home slot in line_told done.line ++ note_told (map_or [] (shown_text home) slot) done.note;
 }
 
 -- whether the command makes the slot another than it was

@@ -5,7 +5,7 @@ use Rattle.bz_devices.specs.Ahead.{IsReadOn, AreNeeded, IsTooLong, IsUncertain}
 use Rattle.bz_engine.specs.declared.report.End.{End}
 use Rattle.bz_engine.specs.declared.run_fault.RunFault.{RunFault}
 use Rattle.bz_engine.specs.declared.run_fault.RunFault.TheVariants.{OutOfMemory, ReadFailed, WriteFailed, InputTooLong, StatementTooLong, Stopped}
-use Rattle.bz_engine.specs.declared.session.Stage.TheVariants as stage
+use Rattle.bz_engine.specs.declared.session.SessionState.TheVariants as stage
 use Rattle.bz_engine.specs.declared.session.Step.{Step}
 use Rattle.bz_engine.specs.declared.session.Step.TheVariants as step
 use Rattle.bz_engine.specs.Outcome.{IsFrontOf}

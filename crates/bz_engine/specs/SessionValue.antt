@@ -7,8 +7,8 @@ use Rattle.bz_command.specs.Labels.{Package}
 use Rattle.bz_engine.specs.declared.options.Options.{Options}
 use Rattle.bz_engine.specs.declared.report.End.{End}
 use Rattle.bz_engine.specs.declared.report.End.TheVariants.{Whole, Syntax, FirstFailure}
-use Rattle.bz_engine.specs.declared.session.Stage.{Stage}
-use Rattle.bz_engine.specs.declared.session.Stage.TheVariants.{Going, Ended}
+use Rattle.bz_engine.specs.declared.session.SessionState.{SessionState}
+use Rattle.bz_engine.specs.declared.session.SessionState.TheVariants.{Going, Ended}
 use Rattle.bz_devices.specs.Device.{ends, NoneEnds}
 use Rattle.bz_devices.specs.Ahead.{Ahead}
 use Rattle.bz_engine.specs.EveryFile.{ForEveryFile}
@@ -28,7 +28,7 @@ pub record SessionValue : Type 0 where
   pub options : Options
   pub progress : Progress
   pub ahead : Ahead
-  pub stage : Stage
+  pub stage : SessionState
   pub failure : Option (List ℕ)
 
 abbrev pub at_start : Package → Script → Options → SessionValue

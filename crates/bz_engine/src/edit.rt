@@ -31,7 +31,7 @@ use std::alloc::{AllocError, Global};
 
 /// What a run is to do with each chunk.
 #[derive(Clone, Copy)]
-pub(crate) struct Script<'a> {
+pub(crate) struct ScriptRun<'a> {
     pub(crate) alloc: Global,
     /// Where the lists stand that are made of a chunk.
     pub(crate) bump: &'a Bump,
@@ -74,7 +74,7 @@ fn edited_of(scripted: Scripted) -> Edited
 /// The script on the next chunk, which is read as this: what it leaves goes after the text, and what is kept is then
 /// that of the chunks with this one. After a refusal neither the text nor what is kept is of use.
 pub(crate) fn edit_chunk<'a>(
-    script: Script<'a>,
+    script: ScriptRun<'a>,
     chunk: &str,
     read: Result<Option<Row<'a>>, ParseFault>,
     progress: &mut Progress,
@@ -104,7 +104,7 @@ pub(crate) fn edit_chunk<'a>(
 
 /// The script on the statement of a row.
 fn edit_row<'a>(
-    script: Script<'a>,
+    script: ScriptRun<'a>,
     row: &'a Row<'a>,
     progress: &mut Progress,
     text: &mut Vec<u8>,
@@ -126,7 +126,7 @@ fn edit_row<'a>(
 
 /// Lays out a statement that the script passes by.
 fn put_passed(
-    script: Script<'_>,
+    script: ScriptRun<'_>,
     row: &Row<'_>,
     progress: &mut Progress,
     text: &mut Vec<u8>,
@@ -145,7 +145,7 @@ fn put_passed(
 
 /// The script on what is in a slot.
 fn edit_slot<'a>(
-    script: Script<'a>,
+    script: ScriptRun<'a>,
     slot: &mut Option<StatementRow<'a>>,
     progress: &mut Progress,
     text: &mut Vec<u8>,
@@ -189,7 +189,7 @@ fn last_class(last: Option<Class>, slot: &Option<StatementRow<'_>>) -> Option<Cl
 
 /// Writes what is in a slot after the statement of class `last`.
 fn put_slot(
-    script: Script<'_>,
+    script: ScriptRun<'_>,
     last: Option<Class>,
     slot: &Option<StatementRow<'_>>,
     text: &mut Vec<u8>,

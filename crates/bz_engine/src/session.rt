@@ -12,9 +12,9 @@ ghost use Rattle.bz_engine.specs.private.Finds.{Finds};
 ghost use Rattle.bz_engine.specs.private.NextChunks.{IsNextEdited, IsFirstNext, CanTake};
 ghost use Rattle.bz_engine.specs.SessionValue.{at_start, run_in, IsSameRun, IsReady, told_at};
 ghost use Rattle.bz_engine.specs.SessionSteps.{Steps, reader, writer};
-ghost use Rattle.bz_engine.specs.declared.session.Stage.TheVariants.{Going, Ended, Stopped};
+ghost use Rattle.bz_engine.specs.declared.session.SessionState.TheVariants.{Going, Ended, Stopped};
 
-use crate::edit::{Edited, Script};
+use crate::edit::{Edited, ScriptRun};
 use crate::looks::Looks;
 use crate::next_chunk::{First, NextChunk, edit_bytes, edit_first};
 use crate::options::Options;
@@ -38,7 +38,7 @@ use std::mem;
 
 /// Whether a session goes on.
 #[derive(Clone, Copy)]
-pub(crate) enum Stage {
+pub(crate) enum SessionState {
     Going,
     Ended(End),
     /// A fault ended it before its report.
@@ -63,7 +63,7 @@ pub struct Session {
     options: Options,
     progress: Progress,
     ahead: Ahead,
-    stage: Stage,
+    stage: SessionState,
     /// The message of the failure that ended the run.
     failure: Option<Text>,
     /// The text of one chunk; used again for each.
@@ -111,7 +111,7 @@ impl Session {
                 looks: Looks::new(),
             },
             ahead: Ahead::new(alloc),
-            stage: Stage::Going,
+            stage: SessionState::Going,
             failure: None,
             text: Vec::new(alloc),
             bump: Bump::new(alloc),
@@ -137,9 +137,9 @@ impl Session {
         ensures stops { OnErr result (self.new.stage ≡ Stopped) }
     {
         match self.stage {
-            Stage::Stopped => return Err(RunFault::Stopped),
-            Stage::Ended(_) => return Ok(Step::End),
-            Stage::Going => {}
+            SessionState::Stopped => return Err(RunFault::Stopped),
+            SessionState::Ended(_) => return Ok(Step::End),
+            SessionState::Going => {}
         }
         self.advance(source, sink)
     }
@@ -162,10 +162,10 @@ impl Session {
         ensures memory { (end : _) → self.old.stage ≡ Ended end → OnErr result (result ≡ Err RunFault.OutOfMemory) }
         ensures stopped { ((end : _) → self.old.stage ≢ Ended end) → result ≡ Err RunFault.Stopped }
     {
-        let Stage::Ended(end) = self.stage else {
+        let SessionState::Ended(end) = self.stage else {
             return Err(RunFault::Stopped);
         };
-        self.stage = Stage::Stopped;
+        self.stage = SessionState::Stopped;
         self.report_at(end)
     }
 
@@ -206,7 +206,7 @@ impl Session {
         ensures stops { OnErr result (self.new.stage ≡ Stopped) }
     {
         // After a fault what is kept is of no use.
-        self.stage = Stage::Stopped;
+        self.stage = SessionState::Stopped;
         let mut text = self.take_text();
         let Some(NextChunk { len, edited }) = self.edit_next(source, &mut text)? else {
             return Ok(self.end_at(End::Whole));
@@ -215,7 +215,7 @@ impl Session {
             Edited::Done => {
                 self.write(len, text.as_slice(), sink)?;
                 self.text = text;
-                self.stage = Stage::Going;
+                self.stage = SessionState::Going;
                 Ok(Step::More)
             }
             Edited::Faulty(fault) => Ok(self.end_at(End::Syntax(fault))),
@@ -232,7 +232,7 @@ impl Session {
         ensures ended { self.new ≡ record self.old { stage = Ended end } }
         ensures end { result ≡ Step.End }
     {
-        self.stage = Stage::Ended(end);
+        self.stage = SessionState::Ended(end);
         Step::End
     }
 
@@ -322,7 +322,7 @@ impl Session {
             return Err(AllocError);
         }
         let max_statement = self.options.max_statement;
-        let script = Script {
+        let script = ScriptRun {
             alloc: self.alloc,
             bump: &self.bump,
             home: &self.home,
@@ -345,7 +345,7 @@ impl Session {
         ensures edited { IfOk result (EditsChunk (run_in self.old) (take len self.old.ahead.bytes)
             self.old.progress self.new.progress text.old.items text.new.items) }
     {
-        let script = Script {
+        let script = ScriptRun {
             alloc: self.alloc,
             bump: &self.bump,
             home: &self.home,

@@ -10,8 +10,8 @@ use Rattle.bz_token.proofs.Classes.{mark, class_of, can_start, same_bytes, text_
 use Rattle.bz_tree.specs.declared.stmt.GroupKind.{GroupKind}
 use Rattle.bz_tree.specs.declared.role.Role.{Role}
 use Rattle.bz_tree.specs.declared.role.Role.TheVariants.{Name, Number, Value, Dot, Comma, Colon, Equals, Augmented, If, Else, For, In, Not, Tilde, Sum, Star, Stars, Operator, Stray}
-use Rattle.bz_tree.specs.Grammar.{is_augmented, is_infix, operator_role, leaf_role, token_role}
-use Rattle.bz_tree.specs.Statement.{is_load_word}
+use Rattle.bz_tree.specs.Grammar.{is_infix, operator_role, leaf_role, token_role}
+use Rattle.bz_tree.specs.Statement.{is_load_word, is_augmented}
 use Rattle.bz_tree.specs.Tree.{Item, leaf, group}
 use Rattle.bz_layout.specs.declared.spacing.Edge.{Edge}
 use Rattle.bz_layout.specs.Spacing.{edge_after, holds_on}

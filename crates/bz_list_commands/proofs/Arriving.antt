@@ -18,7 +18,7 @@ use Rattle.bz_attribute.specs.Lists.{with_value, parts, parts_from, is_part, is_
 use Rattle.bz_attribute.specs.Effects.{has, edit_first, filtered, unchosen, is_chosen, loses_all, argument, list_item, chooses}
 use Rattle.bz_attribute.specs.private.ChosenViews.{words_of}
 use Rattle.bz_attribute.specs.private.Places.{IsFirst, first_length, first_list}
-use Rattle.bz_attribute.specs.Move.{arrivals, chosen_of, elements_of, joined, moved}
+use Rattle.bz_attribute.specs.Move.{arrivals, elements_of, joined, moved}
 use Rattle.bz_attribute.proofs.LabelSets.{or_false}
 use Rattle.bz_list_commands.specs.private.MoveSteps.{value_of, with_list, with_more}
 use Rattle.bz_list_commands.proofs.Leaving.{swapped_front, swapped_rest}
@@ -132,7 +132,7 @@ none_first name (a ∷ args) h =
 
 -- the elements that left arrive in a list that is there
 moved_to_list : (home : Package) (old new : List ℕ) (chosen : Moved) (args left now ts : List Segment) → bytes_eq old new ≡ false → has new args ≡ true
-    → left ≡ edit_first (is_named old) (filtered (unchosen home chosen)) args → ts ≡ chosen_of home chosen (first_named old args)
+    → left ≡ edit_first (is_named old) (filtered (unchosen home chosen)) args → ts ≡ filter (is_chosen home chosen) (elements_of (first_named old args))
     → now ≡ edit_first (is_named new) (λ a. with_value (edit_first_part (λ there. there ++ arrivals home (elements_of (first_named new left)) ts) (value a)) a ∷ []) left
     → now ≡ moved home old new chosen args
 moved_to_list home old new chosen args left now ts other there is took made =
@@ -144,7 +144,7 @@ moved_to_list home old new chosen args left now ts other there is took made =
 
 -- or in a new attribute
 moved_to_new : (home : Package) (old new : List ℕ) (chosen : Moved) (args left now ts : List Segment) → bytes_eq old new ≡ false → has new args ≡ false
-    → left ≡ edit_first (is_named old) (filtered (unchosen home chosen)) args → ts ≡ chosen_of home chosen (first_named old args)
+    → left ≡ edit_first (is_named old) (filtered (unchosen home chosen)) args → ts ≡ filter (is_chosen home chosen) (elements_of (first_named old args))
     → now ≡ left ++ argument new (list_item (arrivals home [] ts) ∷ []) ∷ []
     → now ≡ moved home old new chosen args
 moved_to_new home old new chosen args left now ts other absent is took made =
@@ -218,21 +218,21 @@ room_given old new f args other =
 
 -- what leaves arrives in the list that is there or given
 pub moved_by : (home : Package) (old new : List ℕ) (chosen : Moved) (args given left now ts : List Segment) → bytes_eq old new ≡ false → given ≡ with_list new args
-    → left ≡ edit_first (is_named old) (filtered (unchosen home chosen)) given → ts ≡ chosen_of home chosen (first_named old given)
+    → left ≡ edit_first (is_named old) (filtered (unchosen home chosen)) given → ts ≡ filter (is_chosen home chosen) (elements_of (first_named old given))
     → now ≡ edit_first (is_named new) (λ a. with_value (edit_first_part (λ there. there ++ arrivals home (elements_of (first_named new left)) ts) (value a)) a ∷ []) left
     → now ≡ moved home old new chosen args
 moved_by home old new chosen args given left now ts other gives is took made = elim (cases_Bool (has new args)) [
   | inl there ↦
       let same : given ≡ args = gives ∙ rw there refl in
-      moved_to_list home old new chosen args left now ts other there (is ∙ ap (edit_first (is_named old) (filtered (unchosen home chosen))) same) (took ∙ ap (λ (ss : List Segment). chosen_of home chosen (first_named old ss)) same) made
+      moved_to_list home old new chosen args left now ts other there (is ∙ ap (edit_first (is_named old) (filtered (unchosen home chosen))) same) (took ∙ ap (λ (ss : List Segment). filter (is_chosen home chosen) (elements_of (first_named old ss))) same) made
   | inr absent ↦
       let x : Segment = argument new (list_item [] ∷ []) in
       let kept : List Segment = edit_first (is_named old) (filtered (unchosen home chosen)) args in
       let more : given ≡ args ++ argument new (list_item [] ∷ []) ∷ [] = gives ∙ rw absent refl in
       let left_is : left ≡ edit_first (is_named old) (filtered (unchosen home chosen)) args ++ argument new (list_item [] ∷ []) ∷ [] =
       is ∙ ap (edit_first (is_named old) (filtered (unchosen home chosen))) more ∙ edit_before (is_named old) (filtered (unchosen home chosen)) args x other in
-      let took_of : ts ≡ chosen_of home chosen (first_named old args) =
-      took ∙ ap (λ (ss : List Segment). chosen_of home chosen (first_named old ss)) more ∙ ap (chosen_of home chosen) (first_before old args x other) in
+      let took_of : ts ≡ filter (is_chosen home chosen) (elements_of (first_named old args)) =
+      took ∙ ap (λ (ss : List Segment). filter (is_chosen home chosen) (elements_of (first_named old ss))) more ∙ ap (λ arg. filter (is_chosen home chosen) (elements_of arg)) (first_before old args x other) in
       let gone : has new (edit_first (is_named old) (filtered (unchosen home chosen)) args) ≡ false = has_still old new (unchosen home chosen) args other ∙ absent in
       let first : first_named new left ≡ Some (argument new (list_item [] ∷ [])) = ap (first_named new) left_is ∙ first_last new kept x gone (itself new) in
       moved_to_new home old new chosen args kept now ts other absent refl took_of

@@ -10,15 +10,15 @@ use Rattle.bz_tree.specs.declared.stmt.GroupKind.{GroupKind}
 use Rattle.bz_tree.specs.declared.stmt.GroupKind.TheVariants.{Call, RuleCall}
 use Rattle.bz_tree.specs.declared.stmt.Class.TheVariants.{Assign, Rule, Other}
 use Rattle.bz_tree.specs.declared.role.Role.TheVariants.{Dot, Comma, Colon, Equals, Augmented, If, Else, For, In, Not, Tilde, Sum, Star, Stars, Operator, Stray}
-use Rattle.bz_tree.specs.declared.stage.Part.TheVariants.{Left}
+use Rattle.bz_tree.specs.declared.stage.Goal.TheVariants.{Left}
 use Rattle.bz_tree.specs.declared.stage.Stage.{Stage}
 use Rattle.bz_tree.specs.declared.stage.Stage.TheVariants.{Wants}
 use Rattle.bz_tree.specs.declared.spot.Naming.{Naming}
 use Rattle.bz_tree.specs.declared.spot.Naming.TheVariants.{Name, Join, End, Never, Lost}
 use Rattle.bz_tree.specs.declared.spot.Read.{Read}
 use Rattle.bz_tree.specs.Tree.{Item, leaf, group, Segs, items_of}
-use Rattle.bz_tree.specs.Grammar.{leaf_role, word_role, operator_role, is_augmented, is_infix, is_assignment}
-use Rattle.bz_tree.specs.Statement.{is_ident, is_call, is_rule, is_rule_after, as_rule_call, rule_call, is_assign_operator, is_assign, is_load_word, is_kept, class_of}
+use Rattle.bz_tree.specs.Grammar.{leaf_role, word_role, operator_role, is_infix, is_assignment}
+use Rattle.bz_tree.specs.Statement.{is_ident, is_call, is_rule, is_rule_after, as_rule_call, rule_call, is_assign_operator, is_assign, is_load_word, is_kept, class_of, is_augmented}
 use Rattle.bz_tree.specs.private.Machine.{next, accepts}
 use Rattle.bz_tree.specs.private.RowSteps.{named, called, is_rule_read, is_lost, read_class}
 use Rattle.bz_tree.proofs.Accepted.{refused}

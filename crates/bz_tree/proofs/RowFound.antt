@@ -7,7 +7,7 @@ use Rattle.bz_token.specs.Reading.{AreTokensOf}
 use Rattle.bz_tree.specs.declared.stmt.GroupKind.{GroupKind}
 use Rattle.bz_tree.specs.declared.stmt.Class.{Class}
 use Rattle.bz_tree.specs.declared.stmt.Class.TheVariants.{Load, Comment}
-use Rattle.bz_tree.specs.declared.stage.Part.TheVariants.{Left}
+use Rattle.bz_tree.specs.declared.stage.Goal.TheVariants.{Left}
 use Rattle.bz_tree.specs.declared.stage.Stage.TheVariants.{Wants}
 use Rattle.bz_tree.specs.declared.row.Row.{Row}
 use Rattle.bz_tree.specs.declared.spot.Read.{Read}

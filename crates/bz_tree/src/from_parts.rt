@@ -30,7 +30,7 @@ pub(crate) struct Inside<'a> {
 
 // A bracket that is open, and what stands before it in the one around it.
 #[derive(Drop)]
-pub(crate) struct Around<'a> {
+pub(crate) struct OpenGroup<'a> {
     pub(crate) kind: GroupKind,
     pub(crate) inside: Inside<'a>,
 }
@@ -39,7 +39,7 @@ pub(crate) struct Around<'a> {
 pub(crate) struct Nesting<'a> {
     pub(crate) here: Inside<'a>,
     // The innermost is the last.
-    pub(crate) outer: Vec<Around<'a>>,
+    pub(crate) outer: Vec<OpenGroup<'a>>,
 }
 
 // No node of its segment follows, or no segment of its bracket.
@@ -146,7 +146,7 @@ impl<'a> Nesting<'a> {
         let mut inner = Inside::new(alloc);
         reserve_arguments(&mut inner.segs, kind)?;
         let inside = mem::replace(&mut self.here, inner);
-        self.outer.push(Around { kind, inside })?;
+        self.outer.push(OpenGroup { kind, inside })?;
         Ok(())
     }
 
@@ -154,7 +154,7 @@ impl<'a> Nesting<'a> {
         ensures { OnOk result (nest self.new
             ≡ closed one_comma (content self.old.here) (outers self.old.outer.items)) }
     {
-        let Some(Around { kind, inside }) = self.outer.pop() else {
+        let Some(OpenGroup { kind, inside }) = self.outer.pop() else {
             return Ok(());
         };
         let Inside { segs, comments, .. } = mem::replace(&mut self.here, inside);

@@ -1,7 +1,7 @@
 -- What the script on one chunk answers, for private clauses.
 use Rattle.std.specs.Prelude.{◌≡◌, ℕ, true, false, if◌then◌else◌, List, [], ◌∷◌, ◌++◌, Option, Some, Ok, Err, option_to_list, flat_map, take}
 use Rattle.bz_tree.specs.Tree.{Statement}
-use Rattle.bz_engine.specs.declared.edit.Script.{Script}
+use Rattle.bz_engine.specs.declared.edit.ScriptRun.{ScriptRun}
 use Rattle.bz_engine.specs.declared.edit.Edited.{Edited}
 use Rattle.bz_engine.specs.declared.edit.Edited.TheVariants.{Done, Faulty, Failed}
 use Rattle.bz_engine.specs.declared.edit.Scripted.{Scripted}
@@ -15,7 +15,7 @@ use Rattle.bz_engine.specs.Outcome.{Run, is_query, text_after, said, slots_of, s
 use Rattle.bz_engine.specs.Progress.{Progress, IsKeptOf, last_class, text_following}
 use Rattle.bz_passes.specs.Entries.{failure_text}
 
-abbrev pub run_of : Script → Run
+abbrev pub run_of : ScriptRun → Run
 run_of script = record { home = script.home.now; passes = script.passes.now; keep_going = script.keep_going; max_depth = script.max_depth }
 
 -- The chunk is done: what is kept is that of the chunks with it, and its text stands after the text that was there.

@@ -13,12 +13,12 @@ use Rattle.bz_tree.specs.declared.kinds.Mark.TheVariants.{Open, Close, Comma, Co
 use Rattle.bz_tree.specs.declared.kinds.Preceding.TheVariants.{Operand, Other}
 use Rattle.bz_tree.specs.declared.role.Role.{Role}
 use Rattle.bz_tree.specs.declared.role.Role.TheVariants.{Stray}
-use Rattle.bz_tree.specs.declared.stage.Part.TheVariants.{Left}
+use Rattle.bz_tree.specs.declared.stage.Goal.TheVariants.{Left}
 use Rattle.bz_tree.specs.declared.stage.Stage.TheVariants.{Wants}
 use Rattle.bz_tree.specs.declared.spot.Naming.{Naming}
 use Rattle.bz_tree.specs.declared.spot.Naming.TheVariants.{Name, Join, End, Never, Lost}
-use Rattle.bz_tree.specs.declared.spot.Done.{Done}
-use Rattle.bz_tree.specs.declared.spot.Done.TheVariants.{Zero, One, More}
+use Rattle.bz_tree.specs.declared.spot.SegmentCount.{SegmentCount}
+use Rattle.bz_tree.specs.declared.spot.SegmentCount.TheVariants.{Zero, One, More}
 use Rattle.bz_tree.specs.declared.spot.Here.{Here}
 use Rattle.bz_tree.specs.declared.spot.Here.TheVariants.{Nothing, Comma as AfterComma, Node as AfterNode, Ended}
 use Rattle.bz_tree.specs.declared.spot.Read.{Read}
@@ -92,14 +92,14 @@ read_leaf kind text r = record {
 abbrev pub read_group : GroupKind → Read → Read
 read_group kind r = record { stage = next r.stage (group_role kind); at = Operand; naming = called r.naming kind; assigns = r.assigns }
 
-abbrev pub one_more : Done → Done
+abbrev pub one_more : SegmentCount → SegmentCount
 one_more Zero = One
 one_more _ = More
 
 -- a bracket that is open, or the top
 pub record Stand : Type 0 where
   pub kind : Option GroupKind
-  pub done : Done
+  pub done : SegmentCount
   pub here : At
   pub read : Read
 
@@ -198,7 +198,7 @@ last_end (a_comma line) ends = Some []
 last_end (a_node line) ends = if ends then Some (segment_end ∷ []) else None
 last_end an_end ends = if ends then Some [] else None
 
-abbrev pub is_single : Done → Bool
+abbrev pub is_single : SegmentCount → Bool
 is_single One = true
 is_single _ = false
 
