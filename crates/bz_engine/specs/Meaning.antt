@@ -34,7 +34,7 @@ meaning home = record {
   not_found = λ target. Failure (not_found_text home target);
   after = λ command slot. after command home slot;
   says = λ command slot.
-    let done = done_of command home slot in line_told done.line ++ note_told (map_or [] (shown_text home) slot) done.note;
+      let done = done_of command home slot in line_told done.line ++ note_told (map_or [] (shown_text home) slot) done.note;
 }
 
 -- whether the command makes the slot another than it was

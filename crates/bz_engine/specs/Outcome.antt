@@ -79,7 +79,6 @@ told_of home passes statements None = record {
   failed = some_failure home passes statements || some_missing (meaning home) passes (slots_of statements);
   end = Whole;
 }
-
 told_of home passes statements (Some fault) = record {
   lines = [];
   messages = fault_text fault ∷ [];
