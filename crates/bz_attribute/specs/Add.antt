@@ -7,7 +7,7 @@ use Rattle.bz_command.specs.declared.arguments.Moved.TheVariants.{Values}
 use Rattle.bz_attribute.specs.Rules.{is_named, value}
 use Rattle.bz_attribute.specs.Lists.{with_value, parts, edit_first_part, same}
 use Rattle.bz_attribute.specs.Effects.{has, edit_first, is_chosen, string, list_item, argument}
-use Rattle.bz_token.specs.Common.{is_empty}
+use Rattle.bz_token.specs.Common.{is_empty, map_or}
 
 -- `add <attr> <v>..`: the values that no element of a list part equals and no earlier value is the same as
 abbrev pub is_fresh : Package → List (List Segment) → List (List ℕ) → List ℕ → Bool
