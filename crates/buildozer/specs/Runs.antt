@@ -1,7 +1,7 @@
 -- A run over the statements of one file, and when what it wrote is kept (buildozer README, "Error codes"; this project's own rule).
 use Rattle.std.specs.Prelude.{◌≡◌, ℕ, Bool, true, false, ◌&&◌, ◌||◌, not, List, length, ⊤}
 use Rattle.bz_devices.specs.Ahead.{HasTooLong}
-use Rattle.bz_devices.specs.Device.{joined, NoneEnds, Rises}
+use Rattle.bz_devices.specs.Device.{NoneEnds, Rises}
 use Rattle.bz_engine.specs.EveryFile.{ForEveryFile}
 use Rattle.bz_engine.specs.Outcome.{Script, Run, Told, IsOutcome, IsFrontOf, told_by}
 use Rattle.bz_engine.specs.declared.report.Report.{Report}
@@ -10,6 +10,7 @@ use Rattle.bz_engine.specs.declared.report.End.TheVariants.{Whole, Syntax, First
 use Rattle.bz_engine.specs.declared.run_fault.RunFault.{RunFault}
 use Rattle.bz_engine.specs.declared.run_fault.RunFault.TheVariants.{OutOfMemory, ReadFailed, WriteFailed, InputTooLong, StatementTooLong, Stopped}
 use Rattle.bz_command.specs.Labels.{Package}
+use Rattle.std.specs.List.{concat}
 
 -- the most bytes of a statement, the most reads of an input, and the most brackets in one another
 abbrev pub max_statement : ℕ
@@ -76,5 +77,5 @@ IsFaultOver gave failures source WriteFailed source_after = ⊤
 IsFaultOver gave failures source InputTooLong source_after =
     (read : List (List ℕ)) × gave source read source_after × (length read ≡ max_reads) × NoneEnds read
 IsFaultOver gave failures source (StatementTooLong line) source_after =
-    (read : List (List ℕ)) × gave source read source_after × ForEveryFile read (HasTooLong max_statement line (joined read))
+    (read : List (List ℕ)) × gave source read source_after × ForEveryFile read (HasTooLong max_statement line (concat read))
 IsFaultOver gave failures source Stopped source_after = ⊥

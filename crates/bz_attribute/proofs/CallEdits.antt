@@ -8,9 +8,10 @@ use Rattle.bz_tree.specs.View.{node_view, nodes_view}
 use Rattle.bz_attribute.specs.Rules.{Rule, rule_of, call_at, is_call, dotted, elements, comma_of, end_of}
 use Rattle.bz_attribute.specs.Lists.{edit_list}
 use Rattle.bz_attribute.specs.declared.done.Done.{Done}
-use Rattle.bz_attribute.specs.Effects.{nodes_after, done_in}
+use Rattle.bz_attribute.specs.Effects.{nodes_after, done}
 use Rattle.bz_attribute.specs.private.Places.{IsCallAt}
 use Rattle.bz_attribute.proofs.Calls.{views_split, rule_at}
+use Rattle.bz_token.specs.Common.{map_or}
 
 call_edited : (f : List Segment → List Segment) (kind : List Item) (x : Item) → is_call x ≡ true → dotted true kind ≡ true → nodes_after f (kind ++ x ∷ []) (call_at kind x) ≡ kind ++ edit_list f x ∷ []
 call_edited f kind (leaf k text) a b = absurd cc
@@ -24,7 +25,7 @@ call_edited f kind (group Dict segs one_comma end) a b = absurd cc
 call_edited f kind (group ListComp segs one_comma end) a b = absurd cc
 call_edited f kind (group DictComp segs one_comma end) a b = absurd cc
 
-call_read : (g : List Segment → Done) (kind : List Item) (x : Item) → is_call x ≡ true → dotted true kind ≡ true → done_in g (call_at kind x) ≡ g (elements x)
+call_read : (g : List Segment → Done) (kind : List Item) (x : Item) → is_call x ≡ true → dotted true kind ≡ true → map_or (done None false) (λ r. g r.args) (call_at kind x) ≡ g (elements x)
 call_read g kind x a b = rw (a, b) refl
 
 set_last : (ns : List Node) (i : ℕ) (m : Node) → i + 1 ≡ length ns → set ns i m ≡ take i ns ++ m ∷ []
@@ -45,7 +46,7 @@ is_call_at ns i e h a b =
           ap nodes_view (set_last ns i m h) ∙ map-append node_view (take i ns) (m ∷ [])
           ∙ ap (λ (z : Item). nodes_view (take i ns) ++ z ∷ []) kept
           ∙ sym (views_split ns d i h);
-      read = λ g d. ap (done_in g) (rule_at ns d i h) ∙ call_read g (nodes_view (take i ns)) (node_view (get_or ns i d)) (calls d) b;
+      read = λ g d. ap (λ x0. map_or (done None false) (λ r. g r.args) x0) (rule_at ns d i h) ∙ call_read g (nodes_view (take i ns)) (node_view (get_or ns i d)) (calls d) b;
     }
 
 called : (kind : List Item) (x : Item) (r : Rule) → Some r ≡ call_at kind x → (is_call x && dotted true kind) ≡ true

@@ -8,22 +8,24 @@ use Rattle.bz_tree.specs.declared.stmt.GroupKind.{GroupKind}
 use Rattle.bz_tree.specs.declared.stmt.GroupKind.TheVariants.{RuleCall}
 use Rattle.bz_tree.specs.declared.stmt.Class.TheVariants.{Rule as RuleClass, Block, Load as LoadClass, Assign, Other as OtherClass}
 use Rattle.bz_tree.specs.Tree.{Item, leaf, group, Segs, Statement, items_of, segments, segs_of}
-use Rattle.bz_tree.specs.Statement.{class_of, has_assign, is_assign_operator, is_rule, is_rule_after, is_nothing, is_kept, is_load_word, is_call as is_call_kind}
+use Rattle.bz_tree.specs.Statement.{class_of, is_assign_operator, is_rule, is_rule_after, is_kept, is_load_word, is_call as is_call_kind, is_assign}
 use Rattle.bz_tree.specs.Rows.{RowPart, opening, closing, above, beside_part, item_parts, items_parts, segs_parts, parts_of}
 use Rattle.bz_attribute.specs.Rules.{Rule, rule_of, call_at, kind_text, dotted, is_call}
 use Rattle.bz_attribute.specs.private.HeadParts.{after_comments, after_tokens, token_texts, in_call, IsInCall}
 use Rattle.bz_attribute.proofs.Calls.{rule_from_end, no_call}
 use Rattle.bz_attribute.proofs.RuleNodes.{rule_nodes, segs_back}
 use Rattle.bz_attribute.proofs.RuleParts.{rule_dotted, with_last}
+use Rattle.bz_token.specs.Common.{is_empty}
+use Rattle.std.specs.List.{list_any}
 
 pub class_called : (nodes : List Item) → class_of nodes ≡ RuleClass → is_rule nodes ≡ true
 class_called [] h = absurd cc
 class_called (x ∷ xs) h =
-    elim (is_kept x) as (λ k. (if k then Block else (if is_load_word x then LoadClass else (if has_assign (x ∷ xs) then Assign else (if is_rule (x ∷ xs) then RuleClass else OtherClass)))) ≡ RuleClass → is_rule (x ∷ xs) ≡ true) [
+    elim (is_kept x) as (λ k. (if k then Block else (if is_load_word x then LoadClass else (if list_any is_assign (x ∷ xs) then Assign else (if is_rule (x ∷ xs) then RuleClass else OtherClass)))) ≡ RuleClass → is_rule (x ∷ xs) ≡ true) [
       | true ↦ λ e. absurd cc
-      | false ↦ elim (is_load_word x) as (λ k. (if k then LoadClass else (if has_assign (x ∷ xs) then Assign else (if is_rule (x ∷ xs) then RuleClass else OtherClass))) ≡ RuleClass → is_rule (x ∷ xs) ≡ true) [
+      | false ↦ elim (is_load_word x) as (λ k. (if k then LoadClass else (if list_any is_assign (x ∷ xs) then Assign else (if is_rule (x ∷ xs) then RuleClass else OtherClass))) ≡ RuleClass → is_rule (x ∷ xs) ≡ true) [
         | true ↦ λ e. absurd cc
-        | false ↦ elim (has_assign (x ∷ xs)) as (λ k. (if k then Assign else (if is_rule (x ∷ xs) then RuleClass else OtherClass)) ≡ RuleClass → is_rule (x ∷ xs) ≡ true) [
+        | false ↦ elim (list_any is_assign (x ∷ xs)) as (λ k. (if k then Assign else (if is_rule (x ∷ xs) then RuleClass else OtherClass)) ≡ RuleClass → is_rule (x ∷ xs) ≡ true) [
           | true ↦ λ e. absurd cc
           | false ↦ elim (is_rule (x ∷ xs)) as (λ k. (if k then RuleClass else OtherClass) ≡ RuleClass → k ≡ true) [ true ↦ λ e. refl | false ↦ λ e. absurd cc ]
         ]
@@ -38,14 +40,14 @@ abbrev goes_on : Bool → List Item → Bool
 goes_on true nodes = is_rule nodes
 goes_on false nodes = is_rule_after nodes
 
-no_assign : (b : Bool) (kind : List Item) (k : GroupKind) (segs : Segs) (one_comma : Bool) (end : List (List ℕ)) → dotted b kind ≡ true → has_assign (kind ++ group k segs one_comma end ∷ []) ≡ false
+no_assign : (b : Bool) (kind : List Item) (k : GroupKind) (segs : Segs) (one_comma : Bool) (end : List (List ℕ)) → dotted b kind ≡ true → list_any is_assign (kind ++ group k segs one_comma end ∷ []) ≡ false
 no_assign b [] k segs one_comma end h = refl
 no_assign true (leaf Identifier text ∷ xs) k segs one_comma end h = no_assign false xs k segs one_comma end h
 no_assign true (leaf _ text ∷ xs) k segs one_comma end h = absurd (false≢true h)
 no_assign true (group l ss o e ∷ xs) k segs one_comma end h = absurd (false≢true h)
 no_assign false (leaf Operator text ∷ xs) k segs one_comma end h =
     let two = and_parts (bytes_eq text (codes ".")) (dotted true xs) h in
-    ap (λ (t : List ℕ). is_assign_operator t || has_assign (xs ++ group k segs one_comma end ∷ [])) (same_bytes text (codes ".") two.0) ∙ no_assign true xs k segs one_comma end two.1
+    ap (λ (t : List ℕ). is_assign_operator t || list_any is_assign (xs ++ group k segs one_comma end ∷ [])) (same_bytes text (codes ".") two.0) ∙ no_assign true xs k segs one_comma end two.1
 no_assign false (leaf _ text ∷ xs) k segs one_comma end h = absurd (false≢true h)
 no_assign false (group l ss o e ∷ xs) k segs one_comma end h = absurd (false≢true h)
 
@@ -82,7 +84,7 @@ record IsCalled (b : Bool) (nodes : List Item) : Type 0 where
   are : nodes ≡ kind ++ group k segs one_comma end ∷ []
   dots : dotted b kind ≡ true
 
-nothing_is : (xs : List Item) → is_nothing xs ≡ true → xs ≡ []
+nothing_is : (xs : List Item) → is_empty xs ≡ true → xs ≡ []
 nothing_is [] h = refl
 nothing_is (x ∷ xs) h = absurd (false≢true h)
 
@@ -100,7 +102,7 @@ called false (leaf Operator text ∷ xs) h =
     one_before false true (leaf Operator text) xs (λ kind dots. ap (λ (b : Bool). b && dotted true kind) two.0 ∙ dots) (called true xs two.1)
 called false (leaf _ text ∷ xs) h = absurd (false≢true h)
 called false (group k segs one_comma end ∷ xs) h =
-    let two = and_parts (is_call_kind k) (is_nothing xs) h in
+    let two = and_parts (is_call_kind k) (is_empty xs) h in
     record { kind = []; k = k; segs = segs; one_comma = one_comma; end = end; are = ap (λ (ys : List Item). group k segs one_comma end ∷ ys) (nothing_is xs two.1); dots = refl }
 
 -- a kind is tokens alone

@@ -8,13 +8,14 @@ use Rattle.bz_tree.specs.View.{seg_view, segs_view}
 use Rattle.bz_tree.specs.Tree.{Segment}
 use Rattle.bz_command.specs.Labels.{Package}
 use Rattle.bz_command.specs.Same.{completed}
-use Rattle.bz_attribute.specs.Lists.{same, same_value}
+use Rattle.bz_attribute.specs.Lists.{same}
+use Rattle.bz_token.specs.Common.{map_or}
 
 pub same_back : (home : Package) (a b : List ℕ) → same home a b ≡ same home b a
 same_back home a b = nat_list_eq_equiv.symm (completed home a) (completed home b)
 
 -- what is no string is the same as no word
-pub none_same : (home : Package) (words : List (List ℕ)) → list_any (λ w. same_value home w None) words ≡ false
+pub none_same : (home : Package) (words : List (List ℕ)) → list_any (λ w. map_or false (λ value. same home value w) None) words ≡ false
 none_same home [] = refl
 none_same home (w ∷ words) = none_same home words
 

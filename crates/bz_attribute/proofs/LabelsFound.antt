@@ -1,5 +1,5 @@
 -- The labels of elements, found one by one.
-use Rattle.std.proofs.Common.{◌≡◌, ℕ, List, [], ◌∷◌, Bool, true, false, ◌&&◌, ◌||◌, if◌then◌else◌, Option, Some, None, drop, refl, ap, sym, ◌∙◌}
+use Rattle.std.proofs.Common.{◌≡◌, ℕ, List, [], ◌∷◌, Bool, true, false, ◌&&◌, ◌||◌, if◌then◌else◌, Option, Some, None, drop, refl, ap, sym, ◌∙◌, option_and_then}
 use Rattle.std.specs.List.{list_any}
 use Rattle.std.proofs.lemmas.List.Folds.{list_any-append}
 use Rattle.bz_tree.specs.Rows.{RowPart}
@@ -11,11 +11,13 @@ use Rattle.bz_command.specs.declared.arguments.Moved.TheVariants.{All, Values}
 use Rattle.bz_command.specs.declared.label_set.LabelSet.{LabelSet}
 use Rattle.bz_attribute.specs.Effects.{is_chosen}
 use Rattle.bz_attribute.specs.Elements.{AreListsAt, IsNextElement, ListRest, elements_left, rest_parts}
-use Rattle.bz_attribute.specs.Lists.{same, same_value}
+use Rattle.bz_attribute.specs.Lists.{same}
 use Rattle.bz_attribute.specs.Move.{joined}
-use Rattle.bz_attribute.specs.Rules.{string_value, value_in}
+use Rattle.bz_attribute.specs.Rules.{string_value}
 use Rattle.bz_attribute.specs.private.ElementSets.{HaveLabels, chooses, is_among, is_in, kept}
 use Rattle.bz_attribute.proofs.LabelSets.{or_false, or_swap, same_back}
+use Rattle.bz_command.specs.Values.{value_of}
+use Rattle.bz_token.specs.Common.{map_or}
 
 -- a value that is kept is the same label as the text
 abbrev is_kept : Package → List ℕ → Option (List ℕ) → Bool
@@ -24,7 +26,7 @@ is_kept home text (Some value) = same home value text
 
 abbrev chosen_value : Package → Moved → Option (List ℕ) → Bool
 chosen_value home All value = true
-chosen_value home (Values words) value = list_any (λ w. same_value home w value) words
+chosen_value home (Values words) value = list_any (λ w. map_or false (λ value. same home value w) value) words
 
 and_false : (a : Bool) → (a && false) ≡ false
 and_false true = refl
@@ -34,7 +36,7 @@ chosen_some : (home : Package) (choice : Moved) (value : List ℕ) → chosen_va
 chosen_some home All value = refl
 chosen_some home (Values words) value = refl
 
-value_told : (home : Package) (choice : Moved) (text : List ℕ) (value : Option (List ℕ)) → (chosen_value home choice value && (same_value home text value || false)) ≡ is_kept home text (kept home choice value)
+value_told : (home : Package) (choice : Moved) (text : List ℕ) (value : Option (List ℕ)) → (chosen_value home choice value && (map_or false (λ value. same home value text) value || false)) ≡ is_kept home text (kept home choice value)
 value_told home choice text None = and_false (chosen_value home choice None)
 value_told home choice text (Some value) =
     ap (λ (b : Bool). b && (same home value text || false)) (chosen_some home choice value)
@@ -55,18 +57,18 @@ none_labelled home choice ps from set empty = λ l after read. record {
 }
 
 pub one_labelled : (home : Package) (choice : Moved) (ps : List RowPart) (from at to : ℕ) (string : Option (List ℕ)) (value : Option (List ℕ)) (old new : LabelSet) → HaveLabels home choice ps from at old
-    → ((l : ListRest) (after : List RowPart) → drop at ps ≡ rest_parts l after → IsNextElement l after ps to string) → value ≡ kept home choice (value_in string)
+    → ((l : ListRest) (after : List RowPart) → drop at ps ≡ rest_parts l after → IsNextElement l after ps to string) → value ≡ kept home choice (option_and_then value_of string)
     → ((text : List ℕ) → has new text ≡ (is_kept home text value || has old text)) → HaveLabels home choice ps from to new
 one_labelled home choice ps from at to string value old new have next is gains = λ l after read.
     let h = have l after read in
     let n = next h.left after h.read in
-    let same_value : value ≡ kept home choice (string_value n.element.nodes) = is ∙ ap (λ (t : Option (List ℕ)). kept home choice (value_in t)) n.text in
+    let found_value : value ≡ kept home choice (string_value n.element.nodes) = is ∙ ap (λ (t : Option (List ℕ)). kept home choice (option_and_then value_of t)) n.text in
     record {
       left = n.left;
       read = n.read;
       same = λ text.
           let later : Bool = is_among home choice (elements_left n.left) text in
-          let own : is_kept home text value ≡ (is_chosen home choice n.element && is_chosen home (Values (text ∷ [])) n.element) = ap (is_kept home text) same_value ∙ sym (element_told home choice text n.element) in
+          let own : is_kept home text value ≡ (is_chosen home choice n.element && is_chosen home (Values (text ∷ [])) n.element) = ap (is_kept home text) (λ x0 x1. map_or false (λ value. same x0 value x1)) ∙ sym (element_told home choice text n.element) in
           ap (λ (b : Bool). later || b) (gains text ∙ ap (λ (b : Bool). b || has old text) own)
           ∙ or_swap (is_chosen home choice n.element && is_chosen home (Values (text ∷ [])) n.element) later (has old text)
           ∙ ap (λ (ss : List Segment). is_among home choice ss text || has old text) (sym n.are)

@@ -1,18 +1,19 @@
 -- The name of a rule by the parts of its argument.
-use Rattle.std.proofs.Common.{◌≡◌, ℕ, List, [], ◌∷◌, ◌++◌, Bool, true, false, ◌&&◌, if◌then◌else◌, Some, None, refl, ap, sym, ◌∙◌, drop, map, bytes_eq, rules}
+use Rattle.std.proofs.Common.{◌≡◌, ℕ, List, [], ◌∷◌, ◌++◌, Bool, true, false, ◌&&◌, if◌then◌else◌, Some, None, refl, ap, sym, ◌∙◌, drop, map, bytes_eq, rules, option_and_then}
 use Rattle.std.specs.Prelude.{codes}
 use Rattle.std.proofs.lemmas.Bool.{false≢true, and_parts}
 use Rattle.std.proofs.lemmas.Slice.Eq.{bytes_eq-Decides}
 use Rattle.bz_token.specs.declared.token.Kind.TheVariants.{Identifier, Operator}
 use Rattle.bz_tree.specs.Tree.{Item, leaf, group, Statement, items_of}
 use Rattle.bz_tree.specs.Rows.{RowPart, a_token, opening, closing, above, segment_end, items_parts, segs_parts}
-use Rattle.bz_attribute.specs.Rules.{Rule, rule_of, is_text, ident_of, is_operator_item, name_of, name_in, only_text, string_in, value_in}
+use Rattle.bz_attribute.specs.Rules.{Rule, rule_of, is_text, ident_of, is_operator_item, name_of, name_in, only_text, string_value, value}
 use Rattle.bz_attribute.specs.Finder.{flat_name, find_from}
 use Rattle.bz_attribute.specs.RowPlaces.{IsRuleRow}
 use Rattle.bz_attribute.specs.private.HeadParts as row
 use Rattle.bz_attribute.specs.private.HeadParts.{name_literal, IsInCall}
 use Rattle.bz_attribute.proofs.FoundArgs.{here}
 use Rattle.bz_attribute.proofs.PlaceFound.{IsArgument, argument_in, argument_there, none_there}
+use Rattle.bz_command.specs.Values.{value_of}
 
 same_bytes : (xs ys : List ℕ) → bytes_eq xs ys ≡ true → xs ≡ ys
 same_bytes xs ys h = search (rules, bytes_eq-Decides)
@@ -65,8 +66,8 @@ literal_is xs more h =
     let n = name_items xs h in
     ap (λ (ys : List Item). name_literal (items_parts (items_of ys) ++ segment_end ∷ more)) n.are ∙ value_read n.value more ∙ sym (ap (λ (ys : List Item). only_text (drop 2 ys)) n.are)
 
-read : (r : Rule) (qs : List RowPart) → IsArgument (codes "name") r qs → value_in (name_literal qs) ≡ name_in r.args
-read r qs h = ap value_in (ap name_literal h.parts ∙ literal_is h.arg.nodes h.more h.is) ∙ sym (ap string_in h.named)
+read : (r : Rule) (qs : List RowPart) → IsArgument (codes "name") r qs → option_and_then value_of (name_literal qs) ≡ name_in r.args
+read r qs h = ap (option_and_then value_of) (ap name_literal h.parts ∙ literal_is h.arg.nodes h.more h.is) ∙ sym (ap (option_and_then (λ a. string_value (value a))) h.named)
 
 flat_named : (qs : List RowPart) (text : List ℕ) → name_literal qs ≡ Some text → is_text (codes "name") (flat_name qs) ≡ true
 flat_named [] text h = absurd cc
@@ -83,15 +84,15 @@ flat_named (n ∷ e ∷ l ∷ z ∷ qs) text h =
     ] refl h
 
 -- the first argument of all is the name
-pub name_first : (s : Statement) (r : Rule) (qs : List RowPart) (text : List ℕ) → rule_of s.nodes ≡ Some r → IsInCall s r qs → name_literal qs ≡ Some text → value_in (Some text) ≡ name_in r.args
+pub name_first : (s : Statement) (r : Rule) (qs : List RowPart) (text : List ℕ) → rule_of s.nodes ≡ Some r → IsInCall s r qs → name_literal qs ≡ Some text → option_and_then value_of (Some text) ≡ name_in r.args
 name_first s r qs text is within h =
     let found = sym (ap (find_from (codes "name") 1 true) within) ∙ here (codes "name") qs (flat_named qs text h) in
     let arg = argument_in (codes "name") s r 0 found in
-    ap value_in (sym h ∙ ap name_literal within) ∙ read r _ arg
+    ap (option_and_then value_of) (sym h ∙ ap name_literal within) ∙ read r _ arg
 
 -- it is another one
-pub name_later : (s : Statement) (r : Rule) (ps : List RowPart) (at : ℕ) → IsRuleRow s r ps → find_from (codes "name") 0 false ps ≡ Some at → value_in (name_literal (drop at ps)) ≡ name_in r.args
+pub name_later : (s : Statement) (r : Rule) (ps : List RowPart) (at : ℕ) → IsRuleRow s r ps → find_from (codes "name") 0 false ps ≡ Some at → option_and_then value_of (name_literal (drop at ps)) ≡ name_in r.args
 name_later s r ps at h is = read r (drop at ps) (argument_there (codes "name") s r ps at h is)
 
-pub name_absent : (s : Statement) (r : Rule) (ps : List RowPart) → IsRuleRow s r ps → find_from (codes "name") 0 false ps ≡ None → value_in None ≡ name_in r.args
-name_absent s r ps h is = sym (ap string_in (none_there (codes "name") s r ps h is))
+pub name_absent : (s : Statement) (r : Rule) (ps : List RowPart) → IsRuleRow s r ps → find_from (codes "name") 0 false ps ≡ None → option_and_then value_of None ≡ name_in r.args
+name_absent s r ps h is = sym (ap (option_and_then (λ a. string_value (value a))) (none_there (codes "name") s r ps h is))

@@ -11,11 +11,11 @@ use Rattle.bz_tree.specs.declared.stmt.Node.TheOpen.{Group-F}
 use Rattle.bz_tree.specs.Tree.{Item, Segment, leaf, group}
 use Rattle.bz_tree.specs.View.{node_view, nodes_view, segs_view}
 use Rattle.bz_attribute.specs.Lists.{edit_first_part, edit_from, edit_list, edit_one_from, ends, is_joint, is_list, is_part, is_plus, parts, parts_from}
-use Rattle.bz_attribute.specs.Effects.{no_parts}
 use Rattle.bz_attribute.specs.Rules.{elements}
 use Rattle.bz_attribute.proofs.Groups.{edited_group, leaf_no_list}
 use Rattle.bz_attribute.specs.private.NextPart.{IsLastPart, IsNextPart, KeepsOthers, edit_rest, edited_from, rest}
 use Rattle.bz_attribute.specs.private.Places.{first_list}
+use Rattle.bz_token.specs.Common.{is_empty}
 
 -- no list part stands from `at` up to i, and a piece begins at i where `start`
 pub record Walked (xs : List Item) (at i : ℕ) (start : Bool) : Type 0 where
@@ -152,7 +152,7 @@ next_at ns at i w h part =
           let whole : parts xs ≡ rest at xs = ap (λ (k : ℕ). rest k xs) (sym zero) in
           record {
             within = h;
-            some = ap no_parts (whole ∙ read (any_node ns i h));
+            some = ap is_empty (whole ∙ read (any_node ns i h));
             list = λ d. ap first_list (whole ∙ read d);
             put = λ f m d edited. put f m d edited ∙ first_edited f xs i (node_view (get_or ns i d)) (subst (λ (k : ℕ). Walked xs k i true) zero w) long (here d) (part d);
             same = λ m d kept. map-set node_view ns i m ∙ ap (set xs i) (kept ∙ sym (get_or-map node_view ns i d (node_view d) h)) ∙ set-get_or xs i (node_view d);

@@ -6,7 +6,8 @@ use Rattle.bz_command.specs.Labels.{Package}
 use Rattle.bz_command.specs.declared.arguments.Moved.TheVariants.{Values}
 use Rattle.bz_attribute.specs.Rules.{is_named, value}
 use Rattle.bz_attribute.specs.Lists.{with_value, parts, edit_first_part, same}
-use Rattle.bz_attribute.specs.Effects.{has, edit_first, is_chosen, is_nil, string, list_item, argument, no_parts}
+use Rattle.bz_attribute.specs.Effects.{has, edit_first, is_chosen, string, list_item, argument}
+use Rattle.bz_token.specs.Common.{is_empty, map_or}
 
 -- `add <attr> <v>..`: the values that no element of a list part equals and no earlier value is the same as
 abbrev pub is_fresh : Package → List (List Segment) → List (List ℕ) → List ℕ → Bool
@@ -21,7 +22,7 @@ new_elements home lists values = map string (fresh home lists [] values)
 
 -- they go to the end of the first list part
 abbrev pub with_added : Package → List (List ℕ) → Segment → Segment
-with_added home values a = if no_parts (parts (value a)) then a else with_value (edit_first_part (λ ss. ss ++ new_elements home (parts (value a)) values) (value a)) a
+with_added home values a = if is_empty (parts (value a)) then a else with_value (edit_first_part (λ ss. ss ++ new_elements home (parts (value a)) values) (value a)) a
 
 abbrev pub add : Package → List ℕ → List (List ℕ) → List Segment → List Segment
 add home attr values args =
@@ -29,5 +30,4 @@ add home attr values args =
     else args ++ argument attr (list_item (new_elements home [] values) ∷ []) ∷ []
 
 abbrev pub adds : Package → List (List ℕ) → Option Segment → Bool
-adds home values None = true
-adds home values (Some a) = not (is_nil (new_elements home (parts (value a)) values))
+adds home values arg = map_or true (λ a. not (is_empty (new_elements home (parts (value a)) values))) arg

@@ -1,5 +1,5 @@
 -- What `comment` does (buildozer README, edit commands; where the line stands is this project's own rule).
-use Rattle.std.specs.Prelude.{ℕ, ◌==◌, List, [], ◌∷◌, ◌++◌, Bool, true, false, ◌&&◌, ◌||◌, if◌then◌else◌, Option, Some, None, is_some}
+use Rattle.std.specs.Prelude.{ℕ, ◌==◌, List, [], ◌∷◌, ◌++◌, Bool, true, false, ◌&&◌, ◌||◌, if◌then◌else◌, Option, Some, None, is_some, option_and_then}
 use Rattle.std.specs.List.{list_any, list_all}
 use Rattle.bz_tree.specs.Tree.{Item, Segment, Statement}
 use Rattle.bz_command.specs.Labels.{Package}
@@ -7,10 +7,12 @@ use Rattle.bz_command.specs.declared.arguments.Commented.{Commented}
 use Rattle.bz_command.specs.declared.arguments.Commented.TheVariants.{Rule as OfRule, Attribute, Value}
 use Rattle.bz_attribute.specs.Rules.{Rule, rule_of, is_named, first_named, value, elements}
 use Rattle.bz_attribute.specs.Lists.{with_value, parts, edit_list, is_part, is_plus, is_joint, equals}
-use Rattle.bz_attribute.specs.Effects.{done, edit_first, has, is_absent, not_a_list, first_note}
+use Rattle.bz_attribute.specs.Effects.{done, edit_first, has, is_absent, not_a_list}
 use Rattle.bz_attribute.specs.declared.done.Done.{Done}
 use Rattle.bz_attribute.specs.declared.done.Note.{Note}
 use Rattle.bz_attribute.specs.declared.done.Note.TheVariants.{NoValue}
+use Rattle.bz_token.specs.Common.{map_or}
+use Rattle.std.specs.Option.{option_or}
 
 -- spaces and tabs
 abbrev pub is_blank : ℕ → Bool
@@ -30,12 +32,8 @@ abbrev pub with_comment : List ℕ → Segment → Segment
 with_comment line s = record s { before = s.before ++ line ∷ [] }
 
 -- `comment <text>`
-abbrev pub comments_above : List (List ℕ) → List ℕ → Option Rule → List (List ℕ)
-comments_above before text None = before
-comments_above before text (Some r) = before ++ comment_line text ∷ []
-
 abbrev pub comment_rule : List ℕ → Statement → Statement
-comment_rule text s = record s { before = comments_above s.before text (rule_of s.nodes) }
+comment_rule text s = record s { before = map_or s.before (λ r. s.before ++ comment_line text ∷ []) (rule_of s.nodes) }
 
 -- `comment <attr> <text>`
 abbrev pub comment_attribute : List ℕ → List ℕ → List Segment → List Segment
@@ -55,12 +53,11 @@ abbrev pub comment_element : Package → List ℕ → List ℕ → Segment → S
 comment_element home v text a = with_value (edit_element (equals home v) (with_comment (comment_line text)) (value a)) a
 
 abbrev pub is_missing : Package → List ℕ → List ℕ → Option Segment → Option Note
-is_missing home attr v None = None
-is_missing home attr v (Some a) = if list_any (list_any (equals home v)) (parts (value a)) then None else Some (NoValue attr v)
+is_missing home attr v arg = option_and_then (λ a. if list_any (list_any (equals home v)) (parts (value a)) then None else Some (NoValue attr v)) arg
 
 -- the attribute absent, without list part, without such an element: the first of these
 abbrev pub comment_note : Package → List ℕ → List ℕ → List Segment → Option Note
-comment_note home attr v args = first_note (is_absent attr args) (first_note (not_a_list attr (first_named attr args)) (is_missing home attr v (first_named attr args)))
+comment_note home attr v args = option_or (is_absent attr args) (option_or (not_a_list attr (first_named attr args)) (is_missing home attr v (first_named attr args)))
 
 -- `comment <attr> <v> <text>`
 abbrev pub comment_value : Package → List ℕ → List ℕ → List ℕ → List Segment → List Segment

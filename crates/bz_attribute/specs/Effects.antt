@@ -1,31 +1,24 @@
 -- What commands do to the arguments of a rule, as far as several do it: notes, the elements that a command means, new nodes, and the edit of a rule's arguments (buildozer README, edit commands; the failures are this project's own rule).
-use Rattle.std.specs.Prelude.{ℕ, List, [], ◌∷◌, ◌++◌, Bool, true, false, ◌&&◌, not, if◌then◌else◌, Option, Some, None, is_some, filter, codes}
+use Rattle.std.specs.Prelude.{ℕ, List, [], ◌∷◌, ◌++◌, Bool, true, false, ◌&&◌, not, if◌then◌else◌, Option, Some, None, is_some, filter, codes, option_and_then}
 use Rattle.std.specs.List.{list_any}
 use Rattle.bz_token.specs.declared.token.Kind.TheVariants.{Identifier, Operator, String}
 use Rattle.bz_tree.specs.declared.stmt.GroupKind.TheVariants.{RuleCall, List as ListKind}
+use Rattle.bz_token.specs.Common.{is_empty, map_or}
 use Rattle.bz_tree.specs.Tree.{Item, leaf, group, Segment, Statement, segs_of}
 use Rattle.bz_command.specs.Labels.{Package}
 use Rattle.bz_command.specs.Values.{quoted}
 use Rattle.bz_command.specs.declared.arguments.Moved.{Moved}
 use Rattle.bz_command.specs.declared.arguments.Moved.TheVariants.{All, Values}
 use Rattle.bz_attribute.specs.Rules.{Rule, rule_of, elements, is_named, value}
-use Rattle.bz_attribute.specs.Lists.{with_value, parts, edit_parts, is_list, equals_any}
+use Rattle.bz_attribute.specs.Lists.{with_value, parts, edit_parts, is_list, is_only, equals}
 use Rattle.bz_attribute.specs.declared.done.Done.{Done}
 use Rattle.bz_attribute.specs.declared.done.Note.{Note}
 use Rattle.bz_attribute.specs.declared.done.Note.TheVariants.{Missing, NoAttribute, NotAList}
 
-abbrev pub failed : Note → Done
-failed note = record { changed = false; line = None; note = Some note }
-
 -- where there is a note, nothing is changed
 abbrev pub done : Option Note → Bool → Done
 done None changed = record { changed = changed; line = None; note = None }
-done (Some note) changed = failed note
-
--- a note of the first of two conditions that is not met
-abbrev pub first_note : Option Note → Option Note → Option Note
-first_note None other = other
-first_note (Some note) other = Some note
+done (Some note) changed = record { changed = false; line = None; note = Some note }
 
 -- a note with which nothing was done
 abbrev pub fails : Option Note → Bool
@@ -44,7 +37,7 @@ edit_first p f (a ∷ rest) = if p a then f a ++ rest else a ∷ edit_first p f 
 -- the elements that a command means: all, or those that equal one of its values
 abbrev pub is_chosen : Package → Moved → Segment → Bool
 is_chosen home All s = true
-is_chosen home (Values values) s = equals_any home values s
+is_chosen home (Values values) s = list_any (λ word. equals home word s) values
 
 abbrev pub unchosen : Package → Moved → List Segment → List Segment
 unchosen home chosen ss = filter (λ s. not (is_chosen home chosen s)) ss
@@ -53,23 +46,13 @@ unchosen home chosen ss = filter (λ s. not (is_chosen home chosen s)) ss
 abbrev pub chooses : Package → Moved → Segment → Bool
 chooses home chosen a = list_any (list_any (is_chosen home chosen)) (parts (value a))
 
-abbrev pub is_nil : List Segment → Bool
-is_nil [] = true
-is_nil (x ∷ xs) = false
-
 -- the whole value is one list, and f leaves nothing of it
 abbrev pub loses_all : (List Segment → List Segment) → List Item → Bool
-loses_all f [] = false
-loses_all f (x ∷ []) = is_list x && not (is_nil (elements x)) && is_nil (f (elements x))
-loses_all f (x ∷ y ∷ ys) = false
+loses_all f nodes = is_only (λ x. is_list x && not (is_empty (elements x)) && is_empty (f (elements x))) nodes
 
 -- an argument whose elements f filters: it goes where its whole value was one list that lost its last element
 abbrev pub filtered : (List Segment → List Segment) → Segment → List Segment
 filtered f a = if loses_all f (value a) then [] else with_value (edit_parts f (value a)) a ∷ []
-
-abbrev pub chooses_in : Package → Moved → Option Segment → Bool
-chooses_in home chosen None = false
-chooses_in home chosen (Some a) = chooses home chosen a
 
 -- the literal of a new string
 abbrev pub string_item : List ℕ → Item
@@ -86,14 +69,9 @@ list_item ss = group ListKind (segs_of ss) false []
 abbrev pub argument : List ℕ → List Item → Segment
 argument attr nodes = record { before = []; nodes = leaf Identifier attr ∷ leaf Operator (codes "=") ∷ nodes; suffix = None }
 
-abbrev pub no_parts : List (List Segment) → Bool
-no_parts [] = true
-no_parts (ss ∷ lists) = false
-
 -- the attribute is there and has no list part
 abbrev pub not_a_list : List ℕ → Option Segment → Option Note
-not_a_list attr None = None
-not_a_list attr (Some a) = if no_parts (parts (value a)) then Some (NotAList attr) else None
+not_a_list attr arg = option_and_then (λ a. if is_empty (parts (value a)) then Some (NotAList attr) else None) arg
 
 abbrev pub is_absent : List ℕ → List Segment → Option Note
 is_absent attr args = if has attr args then None else Some (NoAttribute attr)
@@ -109,14 +87,8 @@ nodes_after f nodes (Some r) = nodes_of (record r { args = f r.args })
 abbrev pub with_args : (List Segment → List Segment) → Statement → Statement
 with_args f s = record s { nodes = nodes_after f s.nodes (rule_of s.nodes) }
 
-abbrev pub done_in : (List Segment → Done) → Option Rule → Done
-done_in f None = done None false
-done_in f (Some r) = f r.args
-
 abbrev pub slot_done : (List Segment → Done) → Option Statement → Done
-slot_done f None = done None false
-slot_done f (Some s) = done_in f (rule_of s.nodes)
+slot_done f slot = map_or (done None false) (λ s. map_or (done None false) (λ r. f r.args) (rule_of s.nodes)) slot
 
 abbrev pub holds_rule : Option Statement → Bool
-holds_rule None = false
-holds_rule (Some s) = is_some (rule_of s.nodes)
+holds_rule slot = map_or false (λ s. is_some (rule_of s.nodes)) slot

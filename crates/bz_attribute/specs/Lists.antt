@@ -7,25 +7,19 @@ use Rattle.bz_tree.specs.Tree.{Item, leaf, group, Segment, segs_of, segments}
 use Rattle.bz_command.specs.Labels.{Package}
 use Rattle.bz_command.specs.Same.{completed}
 use Rattle.bz_attribute.specs.Rules.{is_operator_item, elements, value, name_of, string_value}
+use Rattle.bz_token.specs.Common.{map_or}
 
 -- the two are the same label
 abbrev pub same : Package → List ℕ → List ℕ → Bool
 same home a b = bytes_eq (completed home a) (completed home b)
 
-abbrev pub same_value : Package → List ℕ → Option (List ℕ) → Bool
-same_value home word None = false
-same_value home word (Some value) = same home value word
-
 -- the element is one string whose value is the same label as the word
 abbrev pub equals : Package → List ℕ → Segment → Bool
-equals home word element = same_value home word (string_value element.nodes)
-
-abbrev pub equals_any : Package → List (List ℕ) → Segment → Bool
-equals_any home words element = list_any (λ word. equals home word element) words
+equals home word element = map_or false (λ value. same home value word) (string_value element.nodes)
 
 -- the elements that equal no word
 abbrev pub without : Package → List (List ℕ) → List Segment → List Segment
-without home words ss = filter (λ s. not (equals_any home words s)) ss
+without home words ss = filter (λ s. not (list_any (λ word. equals home word s) words)) ss
 
 -- A value has list parts where all that stands in it at depth 0 is operands, plus operators and dots. It is split at each
 -- plus operator, and a piece that is one list is a part.
@@ -40,6 +34,11 @@ is_plus x = is_operator_item (codes "+") x
 abbrev pub is_list : Item → Bool
 is_list (group ListKind segs one_comma end) = true
 is_list _ = false
+
+-- the nodes are one, which passes
+abbrev pub is_only : (Item → Bool) → List Item → Bool
+is_only p (x ∷ []) = p x
+is_only p _ = false
 
 -- a piece ends here
 abbrev pub ends : List Item → Bool

@@ -3,6 +3,7 @@ use Rattle.std.specs.Prelude.{ℕ, ◌==◌, Bool, true, false, Option, Some, No
 use Rattle.bz_tree.specs.Tree.{Statement}
 use Rattle.bz_command.specs.Labels.{Target, Name, Pkg, All, Kind, Line}
 use Rattle.bz_attribute.specs.Rules.{Rule, rule_of, kind_text, name_in, is_text}
+use Rattle.bz_token.specs.Common.{map_or}
 
 -- a rule that begins on a line
 abbrev pub marks_rule : Target → ℕ → Rule → Bool
@@ -13,9 +14,5 @@ marks_rule (Kind kind) start r = bytes_eq (kind_text r.kind) kind
 marks_rule (Line line) start r = start == line
 
 -- what is no rule is never marked
-abbrev pub marks_if : Target → ℕ → Option Rule → Bool
-marks_if target start None = false
-marks_if target start (Some r) = marks_rule target start r
-
 abbrev pub marks : Target → Statement → Bool
-marks target s = marks_if target s.start (rule_of s.nodes)
+marks target s = map_or false (marks_rule target s.start) (rule_of s.nodes)

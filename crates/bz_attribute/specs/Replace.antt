@@ -8,6 +8,7 @@ use Rattle.bz_command.specs.declared.arguments.Attributes.TheVariants.{Every, Na
 use Rattle.bz_attribute.specs.Rules.{is_named, is_text, first_named, value, string_value}
 use Rattle.bz_attribute.specs.Lists.{is_attribute, with_value, parts, edit_parts, equals}
 use Rattle.bz_attribute.specs.Effects.{edit_first, string_item}
+use Rattle.bz_token.specs.Common.{map_or}
 
 -- an element that equals `old` and is not exactly `new`
 abbrev pub is_replaced : Package → List ℕ → List ℕ → Segment → Bool
@@ -29,10 +30,6 @@ replace home Every old new args = map (λ a. if is_attribute a then replaced_in 
 abbrev pub replaces_in : Package → List ℕ → List ℕ → Segment → Bool
 replaces_in home old new a = list_any (list_any (is_replaced home old new)) (parts (value a))
 
-abbrev pub replaces_first : Package → List ℕ → List ℕ → Option Segment → Bool
-replaces_first home old new None = false
-replaces_first home old new (Some a) = replaces_in home old new a
-
 abbrev pub replaces : Package → Attributes → List ℕ → List ℕ → List Segment → Bool
-replaces home (Named attr) old new args = replaces_first home old new (first_named attr args)
+replaces home (Named attr) old new args = map_or false (replaces_in home old new) (first_named attr args)
 replaces home Every old new args = list_any (λ a. is_attribute a && replaces_in home old new a) args

@@ -1,6 +1,6 @@
 -- A rule: identifiers joined by dots, one call and nothing more (buildozer README). Its kind is what stands before the call, its
 -- attributes are the keyword arguments.
-use Rattle.std.specs.Prelude.{ℕ, List, [], ◌∷◌, ◌++◌, Bool, true, false, ◌&&◌, if◌then◌else◌, Option, Some, None, codes, drop, bytes_eq}
+use Rattle.std.specs.Prelude.{ℕ, List, [], ◌∷◌, ◌++◌, Bool, true, false, ◌&&◌, if◌then◌else◌, Option, Some, None, codes, drop, bytes_eq, find, option_and_then}
 use Rattle.std.specs.List.{flat_map}
 use Rattle.bz_token.specs.declared.token.Kind.TheVariants.{Identifier, String, Operator}
 use Rattle.bz_tree.specs.declared.stmt.GroupKind.TheVariants.{RuleCall}
@@ -22,9 +22,8 @@ is_text text (Some other) = bytes_eq text other
 
 -- the name of an argument `name = value`
 abbrev pub name_of : List Item → Option (List ℕ)
-name_of [] = None
-name_of (x ∷ []) = None
 name_of (x ∷ y ∷ value) = if is_operator_item (codes "=") y then ident_of x else None
+name_of _ = None
 
 abbrev pub is_named : List ℕ → Segment → Bool
 is_named name s = is_text name (name_of s.nodes)
@@ -39,17 +38,12 @@ text_of _ = None
 
 -- the text of what is one string token
 abbrev pub only_text : List Item → Option (List ℕ)
-only_text [] = None
 only_text (x ∷ []) = text_of x
-only_text (x ∷ y ∷ xs) = None
-
-abbrev pub value_in : Option (List ℕ) → Option (List ℕ)
-value_in None = None
-value_in (Some text) = value_of text
+only_text _ = None
 
 -- the value of what is one string token with a value
 abbrev pub string_value : List Item → Option (List ℕ)
-string_value nodes = value_in (only_text nodes)
+string_value nodes = option_and_then value_of (only_text nodes)
 
 -- what stands before the call, and the call
 pub record Rule : Type 0 where
@@ -107,13 +101,8 @@ kind_text kind = flat_map written kind
 
 -- the first argument of a name
 abbrev pub first_named : List ℕ → List Segment → Option Segment
-first_named name [] = None
-first_named name (a ∷ args) = if is_named name a then Some a else first_named name args
-
-abbrev pub string_in : Option Segment → Option (List ℕ)
-string_in None = None
-string_in (Some a) = string_value (value a)
+first_named name args = find (is_named name) args
 
 -- the name of a rule: the value of its first attribute `name`, where that is one string with a value
 abbrev pub name_in : List Segment → Option (List ℕ)
-name_in args = string_in (first_named (codes "name") args)
+name_in args = option_and_then (λ a. string_value (value a)) (first_named (codes "name") args)

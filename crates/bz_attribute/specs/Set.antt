@@ -4,9 +4,12 @@ use Rattle.std.specs.List.{list_any, list_all, slice_split}
 use Rattle.bz_token.specs.declared.token.Kind.TheVariants.{Identifier, Integer, Operator}
 use Rattle.bz_tree.specs.Tree.{Item, leaf, Segment, Statement}
 use Rattle.bz_attribute.specs.Rules.{Rule, rule_of, kind_text, is_named, is_text, first_named, value, string_value, elements}
-use Rattle.bz_attribute.specs.Lists.{is_list, with_value}
+use Rattle.bz_attribute.specs.Lists.{is_list, with_value, is_only}
 use Rattle.bz_attribute.specs.Effects.{has, edit_first, argument, list_item, string, string_item, nodes_of, done}
 use Rattle.bz_attribute.specs.declared.done.Done.{Done}
+use Rattle.bz_token.specs.Common.{map_or}
+use Rattle.bz_token.specs.Lexical.{begins}
+use Rattle.std.specs.Char.{is_ascii_digit}
 
 -- the attributes that are lists in all rules
 abbrev pub list_attributes : List (List ℕ)
@@ -17,17 +20,10 @@ list_attributes =
 abbrev pub is_list_attribute : List ℕ → Bool
 is_list_attribute attr = list_any (bytes_eq attr) list_attributes
 
-abbrev pub is_digit : ℕ → Bool
-is_digit b = nat_le 48 b && nat_le b 57
-
-abbrev pub begins_with_zero : List ℕ → Bool
-begins_with_zero [] = false
-begins_with_zero (b ∷ bs) = b == 48
-
 -- `0`, or digits that do not begin with 0
 abbrev pub is_number : List ℕ → Bool
 is_number [] = false
-is_number (b ∷ bs) = bytes_eq (b ∷ bs) (codes "0") || list_all is_digit (b ∷ bs) && not (begins_with_zero (b ∷ bs))
+is_number (b ∷ bs) = bytes_eq (b ∷ bs) (codes "0") || list_all is_ascii_digit (b ∷ bs) && not (begins (λ b. b == 48) (b ∷ bs))
 
 abbrev pub is_constant : List ℕ → Bool
 is_constant word = list_any (bytes_eq word) (codes "True" ∷ codes "False" ∷ codes "None" ∷ [])
@@ -46,23 +42,13 @@ pub data New : Type 0 where
 abbrev pub new_word : List ℕ → New
 new_word word = if is_number word then NewNumber word else (if is_constant word then NewConstant word else NewString word)
 
--- the whole value is one list
-abbrev pub is_one_list : List Item → Bool
-is_one_list [] = false
-is_one_list (x ∷ []) = is_list x
-is_one_list (x ∷ y ∷ xs) = false
-
-abbrev pub holds_list : Option Segment → Bool
-holds_list None = false
-holds_list (Some a) = is_one_list (value a)
-
 -- What the words stand for, where `was` is the argument that is there: a name is a string; one word is a list where the
 -- attribute is one, by its name or by what is there; two or more words are a list.
 abbrev pub new_of : List ℕ → List (List ℕ) → Option Segment → New
 new_of attr [] was = NewStrings []
 new_of attr (word ∷ []) was =
     if bytes_eq attr (codes "name") then NewString word
-    else (if is_list_attribute attr || holds_list was then NewStrings (word ∷ []) else new_word word)
+    else (if is_list_attribute attr || map_or false (λ a. is_only is_list (value a)) was then NewStrings (word ∷ []) else new_word word)
 new_of attr (word ∷ other ∷ words) was = NewStrings (word ∷ other ∷ words)
 
 -- the nodes that are written
@@ -72,15 +58,11 @@ new_value (NewNumber digits) = leaf Integer digits ∷ []
 new_value (NewConstant name) = leaf Identifier name ∷ []
 new_value (NewStrings words) = list_item (map string words) ∷ []
 
-abbrev pub is_string : List ℕ → Segment → Bool
-is_string word s = is_text word (string_value s.nodes)
-
 -- strings with these values, one for each word
 abbrev pub are_strings : List (List ℕ) → List Segment → Bool
 are_strings [] [] = true
-are_strings [] (s ∷ ss) = false
-are_strings (word ∷ words) [] = false
-are_strings (word ∷ words) (s ∷ ss) = is_string word s && are_strings words ss
+are_strings (word ∷ words) (s ∷ ss) = is_text word (string_value s.nodes) && are_strings words ss
+are_strings _ _ = false
 
 abbrev pub is_int : List ℕ → Item → Bool
 is_int digits (leaf Integer text) = bytes_eq text digits
@@ -89,11 +71,6 @@ is_int digits _ = false
 abbrev pub is_ident : List ℕ → Item → Bool
 is_ident name (leaf Identifier text) = bytes_eq text name
 is_ident name _ = false
-
-abbrev pub is_only : (Item → Bool) → List Item → Bool
-is_only p [] = false
-is_only p (x ∷ []) = p x
-is_only p (x ∷ y ∷ xs) = false
 
 -- A value is these nodes already: comments do not count, and strings are compared by their values.
 abbrev pub is_value : New → List Item → Bool
@@ -113,23 +90,16 @@ set attr words args =
     else args ++ argument attr (new_value new) ∷ []
 
 abbrev pub sets : List ℕ → List (List ℕ) → Option Segment → Bool
-sets attr words None = true
-sets attr words (Some a) = not (is_value (new_of attr words (Some a)) (value a))
+sets attr words arg = map_or true (λ a. not (is_value (new_of attr words (Some a)) (value a))) arg
 
 -- `set_if_absent <attr> <v>..`
 abbrev pub set_if_absent : List ℕ → List (List ℕ) → List Segment → List Segment
 set_if_absent attr words args = if has attr args then args else args ++ argument attr (new_value (new_of attr words None)) ∷ []
 
-abbrev pub ident_item : List ℕ → Item
-ident_item name = leaf Identifier name
-
-abbrev pub dot_item : Item
-dot_item = leaf Operator (codes ".")
-
 abbrev pub joined_by_dots : List (List ℕ) → List Item
 joined_by_dots [] = []
-joined_by_dots (name ∷ []) = ident_item name ∷ []
-joined_by_dots (name ∷ other ∷ names) = ident_item name ∷ dot_item ∷ joined_by_dots (other ∷ names)
+joined_by_dots (name ∷ []) = leaf Identifier name ∷ []
+joined_by_dots (name ∷ other ∷ names) = leaf Identifier name ∷ leaf Operator (codes ".") ∷ joined_by_dots (other ∷ names)
 
 -- the tokens of a kind
 abbrev pub kind_items : List ℕ → List Item
@@ -143,11 +113,7 @@ kind_after kind nodes (Some r) = if bytes_eq (kind_text r.kind) kind then nodes 
 abbrev pub with_kind : List ℕ → Statement → Statement
 with_kind kind s = record s { nodes = kind_after kind s.nodes (rule_of s.nodes) }
 
-abbrev pub sets_kind : List ℕ → Option Rule → Done
-sets_kind kind None = done None false
-sets_kind kind (Some r) = done None (not (bytes_eq (kind_text r.kind) kind))
-
 -- what `set kind` tells of a slot
 abbrev pub sets_kind_of : List ℕ → Option Statement → Done
 sets_kind_of kind None = done None false
-sets_kind_of kind (Some s) = sets_kind kind (rule_of s.nodes)
+sets_kind_of kind (Some s) = map_or (done None false) (λ r. done None (not (bytes_eq (kind_text r.kind) kind))) (rule_of s.nodes)

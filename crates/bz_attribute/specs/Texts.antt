@@ -4,6 +4,7 @@ use Rattle.std.specs.Fmt.{decimal}
 use Rattle.bz_tree.specs.Tree.{Statement, Item}
 use Rattle.bz_command.specs.Labels.{Package, Target, Name, Pkg, All, Kind, Line}
 use Rattle.bz_attribute.specs.Rules.{Rule, rule_of, kind_text, name_in}
+use Rattle.bz_token.specs.Common.{map_or}
 
 -- a package and the colon after it
 abbrev pub home_text : Package → List ℕ
@@ -17,18 +18,11 @@ target_text All = codes "*"
 target_text (Kind kind) = 37 ∷ kind
 target_text (Line line) = 37 ∷ decimal line
 
-abbrev pub label_text : Package → Target → List ℕ
-label_text home target = home_text home ++ target_text target
-
 -- a rule by its name, or by its kind
 abbrev pub name_or_kind : Option (List ℕ) → List Item → List ℕ
 name_or_kind (Some name) kind = name
 name_or_kind None kind = 37 ∷ kind_text kind
 
 -- what is no rule is not shown
-abbrev pub rule_text : Package → Option Rule → List ℕ
-rule_text home None = []
-rule_text home (Some r) = home_text home ++ name_or_kind (name_in r.args) r.kind
-
 abbrev pub shown_text : Package → Statement → List ℕ
-shown_text home s = rule_text home (rule_of s.nodes)
+shown_text home s = map_or [] (λ r. home_text home ++ name_or_kind (name_in r.args) r.kind) (rule_of s.nodes)

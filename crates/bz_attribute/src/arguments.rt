@@ -4,10 +4,9 @@ ghost use Rattle.std.specs.Prelude.{◌≡◌, ◌<◌, ◌≤◌, List, map, le
 ghost use Rattle.bz_tree.specs.Tree.{Segment};
 ghost use Rattle.bz_tree.specs.Rows.{part_view};
 ghost use Rattle.bz_attribute.specs.FirstArguments.{IsFirstArgument, argument_parts};
-ghost use Rattle.bz_attribute.specs.private.Ends as spec;
 
 use crate::finder::name_in;
-use crate::place::{is_above, segment_len};
+use crate::place::{comments_len, segment_len};
 use bz_tree::Part;
 
 /// An argument. It begins with the comments above it.
@@ -19,18 +18,6 @@ pub struct FirstArgument<'a> {
     pub to: usize,
     /// Its name, where it is a keyword argument.
     pub name: Option<&'a str>,
-}
-
-// How many comments the parts begin with.
-fn comments_len(parts: &[Part<'_>]) -> usize
-    ensures len { result ≡ spec.above_len (map part_view parts.now) }
-    ensures within { result ≤ length parts.now }
-{
-    let mut count = 0;
-    while count < parts.len() && is_above(parts[count]) {
-        count += 1;
-    }
-    count
 }
 
 /// The first of the arguments that have these parts.

@@ -1,6 +1,6 @@
 //! What a command did to a statement.
 
-ghost use Rattle.std.specs.Prelude.{◌≡◌, None, IfOk};
+ghost use Rattle.std.specs.Prelude.{◌≡◌, None, IfOk, Some, false};
 ghost use Rattle.bz_attribute.specs.declared.done.Note.TheVariants.{AttributeExists, NoAttribute, NotAList};
 ghost use Rattle.bz_attribute.specs.Effects as spec;
 
@@ -48,7 +48,7 @@ impl Done {
     }
 
     pub fn failure(note: Note) -> Done
-        ensures { result ≡ spec.failed note }
+        ensures { result ≡ spec.done (Some note) false }
     {
         Done {
             note: Some(note),
@@ -58,21 +58,21 @@ impl Done {
 
     /// The failure where the attribute is absent.
     pub fn no_attribute(alloc: Global, attr: &str) -> Executed
-        ensures { IfOk result (λ done. done ≡ spec.failed (NoAttribute attr.now)) }
+        ensures { IfOk result (λ done. done ≡ spec.done (Some (NoAttribute attr.now)) false) }
     {
         Ok(Done::failure(Note::NoAttribute(Text::from_str(alloc, attr)?)))
     }
 
     /// The failure where there is an attribute of the new name.
     pub fn attribute_exists(alloc: Global, attr: &str) -> Executed
-        ensures { IfOk result (λ done. done ≡ spec.failed (AttributeExists attr.now)) }
+        ensures { IfOk result (λ done. done ≡ spec.done (Some (AttributeExists attr.now)) false) }
     {
         Ok(Done::failure(Note::AttributeExists(Text::from_str(alloc, attr)?)))
     }
 
     /// The failure where the attribute has no list part.
     pub fn not_a_list(alloc: Global, attr: &str) -> Executed
-        ensures { IfOk result (λ done. done ≡ spec.failed (NotAList attr.now)) }
+        ensures { IfOk result (λ done. done ≡ spec.done (Some (NotAList attr.now)) false) }
     {
         Ok(Done::failure(Note::NotAList(Text::from_str(alloc, attr)?)))
     }

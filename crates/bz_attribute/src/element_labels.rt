@@ -1,13 +1,13 @@
 //! The labels of the elements of a value, walked over among the parts of a rule.
 
-ghost use Rattle.std.specs.Prelude.{◌≡◌, ◌≤◌, ℕ, List, IsTrue, drop, map, length, option_map, IfOk, IfSome};
+ghost use Rattle.std.specs.Prelude.{◌≡◌, ◌≤◌, ℕ, List, IsTrue, drop, map, length, option_map, IfOk, IfSome, option_and_then};
 ghost use Rattle.bz_tree.specs.Rows.{RowPart, part_view};
 ghost use Rattle.bz_tree.specs.Tree.{Segment};
 ghost use Rattle.bz_attribute.specs.Elements.{AreLists, ListRest, elements_left, rest_parts};
-ghost use Rattle.bz_attribute.specs.Rules.{value_in};
 ghost use Rattle.bz_attribute.specs.private.ElementSets.{choice, is_among, is_in, kept};
 ghost use Rattle.bz_command.specs.LabelSetViews.{has};
 ghost use Rattle.bz_command.specs.private.ByteSteps.{left, is_good};
+ghost use Rattle.bz_command.specs.Values.{value_of};
 
 use crate::elements::next_of_value;
 use crate::word_set::WordSet;
@@ -23,7 +23,7 @@ fn kept_value<'a>(
     string: Option<&'a str>,
 ) -> Option<Bytes<'a>>
     ensures value { option_map left result
-        ≡ kept home.now (choice words.entry) (value_in (option_map (λ text. text.now) string.entry)) }
+        ≡ kept home.now (choice words.entry) (option_and_then value_of (option_map (λ text. text.now) string.entry)) }
     ensures good { IfSome result (λ bytes. IsTrue (is_good bytes)) }
 {
     let value = value_of(string?)?;

@@ -9,12 +9,11 @@ ghost use Rattle.bz_attribute.specs.Lists as lists;
 ghost use Rattle.bz_attribute.specs.Effects.{has};
 ghost use Rattle.bz_attribute.specs.Rules.{Rule};
 ghost use Rattle.bz_attribute.specs.RowPlaces.{IsRuleRow};
-ghost use Rattle.bz_attribute.specs.private.Ends.{above_len};
 ghost use Rattle.bz_attribute.specs.private.ListParts as spec;
 
 use crate::finder::find_argument;
 use crate::head_parts::{is_end, text_of};
-use crate::place::{is_above, segment_len};
+use crate::place::{comments_len, segment_len};
 use bz_token::Kind;
 use bz_tree::{GroupKind, Part};
 
@@ -185,18 +184,6 @@ pub fn next_list(parts: &[Part<'_>], at: usize) -> Option<usize>
         return None;
     }
     list_from(parts, close + 1, false)
-}
-
-// How many comments stand above something.
-fn comments_len(parts: &[Part<'_>]) -> usize
-    ensures len { result ≡ above_len (map part_view parts.now) }
-    ensures within { result ≤ length parts.now }
-{
-    let mut count = 0;
-    while count < parts.len() && is_above(parts[count]) {
-        count += 1;
-    }
-    count
 }
 
 // The elements of a list end there.

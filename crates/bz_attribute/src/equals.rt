@@ -1,12 +1,14 @@
 //! Which elements equal a word.
 
-ghost use Rattle.std.specs.Prelude.{◌≡◌, IsTrue, IfSome, IfNone, None, Some};
+ghost use Rattle.std.specs.Prelude.{◌≡◌, IsTrue, IfSome, IfNone, None, Some, false};
 ghost use Rattle.bz_tree.specs.View.{seg_view};
 ghost use Rattle.bz_attribute.specs.Rules.{string_value};
 ghost use Rattle.bz_attribute.specs.private.ChosenViews.{words_of};
 ghost use Rattle.bz_attribute.specs.Lists as spec;
 ghost use Rattle.bz_command.specs.Values as values;
 ghost use Rattle.bz_command.specs.private.ByteSteps.{left, is_good};
+ghost use Rattle.bz_token.specs.Common.{map_or};
+ghost use Rattle.std.specs.List.{list_any};
 
 use crate::apart::are_apart;
 use crate::rule::only_text;
@@ -24,7 +26,7 @@ pub fn string_of<'n>(element: &'n Seg<'_>) -> Option<Bytes<'n>>
 
 /// A string token of this text has a value that is the same label as the word.
 pub fn text_equals(home: &Package, text: &str, word: &str) -> bool
-    ensures { result ≡ spec.same_value home.now word.now (values.value_of text.now) }
+    ensures { result ≡ map_or false (λ value. spec.same home.now value word.now) (values.value_of text.now) }
 {
     let Some(value) = value_of(text) else {
         return false;
@@ -48,7 +50,7 @@ pub fn equals(home: &Package, element: &Seg<'_>, word: &str) -> bool
 /// Both elements are strings, and their values are the same label.
 pub(crate) fn equals_other(home: &Package, element: &Seg<'_>, other: &Seg<'_>) -> bool
     ensures { result
-        ≡ spec.equals_any home.now (words_of (string_value (seg_view other.now).nodes)) (seg_view element.now) }
+        ≡ list_any (λ word. spec.equals home.now word (seg_view element.now)) (words_of (string_value (seg_view other.now).nodes)) }
 {
     match (string_of(element), string_of(other)) {
         (Some(value), Some(word)) => same_label(home, value, word),

@@ -1,6 +1,6 @@
 //! The kind and the name of a rule, read off its parts.
 
-ghost use Rattle.std.specs.Prelude.{◌≡◌, codes, map, option_map, IfOk};
+ghost use Rattle.std.specs.Prelude.{◌≡◌, codes, map, option_map, IfOk, option_and_then};
 ghost use Rattle.bz_tree.specs.Tree.{Statement};
 ghost use Rattle.bz_tree.specs.Rows.{part_view};
 ghost use Rattle.bz_attribute.specs.RowPlaces.{IsRuleRow};
@@ -8,6 +8,7 @@ ghost use Rattle.bz_attribute.specs.Rules.{Rule, is_text};
 ghost use Rattle.bz_attribute.specs.Rules as rules;
 ghost use Rattle.bz_attribute.specs.private.HeadParts as spec;
 ghost use Rattle.bz_attribute.specs.private.HeadParts.{IsInCall};
+ghost use Rattle.bz_command.specs.Values.{value_of};
 
 use crate::finder::find_argument;
 use bumpalo::Bump;
@@ -81,7 +82,7 @@ fn joined_tokens<'a>(alloc: Global, bump: &'a Bump, parts: &[Part<'a>]) -> Resul
 pub(crate) fn name_text<'a>(parts: &[Part<'a>], args: &[Part<'a>]) -> Option<&'a str>
     ensures { (s : Statement) (r : Rule) → IsRuleRow s r (map part_view parts.now)
         → IsInCall s r (map part_view args.now)
-        → rules.value_in (option_map (λ text. text.now) result) ≡ rules.name_in r.args }
+        → option_and_then value_of (option_map (λ text. text.now) result) ≡ rules.name_in r.args }
 {
     if let Some(text) = name_literal(args) {
         return Some(text);
@@ -97,7 +98,7 @@ pub(crate) fn value_in<'a>(
     text: Option<&'a str>,
 ) -> Result<Option<&'a str>, NoMemory>
     ensures { IfOk result (λ value. option_map (λ v. v.now) value
-        ≡ rules.value_in (option_map (λ t. t.now) text.entry)) }
+        ≡ option_and_then value_of (option_map (λ t. t.now) text.entry)) }
 {
     let Some(text) = text else {
         return Ok(None);

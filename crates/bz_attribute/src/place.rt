@@ -50,6 +50,18 @@ fn end_len(parts: &[Part<'_>]) -> usize
     }
 }
 
+// How many comments the parts begin with.
+pub(crate) fn comments_len(parts: &[Part<'_>]) -> usize
+    ensures len { result ≡ spec.above_len (map part_view parts.now) }
+    ensures within { result ≤ length parts.now }
+{
+    let mut count = 0;
+    while count < parts.len() && is_above(parts[count]) {
+        count += 1;
+    }
+    count
+}
+
 // How many parts the segment has that they begin with.
 pub(crate) fn segment_len(parts: &[Part<'_>]) -> usize
     ensures len { result ≡ spec.segment_len (map part_view parts.now) }

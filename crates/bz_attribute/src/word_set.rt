@@ -1,13 +1,14 @@
 //! The words of a command, and the labels that they are in its package.
 
-ghost use Rattle.std.specs.Prelude.{◌≡◌, ℕ, List, IfOk, IsTrue};
+ghost use Rattle.std.specs.Prelude.{◌≡◌, ℕ, List, IfOk, IsTrue, false};
 ghost use Rattle.std.specs.List.{list_any};
 ghost use Rattle.std.proofs.Props.{props};
 ghost use Rattle.bz_tree.specs.View.{seg_view};
-ghost use Rattle.bz_attribute.specs.Lists.{equals_any, same, same_value};
+ghost use Rattle.bz_attribute.specs.Lists.{same, equals};
 ghost use Rattle.bz_command.specs.LabelSetViews.{holds};
 ghost use Rattle.bz_command.specs.Values as values;
 ghost use Rattle.bz_command.specs.private.ByteSteps.{left, is_good};
+ghost use Rattle.bz_token.specs.Common.{map_or};
 
 use crate::equals::string_of;
 use bz_command::{Bytes, Package, SortedLabels, Text, same_label, value_of};
@@ -34,7 +35,7 @@ impl<'a> WordSet<'a> {
 
     /// The element equals one of the words.
     pub fn equals_any(&self, home: &Package, element: &Seg<'_>) -> bool
-        ensures { result ≡ equals_any home.now self.now.words.now (seg_view element.now) }
+        ensures { result ≡ list_any (λ word. equals home.now word (seg_view element.now)) self.now.words.now }
     {
         match string_of(element) {
             None => false,
@@ -44,7 +45,7 @@ impl<'a> WordSet<'a> {
 
     /// The same of an element that is one string token of this text.
     pub fn has_text(&self, home: &Package, text: &str) -> bool
-        ensures { result ≡ list_any (λ word. same_value home.now word (values.value_of text.now)) self.now.words.now }
+        ensures { result ≡ list_any (λ word. map_or false (λ value. same home.now value word) (values.value_of text.now)) self.now.words.now }
     {
         match value_of(text) {
             None => false,

@@ -16,7 +16,7 @@ use Rattle.bz_tree.specs.Tree.{Item, Segment, leaf, group}
 use Rattle.bz_tree.specs.View.{node_view, nodes_view, seg_view, segs_view, texts}
 use Rattle.bz_attribute.specs.Rules.{elements, first_named, is_named, value}
 use Rattle.bz_attribute.specs.Lists.{edit_list, equals, is_part, is_joint, is_plus, parts}
-use Rattle.bz_attribute.specs.Effects.{done, edit_first, failed, first_note, has, no_parts}
+use Rattle.bz_attribute.specs.Effects.{done, edit_first, has}
 use Rattle.bz_command.specs.Labels.{Package}
 use Rattle.bz_attribute.specs.declared.done.Note.{Note}
 use Rattle.bz_attribute.specs.declared.done.Note.TheVariants.{NoAttribute, NoValue, NotAList}
@@ -29,6 +29,8 @@ use Rattle.bz_attribute.proofs.Groups.{edited_group, elements_group, view_of_seg
 use Rattle.bz_attribute.proofs.Views.{segments_of, view_of_group}
 use Rattle.bz_attribute.proofs.Mapped.{position_or_len-map}
 use Rattle.bz_attribute_commands.proofs.Written.{nodes_written}
+use Rattle.bz_token.specs.Common.{is_empty}
+use Rattle.std.specs.Option.{option_or}
 
 -- a blank at the end
 all_blank : (xs : List ℕ) (b : ℕ) → is_blank b ≡ true → list_all is_blank (xs ++ b ∷ []) ≡ list_all is_blank xs
@@ -92,7 +94,7 @@ value_set (x ∷ y ∷ ns) k m new h is =
     let two : 2 + k ≡ suc (suc k) = omega arith in
     ap (λ (j : ℕ). nodes_view (set (x ∷ y ∷ ns) j m)) two ∙ ap (λ (zs : List Item). node_view x ∷ node_view y ∷ zs) is
 
-some_parts : (f : List Segment → Bool) (lists : List (List Segment)) → list_any f lists ≡ true → no_parts lists ≡ false
+some_parts : (f : List Segment → Bool) (lists : List (List Segment)) → list_any f lists ≡ true → is_empty lists ≡ false
 some_parts f [] any = absurd cc
 some_parts f (ss ∷ lists) any = refl
 
@@ -150,7 +152,7 @@ value_read args i x y v h is =
 
 missing_note : (home : Package) (attr v : List ℕ) (args : List Segment) (a : Segment) → has attr args ≡ true → first_named attr args ≡ Some a → list_any (list_any (equals home v)) (parts (value a)) ≡ false → comment_note home attr v args ≡ Some (no_value_note attr v (parts (value a)))
 missing_note home attr v args a there first none =
-    rw (there, first, none) (elim (no_parts (parts (value a))) as (λ b. first_note (if b then Some (NotAList attr) else None) (Some (NoValue attr v)) ≡ Some (if b then NotAList attr else NoValue attr v)) [ true ↦ refl | false ↦ refl ])
+    rw (there, first, none) (elim (is_empty (parts (value a))) as (λ b. option_or (if b then Some (NotAList attr) else None) (Some (NoValue attr v)) ≡ Some (if b then NotAList attr else NoValue attr v)) [ true ↦ refl | false ↦ refl ])
 
 -- where there is a note the arguments stay, and the note is told
 pub comment_stays : (home : Package) (attr v text : List ℕ) (args : List Segment) (n : Note) → comment_note home attr v args ≡ Some n → args ≡ comment_value home attr v text args
@@ -163,7 +165,7 @@ absent_note home attr v args none = rw none refl
 pub absent_stays : (home : Package) (attr v text : List ℕ) (args : List Seg) → IsAbsent attr args → segs_view args ≡ comment_value home attr v text (segs_view args)
 absent_stays home attr v text args none = comment_stays home attr v text (segs_view args) (NoAttribute attr) (absent_note home attr v (segs_view args) none.absent)
 
-pub absent_told : (home : Package) (attr v : List ℕ) (args : List Seg) → IsAbsent attr args → failed (NoAttribute attr) ≡ done (comment_note home attr v (segs_view args)) true
+pub absent_told : (home : Package) (attr v : List ℕ) (args : List Seg) → IsAbsent attr args → done (Some (NoAttribute attr)) false ≡ done (comment_note home attr v (segs_view args)) true
 absent_told home attr v args none = sym (ap (λ (n : Option Note). done n true) (absent_note home attr v (segs_view args) none.absent))
 
 -- the attribute has no such element
@@ -186,7 +188,7 @@ keeps_others p f start x xs told = rw told refl
 
 joined : (ns : List Node) (i : ℕ) → IsFirstPart ns i → list_all is_joint (nodes_view ns) ≡ true
 joined ns i first =
-    elim (cases_Bool (list_all is_joint (nodes_view ns))) [ inl h ↦ h | inr h ↦ (let none : no_parts (parts (nodes_view ns)) ≡ true = rw h refl in absurd (true≢false (sym none ∙ first.some))) ]
+    elim (cases_Bool (list_all is_joint (nodes_view ns))) [ inl h ↦ h | inr h ↦ (let none : is_empty (parts (nodes_view ns)) ≡ true = rw h refl in absurd (true≢false (sym none ∙ first.some))) ]
 
 joints_at : (p : Segment → Bool) (ns : List Node) (at i : ℕ) → NoneYet p ns at → IsNextPart ns at i → list_all is_joint (nodes_view ns) ≡ true
 joints_at p ns zero i before next = joined ns i (next.first refl)

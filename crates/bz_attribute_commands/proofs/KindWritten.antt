@@ -5,11 +5,11 @@ use Rattle.std.specs.List.{slice_split}
 use Rattle.std.proofs.lemmas.List.{map-append}
 use Rattle.bz_token.specs.declared.token.Kind.TheVariants.{Identifier, Operator}
 use Rattle.bz_tree.specs.declared.row.Part.{Part}
-use Rattle.bz_tree.specs.Tree.{Item, Statement, items_of}
+use Rattle.bz_tree.specs.Tree.{Item, Statement, items_of, leaf}
 use Rattle.bz_tree.specs.Rows.{RowPart, a_token, items_parts, part_view, parts_of}
 use Rattle.bz_command.proofs.Cuts.{some_part}
 use Rattle.bz_attribute.specs.Rules.{Rule, rule_of, kind_text}
-use Rattle.bz_attribute.specs.Set.{joined_by_dots, ident_item, dot_item, kind_items, kind_after, sets_kind_of, with_kind}
+use Rattle.bz_attribute.specs.Set.{joined_by_dots, kind_items, kind_after, sets_kind_of, with_kind}
 use Rattle.bz_attribute.specs.Effects.{done, nodes_of}
 use Rattle.bz_attribute.specs.KindPlaces.{IsKindPlace}
 
@@ -17,7 +17,7 @@ use Rattle.bz_attribute.specs.KindPlaces.{IsKindPlace}
 pub one_more : (old new : List Part) (p : Part) → new ≡ old ++ p ∷ [] → map part_view new ≡ map part_view old ++ part_view p ∷ []
 one_more old new p is = ap (map part_view) is ∙ map-append part_view old (p ∷ [])
 
-joined_more : (name : List ℕ) (names : List (List ℕ)) → 0 < length names → joined_by_dots (name ∷ names) ≡ ident_item name ∷ dot_item ∷ joined_by_dots names
+joined_more : (name : List ℕ) (names : List (List ℕ)) → 0 < length names → joined_by_dots (name ∷ names) ≡ leaf Identifier name ∷ leaf Operator (codes ".") ∷ joined_by_dots names
 joined_more name [] h = absurd (omega arith)
 joined_more name (other ∷ names) h = refl
 
@@ -25,7 +25,7 @@ joined_more name (other ∷ names) h = refl
 pub name_written : (ps : List RowPart) (left name rest : List ℕ) → slice_split (λ b. b == 46) left ≡ name ∷ slice_split (λ b. b == 46) rest
     → ((ps ++ a_token Identifier name ∷ []) ++ a_token Operator (codes ".") ∷ []) ++ items_parts (items_of (kind_items rest)) ≡ ps ++ items_parts (items_of (kind_items left))
 name_written ps left name rest h =
-    let more : kind_items left ≡ ident_item name ∷ dot_item ∷ kind_items rest = ap joined_by_dots h ∙ joined_more name (slice_split (λ b. b == 46) rest) (some_part (λ b. b == 46) rest) in
+    let more : kind_items left ≡ leaf Identifier name ∷ leaf Operator (codes ".") ∷ kind_items rest = ap joined_by_dots h ∙ joined_more name (slice_split (λ b. b == 46) rest) (some_part (λ b. b == 46) rest) in
     rw (append_assoc, append_assoc) (sym (ap (λ (xs : List Item). ps ++ items_parts (items_of xs)) more))
 
 -- the statement with another kind

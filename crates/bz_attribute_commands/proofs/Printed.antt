@@ -5,13 +5,13 @@ use Rattle.bz_tree.specs.Tree.{Statement}
 use Rattle.bz_command.specs.Labels.{Package}
 use Rattle.bz_command.specs.declared.arguments.Field.{Field}
 use Rattle.bz_attribute.specs.Rules.{Rule}
-use Rattle.bz_attribute.specs.Effects.{first_note}
-use Rattle.bz_attribute_commands.specs.Print.{spaced, missing, field_text, field_name}
+use Rattle.bz_attribute_commands.specs.Print.{missing, field_text, field_name}
 use Rattle.bz_attribute_commands.specs.private.PrintSteps.{spaced_from}
 use Rattle.bz_attribute.specs.declared.done.Note.{Note}
 use Rattle.bz_attribute.specs.declared.done.Note.TheVariants.{Missing}
+use Rattle.std.specs.List.{join_with_byte}
 
-pub spaced_all : (words : List (List ℕ)) → spaced_from [] words ≡ spaced words
+pub spaced_all : (words : List (List ℕ)) → spaced_from [] words ≡ join_with_byte 32 words
 spaced_all [] = refl
 spaced_all (word ∷ []) = append-nil word
 spaced_all (word ∷ other ∷ words) = ap (λ (z : List ℕ). word ++ 32 ∷ z) (spaced_all (other ∷ words))
@@ -30,23 +30,23 @@ next_viewed f g xs x i old mid new space h is before pushed =
 
 -- the note of the first field, and else that of the others
 note_first : (home : Package) (s : Statement) (r : Rule) (field : Field) (fields : List Field)
-    → first_note (missing home s r (field ∷ [])) (missing home s r fields) ≡ missing home s r (field ∷ fields)
+    → option_or (missing home s r (field ∷ [])) (missing home s r fields) ≡ missing home s r (field ∷ fields)
 note_first home s r field fields =
     elim (is_some (field_text home s r field)) as (λ b.
-    first_note (if b then None else Some (Missing (field_name field))) (missing home s r fields) ≡ (if b then missing home s r fields else Some (Missing (field_name field))))
+    option_or (if b then None else Some (Missing (field_name field))) (missing home s r fields) ≡ (if b then missing home s r fields else Some (Missing (field_name field))))
     [ true ↦ refl | false ↦ refl ]
 
 first_missing : (told : Option Note) (home : Package) (s : Statement) (r : Rule) (field : Field) (fields : List Field)
-    → told ≡ missing home s r (field ∷ []) → first_note told (missing home s r fields) ≡ missing home s r (field ∷ fields)
+    → told ≡ missing home s r (field ∷ []) → option_or told (missing home s r fields) ≡ missing home s r (field ∷ fields)
 first_missing told home s r field fields is = rw is (note_first home s r field fields)
 
 missing_after : {X : Type 0} (note : X → Note) (new told here : Option X) (home : Package) (s : Statement) (r : Rule) (field : Field) (fields : List Field)
-    → new ≡ option_or told here → option_map note here ≡ missing home s r (field ∷ []) → first_note (option_map note new) (missing home s r fields) ≡ first_note (option_map note told) (missing home s r (field ∷ fields))
+    → new ≡ option_or told here → option_map note here ≡ missing home s r (field ∷ []) → option_or (option_map note new) (missing home s r fields) ≡ option_or (option_map note told) (missing home s r (field ∷ fields))
 missing_after note new (Some name) here home s r field fields joined is = rw joined refl
 missing_after note new None here home s r field fields joined is = rw joined (first_missing (option_map note here) home s r field fields is)
 
 pub next_missing : {X : Type 0} (note : X → Note) (fields : List Field) (field : Field) (i : ℕ) (new told here : Option X) (home : Package) (s : Statement) (r : Rule)
     → i < length fields → field ≡ get_or fields i field → new ≡ option_or told here → option_map note here ≡ missing home s r (field ∷ [])
-    → first_note (option_map note new) (missing home s r (drop (i + 1) fields)) ≡ first_note (option_map note told) (missing home s r (drop i fields))
+    → option_or (option_map note new) (missing home s r (drop (i + 1) fields)) ≡ option_or (option_map note told) (missing home s r (drop i fields))
 next_missing note fields field i new told here home s r h is joined shown =
     rw (drop-cons fields i field, ← is, add-one) (missing_after note new told here home s r field (drop (suc i) fields) joined shown)

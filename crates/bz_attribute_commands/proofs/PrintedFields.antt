@@ -1,5 +1,5 @@
 -- What is printed of the head and the parts of a rule is what is printed of it.
-use Rattle.std.proofs.Common.{◌≡◌, ℕ, List, [], ◌∷◌, ◌++◌, ◌<◌, ◌≤◌, true, false, Option, Some, None, Bor, option_map, is_some, length, refl, sym, ◌∙◌, ap, arith, append_assoc, if◌then◌else◌, bytes_eq, rules}
+use Rattle.std.proofs.Common.{◌≡◌, ℕ, List, [], ◌∷◌, ◌++◌, ◌<◌, ◌≤◌, true, false, Option, Some, None, Bor, option_map, is_some, length, refl, sym, ◌∙◌, ap, arith, append_assoc, if◌then◌else◌, bytes_eq, rules, option_and_then}
 use Rattle.std.specs.Prelude.{codes, option_to_list}
 use Rattle.std.proofs.lemmas.Slice.Eq.{bytes_eq-Decides}
 use Rattle.bz_tree.specs.Tree.{Segment, Statement}
@@ -7,17 +7,19 @@ use Rattle.bz_tree.specs.Rows.{RowPart}
 use Rattle.bz_command.specs.Labels.{Package}
 use Rattle.bz_command.specs.declared.arguments.Field.{Field}
 use Rattle.bz_command.specs.declared.arguments.Field.TheVariants.{Label, ValueOf}
-use Rattle.bz_attribute.specs.Rules.{Rule, rule_of, kind_text, name_in, first_named, string_in, value}
+use Rattle.bz_attribute.specs.Rules.{Rule, rule_of, kind_text, name_in, first_named, value, string_value}
 use Rattle.bz_attribute.specs.RowPlaces.{IsRuleRow}
 use Rattle.bz_attribute.specs.Texts.{home_text}
 use Rattle.bz_attribute.specs.Heads.{IsHeadOf}
-use Rattle.bz_attribute.specs.Effects.{first_note}
 use Rattle.bz_attribute.specs.declared.head.Head.{Head}
 use Rattle.bz_attribute.specs.declared.done.Done.{Done}
 use Rattle.bz_attribute.specs.declared.done.Note.{Note}
 use Rattle.bz_attribute.specs.declared.done.Note.TheVariants.{Missing}
-use Rattle.bz_attribute_commands.specs.Print.{field_text, field_name, shown_field, fields_of, line_of, printed_of, prints, value_text, string_or, word_form}
+use Rattle.bz_attribute_commands.specs.Print.{field_text, field_name, fields_of, line_of, prints, value_text, word_form, list_text, printed}
 use Rattle.bz_attribute_commands.specs.private.PrintSteps.{HasPrinted, HasPrintedArgument, IsRuleOf}
+use Rattle.bz_attribute.specs.Effects.{done}
+use Rattle.bz_token.specs.Common.{map_or}
+use Rattle.std.specs.Option.{option_or}
 
 same_bytes : (xs ys : List ℕ) → bytes_eq xs ys ≡ true → xs ≡ ys
 same_bytes xs ys h = search (rules, bytes_eq-Decides)
@@ -36,18 +38,18 @@ note_of field text = if is_some text then None else Some (Missing (field_name fi
 
 -- one field, whose text is the same for each such rule
 pub one_field : (home : Package) (field : Field) (head : Head) (ps : List RowPart) (old new : List ℕ) (text : Option (List ℕ))
-    → ((s : Statement) (r : Rule) → IsRuleOf head ps s r → field_text home s r field ≡ text) → new ≡ old ++ shown_field text
+    → ((s : Statement) (r : Rule) → IsRuleOf head ps s r → field_text home s r field ≡ text) → new ≡ old ++ map_or (codes "(missing)") (λ text. text) text
     → HasPrinted home (field ∷ []) head ps old new (note_of field text)
 one_field home field head ps old new text told is = record {
-  line = λ s r h. is ∙ ap (λ (t : Option (List ℕ)). old ++ shown_field t) (sym (told s r h));
+  line = λ s r h. is ∙ ap (λ (t : Option (List ℕ)). old ++ map_or (codes "(missing)") (λ text. text) t) (sym (told s r h));
   note = λ s r h. ap (note_of field) (sym (told s r h));
 }
 
 pub one_argument : (attr : List ℕ) (ps : List RowPart) (old new : List ℕ) (text : Option (List ℕ))
-    → ((s : Statement) (r : Rule) → IsRuleRow s r ps → option_map (λ (a : Segment). value_text (value a)) (first_named attr r.args) ≡ text) → new ≡ old ++ shown_field text
+    → ((s : Statement) (r : Rule) → IsRuleRow s r ps → option_map (λ (a : Segment). value_text (value a)) (first_named attr r.args) ≡ text) → new ≡ old ++ map_or (codes "(missing)") (λ text. text) text
     → HasPrintedArgument attr ps old new (note_of (ValueOf attr) text)
 one_argument attr ps old new text told is = record {
-  line = λ home s r h. is ∙ ap (λ (t : Option (List ℕ)). old ++ shown_field t) (sym (told s r h));
+  line = λ home s r h. is ∙ ap (λ (t : Option (List ℕ)). old ++ map_or (codes "(missing)") (λ text. text) t) (sym (told s r h));
   note = λ home s r h. ap (note_of (ValueOf attr)) (sym (told s r h));
 }
 
@@ -60,9 +62,9 @@ pub label_told : (home : Package) (head : Head) (ps : List RowPart) (name : Opti
 label_told home head ps name is s r h =
     ap (option_map (λ text. home_text home ++ text)) (sym (name_told head ps s r h) ∙ ap (option_map (λ (t : Bor (List ℕ)). t.now)) is)
 
-name_value : (o : Option Segment) (v : List ℕ) → string_in o ≡ Some v → option_map (λ (a : Segment). value_text (value a)) o ≡ Some (word_form v)
+name_value : (o : Option Segment) (v : List ℕ) → option_and_then (λ a. string_value (value a)) o ≡ Some v → option_map (λ (a : Segment). value_text (value a)) o ≡ Some (word_form v)
 name_value None v h = absurd cc
-name_value (Some a) v h = ap (λ (t : Option (List ℕ)). Some (string_or (value a) t)) h
+name_value (Some a) v h = ap (λ (t : Option (List ℕ)). Some (map_or (list_text (value a)) word_form t)) h
 
 -- the name as an attribute
 pub name_shown : (home : Package) (attr : List ℕ) (head : Head) (ps : List RowPart) (name : Bor (List ℕ)) → bytes_eq attr (codes "name") ≡ true → head.name ≡ Some name
@@ -100,7 +102,7 @@ pub some_fields : (fields : List Field) → 1 ≤ length fields → fields ≡ f
 some_fields [] h = absurd (omega (arith, h))
 some_fields (field ∷ fields) h = refl
 
-pub no_more : (told : Option Note) → told ≡ first_note told None
+pub no_more : (told : Option Note) → told ≡ option_or told None
 no_more None = refl
 no_more (Some note) = refl
 
@@ -111,4 +113,4 @@ pub all_printed : (home : Package) (fields : List Field) (head : Head) (ps : Lis
     → (s : Statement) (r : Rule) → IsHeadOf head s → IsRuleRow s r ps → done_with line note ≡ prints home fields (Some s)
 all_printed home fields head ps line note a s r is row =
     let h : IsRuleOf head ps s r = record { head = is; row = row } in
-    (λ i. done_with (a.line s r h i) (a.note s r h i)) ∙ sym (ap (printed_of home s fields) row.rule)
+    (λ i. done_with (a.line s r h i) (a.note s r h i)) ∙ sym (ap (λ x0. map_or (done None false) (λ r. printed home s r (fields_of fields)) x0) row.rule)

@@ -1,6 +1,6 @@
 -- What `print` prints of a rule (buildozer README, print; how a value is shown is this project's own rule).
 use Rattle.std.specs.Prelude.{ℕ, ◌==◌, List, [], ◌∷◌, ◌++◌, Bool, false, ◌&&◌, ◌||◌, not, if◌then◌else◌, Option, Some, None, option_map, map, is_some, codes, nat_le}
-use Rattle.std.specs.List.{list_any, list_all}
+use Rattle.std.specs.List.{list_any, list_all, join_with_byte}
 use Rattle.std.specs.Fmt.{decimal}
 use Rattle.bz_tree.specs.declared.stmt.GroupKind.TheVariants.{RuleCall}
 use Rattle.bz_tree.specs.Tree.{Item, Segment, Statement}
@@ -10,46 +10,29 @@ use Rattle.bz_command.specs.Values.{quoted}
 use Rattle.bz_command.specs.declared.arguments.Field.{Field}
 use Rattle.bz_command.specs.declared.arguments.Field.TheVariants.{Label, Kind, StartLine, EndLine, ValueOf}
 use Rattle.bz_attribute.specs.Rules.{Rule, rule_of, kind_text, name_in, first_named, value, string_value, elements}
-use Rattle.bz_attribute.specs.Lists.{is_list}
+use Rattle.bz_attribute.specs.Lists.{is_list, is_only}
 use Rattle.bz_attribute.specs.Texts.{home_text}
 use Rattle.bz_attribute.specs.Effects.{done}
 use Rattle.bz_attribute.specs.declared.done.Done.{Done}
 use Rattle.bz_attribute.specs.declared.done.Note.{Note}
 use Rattle.bz_attribute.specs.declared.done.Note.TheVariants.{Missing}
+use Rattle.bz_token.specs.Common.{map_or}
 
--- a quote, a space or a byte below it
-abbrev pub is_unplain : ℕ → Bool
-is_unplain b = b == 34 || nat_le b 32
-
+-- no quote, no space and no byte below it
 abbrev pub is_plain : List ℕ → Bool
 is_plain [] = false
-is_plain (b ∷ bs) = not (list_any is_unplain (b ∷ bs))
+is_plain (b ∷ bs) = not (list_any (λ b. b == 34 || nat_le b 32) (b ∷ bs))
 
 -- a value as a word
 abbrev pub word_form : List ℕ → List ℕ
 word_form v = if is_plain v then v else quoted v
 
-abbrev pub spaced : List (List ℕ) → List ℕ
-spaced [] = []
-spaced (word ∷ []) = word
-spaced (word ∷ other ∷ words) = word ++ 32 ∷ spaced (other ∷ words)
-
-abbrev pub word_of : Option (List ℕ) → List ℕ
-word_of None = []
-word_of (Some v) = word_form v
-
--- a string with a value
-abbrev pub has_string : Segment → Bool
-has_string s = is_some (string_value s.nodes)
-
 abbrev pub words_text : List Segment → List ℕ
-words_text ss = codes "[" ++ spaced (map (λ s. word_of (string_value s.nodes)) ss) ++ codes "]"
+words_text ss = codes "[" ++ join_with_byte 32 (map (λ s. map_or [] word_form (string_value s.nodes)) ss) ++ codes "]"
 
 -- the whole value is one list of strings with values
 abbrev pub is_words : List Item → Bool
-is_words [] = false
-is_words (x ∷ []) = is_list x && list_all has_string (elements x)
-is_words (x ∷ y ∷ xs) = false
+is_words nodes = is_only (λ x. is_list x && list_all (λ s. is_some (string_value s.nodes)) (elements x)) nodes
 
 abbrev pub first_elements : List Item → List Segment
 first_elements [] = []
@@ -59,12 +42,8 @@ first_elements (x ∷ xs) = elements x
 abbrev pub list_text : List Item → List ℕ
 list_text nodes = if is_words nodes then words_text (first_elements nodes) else flat_text (Some RuleCall) nodes
 
-abbrev pub string_or : List Item → Option (List ℕ) → List ℕ
-string_or nodes None = list_text nodes
-string_or nodes (Some v) = word_form v
-
 abbrev pub value_text : List Item → List ℕ
-value_text nodes = string_or nodes (string_value nodes)
+value_text nodes = map_or (list_text nodes) word_form (string_value nodes)
 
 -- the text of a field, or nothing where it is missing
 abbrev pub field_text : Package → Statement → Rule → Field → Option (List ℕ)
@@ -74,17 +53,13 @@ field_text home s r StartLine = Some (decimal s.start)
 field_text home s r EndLine = Some (decimal s.end)
 field_text home s r (ValueOf attr) = option_map (λ a. value_text (value a)) (first_named attr r.args)
 
-abbrev pub shown_field : Option (List ℕ) → List ℕ
-shown_field None = codes "(missing)"
-shown_field (Some text) = text
-
 -- without fields the name and the kind
 abbrev pub fields_of : List Field → List Field
 fields_of [] = ValueOf (codes "name") ∷ Kind ∷ []
 fields_of (field ∷ fields) = field ∷ fields
 
 abbrev pub line_of : Package → Statement → Rule → List Field → List ℕ
-line_of home s r fields = spaced (map (λ field. shown_field (field_text home s r field)) fields)
+line_of home s r fields = join_with_byte 32 (map (λ field. map_or (codes "(missing)") (λ text. text) (field_text home s r field)) fields)
 
 abbrev pub field_name : Field → List ℕ
 field_name Label = codes "label"
@@ -105,11 +80,7 @@ printed home s r fields = record { changed = false; line = Some (line_of home s 
 abbrev pub printed_line : List ℕ → Done
 printed_line line = record { changed = false; line = Some line; note = None }
 
-abbrev pub printed_of : Package → Statement → List Field → Option Rule → Done
-printed_of home s fields None = done None false
-printed_of home s fields (Some r) = printed home s r (fields_of fields)
-
 -- `print <field>..`
 abbrev pub prints : Package → List Field → Option Statement → Done
 prints home fields None = done None false
-prints home fields (Some s) = printed_of home s fields (rule_of s.nodes)
+prints home fields (Some s) = map_or (done None false) (λ r. printed home s r (fields_of fields)) (rule_of s.nodes)

@@ -13,6 +13,7 @@ ghost use Rattle.bz_attribute.specs.Rules.{Rule, name_in, rule_of, string_value}
 ghost use Rattle.bz_attribute.specs.declared.done.Note.TheVariants.{Missing};
 ghost use Rattle.bz_attribute_commands.specs.Print as spec;
 ghost use Rattle.bz_attribute_commands.specs.private.PrintSteps.{HasPrinted, HasPrintedArgument, IsFieldOfName};
+ghost use Rattle.bz_token.specs.Common.{map_or};
 
 use bz_attribute::equals::string_of;
 use bz_attribute::{
@@ -230,7 +231,7 @@ fn push_value(alloc: Global, text: &mut String, value: &[Node<'_>]) -> Result<()
 
 // Strings with values.
 fn are_strings(elements: &[Seg<'_>]) -> bool
-    ensures { result ≡ list_all spec.has_string (segs_view elements.now) }
+    ensures { result ≡ list_all (λ s. is_some (string_value s.nodes)) (segs_view elements.now) }
 {
     elements.iter().all(|element| string_of(element).is_some())
 }
@@ -238,7 +239,7 @@ fn are_strings(elements: &[Seg<'_>]) -> bool
 // Writes what is one string with a value as a word. False: it is not.
 fn push_string(alloc: Global, text: &mut String, nodes: &[Node<'_>]) -> Result<bool, NoMemory>
     ensures word { OnOk result
-        (string_bytes text.new ≡ string_bytes text.old ++ spec.word_of (string_value (nodes_view nodes.now))) }
+        (string_bytes text.new ≡ string_bytes text.old ++ map_or [] spec.word_form (string_value (nodes_view nodes.now))) }
     ensures is { IfOk result (λ is. is ≡ is_some (string_value (nodes_view nodes.now))) }
 {
     let Some(literal) = only_text(nodes) else {

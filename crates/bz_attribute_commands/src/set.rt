@@ -6,7 +6,10 @@ ghost use Rattle.bz_attribute.specs.Rules.{first_named};
 ghost use Rattle.bz_attribute.specs.Lists.{with_value};
 ghost use Rattle.bz_attribute.specs.Effects as effects;
 ghost use Rattle.bz_attribute_commands.specs.private.SetViews.{new_view};
+ghost use Rattle.bz_attribute.specs.Lists as lists;
+ghost use Rattle.bz_attribute.specs.Rules as rules;
 ghost use Rattle.bz_attribute.specs.Set as spec;
+ghost use Rattle.bz_token.specs.Common.{map_or};
 
 use bz_attribute::{
     Done, Executed, elements_at, find, ident_of, is_list, is_string, list, literal, push_argument,
@@ -71,7 +74,8 @@ fn set_in(alloc: Global, attr: &str, words: &[Text], arg: &mut Seg<'_>) -> Execu
 
 // What the words stand for, where `was` is the value that is there, if any.
 pub(crate) fn new_of<'w>(attr: &str, words: &'w [Text], was: &[Node<'_>]) -> New<'w>
-    ensures { (arg : _) → spec.holds_list arg ≡ spec.is_one_list (nodes_view was.now)
+    ensures { (arg : _) → map_or false (λ a. lists.is_only lists.is_list (rules.value a)) arg
+        ≡ lists.is_only lists.is_list (nodes_view was.now)
         → new_view result ≡ spec.new_of attr.now words.now arg }
 {
     match words {
@@ -82,7 +86,7 @@ pub(crate) fn new_of<'w>(attr: &str, words: &'w [Text], was: &[Node<'_>]) -> New
 }
 
 fn is_one_list(value: &[Node<'_>]) -> bool
-    ensures { result ≡ spec.is_one_list (nodes_view value.now) }
+    ensures { result ≡ lists.is_only lists.is_list (nodes_view value.now) }
 {
     matches!(value, [node] if is_list(node))
 }

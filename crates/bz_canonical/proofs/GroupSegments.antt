@@ -16,7 +16,7 @@ use Rattle.bz_layout.specs.declared.spacing.Edge.TheVariants.{Start, Operator as
 use Rattle.bz_layout.specs.declared.spacing.Gap.{Gap}
 use Rattle.bz_layout.specs.declared.spacing.Gap.TheVariants.{Closed, Space, Line}
 use Rattle.bz_layout.specs.declared.broken.Style.TheVariants.{Broken}
-use Rattle.bz_layout.specs.Broken.{segs_hold, has_some, have_comments}
+use Rattle.bz_layout.specs.Broken.{segs_hold, have_comments}
 use Rattle.bz_layout.specs.Layout.{item_pieces, items_pieces, broken_segs, flat_segs}
 use Rattle.bz_layout.specs.Pieces.{Piece, piece, gap_bytes, bytes_of, comment_lines, comments, indent, suffix_piece}
 use Rattle.bz_layout.specs.Spacing.{closes_up, edge_after, gap_before}
@@ -24,6 +24,7 @@ use Rattle.bz_layout.proofs.Pieces.{bytes_append}
 use Rattle.bz_canonical.specs.private.Fronts.{IsTokenFront}
 use Rattle.bz_canonical.specs.private.Values.{IsValueFront, AreNodesFront}
 use Rattle.bz_canonical.specs.private.Segments.{IsOf, AreOf, IsSegmentFront, AreSegments, AreSegmentsFront, Continues, AreFlatFront, ContinuesFlat, AreLinesFront, AreNotesFront, IsBesideFront}
+use Rattle.bz_token.specs.Common.{is_filled}
 
 pub most : (a b n : ℕ) → a ≤ n → b ≤ n → max a b ≤ n
 most a b n h k = omega (arith, h, k)
@@ -90,7 +91,7 @@ more kind level depth text rest below inner end after next n h k c d e so above 
       front = all.front;
       count_is = all.count_is ∙ omega arith;
       breaks = all.breaks ∙ ap (λ b. h || (b || segs_hold tail)) s.breaks ∙ or_assoc h k (segs_hold tail);
-      notes = all.notes ∙ noted (has_some above.notes) above.some_is (is_some beside.note) beside.some_is (have_comments tail);
+      notes = all.notes ∙ noted (is_filled above.notes) above.some_is (is_some beside.note) beside.some_is (have_comments tail);
     }
   where
     join : (P Q R S : List Piece) (last : List ℕ) → bytes_of P ++ (bytes_of Q ++ (44 ∷ (bytes_of R ++ (bytes_of S ++ last))))
@@ -198,7 +199,7 @@ in_place_front kind level depth text rest end n h k same held f =
 
 abbrev pub ContinuesNotes : ℕ → List ℕ → List ℕ → Bool → Type 0
 ContinuesNotes level text rest some = (tail : List (List ℕ)) (last : List ℕ) → AreComments tail → rest ≡ bytes_of (comments level tail) ++ last
-    → AreNotesFront level text last (some || has_some tail)
+    → AreNotesFront level text last (some || is_filled tail)
 
 pub begin_notes : (level : ℕ) (text : List ℕ) → ContinuesNotes level text text false
 begin_notes level text = λ tail last are is. record { notes = tail; are = are; front = is; some_is = refl }

@@ -14,7 +14,7 @@ use Rattle.bz_tree.specs.Tree.{leaf, group, Segs}
 use Rattle.bz_layout.specs.declared.spacing.Gap.{Gap}
 use Rattle.bz_layout.specs.declared.spacing.Gap.TheVariants.{Line, Closed}
 use Rattle.bz_layout.specs.declared.broken.Style.TheVariants.{Broken}
-use Rattle.bz_layout.specs.Broken.{is_broken, breaks_by_count, segs_hold, has_some, have_comments, count}
+use Rattle.bz_layout.specs.Broken.{is_broken, breaks_by_count, segs_hold, have_comments, count}
 use Rattle.bz_layout.specs.Layout.{opening, closing, has_commas, breaks, broken_segs, flat_segs}
 use Rattle.bz_layout.specs.Pieces.{Piece, piece, gap_bytes, bytes_of, indent, comments}
 use Rattle.bz_layout.specs.Respell.{respell}
@@ -22,6 +22,7 @@ use Rattle.bz_layout.proofs.Pieces.{bytes_append}
 use Rattle.bz_canonical.specs.private.Fronts.{IsTokenFront}
 use Rattle.bz_canonical.specs.private.Values.{IsValueFront}
 use Rattle.bz_canonical.specs.private.Segments.{AreFlatFront, AreNotesFront, AreSegmentsFront, IsGroupFront}
+use Rattle.bz_token.specs.Common.{is_filled}
 
 pub token_front : (gap : Gap) (kind : Kind) (text rest : List ℕ) (f : IsTokenFront kind text rest) → gap_bytes gap ++ text ≡ bytes_of (piece gap kind (respell kind f.token) ∷ []) ++ rest
 token_front gap kind text rest f =
@@ -88,7 +89,7 @@ number_value text rest f level depth = record {
 }
 
 -- whether a group is broken, by what was counted
-pub broken_by : (kind : GroupKind) (segs : Segs) (end : List (List ℕ)) (n : ℕ) (h c e : Bool) → has_some end ≡ e → have_comments segs ≡ c → count segs ≡ n → segs_hold segs ≡ h
+pub broken_by : (kind : GroupKind) (segs : Segs) (end : List (List ℕ)) (n : ℕ) (h c e : Bool) → is_filled end ≡ e → have_comments segs ≡ c → count segs ≡ n → segs_hold segs ≡ h
     → is_broken kind segs end (segs_hold segs) ≡ (e || c || breaks_by_count kind n || (nat_le 2 n && h))
 broken_by kind segs end n h c e ends notes many holds = rw (ends, notes, many, holds) refl
 

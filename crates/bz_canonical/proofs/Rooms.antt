@@ -11,7 +11,7 @@ use Rattle.bz_tree.specs.Tree.{Item, leaf, group, Items, item, Segs, no_segs, se
 use Rattle.bz_layout.specs.declared.spacing.Edge.TheVariants.{Start}
 use Rattle.bz_layout.specs.declared.spacing.Gap.TheVariants.{Closed, Line}
 use Rattle.bz_layout.specs.declared.broken.Style.TheVariants.{Broken}
-use Rattle.bz_layout.specs.Broken.{count, has_some, have_comments, is_broken, segs_hold}
+use Rattle.bz_layout.specs.Broken.{count, have_comments, is_broken, segs_hold}
 use Rattle.bz_layout.specs.Layout.{breaks, broken_segs, is_comment, item_pieces, items_pieces, layout_text}
 use Rattle.bz_layout.specs.Pieces.{Piece, piece, bytes_of, comment_lines, comments, suffix_piece}
 use Rattle.bz_layout.proofs.Pieces.{bytes_append}
@@ -20,6 +20,7 @@ use Rattle.bz_canonical.specs.Canonical.{Between, HasRoom, argument_lines, nodes
 use Rattle.bz_canonical.proofs.Taken.{taken}
 use Rattle.bz_canonical.specs.private.Segments.{AreLinesFront, AreNotesFront, AreSegmentsFront, IsBesideFront}
 use Rattle.bz_canonical.specs.private.Statements.{HasGroupRoom, HasNodesRoom, HasStatementRoom, grown}
+use Rattle.bz_token.specs.Common.{is_filled}
 
 -- the lines of arguments one after another
 lines_and : (segs : Segs) (arg : Segment) → bytes_of (broken_segs Broken 1 RuleCall true (segs_of (segments segs ++ arg ∷ [])))
@@ -75,7 +76,7 @@ group_room segs inside below rest some is ends = record {
         ≡ (40 ∷ bytes_of (broken_segs Broken 1 RuleCall true segs)) ++ (new ++ 10 ∷ 41 ∷ [])
     by ss b on A new same = rw (on, bytes_append (broken_segs Broken 1 RuleCall true ss) (piece (Line 0) Operator (codes ")") ∷ []), same) (simp append_assoc)
 
-none : (end : List (List ℕ)) → has_some end ≡ false → end ≡ []
+none : (end : List (List ℕ)) → is_filled end ≡ false → end ≡ []
 none [] is = refl
 none (note ∷ end) is = absurd (false≢true (sym is))
 

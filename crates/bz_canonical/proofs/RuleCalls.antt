@@ -1,5 +1,5 @@
 -- The call of a rule by what was read of it.
-use Rattle.std.proofs.Common.{◌≡◌, ℕ, ◌+◌, ◌-◌, List, [], ◌∷◌, ◌++◌, Bool, true, false, ◌||◌, ◌&&◌, refl, sym, ap, ◌∙◌, arith, append_assoc, subst, length, take, bytes_eq, nat_eq, rules}
+use Rattle.std.proofs.Common.{◌≡◌, ℕ, ◌+◌, ◌-◌, List, [], ◌∷◌, ◌++◌, Bool, true, false, ◌||◌, ◌&&◌, refl, sym, ap, ◌∙◌, arith, append_assoc, subst, length, take, bytes_eq, nat_eq, rules, option_and_then}
 use Rattle.std.specs.Prelude.{codes, nat_le, Option, Some, None, IfSome, if◌then◌else◌}
 use Rattle.std.proofs.lemmas.Bool.{false≢true}
 use Rattle.std.specs.List.{starts_with}
@@ -16,7 +16,7 @@ use Rattle.bz_layout.specs.Broken.{segs_hold, count, have_comments, is_broken}
 use Rattle.bz_layout.specs.Layout.{items_pieces, item_pieces, broken_segs, flat_segs}
 use Rattle.bz_layout.specs.Pieces.{Piece, piece, bytes_of, comments, comma_if, gap_bytes, suffix_piece, indent}
 use Rattle.bz_layout.proofs.Pieces.{bytes_append}
-use Rattle.bz_attribute.specs.Rules.{first_named, ident_of, is_operator_item, is_text as is_text_of, name_of, string_in}
+use Rattle.bz_attribute.specs.Rules.{first_named, ident_of, is_operator_item, is_text as is_text_of, name_of, string_value as value_string, value}
 use Rattle.bz_canonical.specs.private.Fronts.{IsTokenFront, IsQuotedFront}
 use Rattle.bz_canonical.specs.private.Segments.{AreNotesFront, AreSegmentsFront, IsGroupFront}
 use Rattle.bz_canonical.specs.Canonical.{HasArgumentName}
@@ -175,7 +175,7 @@ pub unnamed_front : (depth : ℕ) (text call rest : List ℕ) (h : Bool) → IsG
 unnamed_front depth text call rest h g is none = record {
   holds = h;
   group = g;
-  named = ap string_in (no_argument_name (codes "name") g.segs g.end (λ has. none (subst (HasArgumentName (codes "name")) (sym (is ∙ taken text (bytes_of (item_pieces Broken 0 Closed (group RuleCall g.segs false g.end))) rest (g.front Closed))) has)));
+  named = ap (option_and_then (λ a. value_string (value a))) (no_argument_name (codes "name") g.segs g.end (λ has. none (subst (HasArgumentName (codes "name")) (sym (is ∙ taken text (bytes_of (item_pieces Broken 0 Closed (group RuleCall g.segs false g.end))) rest (g.front Closed))) has)));
   grows = tt;
 }
 

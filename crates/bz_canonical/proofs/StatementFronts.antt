@@ -10,7 +10,6 @@ use Rattle.bz_tree.specs.Tree.{Item, items_of}
 use Rattle.bz_layout.specs.declared.spacing.Edge.TheVariants.{Start}
 use Rattle.bz_layout.specs.declared.spacing.Gap.TheVariants.{Closed}
 use Rattle.bz_layout.specs.declared.broken.Style.TheVariants.{Broken}
-use Rattle.bz_layout.specs.Broken.{has_some}
 use Rattle.bz_layout.specs.Layout.{is_comment, items_pieces}
 use Rattle.bz_layout.specs.Pieces.{Piece, piece, bytes_of, comment_lines, suffix_piece}
 use Rattle.bz_layout.proofs.Pieces.{bytes_append}
@@ -20,6 +19,7 @@ use Rattle.bz_canonical.specs.private.Segments.{AreLinesFront, IsBesideFront}
 use Rattle.bz_canonical.specs.private.Statements.{IsBareFront, IsStatementFront}
 use Rattle.bz_canonical.proofs.Rooms.{statement_room}
 use Rattle.bz_canonical.proofs.RuleCalls.{after_it, before_it}
+use Rattle.bz_token.specs.Common.{is_filled}
 
 -- a statement that is more than comments
 pub statement_front : (depth : ℕ) (class : Class) (name room : Option (List ℕ)) (text start middle end rest : List ℕ) (b : Bool) → AreLinesFront text start → IsBareFront depth class name room start middle → IsBesideFront middle end b
@@ -79,6 +79,6 @@ comments_front depth text start rest above some ends = record {
   grows = tt;
 }
   where
-    by : (notes : List (List ℕ)) → text ≡ bytes_of (comment_lines notes) ++ start → has_some notes ≡ true
+    by : (notes : List (List ℕ)) → text ≡ bytes_of (comment_lines notes) ++ start → is_filled notes ≡ true
     by [] is = absurd (some (ap length (sym is)))
     by (note ∷ notes) is = refl

@@ -9,8 +9,9 @@ use Rattle.bz_layout.specs.declared.broken.Style.TheVariants.{Broken}
 use Rattle.bz_layout.specs.Layout.{broken_segs, layout_text}
 use Rattle.bz_layout.specs.Pieces.{bytes_of}
 use Rattle.bz_canonical.specs.declared.chunk.Room.{Room}
-use Rattle.bz_attribute.specs.Effects.{nodes_after}
 use Rattle.bz_attribute.specs.Rules.{Rule, first_named, rule_of, name_in}
+use Rattle.bz_attribute.specs.Effects.{nodes_of}
+use Rattle.bz_token.specs.Common.{map_or}
 
 abbrev pub rule_name : Option Rule → Option (List ℕ)
 rule_name None = None
@@ -33,7 +34,7 @@ pub record HasArgumentName (name text : List ℕ) : Type 0 where
 
 -- a rule with one argument more, after all others
 abbrev pub nodes_with : Segment → List Item → List Item
-nodes_with arg nodes = nodes_after (λ args. args ++ arg ∷ []) nodes (rule_of nodes)
+nodes_with arg nodes = map_or nodes (λ r. nodes_of (record r { args = (λ args. args ++ arg ∷ []) r.args })) (rule_of nodes)
 
 abbrev pub with_argument : Segment → Statement → Statement
 with_argument arg s = record s { nodes = nodes_with arg s.nodes }

@@ -1,13 +1,13 @@
 -- A literal read unit by unit.
-use Rattle.std.proofs.Common.{◌≡◌, ℕ, suc, ◌+◌, ◌-◌, ◌<◌, ◌==◌, ◌&&◌, ◌||◌, not, List, [], ◌∷◌, ◌++◌, length, take, drop, get_or, Bool, true, false, Option, Some, None, nat_eq, refl, sym, ap, ap₂, ◌∙◌, arith, inl, inr, append_assoc, eqb-true}
+use Rattle.std.proofs.Common.{◌≡◌, ℕ, suc, ◌+◌, ◌-◌, ◌<◌, ◌==◌, ◌&&◌, ◌||◌, not, List, [], ◌∷◌, ◌++◌, length, take, drop, get_or, Bool, true, false, Option, Some, None, nat_eq, refl, sym, ap, ap₂, ◌∙◌, arith, inl, inr, append_assoc, eqb-true, option_and_then}
 use Rattle.std.specs.Prelude.{if◌then◌else◌, option_map, bytes_eq, codes}
-use Rattle.std.specs.List.{starts_with, prefix_len, fold, list_all}
+use Rattle.std.specs.List.{starts_with, prefix_len, fold, list_all, concat}
 use Rattle.std.proofs.lemmas.Bool.{cases_Bool, and_parts, or_parts, eq-eqb, ne_eqb, false_from_ne_true}
 use Rattle.std.proofs.lemmas.List.{take_all, take_at, get_or_at, length-append}
 use Rattle.std.proofs.Math.Bool.{and_assoc}
 use Rattle.std.proofs.lemmas.Slice.Eq.{bytes_eq-Decides}
 use Rattle.bz_token.specs.Pieces.{is_quote}
-use Rattle.bz_command.specs.Values.{is_plain, IsQuoted, IsPlain, grouped_from, takes, units, joined, content, is_newline, unit_value, values_in, and_then, prefix_of, inner_of, value_of}
+use Rattle.bz_command.specs.Values.{is_plain, IsQuoted, IsPlain, grouped_from, takes, units, content, is_newline, unit_value, and_then, prefix_of, inner_of, value_of, values}
 use Rattle.bz_command.specs.private.ValueSteps.{plain_too, first_len, is_value, inner_value, value_in, taken, opened_value}
 
 -- nothing more joins a group
@@ -78,14 +78,14 @@ units_first b (c ∷ d ∷ bs) = elim (cases_Bool (b == 92)) [
   ]
 ]
 
-grouped_joined : (g xs : List ℕ) → joined (grouped_from takes g xs) ≡ g ++ xs
+grouped_joined : (g xs : List ℕ) → concat (grouped_from takes g xs) ≡ g ++ xs
 grouped_joined g [] = refl
 grouped_joined g (x ∷ xs) = elim (cases_Bool (takes g x)) [
   | inl is ↦ rw (joins_at g x xs is) (grouped_joined (g ++ x ∷ []) xs ∙ append_assoc g (x ∷ []) xs)
   | inr other ↦ rw (apart_at g x xs other) (ap (λ (ys : List ℕ). g ++ ys) (grouped_joined (x ∷ []) xs))
 ]
 
-pub units_joined : (bs : List ℕ) → joined (units bs) ≡ bs
+pub units_joined : (bs : List ℕ) → concat (units bs) ≡ bs
 units_joined [] = refl
 units_joined (b ∷ bs) = grouped_joined (b ∷ []) bs
 
@@ -95,15 +95,15 @@ content_at quotes bytes u rest =
     if starts_with nat_eq bytes quotes then (if bytes_eq bytes quotes then Some [] else None)
     else (if length quotes == 1 && is_newline u then None else option_map (λ inner. u ∷ inner) rest)
 
-content_of : (quotes bytes u : List ℕ) (us : List (List ℕ)) → joined (u ∷ us) ≡ bytes → content quotes (u ∷ us) ≡ content_at quotes bytes u (content quotes us)
+content_of : (quotes bytes u : List ℕ) (us : List (List ℕ)) → concat (u ∷ us) ≡ bytes → content quotes (u ∷ us) ≡ content_at quotes bytes u (content quotes us)
 content_of quotes bytes u us e = rw (← e) refl
 
 content_first : (quotes : List ℕ) (b : ℕ) (bs : List ℕ) → content quotes (units (b ∷ bs)) ≡ content_at quotes (b ∷ bs) (take (first_len (b ∷ bs)) (b ∷ bs)) (content quotes (units (drop (first_len (b ∷ bs)) (b ∷ bs))))
 content_first quotes b bs =
     ap (content quotes) (units_first b bs)
-    ∙ content_of quotes (b ∷ bs) (take (first_len (b ∷ bs)) (b ∷ bs)) (units (drop (first_len (b ∷ bs)) (b ∷ bs))) (ap joined (sym (units_first b bs)) ∙ units_joined (b ∷ bs))
+    ∙ content_of quotes (b ∷ bs) (take (first_len (b ∷ bs)) (b ∷ bs)) (units (drop (first_len (b ∷ bs)) (b ∷ bs))) (ap concat (sym (units_first b bs)) ∙ units_joined (b ∷ bs))
 
-values_more : (raw : Bool) (u : List ℕ) (o : Option (List (List ℕ))) → values_in raw (option_map (λ inner. u ∷ inner) o) ≡ and_then (unit_value raw u) (values_in raw o)
+values_more : (raw : Bool) (u : List ℕ) (o : Option (List (List ℕ))) → option_and_then (values raw) (option_map (λ inner. u ∷ inner) o) ≡ and_then (unit_value raw u) (option_and_then (values raw) o)
 values_more raw u None = elim (unit_value raw u) as (λ v. None ≡ and_then v None) [ None ↦ refl | Some b ↦ refl ]
 values_more raw u (Some us) = refl
 
@@ -115,7 +115,7 @@ step raw quotes (b ∷ bs) some h =
     let u : List ℕ = take (first_len (b ∷ bs)) (b ∷ bs) in
     let us : List (List ℕ) = units (drop (first_len (b ∷ bs)) (b ∷ bs)) in
     let open_ : content quotes (units (b ∷ bs)) ≡ (if length quotes == 1 && is_newline u then None else option_map (λ inner. u ∷ inner) (content quotes us)) = content_first quotes b bs ∙ rw h refl in
-    ap (values_in raw) open_
+    ap (λ x0. option_and_then (values raw) x0) open_
     ∙ elim (cases_Bool (length quotes == 1 && is_newline u)) [
       | inl is ↦ rw is refl
       | inr other ↦ rw other (values_more raw u (content quotes us))
@@ -136,7 +136,7 @@ shut raw quotes [] h = refl
 shut raw quotes (b ∷ bs) h =
     let here : content quotes (units (b ∷ bs)) ≡ (if bytes_eq (b ∷ bs) quotes then Some [] else None) = content_first quotes b bs ∙ rw h refl in
     let more : length (b ∷ bs) == 0 ≡ false = ne_eqb (length (b ∷ bs)) 0 (λ e. omega arith) in
-    ap (values_in raw) here
+    ap (λ x0. option_and_then (values raw) x0) here
     ∙ elim (cases_Bool (bytes_eq (b ∷ bs) quotes)) [
       | inl is ↦ rw (is, more) refl
       | inr other ↦ rw (other, more) refl
@@ -207,7 +207,7 @@ raw_other : (b : ℕ) (bs : List ℕ) → is_quote b ≡ false → value_of (114
 raw_other b bs h =
     let text : List ℕ = 114 ∷ b ∷ bs in
     let front : prefix_of (114 ∷ b ∷ bs) ≡ 114 ∷ b ∷ prefix_of bs = prefix_more 114 (b ∷ bs) refl ∙ ap (λ (xs : List ℕ). 114 ∷ xs) (prefix_more b bs h) in
-    ap (λ (p : List ℕ). if bytes_eq p [] then values_in false (inner_of text) else (if bytes_eq p (codes "r") then values_in true (inner_of (drop 1 text)) else None)) front
+    ap (λ (p : List ℕ). if bytes_eq p [] then option_and_then (values false) (inner_of text) else (if bytes_eq p (codes "r") then option_and_then (values true) (inner_of (drop 1 text)) else None)) front
 
 -- what begins with neither a quote nor an `r` has no value, and what begins with an `r` only where a quote follows
 pub opened_other : (text : List ℕ) → bytes_eq (take 1 text) (codes "r") ≡ false → opened_value false text ≡ value_of text

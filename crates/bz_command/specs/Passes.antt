@@ -58,10 +58,6 @@ is_missing m target found = if found then false else m.must_mark target
 abbrev pub missing : {S T C M : Type 0} → Meaning S T C M → T → Bool → List M
 missing m target found = if is_missing m target found then m.not_found target ∷ [] else []
 
-abbrev pub log_of_pass : {S T C M : Type 0} → Meaning S T C M → Pass T C → List (Slot S) → List M
-log_of_pass m p slots =
-    missing m p.target (list_any (m.marks p.target) slots) ++ log_of_commands m p.commands (map (marked m p.target) slots)
-
 -- the passes one after another
 abbrev pub slots_after : {S T C M : Type 0} → Meaning S T C M → List (Pass T C) → List (Slot S) → List (Slot S)
 slots_after m [] slots = slots
@@ -69,7 +65,9 @@ slots_after m (p ∷ ps) slots = slots_after m ps (slots_after_pass m p slots)
 
 abbrev pub log_of : {S T C M : Type 0} → Meaning S T C M → List (Pass T C) → List (Slot S) → List M
 log_of m [] slots = []
-log_of m (p ∷ ps) slots = log_of_pass m p slots ++ log_of m ps (slots_after_pass m p slots)
+log_of m (p ∷ ps) slots =
+    (missing m p.target (list_any (m.marks p.target) slots) ++ log_of_commands m p.commands (map (marked m p.target) slots))
+    ++ log_of m ps (slots_after_pass m p slots)
 
 -- whether an execution meets this test of its command and of the slot that it found
 abbrev pub meets : {S C : Type 0} → (C → Slot S → Bool) → C → Marked S → Bool

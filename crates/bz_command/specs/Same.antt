@@ -18,13 +18,11 @@ in_package (Some path) text = 47 ∷ 47 ∷ (path ++ text)
 abbrev pub with_path : Package → List ℕ → List ℕ
 with_path package_ text = if starts_with nat_eq text (codes ":") then in_package package_ text else text
 
--- a name after a path, where it has one
-abbrev pub named : List ℕ → List ℕ → List ℕ
-named path name = if bytes_eq name [] then path else path ++ 58 ∷ name
-
--- the last part of a path is its name
+-- the last part of a path is its name, where it is not empty
 abbrev pub with_name : List ℕ → List ℕ
-with_name text = if starts_with nat_eq text (codes "//") && not (list_any is_colon text) then named text (last_of (parts_of text)) else text
+with_name text =
+    if starts_with nat_eq text (codes "//") && not (list_any is_colon text)
+    then (let name = last_of (parts_of text) in if bytes_eq name [] then text else text ++ 58 ∷ name) else text
 
 -- a label in full
 abbrev pub completed : Package → List ℕ → List ℕ

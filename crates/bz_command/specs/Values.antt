@@ -1,6 +1,6 @@
 -- String literals (Starlark specification, lexical elements): which texts are one, what value one has, and how a value is written as one.
-use Rattle.std.specs.Prelude.{ℕ, ◌≡◌, ◌⊎◌, nat_eq, not, ◌==◌, List, [], ◌∷◌, ◌++◌, Bool, true, false, ◌&&◌, ◌||◌, if◌then◌else◌, Option, Some, None, option_map, is_some, codes, length, drop, bytes_eq}
-use Rattle.std.specs.List.{before_first, starts_with, list_any, list_all, flat_map}
+use Rattle.std.specs.Prelude.{ℕ, ◌≡◌, ◌⊎◌, nat_eq, not, ◌==◌, List, [], ◌∷◌, ◌++◌, Bool, true, false, ◌&&◌, ◌||◌, if◌then◌else◌, Option, Some, None, option_map, is_some, codes, length, drop, bytes_eq, option_and_then}
+use Rattle.std.specs.List.{before_first, starts_with, list_any, list_all, flat_map, concat}
 use Rattle.bz_token.specs.declared.token.Kind.{Kind}
 use Rattle.bz_token.specs.declared.token.Kind.TheVariants.{String}
 use Rattle.bz_token.specs.declared.token.Token.{Token}
@@ -20,9 +20,6 @@ abbrev pub units : List ℕ → List (List ℕ)
 units [] = []
 units (b ∷ bs) = grouped_from takes (b ∷ []) bs
 
-abbrev pub joined : List (List ℕ) → List ℕ
-joined us = flat_map (λ u. u) us
-
 -- a newline that no backslash escapes
 abbrev pub is_newline : List ℕ → Bool
 is_newline unit = bytes_eq unit (10 ∷ []) || bytes_eq unit (13 ∷ 10 ∷ [])
@@ -32,7 +29,7 @@ is_newline unit = bytes_eq unit (10 ∷ []) || bytes_eq unit (13 ∷ 10 ∷ [])
 abbrev pub content : List ℕ → List (List ℕ) → Option (List (List ℕ))
 content quotes [] = None
 content quotes (u ∷ us) =
-    if starts_with nat_eq (joined (u ∷ us)) quotes then (if bytes_eq (joined (u ∷ us)) quotes then Some [] else None)
+    if starts_with nat_eq (concat (u ∷ us)) quotes then (if bytes_eq (concat (u ∷ us)) quotes then Some [] else None)
     else (if length quotes == 1 && is_newline u then None else option_map (λ inner. u ∷ inner) (content quotes us))
 
 -- the prefix of a literal stands before its first quote
@@ -78,15 +75,11 @@ abbrev pub values : Bool → List (List ℕ) → Option (List ℕ)
 values raw [] = Some []
 values raw (u ∷ us) = and_then (unit_value raw u) (values raw us)
 
-abbrev pub values_in : Bool → Option (List (List ℕ)) → Option (List ℕ)
-values_in raw None = None
-values_in raw (Some us) = values raw us
-
 -- The value of a text. One that is no whole literal has none, and no bytes literal has one.
 abbrev pub value_of : List ℕ → Option (List ℕ)
 value_of text =
-    if bytes_eq (prefix_of text) [] then values_in false (inner_of text)
-    else (if bytes_eq (prefix_of text) (codes "r") then values_in true (inner_of (drop 1 text)) else None)
+    if bytes_eq (prefix_of text) [] then option_and_then (values false) (inner_of text)
+    else (if bytes_eq (prefix_of text) (codes "r") then option_and_then (values true) (inner_of (drop 1 text)) else None)
 
 -- a byte that stands for itself in a string of one quote
 abbrev pub is_plain : ℕ → ℕ → Bool

@@ -12,11 +12,11 @@ use Rattle.bz_token.specs.declared.cutter.Cutter.{Cutter}
 use Rattle.bz_token.specs.declared.cutter.Cut.{Cut}
 use Rattle.bz_token.specs.declared.cutter.Cut.TheVariants.{More, Block}
 use Rattle.bz_token.specs.declared.cutter.Next.TheVariants.{Goes, Ends, Short}
-use Rattle.bz_devices.specs.Device.{joined}
 use Rattle.bz_devices.specs.Ahead.{Ahead, IsReadOn, IsNextChunk, MayFollow, BeginsTooLong, IsTooLong, IsUncertain, IsUndecided, IsFewAfter}
 use Rattle.bz_devices.specs.private.AheadSteps.{IsOpen, IsLineAt, GoesAfter, IsBegun, GoesOn, EndsAt, IsEnd}
 use Rattle.bz_devices.proofs.ChunkLines.{line_is_physical, tail_is}
 use Rattle.bz_devices.proofs.ReadOn.{front_stays, back_grows, follows_read, ended_on}
+use Rattle.std.specs.List.{concat}
 
 whole : (bytes rest : List ℕ) (n : ℕ) → take n bytes ++ (drop n bytes ++ rest) ≡ bytes ++ rest
 whole bytes rest n = sym (append_assoc (take n bytes) (drop n bytes) rest) ∙ ap (λ l. l ++ rest) (take-append-drop n bytes)
@@ -249,9 +249,9 @@ goes_first cutter ahead part after takes =
 
 -- the bytes that were read stand before those that may follow
 read_before : (max : ℕ) (old new : Ahead) (pieces : List (List ℕ)) (e : ℕ) → IsReadOn max old new pieces → e ≤ length old.bytes
-    → (rest : List ℕ) → drop e old.bytes ++ (joined pieces ++ rest) ≡ drop e new.bytes ++ rest
+    → (rest : List ℕ) → drop e old.bytes ++ (concat pieces ++ rest) ≡ drop e new.bytes ++ rest
 read_before max old new pieces e read within rest =
-    sym (append_assoc (drop e old.bytes) (joined pieces) rest) ∙ ap (λ l. l ++ rest) (sym (back_grows max old new pieces e read within))
+    sym (append_assoc (drop e old.bytes) (concat pieces) rest) ∙ ap (λ l. l ++ rest) (sym (back_grows max old new pieces e read within))
 
 -- what was known of what may follow holds of what was read of it
 pub begun_read : (max : ℕ) (old new : Ahead) (pieces : List (List ℕ)) (e : ℕ) → IsReadOn max old new pieces → e ≤ length old.bytes → IsBegun old e → IsBegun new e
@@ -263,21 +263,21 @@ begun_read max old new pieces e read within begun =
       longer = λ rest may some.
           subst (λ l. IsLonger l (drop e new.bytes ++ rest)) (sym front)
           (subst (λ l. IsLonger (take e old.bytes) l) (there rest)
-          (begun.longer (joined pieces ++ rest) (follows_read max old new pieces rest read may) (subst (λ l. 0 < length l) (sym (there rest)) some)));
+          (begun.longer (concat pieces ++ rest) (follows_read max old new pieces rest read may) (subst (λ l. 0 < length l) (sym (there rest)) some)));
     }
 
 pub goes_read : (max : ℕ) (cutter : Cutter) (old new : Ahead) (pieces : List (List ℕ)) (e : ℕ) → IsReadOn max old new pieces → e ≤ length old.bytes → GoesOn cutter old e → GoesOn cutter new e
 goes_read max cutter old new pieces e read within goes =
     let front : take e new.bytes ≡ take e old.bytes = front_stays max old new pieces e read within in
-    let back : drop e new.bytes ≡ drop e old.bytes ++ joined pieces = back_grows max old new pieces e read within in
+    let back : drop e new.bytes ≡ drop e old.bytes ++ concat pieces = back_grows max old new pieces e read within in
     let there = read_before max old new pieces e read within in
     let after : GoesAfter new e → GoesAfter old e = λ some ended.
-    let none : drop e new.bytes ≡ drop e old.bytes = back ∙ ap (λ ps. drop e old.bytes ++ joined ps) (read.stays ended) ∙ append-nil (drop e old.bytes) in
+    let none : drop e new.bytes ≡ drop e old.bytes = back ∙ ap (λ ps. drop e old.bytes ++ concat ps) (read.stays ended) ∙ append-nil (drop e old.bytes) in
     subst (λ l. 0 < length l) none (some (ended_on max old new pieces read ended)) in
     record {
       begun = begun_read max old new pieces e read within goes.begun;
       after = λ some. subst (λ l. IsAfter cutter l) (sym front) (goes.after (after some));
-      takes = λ some rest may. subst (λ l. Takes cutter (first_line l)) (there rest) (goes.takes (after some) (joined pieces ++ rest) (follows_read max old new pieces rest read may));
+      takes = λ some rest may. subst (λ l. Takes cutter (first_line l)) (there rest) (goes.takes (after some) (concat pieces ++ rest) (follows_read max old new pieces rest read may));
     }
 
 -- no line follows the last one
@@ -328,11 +328,11 @@ few_bytes ahead few n more = absurd (omega (arith, few, more))
 -- what is sure to be too long stays so
 too_long_read : (max n : ℕ) (old new : Ahead) (pieces : List (List ℕ)) → IsReadOn max old new pieces → IsTooLong n old → IsTooLong n new
 too_long_read max n old new pieces read long rest may =
-    let here = long (joined pieces ++ rest) (follows_read max old new pieces rest read may) in
-    let same : old.bytes ++ (joined pieces ++ rest) ≡ new.bytes ++ rest = sym (append_assoc old.bytes (joined pieces) rest) ∙ ap (λ l. l ++ rest) (sym read.bytes) in
+    let here = long (concat pieces ++ rest) (follows_read max old new pieces rest read may) in
+    let same : old.bytes ++ (concat pieces ++ rest) ≡ new.bytes ++ rest = sym (append_assoc old.bytes (concat pieces) rest) ∙ ap (λ l. l ++ rest) (sym read.bytes) in
     record {
       seen = here.seen;
-      within = omega (arith, here.within, ap length read.bytes, length-append old.bytes (joined pieces));
+      within = omega (arith, here.within, ap length read.bytes, length-append old.bytes (concat pieces));
       over = here.over;
       more = here.more;
       others = here.others;
@@ -340,14 +340,14 @@ too_long_read max n old new pieces read long rest may =
     }
 
 -- a read where all that is ahead belongs to the chunk
-pub few_read : (max e : ℕ) (old new : Ahead) (pieces : List (List ℕ)) → IsReadOn max old new pieces → length (joined pieces) ≤ 8192 → e ≤ length old.bytes → IsBegun old e → IsOpen (drop e old.bytes) → IsFewAfter new
+pub few_read : (max e : ℕ) (old new : Ahead) (pieces : List (List ℕ)) → IsReadOn max old new pieces → length (concat pieces) ≤ 8192 → e ≤ length old.bytes → IsBegun old e → IsOpen (drop e old.bytes) → IsFewAfter new
 few_read max e old new pieces read few within begun is n more =
-    too_long_read max n old new pieces read (too_long_line n e old (omega (arith, more, few, ap length read.bytes, length-append old.bytes (joined pieces))) within begun is)
+    too_long_read max n old new pieces read (too_long_line n e old (omega (arith, more, few, ap length read.bytes, length-append old.bytes (concat pieces))) within begun is)
 
 -- and where the end of a block waits for what follows
-pub few_block : (max e : ℕ) (old new : Ahead) (pieces : List (List ℕ)) → IsReadOn max old new pieces → length (joined pieces) + (length old.bytes - e) ≤ 8192 → e ≤ length old.bytes → IsBlock (take e old.bytes) → IsFewAfter new
+pub few_block : (max e : ℕ) (old new : Ahead) (pieces : List (List ℕ)) → IsReadOn max old new pieces → length (concat pieces) + (length old.bytes - e) ≤ 8192 → e ≤ length old.bytes → IsBlock (take e old.bytes) → IsFewAfter new
 few_block max e old new pieces read few within block n more =
-    too_long_read max n old new pieces read (too_long_block n e old (omega (arith, more, few, within, ap length read.bytes, length-append old.bytes (joined pieces))) within block)
+    too_long_read max n old new pieces read (too_long_block n e old (omega (arith, more, few, within, ap length read.bytes, length-append old.bytes (concat pieces))) within block)
 
 -- all that is ahead is a part of the chunk
 pub part_begun : (ahead : Ahead) → IsPart ahead.bytes → IsBegun ahead (length ahead.bytes)

@@ -2,11 +2,11 @@
 use Rattle.std.proofs.Common.{◌≡◌, ℕ, ◌≤◌, ◌+◌, ◌-◌, List, [], ◌++◌, length, take, drop, subst, refl, sym, ◌∙◌, ap, arith, inl, inr, length-drop}
 use Rattle.std.specs.Prelude.{IsTrue}
 use Rattle.std.proofs.lemmas.Grind.{common_steps}
-use Rattle.bz_devices.specs.Device.{joined}
 use Rattle.bz_devices.specs.Ahead.{Ahead, IsReadOn}
 use Rattle.bz_devices.specs.private.AheadSteps.{IsOpen, IsLine, IsLineAt}
 use Rattle.bz_devices.proofs.ChunkLines.{open_then, line_then, slice_more, slice_all, tail_is}
 use Rattle.bz_devices.proofs.ReadOn.{back_grows}
+use Rattle.std.specs.List.{concat}
 
 -- nothing was searched
 pub passed_none : (bytes : List ℕ) (e : ℕ) → IsOpen (take (e - e) (drop e bytes))
@@ -50,5 +50,5 @@ pub passed_all : (max : ℕ) (old new : Ahead) (seen : List ℕ) (pieces : List 
 passed_all max old new seen pieces e same read within is =
     let len : length seen ≡ length old.bytes = ap length same in
     let fits : e ≤ length old.bytes = omega arith in
-    let front : take (length seen - e) (drop e old.bytes ++ joined pieces) ≡ drop e old.bytes = grind (arith, common_steps) in
+    let front : take (length seen - e) (drop e old.bytes ++ concat pieces) ≡ drop e old.bytes = grind (arith, common_steps) in
     subst (λ l. IsOpen l) (sym (ap (take (length seen - e)) (back_grows max old new pieces e read fits) ∙ front)) is

@@ -7,10 +7,10 @@ use Rattle.std.proofs.lemmas.List.Concat.{flat_map-append}
 use Rattle.std.proofs.lemmas.List.Folds.{concat-append}
 use Rattle.bz_token.specs.Chunks.{chunks}
 use Rattle.bz_token.specs.Cuts.{EndsBefore}
-use Rattle.bz_devices.specs.Device.{joined, ends, NoneEnds}
+use Rattle.bz_devices.specs.Device.{ends, NoneEnds}
 use Rattle.bz_devices.specs.DeviceLaws.{ends-append}
 
-pub joined_more : (ps qs : List (List ℕ)) → joined (ps ++ qs) ≡ joined ps ++ joined qs
+pub joined_more : (ps qs : List (List ℕ)) → concat (ps ++ qs) ≡ concat ps ++ concat qs
 joined_more ps qs = flat_map-append (λ piece. piece) ps qs
 
 -- whether the end was met
@@ -42,32 +42,32 @@ pub open_more : (old new : Bool) (ps qs : List (List ℕ)) → new ≡ (old || e
 open_more old new ps qs is p q h = none_ends_more ps qs (p (or_is_false old (ends qs) (sym is ∙ h))) (q h)
 
 -- the bytes of the reads are the chunks that are done, the chunk that is taken, and the bytes ahead
-pub bytes_more : (ps qs cs : List (List ℕ)) (a b chunk left : List ℕ) → joined ps ≡ concat cs ++ a → b ≡ a ++ joined qs → b ≡ chunk ++ left
-    → joined (ps ++ qs) ≡ concat (cs ++ chunk ∷ []) ++ left
+pub bytes_more : (ps qs cs : List (List ℕ)) (a b chunk left : List ℕ) → concat ps ≡ concat cs ++ a → b ≡ a ++ concat qs → b ≡ chunk ++ left
+    → concat (ps ++ qs) ≡ concat (cs ++ chunk ∷ []) ++ left
 bytes_more ps qs cs a b chunk left done read cut =
     joined_more ps qs
-    ∙ ap (λ l. l ++ joined qs) done
-    ∙ append_assoc (concat cs) a (joined qs)
+    ∙ ap (λ l. l ++ concat qs) done
+    ∙ append_assoc (concat cs) a (concat qs)
     ∙ ap (λ l. concat cs ++ l) (sym read ∙ cut)
     ∙ sym (append_assoc (concat cs) chunk left)
     ∙ ap (λ l. l ++ left) (ap (λ l. concat cs ++ l) (sym (append-nil chunk)) ∙ sym (concat-append cs (chunk ∷ [])))
 
 -- the file is the bytes of the reads and the rest
-pub file_more : (ps qs : List (List ℕ)) (rest : List ℕ) → joined (ps ++ qs) ++ rest ≡ joined ps ++ (joined qs ++ rest)
-file_more ps qs rest = ap (λ l. l ++ rest) (joined_more ps qs) ∙ append_assoc (joined ps) (joined qs) rest
+pub file_more : (ps qs : List (List ℕ)) (rest : List ℕ) → concat (ps ++ qs) ++ rest ≡ concat ps ++ (concat qs ++ rest)
+file_more ps qs rest = ap (λ l. l ++ rest) (joined_more ps qs) ∙ append_assoc (concat ps) (concat qs) rest
 
-joined_nothing : (qs : List (List ℕ)) (rest : List ℕ) → qs ≡ [] → rest ≡ [] → joined qs ++ rest ≡ []
-joined_nothing qs rest none over = ap (λ l. joined l ++ rest) none ∙ over
+joined_nothing : (qs : List (List ℕ)) (rest : List ℕ) → qs ≡ [] → rest ≡ [] → concat qs ++ rest ≡ []
+joined_nothing qs rest none over = ap (λ l. concat l ++ rest) none ∙ over
 
 -- the chunks of the file after more reads: those that are done, and those of the bytes ahead with the rest
 pub chunks_more : (ps qs cs : List (List ℕ)) (a b : List ℕ) (old new : Bool)
-    → ((rest : List ℕ) → (IsTrue old → rest ≡ []) → chunks (joined ps ++ rest) ≡ cs ++ chunks (a ++ rest))
-    → b ≡ a ++ joined qs → new ≡ (old || ends qs) → (IsTrue old → qs ≡ [])
-    → (rest : List ℕ) → (IsTrue new → rest ≡ []) → chunks (joined (ps ++ qs) ++ rest) ≡ cs ++ chunks (b ++ rest)
+    → ((rest : List ℕ) → (IsTrue old → rest ≡ []) → chunks (concat ps ++ rest) ≡ cs ++ chunks (a ++ rest))
+    → b ≡ a ++ concat qs → new ≡ (old || ends qs) → (IsTrue old → qs ≡ [])
+    → (rest : List ℕ) → (IsTrue new → rest ≡ []) → chunks (concat (ps ++ qs) ++ rest) ≡ cs ++ chunks (b ++ rest)
 chunks_more ps qs cs a b old new first read is stays rest over =
     ap chunks (file_more ps qs rest)
-    ∙ first (joined qs ++ rest) (λ h. joined_nothing qs rest (stays h) (over (was_true old (ends qs) new is h)))
-    ∙ ap (λ l. cs ++ chunks l) (sym (append_assoc a (joined qs) rest) ∙ ap (λ l. l ++ rest) (sym read))
+    ∙ first (concat qs ++ rest) (λ h. joined_nothing qs rest (stays h) (over (was_true old (ends qs) new is h)))
+    ∙ ap (λ l. cs ++ chunks l) (sym (append_assoc a (concat qs) rest) ∙ ap (λ l. l ++ rest) (sym read))
   where
     was_true : (o e n : Bool) → n ≡ (o || e) → IsTrue o → IsTrue n
     was_true true e n same h = same

@@ -4,9 +4,10 @@ use Rattle.std.specs.Prelude.{IsTrue, ◌||◌}
 use Rattle.std.proofs.lemmas.Bool.{false≢true}
 use Rattle.std.proofs.lemmas.List.{drop-append-le, take-append-le}
 use Rattle.std.proofs.lemmas.List.Concat.{flat_map-append}
-use Rattle.bz_devices.specs.Device.{joined, ends, NoneEnds, NoneAfterEnd, Rises}
+use Rattle.bz_devices.specs.Device.{ends, NoneEnds, NoneAfterEnd, Rises}
 use Rattle.bz_devices.specs.DeviceLaws.{ends-append}
 use Rattle.bz_devices.specs.Ahead.{Ahead, IsReadOn, MayFollow, IsUndecided, AreNeeded}
+use Rattle.std.specs.List.{concat}
 
 -- no read
 pub read_nothing : (max : ℕ) (ahead : Ahead) → ahead.reads ≤ max → IsReadOn max ahead ahead []
@@ -24,15 +25,15 @@ read_failed max old items left start reads ended view same made =
     subst (λ l. IsReadOn max old (record { bytes = drop start l; reads = reads; ended = ended }) []) (sym same)
     (subst (λ a. IsReadOn max old a []) (sym view) (read_nothing max old made))
 
-pub nothing_within : (most : ℕ) → length (joined []) ≤ most
+pub nothing_within : (most : ℕ) → length (concat []) ≤ most
 nothing_within most = omega arith
 
 -- a read gave a piece
 pub read_once : (max most : ℕ) (old new : Ahead) (items all piece : List ℕ) (start text_len reads n : ℕ) (ended : Bool) → record { bytes = drop start items; reads = reads; ended = ended } ≡ old
     → new ≡ record { bytes = drop start all; reads = reads + 1; ended = n == 0 } → all ≡ items ++ piece → n ≡ length piece → n ≤ most → most ≤ 8192 → start + text_len ≤ length items → 0 < max - reads → old.ended ≡ false
-    → IsReadOn max old new (piece ∷ []) × (length (joined (piece ∷ [])) ≤ most)
+    → IsReadOn max old new (piece ∷ []) × (length (concat (piece ∷ [])) ≤ most)
 read_once max most old new items all piece start text_len reads n ended view made same size within few fits left going =
-    let whole : length (joined (piece ∷ [])) ≡ length piece = ap length (append-nil piece) in
+    let whole : length (concat (piece ∷ [])) ≡ length piece = ap length (append-nil piece) in
     let before : ended ≡ false = ap (λ (a : Ahead). a.ended) view ∙ going in
     let is : IsReadOn max (record { bytes = drop start items; reads = reads; ended = ended }) (record { bytes = drop start all; reads = reads + 1; ended = n == 0 }) (piece ∷ []) = record {
       bytes = ap (drop start) same ∙ drop-append-le start items piece (omega arith) ∙ ap (λ l. drop start items ++ l) (sym (append-nil piece));
@@ -96,9 +97,9 @@ or_true a b c h k = h ∙ ap (λ t. t || b) k
 -- one run of reads after another
 pub read_then : (max : ℕ) (a b c : Ahead) (xs ys : List (List ℕ)) → IsReadOn max a b xs → IsReadOn max b c ys → IsReadOn max a c (xs ++ ys)
 read_then max a b c xs ys first second =
-    let all : joined (xs ++ ys) ≡ joined xs ++ joined ys = flat_map-append (λ x. x) xs ys in
+    let all : concat (xs ++ ys) ≡ concat xs ++ concat ys = flat_map-append (λ x. x) xs ys in
     record {
-      bytes = second.bytes ∙ ap (λ l. l ++ joined ys) first.bytes ∙ append_assoc a.bytes (joined xs) (joined ys) ∙ ap (λ l. a.bytes ++ l) (sym all);
+      bytes = second.bytes ∙ ap (λ l. l ++ concat ys) first.bytes ∙ append_assoc a.bytes (concat xs) (concat ys) ∙ ap (λ l. a.bytes ++ l) (sym all);
       reads = omega (arith, first.reads, second.reads, length-append xs ys);
       within = second.within;
       ended = ended_then a.ended b.ended c.ended xs ys first.ended second.ended second.stays;
@@ -109,27 +110,27 @@ read_then max a b c xs ys first second =
       none_ends = λ h.
           none_append xs ys (first.none_ends (or_left b.ended (ends ys) c.ended second.ended h)) (second.none_ends h);
       none_after = after_then b.ended xs ys first.none_after second.none_after first.none_ends second.stays;
-      few = omega (arith, first.few, second.few, ap length all, length-append (joined xs) (joined ys), length-append xs ys);
+      few = omega (arith, first.few, second.few, ap length all, length-append (concat xs) (concat ys), length-append xs ys);
     }
 
 -- what may follow the bytes after the reads may follow the first with them
-pub follows_read : (max : ℕ) (old new : Ahead) (pieces : List (List ℕ)) (rest : List ℕ) → IsReadOn max old new pieces → MayFollow new rest → MayFollow old (joined pieces ++ rest)
+pub follows_read : (max : ℕ) (old new : Ahead) (pieces : List (List ℕ)) (rest : List ℕ) → IsReadOn max old new pieces → MayFollow new rest → MayFollow old (concat pieces ++ rest)
 follows_read max old new pieces rest read may ended =
     let none : pieces ≡ [] = read.stays ended in
     let now : new.ended ≡ true = or_true old.ended (ends pieces) new.ended read.ended ended in
     let nothing : rest ≡ [] = may now in
-    ap (λ ps. joined ps ++ rest) none ∙ nothing
+    ap (λ ps. concat ps ++ rest) none ∙ nothing
 
 -- the bytes that were ahead stay in front
 pub front_stays : (max : ℕ) (old new : Ahead) (pieces : List (List ℕ)) (n : ℕ) → IsReadOn max old new pieces → n ≤ length old.bytes → take n new.bytes ≡ take n old.bytes
-front_stays max old new pieces n read h = ap (take n) read.bytes ∙ take-append-le n old.bytes (joined pieces) h
+front_stays max old new pieces n read h = ap (take n) read.bytes ∙ take-append-le n old.bytes (concat pieces) h
 
 pub back_grows : (max : ℕ) (old new : Ahead) (pieces : List (List ℕ)) (n : ℕ) → IsReadOn max old new pieces → n ≤ length old.bytes
-    → drop n new.bytes ≡ drop n old.bytes ++ joined pieces
-back_grows max old new pieces n read h = ap (drop n) read.bytes ∙ drop-append-le n old.bytes (joined pieces) h
+    → drop n new.bytes ≡ drop n old.bytes ++ concat pieces
+back_grows max old new pieces n read h = ap (drop n) read.bytes ∙ drop-append-le n old.bytes (concat pieces) h
 
-pub grows : (max : ℕ) (old new : Ahead) (pieces : List (List ℕ)) → IsReadOn max old new pieces → length new.bytes ≡ length old.bytes + length (joined pieces)
-grows max old new pieces read = ap length read.bytes ∙ length-append old.bytes (joined pieces)
+pub grows : (max : ℕ) (old new : Ahead) (pieces : List (List ℕ)) → IsReadOn max old new pieces → length new.bytes ≡ length old.bytes + length (concat pieces)
+grows max old new pieces read = ap length read.bytes ∙ length-append old.bytes (concat pieces)
 
 -- a count that stood still and then rose
 pub rises_from : (a b c : ℕ) → b ≡ a → Rises b c → Rises a c
@@ -144,10 +145,10 @@ needed_one max_reads max old new [] read one undecided = tt
 needed_one max_reads max old new (piece ∷ []) read one undecided = (undecided, tt)
 needed_one max_reads max old new (piece ∷ (next ∷ pieces)) read one undecided = absurd (omega (arith, read.reads, one))
 
-needed_append : (max : ℕ) (bytes : List ℕ) (xs ys : List (List ℕ)) → AreNeeded max bytes xs → AreNeeded max (bytes ++ joined xs) ys → AreNeeded max bytes (xs ++ ys)
+needed_append : (max : ℕ) (bytes : List ℕ) (xs ys : List (List ℕ)) → AreNeeded max bytes xs → AreNeeded max (bytes ++ concat xs) ys → AreNeeded max bytes (xs ++ ys)
 needed_append max bytes [] ys first second = subst (λ l. AreNeeded max l ys) (append-nil bytes) second
 needed_append max bytes (x ∷ xs) ys first second =
-    (first.0, needed_append max (bytes ++ x) xs ys first.1 (subst (λ l. AreNeeded max l ys) (sym (append_assoc bytes x (joined xs))) second))
+    (first.0, needed_append max (bytes ++ x) xs ys first.1 (subst (λ l. AreNeeded max l ys) (sym (append_assoc bytes x (concat xs))) second))
 
 -- one run of needed reads after another
 pub needed_then : (max_reads max : ℕ) (old new : Ahead) (xs ys : List (List ℕ)) → IsReadOn max_reads old new xs → AreNeeded max old.bytes xs → AreNeeded max new.bytes ys → AreNeeded max old.bytes (xs ++ ys)

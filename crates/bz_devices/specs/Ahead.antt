@@ -4,7 +4,7 @@ use Rattle.std.specs.List.{concat}
 use Rattle.bz_token.specs.Places.{line_at}
 use Rattle.bz_token.specs.Chunks.{chunks}
 use Rattle.bz_token.specs.Cuts.{EndsBefore}
-use Rattle.bz_devices.specs.Device.{joined, ends, NoneEnds, NoneAfterEnd}
+use Rattle.bz_devices.specs.Device.{ends, NoneEnds, NoneAfterEnd}
 
 -- what was read and not yet taken, how many reads were made, and whether one met the end of the input
 pub record Ahead : Type 0 where
@@ -14,14 +14,14 @@ pub record Ahead : Type 0 where
 
 -- Reads gave these pieces, each of at most 8,192 bytes: they stand after the bytes ahead. After the end nothing is read.
 pub record IsReadOn (max_reads : ℕ) (old new : Ahead) (pieces : List (List ℕ)) : Type 0 where
-  pub bytes : new.bytes ≡ old.bytes ++ joined pieces
+  pub bytes : new.bytes ≡ old.bytes ++ concat pieces
   pub reads : new.reads ≡ old.reads + length pieces
   pub within : new.reads ≤ max_reads
   pub ended : new.ended ≡ (old.ended || ends pieces)
   pub stays : IsTrue old.ended → pieces ≡ []
   pub none_ends : new.ended ≡ false → NoneEnds pieces
   pub none_after : NoneAfterEnd pieces
-  pub few : length (joined pieces) ≤ 8192 * length pieces
+  pub few : length (concat pieces) ≤ 8192 * length pieces
 
 -- what may follow the bytes ahead: nothing, where the end was met
 abbrev pub MayFollow : Ahead → List ℕ → Type 0

@@ -1,11 +1,7 @@
 -- Devices: what a source gave and what a sink took. One piece stands for one read; an empty one is the end of the input.
 use Rattle.std.specs.Prelude.{◌≡◌, ℕ, ◌+◌, ◌<◌, ◌≤◌, ◌-◌, ◌^◌, Bool, true, false, IsTrue, List, [], ◌∷◌, ◌++◌, Option, None, Some, ⊤}
 use Rattle.std.specs.Prelude.{length}
-use Rattle.std.specs.List.{flat_map}
-
--- the bytes of these reads, in order
-abbrev pub joined : List (List ℕ) → List ℕ
-joined pieces = flat_map (λ piece. piece) pieces
+use Rattle.std.specs.List.{flat_map, concat}
 
 -- whether the last of these reads gave no byte, and so met the end of the input
 abbrev pub ends : List (List ℕ) → Bool
@@ -49,4 +45,4 @@ pub record Counted (D : Type 0) : Type 0 where
 abbrev pub Gave : Option (List ℕ) → Option (List ℕ) → List (List ℕ) → Type 0
 Gave None new pieces = ⊤
 Gave (Some xs) None pieces = ⊥
-Gave (Some xs) (Some ys) pieces = (xs ≡ joined pieces ++ ys) × (IsTrue (ends pieces) → ys ≡ [])
+Gave (Some xs) (Some ys) pieces = (xs ≡ concat pieces ++ ys) × (IsTrue (ends pieces) → ys ≡ [])

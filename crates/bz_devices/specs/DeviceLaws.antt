@@ -6,7 +6,8 @@ use Rattle.std.proofs.lemmas.Bool.{false≢true}
 use Rattle.std.specs.Io.KnownBytes.{Appends}
 use Rattle.std.proofs.KnownBytes.{Appends-nil, Appends-trans}
 use Rattle.std.proofs.lemmas.List.Concat.{flat_map-append}
-use Rattle.bz_devices.specs.Device.{joined, Gave, ends, Counts}
+use Rattle.bz_devices.specs.Device.{Gave, ends, Counts}
+use Rattle.std.specs.List.{concat}
 
 pub ends-append : (ps : List (List ℕ)) (q : List ℕ) (qs : List (List ℕ)) → ends (ps ++ q ∷ qs) ≡ ends (q ∷ qs)
 ends-append [] q qs = refl
@@ -26,9 +27,9 @@ gave_more_lem None b c xs ys p q = tt
 gave_more_lem (Some x) None c xs ys p q = absurd p
 gave_more_lem (Some x) (Some y) None xs ys p q = absurd q
 gave_more_lem (Some x) (Some y) (Some z) xs [] p q =
-    subst (λ pieces. Gave (Some x) (Some z) pieces) (sym (append-nil xs)) (p.0 ∙ ap (λ l. joined xs ++ l) q.0, λ h. sym q.0 ∙ p.1 h)
+    subst (λ pieces. Gave (Some x) (Some z) pieces) (sym (append-nil xs)) (p.0 ∙ ap (λ l. concat xs ++ l) q.0, λ h. sym q.0 ∙ p.1 h)
 gave_more_lem (Some x) (Some y) (Some z) xs (w ∷ ys) p q = (
-  p.0 ∙ ap (λ l. joined xs ++ l) q.0 ∙ sym (append_assoc (joined xs) (joined (w ∷ ys)) z)
+  p.0 ∙ ap (λ l. concat xs ++ l) q.0 ∙ sym (append_assoc (concat xs) (concat (w ∷ ys)) z)
       ∙ ap (λ l. l ++ z) (sym (flat_map-append (λ x. x) xs (w ∷ ys))),
   λ h. q.1 (subst IsTrue (ends-append xs w ys) h),
 )
@@ -49,11 +50,11 @@ counts_more a b c m n p q = record {
   exact = λ h. q.exact h ∙ ap (λ x. x + n) (p.exact (lt_of_le_of_lt q.grows h)) ∙ add_assoc a m n;
 }
 
-pub counts_pieces : (a b c : ℕ) (xs ys : List (List ℕ)) → Counts a b (length (joined xs)) → Counts b c (length (joined ys))
-    → Counts a c (length (joined (xs ++ ys)))
+pub counts_pieces : (a b c : ℕ) (xs ys : List (List ℕ)) → Counts a b (length (concat xs)) → Counts b c (length (concat ys))
+    → Counts a c (length (concat (xs ++ ys)))
 counts_pieces a b c xs ys p q =
-    subst (Counts a c) (sym (ap length (flat_map-append (λ x. x) xs ys) ∙ length-append (joined xs) (joined ys)))
-    (counts_more a b c (length (joined xs)) (length (joined ys)) p q)
+    subst (Counts a c) (sym (ap length (flat_map-append (λ x. x) xs ys) ∙ length-append (concat xs) (concat ys)))
+    (counts_more a b c (length (concat xs)) (length (concat ys)) p q)
 
 pub counts_bytes : (a b c : ℕ) (xs ys : List ℕ) → Counts a b (length xs) → Counts b c (length ys) → Counts a c (length (xs ++ ys))
 counts_bytes a b c xs ys p q = subst (Counts a c) (sym (length-append xs ys)) (counts_more a b c (length xs) (length ys) p q)

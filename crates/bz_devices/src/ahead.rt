@@ -2,12 +2,13 @@
 
 ghost use Rattle.std.specs.Prelude.{◌≡◌, ◌≢◌, ℕ, ◌+◌, ◌<◌, ◌≤◌, ◌⊎◌, true, false, List, [], length, take, drop, IfOk, OnOk, OnErr, IfSome, IfNone, IsErrOf, IsTrue, IsUtf8};
 ghost use Rattle.std.specs.Str.{IsCharBoundary, IsValidUpTo};
-ghost use Rattle.bz_devices.specs.Device.{joined, Rises};
+ghost use Rattle.bz_devices.specs.Device.{Rises};
 ghost use Rattle.bz_token.specs.Cuts.{IsBlock, IsPart};
 ghost use Rattle.bz_token.specs.CutterState.{IsAfter, IsAtBlock};
 ghost use Rattle.bz_devices.specs.Ahead.{IsReadOn, AreNeeded, IsNextChunk, IsTooLong, IsUncertain, IsFewAfter};
 ghost use Rattle.bz_devices.specs.Search.{Searches};
 ghost use Rattle.bz_devices.specs.private.AheadSteps.{IsOpen, IsLine, IsLineAt, IsBegun, GoesOn, EndsAt, IsEnd};
+ghost use Rattle.std.specs.List.{concat};
 
 use crate::device::Source;
 use crate::input::{PIECE, ReadFault, read_at_most};
@@ -130,7 +131,7 @@ impl Ahead {
         requires open { self.old.ended ≡ false }
         requires made { self.old.reads ≤ max_reads }
         ensures read { (pieces : List (List ℕ)) × S.gave source.old pieces source.new
-            × IsReadOn max_reads self.old self.new pieces × (length (joined pieces) ≤ most) }
+            × IsReadOn max_reads self.old self.new pieces × (length (concat pieces) ≤ most) }
         ensures one { OnOk result (self.new.reads ≡ self.old.reads + 1) }
         ensures err { OnErr result (self.new ≡ self.old) }
         ensures fitting { result ≢ Err ChunkFault.StatementTooLong }

@@ -1,7 +1,7 @@
 //! Reading from a source, a piece at a time.
 
 ghost use Rattle.std.specs.Prelude.{◌≡◌, ◌≢◌, ℕ, ◌+◌, ◌<◌, ◌≤◌, List, [], ◌∷◌, ◌++◌, length, take, IfOk, OnOk, OnErr, IsErrOf, IsTrue};
-ghost use Rattle.bz_devices.specs.Device.{joined, ends, NoneEnds, Rises};
+ghost use Rattle.bz_devices.specs.Device.{ends, NoneEnds, Rises};
 ghost use Rattle.bz_devices.specs.declared.input.ReadFault.TheVariants.{OutOfMemory};
 
 use crate::device::{Failed, Source};

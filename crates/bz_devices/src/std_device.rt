@@ -5,8 +5,9 @@
 
 ghost use Rattle.std.specs.Prelude.{◌≡◌, ◌<◌, ◌≤◌, [], ◌∷◌, ◌++◌, length, take, IfOk, OnErr};
 ghost use Rattle.std.specs.Io.KnownBytes.{Appends};
-ghost use Rattle.bz_devices.specs.Device.{joined, Counts, Gave};
+ghost use Rattle.bz_devices.specs.Device.{Counts, Gave};
 ghost use Rattle.bz_devices.specs.DeviceLaws.{gave_nothing_lem, gave_more_lem, appends_nothing, appends_more, counts_nothing, counts_pieces, counts_bytes};
+ghost use Rattle.std.specs.List.{concat};
 
 use crate::device::{Failed, Sink, Source};
 use std::io::{ErrorKind, Read, Write};
@@ -67,7 +68,7 @@ fn read_uninterrupted<R: Read>(reader: &mut R, buf: &mut [u8]) -> Result<usize, 
 impl<R: Read> Source for FromRead<R> {
     // By the bytes that are left, where they are known, and by their count.
     ghost gave = { λ old pieces new. Gave (R.remaining old.device) (R.remaining new.device) pieces
-        × Counts old.bytes new.bytes (length (joined pieces)) };
+        × Counts old.bytes new.bytes (length (concat pieces)) };
 
     ghost failures = { λ s. s.failures };
 

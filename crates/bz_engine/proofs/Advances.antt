@@ -4,7 +4,7 @@ use Rattle.std.specs.Prelude.{Option, None, Some, Result, Ok, Err, IfSome, IfNon
 use Rattle.std.proofs.lemmas.Bool.{false≢true}
 use Rattle.std.proofs.lemmas.List.{length-take-le}
 use Rattle.bz_engine.specs.declared.run_fault.RunFault.{RunFault}
-use Rattle.bz_engine.specs.declared.session.Stage.{Stage}
+use Rattle.bz_engine.specs.declared.session.SessionState.{SessionState}
 use Rattle.bz_engine.specs.declared.session.Step.{Step}
 use Rattle.bz_engine.specs.declared.session.Step.TheVariants.{More}
 use Rattle.bz_engine.specs.declared.session.Step.TheVariants as step
@@ -101,7 +101,7 @@ pub take_few : (n most : ℕ) (bytes : List ℕ) → n ≤ most → n ≤ length
 take_few n most bytes size within = subst (λ l. l ≤ most) (sym (length-take-le n bytes within)) size
 
 -- what was done does not depend on the stage
-pub restaged : (v : SessionValue) (stage : Stage) (pieces cs : List (List ℕ)) (text : List ℕ) → HasDone v pieces cs text → HasDone (record v { stage = stage }) pieces cs text
+pub restaged : (v : SessionValue) (stage : SessionState) (pieces cs : List (List ℕ)) (text : List ℕ) → HasDone v pieces cs text → HasDone (record v { stage = stage }) pieces cs text
 restaged v stage pieces cs text done = record {
   bytes = done.bytes;
   reads = done.reads;

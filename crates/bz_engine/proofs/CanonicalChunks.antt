@@ -1,5 +1,5 @@
 -- A canonical chunk of a statement that the script passes by is the next chunk, and is done.
-use Rattle.std.proofs.Common.{◌≡◌, ℕ, true, ◌≤◌, ◌+◌, List, [], ◌∷◌, ◌++◌, length, take, refl, sym, ◌∙◌, ap, subst, arith, bytes_eq, rules, Bor}
+use Rattle.std.proofs.Common.{◌≡◌, ℕ, true, ◌≤◌, ◌+◌, List, [], ◌∷◌, ◌++◌, length, take, refl, sym, ◌∙◌, ap, subst, arith, bytes_eq, rules, Bor, false}
 use Rattle.std.proofs.Math.Seq.{take-append_seam}
 use Rattle.std.proofs.lemmas.Bool.{false≢true}
 use Rattle.std.proofs.lemmas.List.{length-append}
@@ -12,7 +12,6 @@ use Rattle.bz_tree.specs.Tree.{Statement}
 use Rattle.bz_tree_laws.proofs.ChunkLaws.{chunk_class}
 use Rattle.bz_command.specs.Labels.{Name, Pkg, All, Kind as OfKind, Line}
 use Rattle.bz_attribute.specs.Rules.{Rule, is_text, rule_of}
-use Rattle.bz_attribute.specs.Marks.{marks_if}
 use Rattle.bz_canonical.specs.Canonical.{HasName, IsCanonical, between, rule_name}
 use Rattle.bz_canonical.specs.declared.chunk.CanonicalChunk.{CanonicalChunk}
 use Rattle.bz_devices.specs.Ahead.{Ahead, IsFewAfter}
@@ -27,6 +26,8 @@ use Rattle.bz_engine.specs.private.NextChunks.{IsFirstEdited}
 use Rattle.bz_engine.specs.private.Rows.{HasKey}
 use Rattle.bz_engine.proofs.ChunkEdits.{scripted_edited}
 use Rattle.bz_engine.proofs.FirstChunks.{IsTakenOf, first_is_next, chunk_is}
+use Rattle.bz_attribute.specs.Marks.{marks_rule}
+use Rattle.bz_token.specs.Common.{map_or}
 
 same_bytes : (xs ys : List ℕ) → bytes_eq xs ys ≡ true → xs ≡ ys
 same_bytes xs ys h = search (rules, bytes_eq-Decides)
@@ -35,7 +36,7 @@ bytes_same : (xs : List ℕ) → bytes_eq xs xs ≡ true
 bytes_same xs = search (rules, bytes_eq-Decides)
 
 -- a target that asks for a name marks what has this name
-asked_is : (asked : List ℕ) (start : ℕ) (rule : Option Rule) → marks_if (Name asked) start rule ≡ true → is_text asked (rule_name rule) ≡ true
+asked_is : (asked : List ℕ) (start : ℕ) (rule : Option Rule) → map_or false (marks_rule (Name asked) start) rule ≡ true → is_text asked (rule_name rule) ≡ true
 asked_is asked start None met = met
 asked_is asked start (Some rule) met = met
 

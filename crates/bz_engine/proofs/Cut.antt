@@ -6,7 +6,6 @@ use Rattle.std.proofs.lemmas.List.{length-take-le}
 use Rattle.bz_token.specs.Chunks.{chunks}
 use Rattle.bz_command.specs.Labels.{Package}
 use Rattle.bz_engine.specs.declared.options.Options.{Options}
-use Rattle.bz_devices.specs.Device.{joined}
 use Rattle.bz_devices.specs.Ahead.{Ahead, IsReadOn, AreNeeded, IsTooLong, HasTooLong}
 use Rattle.bz_engine.specs.EveryFile.{ForEveryFile}
 use Rattle.bz_engine.specs.Outcome.{Script, Run, run_with, Told, IsOutcome, IsFrontOf}
@@ -37,7 +36,7 @@ chunks_front v pieces cs others text file whole told done all outcome =
 done_begins : (v : SessionValue) (pieces cs : List (List ℕ)) (text : List ℕ) → HasDone v pieces cs text → BeginsAll (run_in v) pieces text
 done_begins v pieces cs text done = record {
   each = λ rest over whole told outcome.
-      chunks_front v pieces cs (chunks (v.ahead.bytes ++ rest)) text (joined pieces ++ rest) whole told done (done.first rest (λ h. over (subst IsTrue done.ended h))) outcome;
+      chunks_front v pieces cs (chunks (v.ahead.bytes ++ rest)) text (concat pieces ++ rest) whole told done (done.first rest (λ h. over (subst IsTrue done.ended h))) outcome;
 }
 
 -- more was read
@@ -45,7 +44,7 @@ read_begins : (v : SessionValue) (mid : Ahead) (max_reads : ℕ) (pieces cs read
     → BeginsAll (run_in v) (pieces ++ read) text
 read_begins v mid max_reads pieces cs read text done on = record {
   each = λ rest over whole told outcome.
-      chunks_front v pieces cs (chunks (mid.bytes ++ rest)) text (joined (pieces ++ read) ++ rest) whole told done
+      chunks_front v pieces cs (chunks (mid.bytes ++ rest)) text (concat (pieces ++ read) ++ rest) whole told done
       (read_on v mid max_reads pieces cs read text done on rest (λ h. over (subst IsTrue (ended_on v mid max_reads pieces cs read text done on) h))) outcome;
 }
 
@@ -88,7 +87,7 @@ pub ended_begins : (run : Run) (pieces : List (List ℕ)) (text : List ℕ) (tol
     → ForEveryFile pieces (λ file. IsOutcome run file text told) → BeginsAll run pieces text
 ended_begins run pieces text told ended = record {
   each = λ rest over whole told2 outcome.
-      let same = one_outcome run (joined pieces ++ rest) whole text told2 told outcome (ended.each rest over) in
+      let same = one_outcome run (concat pieces ++ rest) whole text told2 told outcome (ended.each rest over) in
       ([], same.0 ∙ sym (append-nil text));
 }
 
@@ -98,7 +97,7 @@ nothing_begins run = record { each = λ rest over whole told outcome. (whole, re
 
 -- The chunk that is too long stands in the file after those that are done.
 pub too_long_in : (v w : SessionValue) (max_statement most line : ℕ) (pieces cs read : List (List ℕ)) (text : List ℕ) → HasDone v pieces cs text → IsReadOn v.options.max_reads v.ahead w.ahead read
-    → max_statement ≡ most → line ≡ v.progress.line → IsTooLong max_statement w.ahead → ForEveryFile (pieces ++ read) (HasTooLong most line (joined (pieces ++ read)))
+    → max_statement ≡ most → line ≡ v.progress.line → IsTooLong max_statement w.ahead → ForEveryFile (pieces ++ read) (HasTooLong most line (concat (pieces ++ read)))
 too_long_in v w max_statement most line pieces cs read text done on same at long = record {
   each = λ rest last.
       let over : IsTrue w.ahead.ended → rest ≡ [] = λ h. last (subst IsTrue (ended_on v w.ahead v.options.max_reads pieces cs read text done on) h) in
@@ -107,7 +106,7 @@ too_long_in v w max_statement most line pieces cs read text done on same at long
         before = cs;
         seen = take begins.seen w.ahead.bytes;
         left = drop begins.seen w.ahead.bytes;
-        bytes_are = joined_more pieces read ∙ ap (λ l. l ++ joined read) done.bytes ∙ append_assoc (concat cs) v.ahead.bytes (joined read)
+        bytes_are = joined_more pieces read ∙ ap (λ l. l ++ concat read) done.bytes ∙ append_assoc (concat cs) v.ahead.bytes (concat read)
             ∙ ap (λ l. concat cs ++ l) (sym on.bytes ∙ sym (take-append-drop begins.seen w.ahead.bytes));
         over = subst (λ n. n < length (take begins.seen w.ahead.bytes)) same (subst (λ n. max_statement < n) (sym (length-take-le begins.seen w.ahead.bytes begins.within)) begins.over);
         more = begins.more;

@@ -1,11 +1,12 @@
 -- Worked examples that compute: reads, and scripts over statements that are names.
 use Rattle.std.proofs.Common.{◌≡◌, ℕ, Bool, true, false, List, [], ◌∷◌, refl, nat_eq}
 use Rattle.std.specs.Prelude.{Option, None, Some, not}
-use Rattle.bz_devices.specs.Device.{joined, ends}
+use Rattle.bz_devices.specs.Device.{ends}
 use Rattle.bz_command.specs.Passes.{Slot, Meaning, Pass, slots_after, log_of, some_execution, some_missing}
 use Rattle.bz_passes.specs.Exchange.{kept_of, told}
+use Rattle.std.specs.List.{concat}
 
-reads_join : joined ((1 ∷ 2 ∷ []) ∷ (3 ∷ []) ∷ [] ∷ []) ≡ 1 ∷ 2 ∷ 3 ∷ []
+reads_join : concat ((1 ∷ 2 ∷ []) ∷ (3 ∷ []) ∷ [] ∷ []) ≡ 1 ∷ 2 ∷ 3 ∷ []
 reads_join = refl
 
 last_read_ends : ends ((1 ∷ []) ∷ [] ∷ []) ≡ true

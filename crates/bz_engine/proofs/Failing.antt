@@ -1,5 +1,5 @@
 -- Where an execution fails, and failures end the run.
-use Rattle.std.proofs.Common.{◌≡◌, ℕ, Bool, true, false, ◌||◌, List, [], ◌∷◌, ◌++◌, refl, sym, ◌∙◌, ap}
+use Rattle.std.proofs.Common.{◌≡◌, ℕ, Bool, true, false, ◌||◌, List, [], ◌∷◌, ◌++◌, refl, sym, ◌∙◌, ap, take}
 use Rattle.std.specs.Prelude.{Option, None, Some, option_to_list}
 use Rattle.std.specs.List.{flat_map}
 use Rattle.std.proofs.lemmas.Bool.{false≢true}
@@ -12,13 +12,15 @@ use Rattle.bz_attribute.specs.declared.done.Note.TheVariants.{Missing, NoAttribu
 use Rattle.bz_passes.specs.declared.entry.Entry.{Entry}
 use Rattle.bz_command.specs.Passes.{Slot}
 use Rattle.bz_passes.specs.Exchange.{Kept, IsLeftBy, log_alone, some_alone}
-use Rattle.bz_engine.specs.Meaning.{meaning, changes, fails_on, says, line_told, note_told, shown_slot}
+use Rattle.bz_engine.specs.Meaning.{meaning, changes, fails_on, line_told, note_told}
 use Rattle.bz_engine.specs.Outcome.{Run}
-use Rattle.bz_passes.specs.Entries.{failure_text, first_of}
+use Rattle.bz_passes.specs.Entries.{failure_text}
 use Rattle.bz_engine.specs.Progress.{Progress}
 use Rattle.bz_engine.specs.private.Edits.{IsEnded}
 use Rattle.bz_passes.proofs.Failures.{failures_alone}
 use Rattle.bz_engine.proofs.OneSlot.{fails_alone, said_alone}
+use Rattle.bz_attribute.specs.Texts.{shown_text}
+use Rattle.bz_token.specs.Common.{map_or}
 
 -- a note that is no failure tells of none
 no_failure : (rule : List ℕ) (line : Option (List ℕ)) (note : Option Note) → fails note ≡ false → flat_map failure_text (line_told line ++ note_told rule note) ≡ []
@@ -32,8 +34,8 @@ no_failure rule line (Some (NotAList attr)) h = absurd (false≢true (sym h))
 no_failure rule line (Some (NoValue attr value)) h = absurd (false≢true (sym h))
 
 -- an execution that does not fail tells of no failure
-quiet : (home : Package) (c : Command) (slot : Slot Statement) → fails_on home c slot ≡ false → flat_map failure_text (says home c slot) ≡ []
-quiet home c slot h = no_failure (shown_slot home slot) (done_of c home slot).line (done_of c home slot).note h
+quiet : (home : Package) (c : Command) (slot : Slot Statement) → fails_on home c slot ≡ false → flat_map failure_text ((meaning home).says c slot) ≡ []
+quiet home c slot h = no_failure (map_or [] (shown_text home) slot) (done_of c home slot).line (done_of c home slot).note h
 
 or_then : (a b f : Bool) → f ≡ (a || b) → f ≡ true → a ≡ false → b ≡ true
 or_then true b f is h none = absurd (false≢true (sym none))
@@ -45,7 +47,7 @@ pub ends_there : (run : Run) (s : Statement) (message : Option (List ℕ)) (old 
     → run.keep_going ≡ false → failed ≡ true → failed ≡ (old.failed || some_alone (meaning run.home) (fails_on run.home) run.passes (Some s))
     → ((slots : List (Slot Statement)) → IsLeftBy (meaning run.home) (changes run.home) (fails_on run.home) run.passes slots old.kept old.changed old.failed
     → IsLeftBy (meaning run.home) (changes run.home) (fails_on run.home) run.passes (slots ++ Some s ∷ []) kept changed failed)
-    → option_to_list message ≡ first_of (flat_map failure_text (log_alone kept))
+    → option_to_list message ≡ take 1 (flat_map failure_text (log_alone kept))
     → new.changed ≡ old.changed → new.line ≡ old.line
     → IsEnded run s message old new text text
 ends_there run s message old new kept changed failed text ends bad here left told same_changed same_line = record {
@@ -53,9 +55,9 @@ ends_there run s message old new kept changed failed text ends bad here left tol
   fails = λ none. fails_alone run.home run.passes s ∙ or_then old.failed (some_alone (meaning run.home) (fails_on run.home) run.passes (Some s)) failed here bad none;
   message_is = λ none slots before.
       told
-      ∙ ap (λ k. first_of (flat_map failure_text (log_alone k))) (left slots before).kept
-      ∙ ap first_of (failures_alone (meaning run.home) failure_text (fails_on run.home) (quiet run.home) run.passes slots (Some s) (sym before.failed ∙ none))
-      ∙ ap (λ l. first_of (flat_map failure_text l)) (sym (said_alone (meaning run.home) run.passes (Some s)));
+      ∙ ap (λ k. take 1 (flat_map failure_text (log_alone k))) (left slots before).kept
+      ∙ ap (take 1) (failures_alone (meaning run.home) failure_text (fails_on run.home) (quiet run.home) run.passes slots (Some s) (sym before.failed ∙ none))
+      ∙ ap (λ l. take 1 (flat_map failure_text l)) (sym (said_alone (meaning run.home) run.passes (Some s)));
   changed = same_changed;
   line = same_line;
   nothing = refl;

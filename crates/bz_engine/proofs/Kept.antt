@@ -3,17 +3,17 @@ use Rattle.std.proofs.Common.{◌≡◌, ℕ, ◌+◌, ◌*◌, ◌<◌, ◌≤�
 use Rattle.std.specs.Prelude.{Option, Result, Ok, OnErr}
 use Rattle.std.proofs.lemmas.Bool.{false≢true}
 use Rattle.std.proofs.lemmas.List.{length-take-le}
-use Rattle.bz_devices.specs.Device.{joined}
 use Rattle.bz_devices.specs.Ahead.{Ahead, IsReadOn, IsNextChunk, IsFewAfter}
 use Rattle.bz_devices.proofs.ChunkAhead.{few_bytes}
 use Rattle.bz_devices.proofs.ReadOn.{read_nothing}
 use Rattle.bz_passes.specs.Exchange.{Fits}
-use Rattle.bz_engine.specs.declared.session.Stage.{Stage}
-use Rattle.bz_engine.specs.declared.session.Stage.TheVariants.{Going, Ended, Stopped}
+use Rattle.bz_engine.specs.declared.session.SessionState.{SessionState}
+use Rattle.bz_engine.specs.declared.session.SessionState.TheVariants.{Going, Ended, Stopped}
 use Rattle.bz_engine.specs.SessionValue.{SessionValue, IsReady, IsSession}
 use Rattle.bz_engine.specs.private.NextChunks.{CanTake}
+use Rattle.std.specs.List.{concat}
 
-abbrev is_stopped : Stage → Bool
+abbrev is_stopped : SessionState → Bool
 is_stopped Going = false
 is_stopped (Ended end) = false
 is_stopped Stopped = true
@@ -39,7 +39,7 @@ session_ahead v w mid read same kept stopped on =
     let after : SessionValue = record v { ahead = mid } in
     stopped_session after (ap (λ x. x.stage) same ∙ stopped) (subst (λ x. x.options.max_reads ≤ 2 ^ 50) (sym same) kept.limit) on.within
 
-pub ready_with : (v : SessionValue) (stage : Stage) (failure : Option (List ℕ)) → IsReady v → IsReady (record v { stage = stage; failure = failure })
+pub ready_with : (v : SessionValue) (stage : SessionState) (failure : Option (List ℕ)) → IsReady v → IsReady (record v { stage = stage; failure = failure })
 ready_with v stage failure ready = record { fits = ready.fits; few = ready.few; lines = ready.lines }
 
 pub session_failed : (v : SessionValue) (message : Option (List ℕ)) → IsSession v → IsSession (record v { failure = message })
@@ -51,7 +51,7 @@ session_failed v message kept = record {
 }
 
 -- at the stage to which the next chunk led
-pub session_at : (v w : SessionValue) (stage : Stage) → v ≡ w → IsSession v → (stage ≡ Going → IsReady w) → Fits w.progress.kept w.passes → IsSession (record v { stage = stage })
+pub session_at : (v w : SessionValue) (stage : SessionState) → v ≡ w → IsSession v → (stage ≡ Going → IsReady w) → Fits w.progress.kept w.passes → IsSession (record v { stage = stage })
 session_at v w stage same kept ready fits = record {
   limit = kept.limit;
   made = kept.made;
@@ -63,8 +63,8 @@ session_at v w stage same kept ready fits = record {
 pub lines_read : (v : SessionValue) (mid : Ahead) (max_reads : ℕ) (read : List (List ℕ)) → v.progress.line + length v.ahead.bytes ≤ 1 + 8192 * v.ahead.reads → IsReadOn max_reads v.ahead mid read
     → v.progress.line + length mid.bytes ≤ 1 + 8192 * mid.reads
 lines_read v mid max_reads read lines on =
-    let all : length mid.bytes ≡ length v.ahead.bytes + length (joined read) = ap length on.bytes ∙ length-append v.ahead.bytes (joined read) in
-    summed v.progress.line (length v.ahead.bytes) (length mid.bytes) (length (joined read)) v.ahead.reads mid.reads (length read) lines all on.reads on.few
+    let all : length mid.bytes ≡ length v.ahead.bytes + length (concat read) = ap length on.bytes ∙ length-append v.ahead.bytes (concat read) in
+    summed v.progress.line (length v.ahead.bytes) (length mid.bytes) (length (concat read)) v.ahead.reads mid.reads (length read) lines all on.reads on.few
   where
     summed : (line vb mb jr vr mr r : ℕ) → line + vb ≤ 1 + 8192 * vr → mb ≡ vb + jr → mr ≡ vr + r → jr ≤ 8192 * r → line + mb ≤ 1 + 8192 * mr
     summed line vb mb jr vr mr r a b c d = omega arith

@@ -1,5 +1,5 @@
 -- The text of statements, with one more after them.
-use Rattle.std.proofs.Common.{◌≡◌, ℕ, Bool, true, false, List, [], ◌∷◌, ◌++◌, refl, sym, ◌∙◌, ap, append_assoc, append-nil}
+use Rattle.std.proofs.Common.{◌≡◌, ℕ, Bool, true, false, List, [], ◌∷◌, ◌++◌, refl, sym, ◌∙◌, ap, append_assoc, append-nil, codes}
 use Rattle.std.specs.Prelude.{Option, None, Some, if◌then◌else◌}
 use Rattle.bz_tree.specs.Tree.{Statement}
 use Rattle.bz_tree.specs.declared.stmt.Class.{Class}
@@ -9,7 +9,7 @@ use Rattle.bz_command.specs.Labels.{Package}
 use Rattle.bz_command.specs.Passes.{Slot, slots_after}
 use Rattle.bz_passes.specs.Exchange.{slot_after}
 use Rattle.bz_engine.specs.Meaning.{meaning}
-use Rattle.bz_engine.specs.Outcome.{Script, slots_of, left_in, text_of, is_query, gap_text, shown_text, text_after}
+use Rattle.bz_engine.specs.Outcome.{Script, slots_of, left_in, text_of, is_query, text_after}
 use Rattle.bz_engine.specs.Progress.{last_class, text_following}
 use Rattle.bz_passes.proofs.ExchangeLaw.{map_more}
 use Rattle.bz_passes.proofs.Failures.{slots_more}
@@ -19,7 +19,7 @@ text_more : (last : Option Class) (xs : List (Slot Statement)) (x : Slot Stateme
 text_more last [] x = refl
 text_more last (None ∷ xs) x = text_more last xs x
 text_more last (Some s ∷ xs) x =
-    let gap = gap_text (blank_between last s.class) in
+    let gap = if (blank_between last s.class) then codes "\n" else [] in
     let more = text_following (last_class (Some s.class) xs) (x ∷ []) in
     ap (λ l. gap ++ (layout_text s ++ l)) (text_more (Some s.class) xs x)
     ∙ ap (λ l. gap ++ l) (sym (append_assoc (layout_text s) (text_following (Some s.class) xs) more))
@@ -35,7 +35,7 @@ last_more last (Some s ∷ xs) x = last_more (Some s.class) xs x
 text_after_some : (s : Statement) (slots : List (Slot Statement)) → layout_text s ++ text_following (Some s.class) slots ≡ text_of (s ∷ left_in slots)
 text_after_some s [] = append-nil (layout_text s)
 text_after_some s (None ∷ slots) = text_after_some s slots
-text_after_some s (Some t ∷ slots) = ap (λ l. layout_text s ++ (gap_text (gap_between s.class t.class) ++ l)) (text_after_some t slots)
+text_after_some s (Some t ∷ slots) = ap (λ l. layout_text s ++ ((if (gap_between s.class t.class) then codes "\n" else []) ++ l)) (text_after_some t slots)
 
 pub text_by_neighbours : (slots : List (Slot Statement)) → text_following None slots ≡ text_of (left_in slots)
 text_by_neighbours [] = refl
@@ -53,7 +53,7 @@ shown_if true before more all h = refl
 shown_if false before more all h = h
 
 shown_more : (passes : Script) (xs : List (Slot Statement)) (x : Slot Statement)
-    → shown_text passes (xs ++ x ∷ []) ≡ shown_text passes xs ++ (if is_query passes then [] else text_following (last_class None xs) (x ∷ []))
+    → (if is_query passes then [] else text_of (left_in (xs ++ x ∷ []))) ≡ (if is_query passes then [] else text_of (left_in xs)) ++ (if is_query passes then [] else text_following (last_class None xs) (x ∷ []))
 shown_more passes xs x = shown_if (is_query passes) (text_of (left_in xs)) (text_following (last_class None xs) (x ∷ [])) (text_of (left_in (xs ++ x ∷ []))) (text_of_more xs x)
 
 pub slots_after_more : (home : Package) (passes : Script) (ss : List Statement) (s : Statement)
@@ -66,7 +66,7 @@ pub text_after_more : (home : Package) (passes : Script) (ss : List Statement) (
     → last ≡ last_class None (slots_after (meaning home) passes (slots_of ss))
     → text_after home passes (ss ++ s ∷ []) ≡ text_after home passes ss ++ (if is_query passes then [] else text_following last (slot_after (meaning home) passes (Some s) ∷ []))
 text_after_more home passes ss s last at =
-    ap (shown_text passes) (slots_after_more home passes ss s)
+    ap (λ x0. if is_query passes then [] else text_of (left_in x0)) (slots_after_more home passes ss s)
     ∙ shown_more passes (slots_after (meaning home) passes (slots_of ss)) (slot_after (meaning home) passes (Some s))
     ∙ ap (λ l. text_after home passes ss ++ (if is_query passes then [] else text_following l (slot_after (meaning home) passes (Some s) ∷ []))) (sym at)
 

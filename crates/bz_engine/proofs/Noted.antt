@@ -1,5 +1,5 @@
 -- Where a command has a note, it leaves what it found: so the rule of the note can be shown after the command.
-use Rattle.std.proofs.Common.{◌≡◌, List, ◌++◌, true, Option, None, Some, is_some, refl, sym, ap, ◌∙◌}
+use Rattle.std.proofs.Common.{◌≡◌, List, ◌++◌, true, Option, None, Some, is_some, refl, sym, ap, ◌∙◌, []}
 use Rattle.bz_tree.specs.Tree.{Statement}
 use Rattle.bz_command.specs.Labels.{Package}
 use Rattle.bz_rule.specs.Commands.{Command, after, done_of}
@@ -7,14 +7,16 @@ use Rattle.bz_attribute.specs.declared.done.Done.{Done}
 use Rattle.bz_attribute.specs.declared.done.Note.{Note}
 use Rattle.bz_rule.proofs.Commands.{noted_stays}
 use Rattle.bz_passes.specs.declared.entry.Entry.{Entry}
-use Rattle.bz_engine.specs.Meaning.{done_told, line_told, note_told, says, shown_slot}
+use Rattle.bz_engine.specs.Meaning.{line_told, note_told, meaning}
+use Rattle.bz_attribute.specs.Texts.{shown_text}
+use Rattle.bz_token.specs.Common.{map_or}
 
 -- what is told of a slot that stays where there is a note
-note_found : (home : Package) (old new : Option Statement) (told : List Entry) (n : Option Note) → (is_some n ≡ true → new ≡ old) → told ++ note_told (shown_slot home new) n ≡ told ++ note_told (shown_slot home old) n
+note_found : (home : Package) (old new : Option Statement) (told : List Entry) (n : Option Note) → (is_some n ≡ true → new ≡ old) → told ++ note_told (map_or [] (shown_text home) new) n ≡ told ++ note_told (map_or [] (shown_text home) old) n
 note_found home old new told None stays = refl
-note_found home old new told (Some n) stays = ap (λ (slot : Option Statement). told ++ note_told (shown_slot home slot) (Some n)) (stays refl)
+note_found home old new told (Some n) stays = ap (λ (slot : Option Statement). told ++ note_told (map_or [] (shown_text home) slot) (Some n)) (stays refl)
 
 -- a command tells of the slot that it leaves what it says of the one that it finds
-pub says_found : (c : Command) (home : Package) (old new : Option Statement) (d : Done) → new ≡ after c home old → d ≡ done_of c home old → done_told (shown_slot home new) d ≡ says home c old
+pub says_found : (c : Command) (home : Package) (old new : Option Statement) (d : Done) → new ≡ after c home old → d ≡ done_of c home old → (line_told d.line ++ note_told (map_or [] (shown_text home) new) d.note) ≡ (meaning home).says c old
 says_found c home old new d is told =
-    note_found home old new (line_told d.line) d.note (λ h. is ∙ noted_stays c home old (ap (λ (z : Done). is_some z.note) (sym told) ∙ h)) ∙ ap (done_told (shown_slot home old)) told
+    note_found home old new (line_told d.line) d.note (λ h. is ∙ noted_stays c home old (ap (λ (z : Done). is_some z.note) (sym told) ∙ h)) ∙ ap (λ x0. line_told x0.line ++ note_told (map_or [] (shown_text home) old) x0.note) told

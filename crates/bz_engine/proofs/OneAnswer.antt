@@ -20,14 +20,16 @@ use Rattle.bz_tree.specs.declared.kinds.Mark.TheVariants.{Open, Close, Comma, Pl
 use Rattle.bz_tree.specs.Tree.{Statement}
 use Rattle.bz_tree.specs.Kinds.{operator_mark, kind_mark, mark_of}
 use Rattle.bz_tree.specs.Brackets.{no_elems, is_line, without_lines}
-use Rattle.bz_tree.specs.Statement.{is_aside, bare_tokens, first_of, first_seen, segment_of, statement_with}
+use Rattle.bz_tree.specs.Statement.{is_aside, bare_tokens, first_seen, segment_of, statement_with}
 use Rattle.bz_tree.specs.Grammar.{comments}
-use Rattle.bz_tree.specs.Chunk.{IsPlain, IsOneOf, begins_block, indent_at, indent_fault, IsChunkOf, IsReadAs, IsNoStatement, IsLexical}
+use Rattle.bz_tree.specs.Chunk.{IsPlain, IsOneOf, indent_at, indent_fault, IsChunkOf, IsReadAs, IsNoStatement, IsLexical}
 use Rattle.bz_tree.proofs.Sound.{some_injective}
 use Rattle.bz_tree_laws.proofs.ChunkLaws.{chunk_same}
 use Rattle.bz_engine.specs.declared.report.SyntaxFault.{SyntaxFault}
 use Rattle.bz_engine.specs.declared.report.SyntaxFault.TheVariants.{NotUtf8, Parse}
 use Rattle.bz_engine.specs.File.{not_utf8, Gives}
+use Rattle.bz_token.specs.Common.{first_of, map_or}
+use Rattle.bz_tree.specs.Blocks.{is_block_word}
 
 -- only a newline is one
 not_line : (a b c d e f g : Bool) → is_line (cond a (Open Round) (cond b (Open Square) (cond c (Open Curly) (cond d (Close Round) (cond e (Close Square) (cond f (Close Curly) (cond g Comma Plain))))))) ≡ false
@@ -72,7 +74,7 @@ blank_plain ts none = record {
 
 blank_chunk : (first : ℕ) (bytes : List ℕ) (ts : List Placed) → IsNone (first_seen ts) → IsChunkOf first bytes ts (statement_with ts (segment_of []))
 blank_chunk first bytes ts none =
-    subst (λ b. IsOneOf b first bytes ts (statement_with ts (segment_of []))) (sym (ap (λ l. begins_block (first_of l)) (none_counts ts none)))
+    subst (λ b. IsOneOf b first bytes ts (statement_with ts (segment_of []))) (sym (ap (λ l. map_or false is_block_word (first_of l)) (none_counts ts none)))
     (blank_plain ts (nothing_seen (without_lines ts) none))
 
 blank_upright : (ts : List Placed) → IsNone (first_seen ts) → indent_fault ts ≡ None

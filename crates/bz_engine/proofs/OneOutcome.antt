@@ -13,7 +13,7 @@ use Rattle.bz_passes.specs.Exchange.{slot_after, some_alone}
 use Rattle.bz_engine.specs.Meaning.{meaning, fails_on}
 use Rattle.bz_engine.specs.File.{Follows, Give}
 use Rattle.bz_engine.specs.Progress.{last_class, text_following}
-use Rattle.bz_engine.specs.Outcome.{Script, Run, slots_of, is_query, text_after, Told, some_failure, told_of, told_of_failure, fails_at, BeginsWith, IsWholeRun, EndsAtFailure, IsOutcome, IsFrontOf}
+use Rattle.bz_engine.specs.Outcome.{Script, Run, slots_of, is_query, text_after, Told, some_failure, told_of, told_of_failure, BeginsWith, IsWholeRun, EndsAtFailure, IsOutcome, IsFrontOf}
 use Rattle.bz_passes.proofs.ExchangeLaw.{some_alone_lem}
 use Rattle.bz_engine.proofs.OneSlot.{fails_alone}
 use Rattle.bz_passes.proofs.Failures.{or_left, or_right}
@@ -101,7 +101,7 @@ none_within : (test : Slot Statement → Bool) (before more : List Statement) (s
 none_within test [] more s h = or_left (test (Some s)) (list_any test (map Some more)) h
 none_within test (b ∷ before) more s h = none_within test before more s (or_right (test (Some b)) (list_any test (map Some ((before ++ s ∷ []) ++ more))) h)
 
-calm_at : {X : Type 0} (home : Package) (passes : Script) (ss before more : List Statement) (s : Statement) → some_failure home passes ss ≡ false → ss ≡ (before ++ s ∷ []) ++ more → fails_at home passes s ≡ true → X
+calm_at : {X : Type 0} (home : Package) (passes : Script) (ss before more : List Statement) (s : Statement) → some_failure home passes ss ≡ false → ss ≡ (before ++ s ∷ []) ++ more → some_failure home passes (s ∷ []) ≡ true → X
 calm_at home passes ss before more s calm is fails =
     let each = some_alone_lem (meaning home) (fails_on home) passes (slots_of ((before ++ s ∷ []) ++ more)) in
     let none = none_within (some_alone (meaning home) (fails_on home) passes) before more s (sym each ∙ ap (some_failure home passes) (sym is) ∙ calm) in
@@ -179,7 +179,7 @@ not_both run file text text2 told told2 w e =
 
 -- the first failure is one
 first_same : (home : Package) (passes : Script) (before before2 more : List Statement) (s s2 : Statement)
-    → some_failure home passes before2 ≡ false → fails_at home passes s ≡ true → before2 ++ s2 ∷ [] ≡ (before ++ s ∷ []) ++ more → (before ≡ before2) × (s ≡ s2)
+    → some_failure home passes before2 ≡ false → some_failure home passes (s ∷ []) ≡ true → before2 ++ s2 ∷ [] ≡ (before ++ s ∷ []) ++ more → (before ≡ before2) × (s ≡ s2)
 first_same home passes before before2 more s s2 calm fails is =
     elim (last_or_before before2 (before ++ s ∷ []) more s2 is) [
       | inl m ↦ calm_at home passes before2 before m.0 s calm m.1 fails

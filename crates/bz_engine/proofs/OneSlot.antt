@@ -7,14 +7,14 @@ use Rattle.bz_command.specs.Labels.{Package}
 use Rattle.bz_command.specs.Passes.{Slot, Meaning, Pass, Marked, marked, executed, entries, log_of_commands, slots_after_pass}
 use Rattle.bz_passes.specs.Exchange.{logs_alone, slot_after_pass, kept_alone, log_alone, some_alone}
 use Rattle.bz_engine.specs.Meaning.{meaning, fails_on}
-use Rattle.bz_engine.specs.Outcome.{Script, slots_of, said, fails_at}
+use Rattle.bz_engine.specs.Outcome.{Script, slots_of, said, some_failure}
 use Rattle.bz_passes.proofs.ExchangeLaw.{pass_alone, some_alone_lem}
 
 or_false : (b : Bool) → (b || false) ≡ b
 or_false true = refl
 or_false false = refl
 
-pub fails_alone : (home : Package) (passes : Script) (s : Statement) → fails_at home passes s ≡ some_alone (meaning home) (fails_on home) passes (Some s)
+pub fails_alone : (home : Package) (passes : Script) (s : Statement) → some_failure home passes (s ∷ []) ≡ some_alone (meaning home) (fails_on home) passes (Some s)
 fails_alone home passes s =
     some_alone_lem (meaning home) (fails_on home) passes (slots_of (s ∷ [])) ∙ or_false (some_alone (meaning home) (fails_on home) passes (Some s))
 

@@ -10,7 +10,7 @@ use Rattle.bz_command.specs.Labels.{Package, Target}
 use Rattle.bz_command.specs.Passes.{Pass, Slot}
 use Rattle.bz_attribute.specs.declared.done.Done.{Done}
 use Rattle.bz_attribute.specs.Effects.{fails}
-use Rattle.bz_attribute.specs.Marks.{marks, marks_if}
+use Rattle.bz_attribute.specs.Marks.{marks, marks_rule}
 use Rattle.bz_attribute.specs.Rules.{Rule, name_in, rule_of}
 use Rattle.bz_attribute.proofs.Headed.{other_class}
 use Rattle.bz_canonical.specs.Canonical.{HasName, rule_name}
@@ -19,11 +19,13 @@ use Rattle.bz_passes.specs.Exchange.{Fits, IsLeftBy, IsPassedBy, Kept, kept_alon
 use Rattle.bz_passes.specs.declared.entry.Entry.{Entry}
 use Rattle.bz_passes.proofs.ExchangeLaw.{left_more}
 use Rattle.bz_passes.proofs.PassedBy.{unmarked_passed}
-use Rattle.bz_engine.specs.Meaning.{meaning, changes, done_told, fails_on, line_told, note_told, says, shown_slot}
+use Rattle.bz_engine.specs.Meaning.{meaning, changes, fails_on, line_told, note_told}
 use Rattle.bz_engine.specs.Outcome.{Run, Script, is_query}
 use Rattle.bz_engine.specs.Progress.{Progress, last_class, text_following}
 use Rattle.bz_engine.specs.private.Edits.{IsLaidOut}
 use Rattle.bz_engine.specs.private.Found.{HasOneLog, Makes, one_pass, one_told, told_line}
+use Rattle.bz_attribute.specs.Texts.{shown_text}
+use Rattle.bz_token.specs.Common.{map_or}
 
 -- a rule that has this name
 pub named_rule : (s : Statement) (name : List ℕ) → HasName (Some name) s → (r : Rule) × (rule_of s.nodes ≡ Some r) × (name_in r.args ≡ Some name)
@@ -38,7 +40,7 @@ pub no_rule_passed : (home : Package) (passes : Script) (s : Statement) → s.cl
     → IsPassedBy (meaning home) (changes home) (fails_on home) passes (Some s)
 no_rule_passed home passes s class other =
     let none : rule_of s.nodes ≡ None = other_class s.nodes (λ is. other (class ∙ is)) in
-    unmarked_passed (meaning home) (changes home) (fails_on home) passes (Some s) (λ i d within. ap (marks_if _ s.start) none)
+    unmarked_passed (meaning home) (changes home) (fails_on home) passes (Some s) (λ i d within. ap (map_or false (marks_rule _ s.start)) none)
 
 -- a place for one log
 log_in : (k : Kept Entry) (logs : List (List Entry)) → k.logs ≡ logs → length logs ≡ 1 → HasOneLog (k ∷ [])
@@ -72,9 +74,9 @@ kept_by found log = record { found = found; logs = log ∷ [] } ∷ []
 kept_of_one : (home : Package) (target : Target) (command : Command) (s : Statement) (d : Done) → marks target s ≡ true → done_of command home (Some s) ≡ d → d.note ≡ None
     → kept_alone (meaning home) (one_pass target command) (Some s) ≡ one_told d.line
 kept_of_one home target command s d met told quiet =
-    let said : says home command (Some s) ≡ line_told d.line =
-    ap (done_told (shown_slot home (Some s))) told ∙ ap (λ n. line_told d.line ++ note_told (shown_slot home (Some s)) n) quiet ∙ append-nil (line_told d.line) in
-    ap (λ b. kept_by b (if b then says home command (Some s) else [])) met ∙ ap (kept_by true) said
+    let said : (meaning home).says command (Some s) ≡ line_told d.line =
+    ap (λ x0. line_told x0.line ++ note_told (map_or [] (shown_text home) (Some s)) x0.note) told ∙ ap (λ n. line_told d.line ++ note_told (map_or [] (shown_text home) (Some s)) n) quiet ∙ append-nil (line_told d.line) in
+    ap (λ b. kept_by b (if b then (meaning home).says command (Some s) else [])) met ∙ ap (kept_by true) said
 
 or_nothing : (b : Bool) → ((b || false) || false) ≡ b
 or_nothing true = refl

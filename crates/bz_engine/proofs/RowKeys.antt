@@ -8,22 +8,23 @@ use Rattle.bz_tree.specs.Tree.{Statement}
 use Rattle.bz_tree.specs.Statement.{class_of}
 use Rattle.bz_command.specs.Labels.{Name, Pkg, All, Kind as OfKind, Line}
 use Rattle.bz_attribute.specs.Rules.{rule_of, is_text}
-use Rattle.bz_attribute.specs.Marks.{marks_if}
 use Rattle.bz_attribute.specs.Heads.{IsHeadOf}
 use Rattle.bz_attribute.specs.declared.head.Head.{Head}
 use Rattle.bz_attribute.proofs.Headed.{other_class}
 use Rattle.bz_passes.specs.declared.index.Key.TheVariants.{NoName, Name as Named}
 use Rattle.bz_engine.specs.private.Rows.{HasKey}
+use Rattle.bz_attribute.specs.Marks.{marks_rule}
+use Rattle.bz_token.specs.Common.{map_or}
 
 -- what is no rule has no name
 pub no_rule_key : (s : Statement) → rule_of s.nodes ≡ None → HasKey s NoName
-no_rule_key s none target met = let clash : false ≡ true = sym (ap (marks_if target s.start) none) ∙ met in absurd (false≢true clash)
+no_rule_key s none target met = let clash : false ≡ true = sym (ap (map_or false (marks_rule target s.start)) none) ∙ met in absurd (false≢true clash)
 
 pub no_name : (s : Statement) → s.class ≡ class_of s.nodes → (s.class ≡ RuleClass → ⊥) → HasKey s NoName
 no_name s is other = no_rule_key s (other_class s.nodes (λ rule. other (is ∙ rule)))
 
-asked_of : (s : Statement) (head : Head) (name : Option (Bor (List ℕ))) (asked : List ℕ) → IsHeadOf head s → head.name ≡ name → marks_if (Name asked) s.start (rule_of s.nodes) ≡ is_text asked (option_map (λ text. text.now) name)
-asked_of s head name asked h is = ap (marks_if (Name asked) s.start) h.is ∙ ap (is_text asked) (sym h.name_is ∙ ap (option_map (λ (text : Bor (List ℕ)). text.now)) is)
+asked_of : (s : Statement) (head : Head) (name : Option (Bor (List ℕ))) (asked : List ℕ) → IsHeadOf head s → head.name ≡ name → map_or false (marks_rule (Name asked) s.start) (rule_of s.nodes) ≡ is_text asked (option_map (λ text. text.now) name)
+asked_of s head name asked h is = ap (map_or false (marks_rule (Name asked) s.start)) h.is ∙ ap (is_text asked) (sym h.name_is ∙ ap (option_map (λ (text : Bor (List ℕ)). text.now)) is)
 
 pub nameless_key : (s : Statement) (head : Head) → IsHeadOf head s → head.name ≡ None → HasKey s NoName
 nameless_key s head h is (Name asked) met = let clash : false ≡ true = sym (asked_of s head None asked h is) ∙ met in absurd (false≢true clash)

@@ -6,11 +6,10 @@ use Rattle.std.specs.List.{concat}
 use Rattle.std.proofs.lemmas.List.Folds.{concat-append}
 use Rattle.bz_command.specs.Labels.{Package}
 use Rattle.bz_engine.specs.declared.options.Options.{Options}
-use Rattle.bz_devices.specs.Device.{joined}
 use Rattle.bz_engine.specs.Meaning.{meaning, changes, fails_on}
 use Rattle.bz_engine.specs.declared.report.End.{End}
 use Rattle.bz_engine.specs.EveryFile.{ForEveryFile}
-use Rattle.bz_engine.specs.Outcome.{Script, run_with, Told, is_query, shown_text, IsOutcome}
+use Rattle.bz_engine.specs.Outcome.{Script, run_with, Told, is_query, IsOutcome, left_in, text_of}
 use Rattle.bz_engine.specs.Progress.{last_class}
 use Rattle.bz_engine.specs.NeededReads.{AreReads}
 use Rattle.bz_engine.specs.SessionValue.{SessionValue, run_in, HasDone, HasEnded, at_start, told_at}
@@ -38,23 +37,23 @@ started home passes options = record {
     left = nothing_left (meaning home) passes (changes home) (fails_on home);
     last = ap (last_class None) (sym (slots_alone (meaning home) passes []));
   };
-  text_is = nothing_shown (is_query passes) ∙ ap (shown_text passes) (sym (slots_alone (meaning home) passes []));
+  text_is = nothing_shown (is_query passes) ∙ ap (λ x0. if is_query passes then [] else text_of (left_in x0)) (sym (slots_alone (meaning home) passes []));
   calm = λ h. refl;
 }
 
 -- each chunk has bytes, and each read gives at most 8,192
 pub shorter : (v w : SessionValue) (max_reads : ℕ) (pieces cs read : List (List ℕ)) (chunk text more : List ℕ)
     → HasDone v pieces cs text → HasDone w (pieces ++ read) (cs ++ chunk ∷ []) more
-    → 0 < length chunk → length (joined read) ≤ 8192 * length read → w.ahead.reads ≤ max_reads
+    → 0 < length chunk → length (concat read) ≤ 8192 * length read → w.ahead.reads ≤ max_reads
     → 8193 * (max_reads - w.ahead.reads) + length w.ahead.bytes < 8193 * (max_reads - v.ahead.reads) + length v.ahead.bytes
 shorter v w max_reads pieces cs read chunk text more before after some few within =
-    let given : length (joined (pieces ++ read)) ≡ length (joined pieces) + length (joined read) = ap length (joined_more pieces read) ∙ length-append (joined pieces) (joined read) in
-    let was : length (joined pieces) ≡ length (concat cs) + length v.ahead.bytes = ap length before.bytes ∙ length-append (concat cs) v.ahead.bytes in
-    let now : length (joined (pieces ++ read)) ≡ length (concat (cs ++ chunk ∷ [])) + length w.ahead.bytes = ap length after.bytes ∙ length-append (concat (cs ++ chunk ∷ [])) w.ahead.bytes in
+    let given : length (concat (pieces ++ read)) ≡ length (concat pieces) + length (concat read) = ap length (joined_more pieces read) ∙ length-append (concat pieces) (concat read) in
+    let was : length (concat pieces) ≡ length (concat cs) + length v.ahead.bytes = ap length before.bytes ∙ length-append (concat cs) v.ahead.bytes in
+    let now : length (concat (pieces ++ read)) ≡ length (concat (cs ++ chunk ∷ [])) + length w.ahead.bytes = ap length after.bytes ∙ length-append (concat (cs ++ chunk ∷ [])) w.ahead.bytes in
     let taken : length (concat (cs ++ chunk ∷ [])) ≡ length (concat cs) + length chunk =
     ap length (concat-append cs (chunk ∷ []) ∙ ap (λ l. concat cs ++ l) (append-nil chunk)) ∙ length-append (concat cs) chunk in
     let made : w.ahead.reads ≡ length pieces + length read = after.reads ∙ length-append pieces read in
-    count (length (joined (pieces ++ read))) (length (joined pieces)) (length (joined read)) (length (concat cs)) (length (concat (cs ++ chunk ∷ []))) (length chunk)
+    count (length (concat (pieces ++ read))) (length (concat pieces)) (length (concat read)) (length (concat cs)) (length (concat (cs ++ chunk ∷ []))) (length chunk)
     (length v.ahead.bytes) (length w.ahead.bytes) v.ahead.reads w.ahead.reads (length pieces) (length read) max_reads
     given was now taken made before.reads some few within
   where
@@ -77,8 +76,8 @@ pub outcome_is : (v : SessionValue) (home : Package) (passes : Script) (options 
     → ForEveryFile pieces (λ file. IsOutcome (run_with home passes options) file text told)
 outcome_is v home passes options end told pieces cs text h p o is ended = record {
   each = λ rest last.
-      subst (λ run. IsOutcome run (joined pieces ++ rest) text told) (run_is v home passes options h p o)
-      (subst (λ x. IsOutcome (run_in v) (joined pieces ++ rest) text x) (sym is) (ended.each rest last).0);
+      subst (λ run. IsOutcome run (concat pieces ++ rest) text told) (run_is v home passes options h p o)
+      (subst (λ x. IsOutcome (run_in v) (concat pieces ++ rest) text x) (sym is) (ended.each rest last).0);
 }
 
 pub where_ok : {T E : Type 0} {P Q : T → Type 0} (r : Result T E) → ((x : T) → P x → Q x) → IfOk r P → IfOk r Q

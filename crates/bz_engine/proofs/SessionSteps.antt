@@ -13,8 +13,8 @@ use Rattle.bz_engine.specs.declared.report.SyntaxFault.{SyntaxFault}
 use Rattle.bz_engine.specs.declared.run_fault.RunFault.{RunFault}
 use Rattle.bz_engine.specs.declared.run_fault.RunFault.TheVariants.{OutOfMemory, ReadFailed, WriteFailed, InputTooLong, StatementTooLong}
 use Rattle.bz_engine.specs.declared.run_fault.RunFault.TheVariants as fault
-use Rattle.bz_engine.specs.declared.session.Stage.{Stage}
-use Rattle.bz_engine.specs.declared.session.Stage.TheVariants.{Going, Ended, Stopped}
+use Rattle.bz_engine.specs.declared.session.SessionState.{SessionState}
+use Rattle.bz_engine.specs.declared.session.SessionState.TheVariants.{Going, Ended, Stopped}
 use Rattle.bz_engine.specs.declared.session.Step.{Step}
 use Rattle.bz_engine.specs.declared.session.Step.TheVariants as step
 use Rattle.bz_engine.specs.Progress.{Progress}
@@ -33,7 +33,7 @@ IsAtChunk old v = let stopped : SessionValue = record old { stage = Stopped } in
 done_at : (old v : SessionValue) (pieces cs : List (List ℕ)) (text : List ℕ) → IsAtChunk old v → HasDone old pieces cs text → HasDone v pieces cs text
 done_at old v pieces cs text at done = subst (λ x. HasDone x pieces cs text) (sym at) (restaged old Stopped pieces cs text done)
 
-ended_in : (v : SessionValue) (stage : Stage) (end : End) (pieces cs : List (List ℕ)) (text : List ℕ) → HasEnded v end pieces cs text → HasEnded (record v { stage = stage }) end pieces cs text
+ended_in : (v : SessionValue) (stage : SessionState) (end : End) (pieces cs : List (List ℕ)) (text : List ℕ) → HasEnded v end pieces cs text → HasEnded (record v { stage = stage }) end pieces cs text
 ended_in v stage Whole pieces cs text h = h
 ended_in v stage (Syntax fault) pieces cs text h = h
 ended_in v stage FirstFailure pieces cs text h = h

@@ -1,21 +1,20 @@
 -- What a session has done, with one chunk more, and where it ends.
-use Rattle.std.proofs.Common.{◌≡◌, ℕ, ◌+◌, ◌≤◌, ◌^◌, Bool, true, false, List, [], ◌∷◌, ◌++◌, length, take, drop, length-append, take-append-drop, refl, sym, ◌∙◌, ap, subst, append-nil, inl, inr}
+use Rattle.std.proofs.Common.{◌≡◌, ℕ, ◌+◌, ◌≤◌, ◌^◌, Bool, true, false, List, [], ◌∷◌, ◌++◌, length, take, drop, length-append, take-append-drop, refl, sym, ◌∙◌, ap, subst, append-nil, inl, inr, flat_map}
 use Rattle.std.specs.Prelude.{IsTrue, Option, None, Some, Err}
 use Rattle.bz_token.specs.Chunks.{chunks}
 use Rattle.bz_tree.specs.Tree.{Statement}
 use Rattle.bz_engine.specs.declared.report.SyntaxFault.{SyntaxFault}
 use Rattle.std.proofs.lemmas.Bool.{false≢true}
-use Rattle.bz_engine.specs.declared.session.Stage.{Stage}
-use Rattle.bz_engine.specs.declared.session.Stage.TheVariants.{Going, Ended, Stopped}
+use Rattle.bz_engine.specs.declared.session.SessionState.{SessionState}
+use Rattle.bz_engine.specs.declared.session.SessionState.TheVariants.{Going, Ended, Stopped}
 use Rattle.bz_engine.specs.declared.report.End.{End}
 use Rattle.bz_engine.specs.declared.report.End.TheVariants.{Whole, Syntax, FirstFailure}
-use Rattle.bz_devices.specs.Device.{joined, ends, NoneEnds}
+use Rattle.bz_devices.specs.Device.{ends, NoneEnds}
 use Rattle.bz_devices.specs.Ahead.{Ahead, IsReadOn, AreNeeded, IsNextChunk}
 use Rattle.bz_engine.specs.Meaning.{meaning}
 use Rattle.bz_engine.specs.File.{Give, Gives}
 use Rattle.bz_engine.specs.Messages.{fault_text}
-use Rattle.bz_engine.specs.Outcome.{Run, slots_of, text_after, told_of_all, failures_at}
-use Rattle.bz_passes.specs.Entries.{first_of}
+use Rattle.bz_engine.specs.Outcome.{Run, slots_of, text_after, said, told_of}
 use Rattle.bz_engine.specs.Progress.{Progress, IsKeptOf}
 use Rattle.bz_engine.specs.private.Edits.{IsDone, IsFailed}
 use Rattle.bz_engine.specs.SessionValue.{SessionValue, run_in, IsSession, HasDone, HasEnded, told_of_progress, told_alone}
@@ -24,11 +23,13 @@ use Rattle.bz_devices.proofs.MoreReads.{ends_more, open_more, bytes_more, chunks
 use Rattle.bz_engine.proofs.Given.{give_fault, give_statement}
 use Rattle.bz_engine.proofs.NeededReads.{needed_on, reads_of}
 use Rattle.bz_engine.specs.NeededReads.{AreReads}
+use Rattle.bz_passes.specs.Entries.{failure_text}
+use Rattle.std.specs.List.{concat}
 
 -- the chunks of the file after more reads
 pub read_on : (v : SessionValue) (mid : Ahead) (max_reads : ℕ) (pieces cs read : List (List ℕ)) (text : List ℕ)
     → HasDone v pieces cs text → IsReadOn max_reads v.ahead mid read
-    → (rest : List ℕ) → (IsTrue mid.ended → rest ≡ []) → chunks (joined (pieces ++ read) ++ rest) ≡ cs ++ chunks (mid.bytes ++ rest)
+    → (rest : List ℕ) → (IsTrue mid.ended → rest ≡ []) → chunks (concat (pieces ++ read) ++ rest) ≡ cs ++ chunks (mid.bytes ++ rest)
 read_on v mid max_reads pieces cs read text done on =
     chunks_more pieces read cs v.ahead.bytes mid.bytes v.ahead.ended mid.ended done.first on.bytes on.ended on.stays
 
@@ -54,9 +55,9 @@ reads_are v mid pieces cs read text done on needed =
 
 -- what stood ahead and what was read then
 pub read_within : (v w : SessionValue) (mid : Ahead) (max_reads : ℕ) (read : List (List ℕ)) → v ≡ w → IsReadOn max_reads v.ahead mid read
-    → length mid.bytes ≤ v.options.max_statement + 8192 → length (w.ahead.bytes ++ joined read) ≤ w.options.max_statement + 8192
+    → length mid.bytes ≤ v.options.max_statement + 8192 → length (w.ahead.bytes ++ concat read) ≤ w.options.max_statement + 8192
 read_within v w mid max_reads read same on bound =
-    subst (λ x. length (x.ahead.bytes ++ joined read) ≤ x.options.max_statement + 8192) same
+    subst (λ x. length (x.ahead.bytes ++ concat read) ≤ x.options.max_statement + 8192) same
     (subst (λ l. length l ≤ v.options.max_statement + 8192) on.bytes bound)
 
 -- a chunk was done
@@ -72,7 +73,7 @@ went_on v mid progress max_reads most n pieces cs read text after done on needed
   needed = needed_on v mid max_reads pieces cs read text done on needed;
   few = next.left;
   first = λ rest over.
-      chunk_taken cs mid.bytes rest (joined (pieces ++ read) ++ rest) n (read_on v mid max_reads pieces cs read text done on rest over) (next.ends rest over)
+      chunk_taken cs mid.bytes rest (concat (pieces ++ read) ++ rest) n (read_on v mid max_reads pieces cs read text done on rest over) (next.ends rest over)
       ∙ one_more cs (chunks (drop n mid.bytes ++ rest)) (take n mid.bytes);
   statements = done.statements ++ edited.more;
   kept = edited.kept;
@@ -82,7 +83,7 @@ went_on v mid progress max_reads most n pieces cs read text after done on needed
 
 -- what is told at the end of the file
 told_whole : (run : Run) (cs : List (List ℕ)) (ss : List Statement) (p : Progress)
-    → IsKeptOf run cs ss p → told_of_progress run.home run.passes p ≡ told_of_all run.home run.passes ss
+    → IsKeptOf run cs ss p → told_of_progress run.home run.passes p ≡ told_of run.home run.passes ss None
 told_whole run cs ss p kept =
     rw (kept.left.kept, kept.left.changed, kept.left.failed, ← log_by_pass (meaning run.home) run.passes (slots_of ss), ← missing_lem (meaning run.home) run.passes (slots_of ss)) refl
 
@@ -93,7 +94,7 @@ pub ended_whole : (v : SessionValue) (mid : Ahead) (max_reads : ℕ) (pieces cs 
 ended_whole v mid max_reads pieces cs read text done on nothing over = record {
   each = λ rest last.
       let none : rest ≡ [] = last (subst IsTrue (ended_on v mid max_reads pieces cs read text done on) over) in
-      let all : chunks (joined (pieces ++ read) ++ rest) ≡ cs =
+      let all : chunks (concat (pieces ++ read) ++ rest) ≡ cs =
       read_on v mid max_reads pieces cs read text done on rest (λ h. none) ∙ ap (λ l. cs ++ chunks (l ++ rest)) nothing ∙ ap (λ l. cs ++ chunks l) none ∙ append-nil cs in (
         inl (record {
           statements = done.statements;
@@ -115,8 +116,8 @@ pub ended_fault : (v : SessionValue) (mid : Ahead) (fault : SyntaxFault) (max_re
 ended_fault v mid fault max_reads most n pieces cs read text done on next gives = record {
   each = λ rest last.
       let over : IsTrue mid.ended → rest ≡ [] = λ h. last (subst IsTrue (ended_on v mid max_reads pieces cs read text done on) h) in
-      let all : chunks (joined (pieces ++ read) ++ rest) ≡ cs ++ take n mid.bytes ∷ chunks (drop n mid.bytes ++ rest) =
-      chunk_taken cs mid.bytes rest (joined (pieces ++ read) ++ rest) n (read_on v mid max_reads pieces cs read text done on rest over) (next.ends rest over) in (
+      let all : chunks (concat (pieces ++ read) ++ rest) ≡ cs ++ take n mid.bytes ∷ chunks (drop n mid.bytes ++ rest) =
+      chunk_taken cs mid.bytes rest (concat (pieces ++ read) ++ rest) n (read_on v mid max_reads pieces cs read text done on rest over) (next.ends rest over) in (
         inl (record {
           statements = done.statements;
           fault = Some fault;
@@ -138,8 +139,8 @@ pub ended_failure : (v : SessionValue) (mid : Ahead) (progress : Progress) (mess
 ended_failure v mid progress message after max_reads most n pieces cs read text done on next failed = record {
   each = λ rest last.
       let over : IsTrue mid.ended → rest ≡ [] = λ h. last (subst IsTrue (ended_on v mid max_reads pieces cs read text done on) h) in
-      let all : chunks (joined (pieces ++ read) ++ rest) ≡ cs ++ take n mid.bytes ∷ chunks (drop n mid.bytes ++ rest) =
-      chunk_taken cs mid.bytes rest (joined (pieces ++ read) ++ rest) n (read_on v mid max_reads pieces cs read text done on rest over) (next.ends rest over) in
+      let all : chunks (concat (pieces ++ read) ++ rest) ≡ cs ++ take n mid.bytes ∷ chunks (drop n mid.bytes ++ rest) =
+      chunk_taken cs mid.bytes rest (concat (pieces ++ read) ++ rest) n (read_on v mid max_reads pieces cs read text done on rest over) (next.ends rest over) in
       let calm : v.progress.failed ≡ false = done.calm failed.ends in (
         inr (record {
           ends = failed.ends;
@@ -155,17 +156,17 @@ ended_failure v mid progress message after max_reads most n pieces cs read text 
           fails = failed.fails calm;
           text_is = done.text_is;
           told_is = ap (λ l. told_alone l progress.changed FirstFailure) (failed.message_is calm)
-              ∙ ap (λ b. told_alone (first_of (failures_at v.home v.passes failed.statement)) b FirstFailure) (failed.changed ∙ done.kept.left.changed);
+              ∙ ap (λ b. told_alone (take 1 (flat_map failure_text (said (meaning v.home) v.passes (slots_of (failed.statement ∷ []))))) b FirstFailure) (failed.changed ∙ done.kept.left.changed);
         }),
         (take n mid.bytes, chunks (drop n mid.bytes ++ rest), all),
       );
 }
 
 -- a stopped session keeps to little
-going_not_stopped : (s : Stage) → s ≡ Stopped → s ≡ Going → ⊥
+going_not_stopped : (s : SessionState) → s ≡ Stopped → s ≡ Going → ⊥
 going_not_stopped s h i = stopped_going (sym h ∙ i)
   where
-    is_stopped : Stage → Bool
+    is_stopped : SessionState → Bool
     is_stopped Going = false
     is_stopped (Ended end) = false
     is_stopped Stopped = true
@@ -173,10 +174,10 @@ going_not_stopped s h i = stopped_going (sym h ∙ i)
     stopped_going : Stopped ≡ Going → ⊥
     stopped_going k = false≢true (sym (ap is_stopped k))
 
-ended_not_stopped : (s : Stage) (end : End) → s ≡ Stopped → s ≡ Ended end → ⊥
+ended_not_stopped : (s : SessionState) (end : End) → s ≡ Stopped → s ≡ Ended end → ⊥
 ended_not_stopped s end h i = stopped_ended (sym h ∙ i)
   where
-    is_stopped : Stage → Bool
+    is_stopped : SessionState → Bool
     is_stopped Going = false
     is_stopped (Ended end) = false
     is_stopped Stopped = true

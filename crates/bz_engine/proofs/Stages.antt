@@ -6,8 +6,8 @@ use Rattle.bz_devices.proofs.PassedOn.{err_is}
 use Rattle.bz_engine.specs.declared.report.End.{End}
 use Rattle.bz_engine.specs.declared.run_fault.RunFault.{RunFault}
 use Rattle.bz_engine.specs.declared.run_fault.RunFault.TheVariants as fault
-use Rattle.bz_engine.specs.declared.session.Stage.{Stage}
-use Rattle.bz_engine.specs.declared.session.Stage.TheVariants.{Going, Ended, Stopped}
+use Rattle.bz_engine.specs.declared.session.SessionState.{SessionState}
+use Rattle.bz_engine.specs.declared.session.SessionState.TheVariants.{Going, Ended, Stopped}
 use Rattle.bz_devices.specs.Ahead.{Ahead, IsReadOn, IsNextChunk}
 use Rattle.bz_devices.proofs.ReadOn.{read_then}
 use Rattle.bz_engine.specs.Progress.{Progress}
@@ -18,26 +18,26 @@ use Rattle.bz_engine.specs.private.Edits.{EditsChunk}
 use Rattle.bz_engine.specs.private.NextChunks.{IsFirstEdited, IsNextEdited, IsFirstNext}
 use Rattle.bz_engine.specs.SessionValue.{SessionValue, run_in, IsSameRun}
 
-abbrev is_going : Stage → Bool
+abbrev is_going : SessionState → Bool
 is_going Going = true
 is_going (Ended end) = false
 is_going Stopped = false
 
-abbrev is_stopped : Stage → Bool
+abbrev is_stopped : SessionState → Bool
 is_stopped Going = false
 is_stopped (Ended end) = false
 is_stopped Stopped = true
 
-pub going_not_ended : {X : Type 0} (s : Stage) (end : End) → s ≡ Going → s ≡ Ended end → X
+pub going_not_ended : {X : Type 0} (s : SessionState) (end : End) → s ≡ Going → s ≡ Ended end → X
 going_not_ended s end going ended = absurd (false≢true (sym (ap is_going ended) ∙ ap is_going going))
 
-pub going_not_stopped : {X : Type 0} (s : Stage) → s ≡ Going → s ≡ Stopped → X
+pub going_not_stopped : {X : Type 0} (s : SessionState) → s ≡ Going → s ≡ Stopped → X
 going_not_stopped s going stopped = absurd (false≢true (sym (ap is_going stopped) ∙ ap is_going going))
 
-pub ended_not_stopped : {X : Type 0} (s : Stage) (end : End) → s ≡ Ended end → s ≡ Stopped → X
+pub ended_not_stopped : {X : Type 0} (s : SessionState) (end : End) → s ≡ Ended end → s ≡ Stopped → X
 ended_not_stopped s end ended stopped = absurd (false≢true (sym (ap is_stopped ended) ∙ ap is_stopped stopped))
 
-pub stage_is : (v w : SessionValue) (s : Stage) → v ≡ w → v.stage ≡ s → w.stage ≡ s
+pub stage_is : (v w : SessionValue) (s : SessionState) → v ≡ w → v.stage ≡ s → w.stage ≡ s
 stage_is v w s same is = sym (ap (λ x. x.stage) same) ∙ is
 
 abbrev is_stop : RunFault → Bool

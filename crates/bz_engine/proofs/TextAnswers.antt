@@ -9,7 +9,7 @@ use Rattle.bz_command.specs.declared.arguments.Attributes.TheVariants.{Named, Ev
 use Rattle.bz_command.specs.declared.arguments.Setting.TheVariants.{ToValues, ToKind}
 use Rattle.bz_command.specs.Labels.{Package}
 use Rattle.bz_attribute.specs.declared.done.Done.{Done}
-use Rattle.bz_attribute.specs.Effects.{argument, done, done_in, edit_first, has, nodes_after, nodes_of}
+use Rattle.bz_attribute.specs.Effects.{argument, done, edit_first, has, nodes_after, nodes_of}
 use Rattle.bz_attribute.specs.Rules.{Rule, first_named, is_named, rule_of}
 use Rattle.bz_attribute.specs.Set.{new_of, new_value, set, set_if_absent, set_in, sets}
 use Rattle.bz_attribute_commands.specs.Argument.{new_argument}
@@ -19,6 +19,7 @@ use Rattle.bz_rule.specs.Commands.{Command, after, args_after, args_done, done_o
 use Rattle.bz_rule.proofs.Commands.{lawful}
 use Rattle.bz_engine.specs.private.Found.{IsWithout, Makes, Setting, looked_at, set_by, told_line}
 use Rattle.bz_engine.proofs.OnlyPass.{named_rule}
+use Rattle.bz_token.specs.Common.{map_or}
 
 -- a text in which the name and the sign are not found
 pub not_found : (text attr needle : List ℕ) (r : Option ℕ) → needle ≡ attr ++ codes " =" → FindsNeedle text needle 0 r → r ≡ None → HasArgumentName attr text → ⊥
@@ -50,15 +51,15 @@ stays_by command home s told = record { after_is = (lawful command home).stays (
 looked_at_done : (command : Command) (attr : List ℕ) (home : Package) (s : Statement) → looked_at command ≡ Some attr → IsWithout attr s → done_of command home (Some s) ≡ told_line false None
 looked_at_done (Remove (Named a) []) attr home s is without =
     let same : a ≡ attr = cc in
-    quiet (done_in (args_done (Remove (Named a) []) home)) (rule_of s.nodes) refl
+    quiet (λ x0. map_or (done None false) (λ r. (args_done (Remove (Named a) []) home) r.args) x0) (rule_of s.nodes) refl
     (λ r at. ap (done None) (none_has a r.args (ap (λ n. first_named n r.args) same ∙ ap (λ o. first_named attr (rule_args o)) (sym at) ∙ without)))
 looked_at_done (Remove (Named a) (v ∷ values)) attr home s is without =
     let same : a ≡ attr = cc in
-    quiet (done_in (args_done (Remove (Named a) (v ∷ values)) home)) (rule_of s.nodes) refl
+    quiet (λ x0. map_or (done None false) (λ r. (args_done (Remove (Named a) (v ∷ values)) home) r.args) x0) (rule_of s.nodes) refl
     (λ r at. rw (ap (λ n. first_named n r.args) same ∙ ap (λ o. first_named attr (rule_args o)) (sym at) ∙ without) refl)
 looked_at_done (Replace (Named a) old new) attr home s is without =
     let same : a ≡ attr = cc in
-    quiet (done_in (args_done (Replace (Named a) old new) home)) (rule_of s.nodes) refl
+    quiet (λ x0. map_or (done None false) (λ r. (args_done (Replace (Named a) old new) home) r.args) x0) (rule_of s.nodes) refl
     (λ r at. rw (ap (λ n. first_named n r.args) same ∙ ap (λ o. first_named attr (rule_args o)) (sym at) ∙ without) refl)
 looked_at_done (Remove Every values) attr home s is without = absurd cc
 looked_at_done (Replace Every old new) attr home s is without = absurd cc
@@ -85,7 +86,7 @@ set_makes : (a : List ℕ) (ws : List (List ℕ)) (home : Package) (s : Statemen
     → Makes (Set (ToValues a ws)) home s (with_argument (new_argument a ws) s) (told_line true None)
 set_makes a ws home s r at none = record {
   after_is = ap Some (grown (set a ws) (new_argument a ws) s r at (by (has a r.args) (first_named a r.args) (none_has a r.args none) none));
-  done = ap (done_in (args_done (Set (ToValues a ws)) home)) at ∙ ap (λ o. done None (sets a ws o)) none;
+  done = ap (λ x0. map_or (done None false) (λ r. (args_done (Set (ToValues a ws)) home) r.args) x0) at ∙ ap (λ o. done None (sets a ws o)) none;
 }
   where
     by : (b : Bool) (o : Option Segment) → b ≡ false → o ≡ None
@@ -98,7 +99,7 @@ set_if_absent_makes a ws home s r at none =
     let absent : has a r.args ≡ false = none_has a r.args none in
     record {
       after_is = ap Some (grown (set_if_absent a ws) (new_argument a ws) s r at (ap (λ b. if b then r.args else r.args ++ new_argument a ws ∷ []) absent));
-      done = ap (done_in (args_done (SetIfAbsent a ws) home)) at ∙ ap (λ b. done None (not b)) absent;
+      done = ap (λ x0. map_or (done None false) (λ r. (args_done (SetIfAbsent a ws) home) r.args) x0) at ∙ ap (λ b. done None (not b)) absent;
     }
 
 set_by_makes : (command : Command) (new : Setting) (home : Package) (s : Statement) (r : Rule) → set_by command ≡ Some new → rule_of s.nodes ≡ Some r → first_named new.attr r.args ≡ None

@@ -1,7 +1,8 @@
 -- What a run answers for a file that it may not have read to its end: the same, whatever stands after what was read (this project's own rule).
 use Rattle.std.specs.Prelude.{◌≡◌, ℕ, IsTrue, List, [], ◌++◌}
-use Rattle.bz_devices.specs.Device.{joined, ends}
+use Rattle.bz_devices.specs.Device.{ends}
+use Rattle.std.specs.List.{concat}
 
 -- The reads gave the front of some files: where the end was met, of one alone. For each of them this is the answer.
 pub record ForEveryFile (pieces : List (List ℕ)) (Answer : List ℕ → Type 0) : Type 0 where
-  pub each : (rest : List ℕ) → (IsTrue (ends pieces) → rest ≡ []) → Answer (joined pieces ++ rest)
+  pub each : (rest : List ℕ) → (IsTrue (ends pieces) → rest ≡ []) → Answer (concat pieces ++ rest)

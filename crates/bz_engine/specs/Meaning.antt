@@ -1,5 +1,6 @@
 -- What targets mark and what commands do to the statement in a slot, and what is told of it: the language of passes over BUILD files.
 use Rattle.std.specs.Prelude.{ℕ, Bool, false, List, [], ◌∷◌, ◌++◌, Option, None, Some}
+use Rattle.bz_token.specs.Common.{map_or}
 use Rattle.bz_tree.specs.Tree.{Statement}
 use Rattle.bz_command.specs.Labels.{Package, Target, must_mark}
 use Rattle.bz_rule.specs.Commands.{Command, after, done_of}
@@ -14,11 +15,6 @@ use Rattle.bz_passes.specs.declared.entry.Entry.TheVariants.{Line, Warning, Fail
 use Rattle.bz_engine.specs.Messages.{not_found_text, note_text}
 use Rattle.bz_command.specs.Passes.{Meaning, Slot}
 
--- an empty slot is never marked
-abbrev pub marks_slot : Target → Slot Statement → Bool
-marks_slot target None = false
-marks_slot target (Some s) = marks target s
-
 -- what is printed of a rule
 abbrev pub line_told : Option (List ℕ) → List Entry
 line_told None = []
@@ -30,25 +26,15 @@ note_told rule None = []
 note_told rule (Some (Missing field)) = Warning (note_text rule (Missing field)) ∷ []
 note_told rule (Some note) = Failure (note_text rule note) ∷ []
 
-abbrev pub done_told : List ℕ → Done → List Entry
-done_told rule done = line_told done.line ++ note_told rule done.note
-
--- the slot's rule, as it is shown
-abbrev pub shown_slot : Package → Slot Statement → List ℕ
-shown_slot home None = []
-shown_slot home (Some s) = shown_text home s
-
--- the rule is shown as the command finds it
-abbrev pub says : Package → Command → Slot Statement → List Entry
-says home command slot = done_told (shown_slot home slot) (done_of command home slot)
-
+-- an empty slot is never marked; the rule is shown as the command finds it
 abbrev pub meaning : Package → Meaning Statement Target Command Entry
 meaning home = record {
-  marks = marks_slot;
+  marks = λ target slot. map_or false (marks target) slot;
   must_mark = must_mark;
   not_found = λ target. Failure (not_found_text home target);
   after = λ command slot. after command home slot;
-  says = says home;
+  says = λ command slot.
+      let done = done_of command home slot in line_told done.line ++ note_told (map_or [] (shown_text home) slot) done.note;
 }
 
 -- whether the command makes the slot another than it was

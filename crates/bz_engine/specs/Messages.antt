@@ -8,13 +8,13 @@ use Rattle.bz_tree.specs.declared.fault.ParseFault.TheVariants as parse
 use Rattle.bz_attribute.specs.declared.done.Note.{Note}
 use Rattle.bz_attribute.specs.declared.done.Note.TheVariants.{Missing, NoAttribute, AttributeExists, NotAList, NoValue}
 use Rattle.bz_command.specs.Labels.{Package, Target}
-use Rattle.bz_attribute.specs.Texts.{label_text}
+use Rattle.bz_attribute.specs.Texts.{home_text, target_text}
 use Rattle.bz_engine.specs.declared.report.SyntaxFault.{SyntaxFault}
 use Rattle.bz_engine.specs.declared.report.SyntaxFault.TheVariants.{NotUtf8, Parse}
 
 -- a target that had to mark something and marked nothing
 abbrev pub not_found_text : Package → Target → List ℕ
-not_found_text home target = label_text home target ++ codes ": no such rule"
+not_found_text home target = (home_text home ++ target_text target) ++ codes ": no such rule"
 
 -- a note on a rule, which is shown as the command found it
 abbrev pub note_text : List ℕ → Note → List ℕ

@@ -4,7 +4,7 @@ use Rattle.std.specs.List.{concat}
 use Rattle.bz_token.specs.Chunks.{chunks}
 use Rattle.bz_tree.specs.Tree.{Statement}
 use Rattle.bz_command.specs.Labels.{Package}
-use Rattle.bz_devices.specs.Device.{joined, NoneEnds}
+use Rattle.bz_devices.specs.Device.{NoneEnds}
 use Rattle.bz_devices.specs.Ahead.{IsUndecided}
 use Rattle.bz_engine.specs.declared.options.Options.{Options}
 use Rattle.bz_engine.specs.File.{Give}
@@ -16,8 +16,8 @@ pub record IsOneNeeded (run : Run) (max_statement : ℕ) (pieces : List (List �
   pub going : NoneEnds pieces
   pub front : List (List ℕ)
   pub left : List ℕ
-  pub bytes_are : joined pieces ≡ concat front ++ left
-  pub chunks_are : (rest : List ℕ) → chunks (joined pieces ++ rest) ≡ front ++ chunks (left ++ rest)
+  pub bytes_are : concat pieces ≡ concat front ++ left
+  pub chunks_are : (rest : List ℕ) → chunks (concat pieces ++ rest) ≡ front ++ chunks (left ++ rest)
   pub statements : List Statement
   pub read : Give run.max_depth 1 front statements None
   pub calm : run.keep_going ≡ false → some_failure run.home run.passes statements ≡ false
@@ -32,5 +32,5 @@ AreNeededAfter run max_statement before (piece ∷ pieces) =
 -- The reads of a run: no more than it may make, at most one more than there are bytes, and each was needed.
 pub record AreReads (home : Package) (passes : Script) (options : Options) (pieces : List (List ℕ)) : Type 0 where
   pub within : length pieces ≤ options.max_reads
-  pub few : length pieces ≤ length (joined pieces) + 1
+  pub few : length pieces ≤ length (concat pieces) + 1
   pub needed : AreNeededAfter (run_with home passes options) options.max_statement [] pieces

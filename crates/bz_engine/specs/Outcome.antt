@@ -1,5 +1,5 @@
 -- What a run over a file gives: the passes one after another on the whole list of its statements, and the result laid out.
-use Rattle.std.specs.Prelude.{◌≡◌, ◌⊎◌, ℕ, Bool, true, false, ◌||◌, if◌then◌else◌, List, [], ◌∷◌, ◌++◌, map, Option, None, Some, codes}
+use Rattle.std.specs.Prelude.{◌≡◌, ◌⊎◌, ℕ, Bool, true, false, ◌||◌, if◌then◌else◌, List, [], ◌∷◌, ◌++◌, map, Option, None, Some, codes, take}
 use Rattle.std.specs.List.{list_all, flat_map}
 use Rattle.bz_token.specs.Chunks.{chunks}
 use Rattle.bz_tree.specs.Tree.{Statement}
@@ -7,7 +7,7 @@ use Rattle.bz_layout.specs.Layout.{layout_text}
 use Rattle.bz_layout.specs.Gaps.{gap_between}
 use Rattle.bz_command.specs.Labels.{Package, Target}
 use Rattle.bz_rule.specs.Commands.{Command, is_print}
-use Rattle.bz_passes.specs.Entries.{line_text, message_text, failure_text, first_of}
+use Rattle.bz_passes.specs.Entries.{line_text, message_text, failure_text}
 use Rattle.bz_engine.specs.declared.options.Options.{Options}
 use Rattle.bz_engine.specs.declared.report.SyntaxFault.{SyntaxFault}
 use Rattle.bz_engine.specs.declared.report.End.{End}
@@ -39,9 +39,6 @@ is_query passes = list_all (λ p. list_all is_print p.commands) passes
 abbrev pub slots_of : List Statement → List (Slot Statement)
 slots_of statements = map Some statements
 
-abbrev pub gap_text : Bool → List ℕ
-gap_text blank = if blank then codes "\n" else []
-
 -- the statements that are left in slots
 abbrev pub left_in : {S : Type 0} → List (Slot S) → List S
 left_in [] = []
@@ -52,15 +49,11 @@ left_in (Some s ∷ slots) = s ∷ left_in slots
 abbrev pub text_of : List Statement → List ℕ
 text_of [] = []
 text_of (s ∷ []) = layout_text s
-text_of (s ∷ t ∷ ss) = layout_text s ++ (gap_text (gap_between s.class t.class) ++ text_of (t ∷ ss))
+text_of (s ∷ t ∷ ss) = layout_text s ++ ((if (gap_between s.class t.class) then codes "\n" else []) ++ text_of (t ∷ ss))
 
--- the text of what is left in slots; none for a query
-abbrev pub shown_text : Script → List (Slot Statement) → List ℕ
-shown_text passes slots = if is_query passes then [] else text_of (left_in slots)
-
--- the text of the statements as the script left them
+-- the text of the statements as the script left them; none for a query
 abbrev pub text_after : Package → Script → List Statement → List ℕ
-text_after home passes statements = shown_text passes (slots_after (meaning home) passes (slots_of statements))
+text_after home passes statements = if is_query passes then [] else text_of (left_in (slots_after (meaning home) passes (slots_of statements)))
 
 -- what a run tells beside its text
 pub record Told : Type 0 where
@@ -77,19 +70,16 @@ some_change home passes statements = some_execution (meaning home) (changes home
 abbrev pub some_failure : Package → Script → List Statement → Bool
 some_failure home passes statements = some_execution (meaning home) (fails_on home) passes (slots_of statements)
 
--- what is told of a file without fault: the whole log
-abbrev pub told_of_all : Package → Script → List Statement → Told
-told_of_all home passes statements = record {
+-- what is told of a file without fault: the whole log; a fault of the file is the only message
+abbrev pub told_of : Package → Script → List Statement → Option SyntaxFault → Told
+told_of home passes statements None = record {
   lines = flat_map line_text (log_of (meaning home) passes (slots_of statements));
   messages = flat_map message_text (log_of (meaning home) passes (slots_of statements));
   changed = some_change home passes statements;
   failed = some_failure home passes statements || some_missing (meaning home) passes (slots_of statements);
   end = Whole;
 }
-
--- a fault of the file is the only message
-abbrev pub told_of_fault : Package → Script → List Statement → SyntaxFault → Told
-told_of_fault home passes statements fault = record {
+told_of home passes statements (Some fault) = record {
   lines = [];
   messages = fault_text fault ∷ [];
   changed = some_change home passes statements;
@@ -97,27 +87,16 @@ told_of_fault home passes statements fault = record {
   end = Syntax fault;
 }
 
-abbrev pub told_of : Package → Script → List Statement → Option SyntaxFault → Told
-told_of home passes statements None = told_of_all home passes statements
-told_of home passes statements (Some fault) = told_of_fault home passes statements fault
-
 -- what the commands say, without what is said of a target that marks nothing
 abbrev pub said : {S T C M : Type 0} → Meaning S T C M → List (Pass T C) → List (Slot S) → List M
 said m [] slots = []
 said m (p ∷ ps) slots = log_of_commands m p.commands (map (marked m p.target) slots) ++ said m ps (slots_after_pass m p slots)
 
--- whether some execution fails on a statement, and the messages of those that do, in pass and command order
-abbrev pub fails_at : Package → Script → Statement → Bool
-fails_at home passes s = some_failure home passes (s ∷ [])
-
-abbrev pub failures_at : Package → Script → Statement → List (List ℕ)
-failures_at home passes s = flat_map failure_text (said (meaning home) passes (slots_of (s ∷ [])))
-
--- what is told where the run ends at a statement: the first failure there is the only message
+-- what is told where the run ends at a statement: the first failure there, in pass and command order, is the only message
 abbrev pub told_of_failure : Package → Script → List Statement → Statement → Told
 told_of_failure home passes before s = record {
   lines = [];
-  messages = first_of (failures_at home passes s);
+  messages = take 1 (flat_map failure_text (said (meaning home) passes (slots_of (s ∷ []))));
   changed = some_change home passes before;
   failed = true;
   end = FirstFailure;
@@ -149,7 +128,7 @@ pub record EndsAtFailure (run : Run) (file text : List ℕ) (told : Told) : Type
   pub statement : Statement
   pub read : BeginsWith run.max_depth file (before ++ statement ∷ [])
   pub calm : some_failure run.home run.passes before ≡ false
-  pub fails : fails_at run.home run.passes statement ≡ true
+  pub fails : some_failure run.home run.passes (statement ∷ []) ≡ true
   pub text_is : text ≡ text_after run.home run.passes before
   pub told_is : told ≡ told_of_failure run.home run.passes before statement
 

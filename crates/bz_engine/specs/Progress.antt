@@ -1,5 +1,5 @@
 -- What a run keeps of the chunks that are done.
-use Rattle.std.specs.Prelude.{◌≡◌, ℕ, Bool, if◌then◌else◌, List, [], ◌∷◌, ◌++◌, Option, None, Some}
+use Rattle.std.specs.Prelude.{◌≡◌, ℕ, Bool, if◌then◌else◌, List, [], ◌∷◌, ◌++◌, Option, None, Some, codes}
 use Rattle.std.specs.List.{concat}
 use Rattle.bz_token.specs.Places.{line_at}
 use Rattle.bz_tree.specs.Tree.{Statement}
@@ -12,7 +12,7 @@ use Rattle.bz_command.specs.Passes.{Slot, slots_after}
 use Rattle.bz_passes.specs.Exchange.{Kept, IsLeftBy, slot_after}
 use Rattle.bz_engine.specs.Meaning.{meaning, changes, fails_on}
 use Rattle.bz_engine.specs.File.{Give}
-use Rattle.bz_engine.specs.Outcome.{Script, Run, slots_of, is_query, gap_text}
+use Rattle.bz_engine.specs.Outcome.{Script, Run, slots_of, is_query}
 
 -- For each pass and command what was told, whether something changed and failed, the class of the last statement that is left, and the
 -- line on which the next chunk begins.
@@ -40,7 +40,7 @@ pub record IsKeptOf (run : Run) (cs : List (List ℕ)) (statements : List Statem
 abbrev pub text_following : Option Class → List (Slot Statement) → List ℕ
 text_following last [] = []
 text_following last (None ∷ slots) = text_following last slots
-text_following last (Some s ∷ slots) = gap_text (blank_between last s.class) ++ (layout_text s ++ text_following (Some s.class) slots)
+text_following last (Some s ∷ slots) = (if (blank_between last s.class) then codes "\n" else []) ++ (layout_text s ++ text_following (Some s.class) slots)
 
 -- what one statement more, as the script leaves it, adds to the text
 abbrev pub added : Package → Script → Option Class → List Statement → List ℕ

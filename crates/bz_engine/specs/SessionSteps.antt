@@ -1,16 +1,17 @@
 -- What a step of a session does to the file's run, and what its faults tell.
 use Rattle.std.specs.Prelude.{◌≡◌, ◌≢◌, ◌⊎◌, ℕ, ◌+◌, ◌*◌, ◌<◌, ◌≤◌, false, List, [], ◌∷◌, ◌++◌, length, Result, Ok, Err, ⊤}
-use Rattle.bz_devices.specs.Device.{joined, IsCounted}
+use Rattle.bz_devices.specs.Device.{IsCounted}
 use Rattle.bz_devices.specs.Ahead.{IsReadOn, AreNeeded, IsTooLong, IsUncertain}
 use Rattle.bz_engine.specs.declared.report.End.{End}
 use Rattle.bz_engine.specs.declared.run_fault.RunFault.{RunFault}
 use Rattle.bz_engine.specs.declared.run_fault.RunFault.TheVariants.{OutOfMemory, ReadFailed, WriteFailed, InputTooLong, StatementTooLong, Stopped}
-use Rattle.bz_engine.specs.declared.session.Stage.TheVariants as stage
+use Rattle.bz_engine.specs.declared.session.SessionState.TheVariants as stage
 use Rattle.bz_engine.specs.declared.session.Step.{Step}
 use Rattle.bz_engine.specs.declared.session.Step.TheVariants as step
 use Rattle.bz_engine.specs.Outcome.{IsFrontOf}
 use Rattle.bz_engine.specs.NeededReads.{AreReads}
 use Rattle.bz_engine.specs.SessionValue.{SessionValue, HasDone, HasEnded}
+use Rattle.std.specs.List.{concat}
 
 -- A source in a step: that it gave these pieces, and how many reads had failed before and after.
 pub record Reader : Type 1 where
@@ -95,8 +96,8 @@ pub record Steps (source : Reader) (sink : Writer) (old new : SessionValue) (res
   pub did : Did old new read shown result
   -- Each read was needed. What stood ahead, and what was read then, is at most the longest chunk and one piece more.
   pub needed : AreNeeded old.options.max_statement old.ahead.bytes read
-  pub few : length (joined read) ≤ 8192 * length read
-  pub bound : length (old.ahead.bytes ++ joined read) ≤ old.options.max_statement + 8192
+  pub few : length (concat read) ≤ 8192 * length read
+  pub bound : length (old.ahead.bytes ++ concat read) ≤ old.options.max_statement + 8192
   -- Only a chunk that is done, or whose write failed, was written.
   pub unwritten : result ≢ Ok step.More → result ≢ Err WriteFailed → sink.Stays
   pub reads_counted : IsCounted (result ≡ Err ReadFailed) source.failed source.failed_after

@@ -7,9 +7,9 @@ use Rattle.bz_command.specs.Labels.{Package}
 use Rattle.bz_engine.specs.declared.options.Options.{Options}
 use Rattle.bz_engine.specs.declared.report.End.{End}
 use Rattle.bz_engine.specs.declared.report.End.TheVariants.{Whole, Syntax, FirstFailure}
-use Rattle.bz_engine.specs.declared.session.Stage.{Stage}
-use Rattle.bz_engine.specs.declared.session.Stage.TheVariants.{Going, Ended}
-use Rattle.bz_devices.specs.Device.{joined, ends, NoneEnds}
+use Rattle.bz_engine.specs.declared.session.SessionState.{SessionState}
+use Rattle.bz_engine.specs.declared.session.SessionState.TheVariants.{Going, Ended}
+use Rattle.bz_devices.specs.Device.{ends, NoneEnds}
 use Rattle.bz_devices.specs.Ahead.{Ahead}
 use Rattle.bz_engine.specs.EveryFile.{ForEveryFile}
 use Rattle.bz_passes.specs.Exchange.{no_slot, told, some_not_found, Fits}
@@ -28,7 +28,7 @@ pub record SessionValue : Type 0 where
   pub options : Options
   pub progress : Progress
   pub ahead : Ahead
-  pub stage : Stage
+  pub stage : SessionState
   pub failure : Option (List ℕ)
 
 abbrev pub at_start : Package → Script → Options → SessionValue
@@ -54,13 +54,13 @@ pub record IsSameRun (old new : SessionValue) : Type 0 where
 -- Reads gave these pieces, and each was needed: the chunks that are done, whatever follows, and the bytes ahead. This text was written: that of the
 -- statements of these chunks as the script left them.
 pub record HasDone (v : SessionValue) (pieces cs : List (List ℕ)) (text : List ℕ) : Type 0 where
-  pub bytes : joined pieces ≡ concat cs ++ v.ahead.bytes
+  pub bytes : concat pieces ≡ concat cs ++ v.ahead.bytes
   pub reads : v.ahead.reads ≡ length pieces
   pub ended : v.ahead.ended ≡ ends pieces
   pub none_ends : v.ahead.ended ≡ false → NoneEnds pieces
   pub needed : AreNeededAfter (run_in v) v.options.max_statement [] pieces
   pub few : length v.ahead.bytes ≤ 8192
-  pub first : (rest : List ℕ) → (IsTrue v.ahead.ended → rest ≡ []) → chunks (joined pieces ++ rest) ≡ cs ++ chunks (v.ahead.bytes ++ rest)
+  pub first : (rest : List ℕ) → (IsTrue v.ahead.ended → rest ≡ []) → chunks (concat pieces ++ rest) ≡ cs ++ chunks (v.ahead.bytes ++ rest)
   pub statements : List Statement
   pub kept : IsKeptOf (run_in v) cs statements v.progress
   pub text_is : text ≡ text_after v.home v.passes statements

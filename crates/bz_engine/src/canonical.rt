@@ -17,7 +17,7 @@ ghost use Rattle.bz_engine.specs.private.NextChunks.{IsFirstEdited};
 ghost use Rattle.bz_engine.specs.private.Rows.{HasKey};
 
 use crate::answer::{Answer, answer_by_text, is_answerable, marks_name};
-use crate::edit::{Edited, Script, put_gap};
+use crate::edit::{Edited, ScriptRun, put_gap};
 use crate::next_chunk::NextChunk;
 use crate::progress::Progress;
 use crate::rule_passes::OnePass;
@@ -34,7 +34,7 @@ use bz_tree::Class;
 /// The script on the first chunk of the text ahead, where the chunk stands as it would be written and what the script
 /// makes of its statement is known without it: it is copied. None, with nothing done: it is to be read.
 pub(crate) fn edit_canonical(
-    script: Script<'_>,
+    script: ScriptRun<'_>,
     ahead: &Ahead,
     max_statement: u64,
     progress: &mut Progress,
@@ -69,7 +69,7 @@ pub(crate) fn edit_canonical(
 }
 
 /// Whether what the script makes of some statements may be known without them.
-fn may_be_known(script: Script<'_>) -> bool {
+fn may_be_known(script: ScriptRun<'_>) -> bool {
     if script.passes.ask_for_names() {
         return true;
     }
@@ -81,7 +81,7 @@ fn may_be_known(script: Script<'_>) -> bool {
 
 /// The canonical chunk that the text begins with, where it is not too long.
 fn find_canonical<'a>(
-    script: Script<'_>,
+    script: ScriptRun<'_>,
     text: &'a str,
     max_statement: u64,
 ) -> Option<CanonicalChunk<'a>>
@@ -99,7 +99,7 @@ fn find_canonical<'a>(
 
 /// The script on the statement of such a chunk. False, with nothing done: the statement is to be seen.
 fn edit_found(
-    script: Script<'_>,
+    script: ScriptRun<'_>,
     found: CanonicalChunk<'_>,
     progress: &mut Progress,
     text: &mut Vec<u8>,
@@ -124,7 +124,7 @@ fn edit_found(
 
 /// The one command of the script on the statement, where what it makes of it is known by its name and its text.
 fn edit_by_text(
-    script: Script<'_>,
+    script: ScriptRun<'_>,
     only: OnePass<'_>,
     found: CanonicalChunk<'_>,
     progress: &mut Progress,
@@ -177,7 +177,7 @@ fn edit_by_text(
 }
 
 /// No pass of the script may mark the statement.
-fn is_passed_by(script: Script<'_>, found: CanonicalChunk<'_>) -> bool
+fn is_passed_by(script: ScriptRun<'_>, found: CanonicalChunk<'_>) -> bool
     ensures { IsTrue result → (s : Statement) → IsFound found.entry s
         → IsPassedBy (meaning script.entry.home.now) (changes script.entry.home.now) (fails_on script.entry.home.now)
         script.entry.passes.now (Some s) }
@@ -189,7 +189,7 @@ fn is_passed_by(script: Script<'_>, found: CanonicalChunk<'_>) -> bool
 }
 
 /// No pass of the script may mark a statement of this name.
-fn is_name_passed_by(script: Script<'_>, name: Option<&str>) -> bool
+fn is_name_passed_by(script: ScriptRun<'_>, name: Option<&str>) -> bool
     ensures { IsTrue result → (s : Statement) → s.class ≡ class_of s.nodes
         → HasName (option_map (λ name. name.now) name.entry) s
         → IsPassedBy (meaning script.entry.home.now) (changes script.entry.home.now) (fails_on script.entry.home.now)
@@ -215,7 +215,7 @@ fn name_key(name: Option<&str>) -> Key<'_>
 
 /// Writes the chunk of a statement that the script passes by.
 fn put_canonical(
-    script: Script<'_>,
+    script: ScriptRun<'_>,
     found: CanonicalChunk<'_>,
     progress: &mut Progress,
     text: &mut Vec<u8>,
@@ -243,7 +243,7 @@ struct Grown<'t> {
 
 /// Writes the text of a rule that has one argument more.
 fn put_grown(
-    script: Script<'_>,
+    script: ScriptRun<'_>,
     grown: Grown<'_>,
     progress: &mut Progress,
     text: &mut Vec<u8>,

@@ -1,6 +1,6 @@
 //! A whole script on one chunk.
 
-ghost use Rattle.std.specs.Prelude.{◌≡◌, ℕ, ◌+◌, ◌<◌, ◌≤◌, ◌^◌, ◌++◌, if◌then◌else◌, List, [], ◌∷◌, Option, None, Some, length, IfOk, OnOk, option_map, option_to_list};
+ghost use Rattle.std.specs.Prelude.{◌≡◌, ℕ, ◌+◌, ◌<◌, ◌≤◌, ◌^◌, ◌++◌, if◌then◌else◌, List, [], ◌∷◌, Option, None, Some, length, IfOk, OnOk, option_map, option_to_list, codes, take};
 ghost use Rattle.std.specs.List.{flat_map};
 ghost use Rattle.bz_tree.specs.Rows.{IsRowOf};
 ghost use Rattle.bz_tree.specs.Statement.{class_of};
@@ -8,8 +8,8 @@ ghost use Rattle.bz_tree.specs.Tree.{Statement};
 ghost use Rattle.bz_layout.specs.Gaps.{blank_between as is_gap};
 ghost use Rattle.bz_layout.specs.Layout.{layout_text};
 ghost use Rattle.bz_passes.specs.Exchange.{Fits, log_alone};
-ghost use Rattle.bz_engine.specs.Outcome.{is_query, gap_text};
-ghost use Rattle.bz_passes.specs.Entries.{failure_text, first_of};
+ghost use Rattle.bz_engine.specs.Outcome.{is_query};
+ghost use Rattle.bz_passes.specs.Entries.{failure_text};
 ghost use Rattle.bz_engine.specs.Progress.{last_class, text_following};
 ghost use Rattle.bz_engine.specs.private.ChunkRead.{IsReadAs};
 ghost use Rattle.bz_engine.specs.private.Edits.{EditsChunk, IsScripted, edited_of, run_of};
@@ -32,7 +32,7 @@ use std::alloc::Global;
 
 /// What a run is to do with each chunk.
 #[derive(Clone, Copy)]
-pub(crate) struct Script<'a> {
+pub(crate) struct ScriptRun<'a> {
     pub(crate) alloc: Global,
     /// Where the lists stand that are made of a chunk.
     pub(crate) bump: &'a Bump,
@@ -75,7 +75,7 @@ fn edited_of(scripted: Scripted) -> Edited
 /// The script on the next chunk, which is read as this: what it leaves goes after the text, and what is kept is then
 /// that of the chunks with this one. After a refusal neither the text nor what is kept is of use.
 pub(crate) fn edit_chunk<'a>(
-    script: Script<'a>,
+    script: ScriptRun<'a>,
     chunk: &str,
     read: Result<Option<Row<'a>>, ParseFault>,
     progress: &mut Progress,
@@ -105,7 +105,7 @@ pub(crate) fn edit_chunk<'a>(
 
 /// The script on the statement of a row.
 fn edit_row<'a>(
-    script: Script<'a>,
+    script: ScriptRun<'a>,
     row: &'a Row<'a>,
     progress: &mut Progress,
     text: &mut Vec<u8>,
@@ -127,7 +127,7 @@ fn edit_row<'a>(
 
 /// Lays out a statement that the script passes by.
 fn put_passed(
-    script: Script<'_>,
+    script: ScriptRun<'_>,
     row: &Row<'_>,
     progress: &mut Progress,
     text: &mut Vec<u8>,
@@ -146,7 +146,7 @@ fn put_passed(
 
 /// The script on what is in a slot.
 fn edit_slot<'a>(
-    script: Script<'a>,
+    script: ScriptRun<'a>,
     slot: &mut Option<StatementRow<'a>>,
     progress: &mut Progress,
     text: &mut Vec<u8>,
@@ -190,7 +190,7 @@ fn last_class(last: Option<Class>, slot: &Option<StatementRow<'_>>) -> Option<Cl
 
 /// Writes what is in a slot after the statement of class `last`.
 fn put_slot(
-    script: Script<'_>,
+    script: ScriptRun<'_>,
     last: Option<Class>,
     slot: &Option<StatementRow<'_>>,
     text: &mut Vec<u8>,
@@ -215,7 +215,7 @@ fn put_after(
     text: &mut Vec<u8>,
 ) -> Result<(), NoMemory>
     ensures { OnOk result (text.new.items ≡ text.old.items
-        ++ (gap_text (is_gap last stmt.now.class) ++ layout_text stmt.now)) }
+        ++ ((if (is_gap last stmt.now.class) then codes "\n" else []) ++ layout_text stmt.now)) }
 {
     put_gap(last, stmt.class(), text)?;
     stmt.put(alloc, text)
@@ -223,7 +223,7 @@ fn put_after(
 
 /// Writes what stands between two statements of these classes.
 pub(crate) fn put_gap(last: Option<Class>, class: Class, text: &mut Vec<u8>) -> Result<(), NoMemory>
-    ensures { OnOk result (text.new.items ≡ text.old.items ++ gap_text (is_gap last class)) }
+    ensures { OnOk result (text.new.items ≡ text.old.items ++ (if (is_gap last class) then codes "\n" else [])) }
 {
     if blank_between(last, class) {
         push(text, b'\n')?;
@@ -233,7 +233,7 @@ pub(crate) fn put_gap(last: Option<Class>, class: Class, text: &mut Vec<u8>) -> 
 
 /// The message of the first failure that was told, by pass and command.
 fn first_failure(alloc: Global, kept: &[Kept]) -> Result<Option<Text>, NoMemory>
-    ensures { IfOk result (λ message. option_to_list message ≡ first_of (flat_map failure_text (log_alone kept.now))) }
+    ensures { IfOk result (λ message. option_to_list message ≡ take 1 (flat_map failure_text (log_alone kept.now))) }
 {
     for pass in kept {
         if let Some(message) = first_in_pass(pass) {
@@ -246,7 +246,7 @@ fn first_failure(alloc: Global, kept: &[Kept]) -> Result<Option<Text>, NoMemory>
 
 fn first_in_pass(pass: &Kept) -> Option<&str>
     ensures { option_to_list (option_map (λ text. text.now) result)
-        ≡ first_of (flat_map failure_text (flat_map (λ log. log) pass.now.logs)) }
+        ≡ take 1 (flat_map failure_text (flat_map (λ log. log) pass.now.logs)) }
 {
     for log in &pass.logs {
         if let Some(message) = log.first_failure() {

@@ -10,7 +10,7 @@ ghost use Rattle.bz_engine.specs.private.NextChunks.{IsFirst};
 
 use crate::canonical::edit_canonical;
 use crate::chunk::not_utf8;
-use crate::edit::{Edited, Script, edit_chunk};
+use crate::edit::{Edited, ScriptRun, edit_chunk};
 use crate::progress::Progress;
 use bz_devices::ahead::Ahead;
 use bz_memory::NoMemory;
@@ -39,7 +39,7 @@ pub(crate) enum First {
 /// The script on the first chunk of the text ahead, which is read by the tokens that were made to find its end. Nothing
 /// is done where the text does not show where it ends, where it has a fault, is a block, or is too long.
 pub(crate) fn edit_first(
-    script: Script<'_>,
+    script: ScriptRun<'_>,
     ahead: &Ahead,
     max_statement: u64,
     progress: &mut Progress,
@@ -67,7 +67,7 @@ pub(crate) fn edit_first(
 
 /// The same where the chunk is to be read.
 fn edit_front(
-    script: Script<'_>,
+    script: ScriptRun<'_>,
     ahead: &Ahead,
     max_statement: u64,
     progress: &mut Progress,
@@ -104,7 +104,7 @@ fn begins_blank(text: &str) -> bool
 
 /// The script on the chunk that has these tokens.
 fn edit_tokens<'a>(
-    script: Script<'a>,
+    script: ScriptRun<'a>,
     chunk: &'a str,
     tokens: &[Token<'a>],
     progress: &mut Progress,
@@ -124,7 +124,7 @@ fn edit_tokens<'a>(
 
 /// The script on the chunk of these bytes.
 pub(crate) fn edit_bytes(
-    script: Script<'_>,
+    script: ScriptRun<'_>,
     chunk: &[u8],
     progress: &mut Progress,
     text: &mut Vec<u8>,

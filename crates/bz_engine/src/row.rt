@@ -7,14 +7,14 @@ ghost use Rattle.bz_attribute.specs.Heads.{HasHead};
 ghost use Rattle.bz_engine.specs.Meaning.{meaning, changes, fails_on};
 ghost use Rattle.bz_engine.specs.private.Rows as spec;
 
-use crate::edit::Script;
+use crate::edit::ScriptRun;
 use crate::rules::Rules;
 use bz_attribute::Head;
 use bz_passes::index::Key;
 use bz_passes::script::passes_by;
 
 /// No pass of the script may mark the statement of this head.
-pub(crate) fn is_passed_by(script: Script<'_>, head: Option<Head<'_>>) -> bool
+pub(crate) fn is_passed_by(script: ScriptRun<'_>, head: Option<Head<'_>>) -> bool
     ensures { IsTrue result → (s : Statement) → HasHead head.entry s
         → IsPassedBy (meaning script.entry.home.now) (changes script.entry.home.now) (fails_on script.entry.home.now)
         script.entry.passes.now (Some s) }

@@ -3,7 +3,9 @@
 ghost use Rattle.std.specs.Prelude.{◌≡◌, [], ◌∷◌, ◌++◌, Some, Option, IfOk, OnOk, string_bytes};
 ghost use Rattle.bz_tree.specs.Tree.{Statement};
 ghost use Rattle.bz_attribute.specs.Effects.{fails};
-ghost use Rattle.bz_engine.specs.Meaning.{line_told, note_told, done_told, shown_slot};
+ghost use Rattle.bz_engine.specs.Meaning.{line_told, note_told};
+ghost use Rattle.bz_attribute.specs.Texts.{shown_text};
+ghost use Rattle.bz_token.specs.Common.{map_or};
 
 use crate::message;
 use bz_attribute::Env;
@@ -112,7 +114,7 @@ fn tell_done(
     done: &mut Done,
     log: &mut Log,
 ) -> Result<Facts, NoMemory>
-    ensures told { OnOk result (log.new ≡ log.old ++ done_told (shown_slot home.now slot.now) done.old) }
+    ensures told { OnOk result (log.new ≡ log.old ++ (line_told done.old.line ++ note_told (map_or [] (shown_text home.now) slot.now) done.old.note)) }
     ensures changed { IfOk result (λ facts. facts.changed ≡ done.old.changed) }
     ensures failed { IfOk result (λ facts. facts.failed ≡ fails done.old.note) }
 {
@@ -138,7 +140,7 @@ fn tell_note(
     note: &Option<Note>,
     log: &mut Log,
 ) -> Result<(), NoMemory>
-    ensures { OnOk result (log.new ≡ log.old ++ note_told (shown_slot home.now slot.now) note.now) }
+    ensures { OnOk result (log.new ≡ log.old ++ note_told (map_or [] (shown_text home.now) slot.now) note.now) }
 {
     if let Some(note) = note {
         log.push(entry_on(alloc, home, slot, note)?)?;
@@ -153,7 +155,7 @@ fn entry_on(
     slot: &Option<StatementRow<'_>>,
     note: &Note,
 ) -> Result<Entry, NoMemory>
-    ensures { IfOk result (λ entry. entry ∷ [] ≡ note_told (shown_slot home.now slot.now) (Some note.now)) }
+    ensures { IfOk result (λ entry. entry ∷ [] ≡ note_told (map_or [] (shown_text home.now) slot.now) (Some note.now)) }
 {
     let rule = shown_slot(alloc, home, slot)?;
     note_entry(alloc, rule.as_str(), note)
@@ -165,7 +167,7 @@ fn shown_slot(
     home: &Package,
     slot: &Option<StatementRow<'_>>,
 ) -> Result<String, NoMemory>
-    ensures { IfOk result (λ text. string_bytes text ≡ shown_slot home.now slot.now) }
+    ensures { IfOk result (λ text. string_bytes text ≡ map_or [] (shown_text home.now) slot.now) }
 {
     match slot {
         None => Ok(String::new(alloc)),

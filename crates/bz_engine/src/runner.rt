@@ -2,10 +2,11 @@
 
 ghost use Rattle.std.specs.Prelude.{◌≡◌, ◌≢◌, ℕ, ◌≤◌, ◌^◌, List, length, IfOk, OnErr, IsTrue, IsErrOf};
 ghost use Rattle.bz_devices.specs.Ahead.{HasTooLong};
-ghost use Rattle.bz_devices.specs.Device.{joined, ends, NoneEnds, Rises};
+ghost use Rattle.bz_devices.specs.Device.{ends, NoneEnds, Rises};
 ghost use Rattle.bz_engine.specs.EveryFile.{ForEveryFile};
 ghost use Rattle.bz_engine.specs.NeededReads.{AreReads};
 ghost use Rattle.bz_engine.specs.Outcome.{Told, run_with, IsOutcome, IsFrontOf, told_by};
+ghost use Rattle.std.specs.List.{concat};
 
 use crate::options::Options;
 use crate::report::Report;
@@ -54,7 +55,7 @@ pub fn run<S: Source, W: Sink>(
     // The chunk that begins on this line has more bytes than it may, among those that were given.
     ensures statement_too_long { (line : ℕ) → result ≡ Err (RunFault.StatementTooLong line)
         → (pieces : List (List ℕ)) × S.gave source.old pieces source.new
-        × ForEveryFile pieces (HasTooLong options.max_statement line (joined pieces)) }
+        × ForEveryFile pieces (HasTooLong options.max_statement line (concat pieces)) }
     ensures going { result ≢ Err RunFault.Stopped }
 {
     let mut session = Session::new(alloc, home, passes, options)?;

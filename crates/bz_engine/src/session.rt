@@ -3,7 +3,7 @@
 ghost use Rattle.bz_memory.specs.NoMemory.{no_memory};
 ghost use Rattle.std.specs.Prelude.{◌≡◌, ◌≢◌, ℕ, ◌+◌, ◌<◌, ◌≤◌, ◌^◌, ◌++◌, false, List, [], length, take, drop, IfOk, OnOk, OnErr, IfSome, IfNone, IsTrue};
 ghost use Rattle.bz_token.specs.Cuts.{IsPart};
-ghost use Rattle.bz_devices.specs.Device.{joined, NoneEnds, Rises};
+ghost use Rattle.bz_devices.specs.Device.{NoneEnds, Rises};
 ghost use Rattle.bz_passes.specs.Exchange.{Fits};
 ghost use Rattle.bz_devices.specs.Ahead.{IsReadOn, IsNextChunk, IsTooLong, IsUncertain, IsFewAfter};
 ghost use Rattle.bz_engine.specs.Outcome.{told_by};
@@ -13,9 +13,9 @@ ghost use Rattle.bz_engine.specs.private.Finds.{Finds};
 ghost use Rattle.bz_engine.specs.private.NextChunks.{IsNextEdited, IsFirstNext, CanTake};
 ghost use Rattle.bz_engine.specs.SessionValue.{at_start, run_in, IsSameRun, IsReady, told_at};
 ghost use Rattle.bz_engine.specs.SessionSteps.{Steps, reader, writer};
-ghost use Rattle.bz_engine.specs.declared.session.Stage.TheVariants.{Going, Ended, Stopped};
+ghost use Rattle.bz_engine.specs.declared.session.SessionState.TheVariants.{Going, Ended, Stopped};
 
-use crate::edit::{Edited, Script};
+use crate::edit::{Edited, ScriptRun};
 use crate::looks::Looks;
 use crate::next_chunk::{First, NextChunk, edit_bytes, edit_first};
 use crate::options::Options;
@@ -40,7 +40,7 @@ use std::mem;
 
 /// Whether a session goes on.
 #[derive(Clone, Copy)]
-pub(crate) enum Stage {
+pub(crate) enum SessionState {
     Going,
     Ended(End),
     /// A fault ended it before its report.
@@ -65,7 +65,7 @@ pub struct Session {
     options: Options,
     progress: Progress,
     ahead: Ahead,
-    stage: Stage,
+    stage: SessionState,
     /// The message of the failure that ended the run.
     failure: Option<Text>,
     /// The text of one chunk; used again for each.
@@ -113,7 +113,7 @@ impl Session {
                 looks: Looks::new(),
             },
             ahead: Ahead::new(alloc),
-            stage: Stage::Going,
+            stage: SessionState::Going,
             failure: None,
             text: Vec::new(alloc),
             bump: Bump::new(alloc),
@@ -139,9 +139,9 @@ impl Session {
         ensures stops { OnErr result (self.new.stage ≡ Stopped) }
     {
         match self.stage {
-            Stage::Stopped => return Err(RunFault::Stopped),
-            Stage::Ended(_) => return Ok(Step::End),
-            Stage::Going => {}
+            SessionState::Stopped => return Err(RunFault::Stopped),
+            SessionState::Ended(_) => return Ok(Step::End),
+            SessionState::Going => {}
         }
         self.advance(source, sink)
     }
@@ -164,10 +164,10 @@ impl Session {
         ensures memory { (end : _) → self.old.stage ≡ Ended end → OnErr result (result ≡ Err (RunFault.OutOfMemory no_memory)) }
         ensures stopped { ((end : _) → self.old.stage ≢ Ended end) → result ≡ Err RunFault.Stopped }
     {
-        let Stage::Ended(end) = self.stage else {
+        let SessionState::Ended(end) = self.stage else {
             return Err(RunFault::Stopped);
         };
-        self.stage = Stage::Stopped;
+        self.stage = SessionState::Stopped;
         self.report_at(end)
     }
 
@@ -208,7 +208,7 @@ impl Session {
         ensures stops { OnErr result (self.new.stage ≡ Stopped) }
     {
         // After a fault what is kept is of no use.
-        self.stage = Stage::Stopped;
+        self.stage = SessionState::Stopped;
         let mut text = self.take_text();
         let Some(NextChunk { len, edited }) = self.edit_next(source, &mut text)? else {
             return Ok(self.end_at(End::Whole));
@@ -217,7 +217,7 @@ impl Session {
             Edited::Done => {
                 self.write(len, text.as_slice(), sink)?;
                 self.text = text;
-                self.stage = Stage::Going;
+                self.stage = SessionState::Going;
                 Ok(Step::More)
             }
             Edited::Faulty(fault) => Ok(self.end_at(End::Syntax(fault))),
@@ -234,7 +234,7 @@ impl Session {
         ensures ended { self.new ≡ record self.old { stage = Ended end } }
         ensures end { result ≡ Step.End }
     {
-        self.stage = Stage::Ended(end);
+        self.stage = SessionState::Ended(end);
         Step::End
     }
 
@@ -324,7 +324,7 @@ impl Session {
             self.bump = Bump::new(self.alloc);
         }
         let max_statement = self.options.max_statement;
-        let script = Script {
+        let script = ScriptRun {
             alloc: self.alloc,
             bump: &self.bump,
             home: &self.home,
@@ -347,7 +347,7 @@ impl Session {
         ensures edited { IfOk result (EditsChunk (run_in self.old) (take len self.old.ahead.bytes)
             self.old.progress self.new.progress text.old.items text.new.items) }
     {
-        let script = Script {
+        let script = ScriptRun {
             alloc: self.alloc,
             bump: &self.bump,
             home: &self.home,

@@ -13,9 +13,9 @@ use Rattle.bz_tree.specs.declared.kinds.Mark.{Mark}
 use Rattle.bz_tree.specs.declared.kinds.Mark.TheVariants.{Open, Close, Comma, Comment as Remark, Newline, Plain}
 use Rattle.bz_tree.specs.declared.stmt.Class.TheVariants.{Block}
 use Rattle.bz_tree.specs.Brackets.{without_lines}
-use Rattle.bz_tree.specs.Chunk.{begins_block, IsOneOf}
+use Rattle.bz_tree.specs.Chunk.{IsOneOf}
 use Rattle.bz_tree.specs.Kinds.{operator_mark}
-use Rattle.bz_tree.specs.Statement.{first_of, first_seen, first_token}
+use Rattle.bz_tree.specs.Statement.{first_seen, first_token}
 use Rattle.bz_tree.specs.Tree.{Item, leaf, group, Items, no_items, item, Segs, no_segs, seg, Statement, items_of}
 use Rattle.bz_tree_laws.specs.Words.{Word, word_of, words_among, opening, closing, bracket_word, item_words, items_words, segs_words, words_of}
 use Rattle.bz_tree_laws.proofs.WordsKept.{statement_words, lines_words, words_append}
@@ -31,6 +31,8 @@ use Rattle.bz_engine_laws.proofs.FileText.{text_again}
 use Rattle.bz_engine_laws.proofs.FileTokens.{read_by_tokens, each_in_a_chunk}
 use Rattle.bz_engine_laws.proofs.ScriptComments.{spelled_list}
 use Rattle.bz_engine_laws.proofs.SoundStatements.{file_sound}
+use Rattle.bz_token.specs.Common.{first_of, map_or}
+use Rattle.bz_tree.specs.Blocks.{is_block_word}
 
 -- tokens of which none is seen have no words
 no_first : (ts : List Placed) → IsNone (first_of ts) → ts ≡ []
@@ -52,7 +54,7 @@ found_words : (line : ℕ) (chunk : List ℕ) (ts : List Placed) (found : Option
 found_words line chunk ts None After rest ss here next are none = ap (λ words. words ++ rest) (unseen_words ts here) ∙ next ss are none
 found_words line chunk ts (Some s) After rest ss here next are none =
     let apart = subst HasNoBlock are.1 none in
-    ap (λ words. words ++ rest) (chunk_words (begins_block (first_token ts)) line chunk ts s here.chunk apart.0)
+    ap (λ words. words ++ rest) (chunk_words (map_or false is_block_word (first_token ts)) line chunk ts s here.chunk apart.0)
     ∙ ap (λ words. words_of s ++ words) (next are.0 are.2 apart.1) ∙ ap words_of_all (sym are.1)
 
 chunks_words : (tokens : List Placed) (line : ℕ) (cs : List (List ℕ)) (ss : List Statement) → AreOnLines tokens line cs ss → HasNoBlock ss → words_among (tokens_by_chunks tokens line cs) ≡ words_of_all ss

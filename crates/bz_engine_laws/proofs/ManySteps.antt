@@ -6,8 +6,8 @@ use Rattle.std.specs.Prelude.{Result, Ok, Err}
 use Rattle.bz_engine.specs.declared.report.End.{End}
 use Rattle.bz_engine.specs.declared.run_fault.RunFault.{RunFault}
 use Rattle.bz_engine.specs.declared.run_fault.RunFault.TheVariants as fault
-use Rattle.bz_engine.specs.declared.session.Stage.{Stage}
-use Rattle.bz_engine.specs.declared.session.Stage.TheVariants.{Going, Ended, Stopped}
+use Rattle.bz_engine.specs.declared.session.SessionState.{SessionState}
+use Rattle.bz_engine.specs.declared.session.SessionState.TheVariants.{Going, Ended, Stopped}
 use Rattle.bz_engine.specs.declared.session.Step.{Step}
 use Rattle.bz_engine.specs.declared.session.Step.TheVariants as step
 use Rattle.bz_engine.proofs.Advances.{more_is_no_end}
@@ -65,7 +65,7 @@ module _ {S W : Type 0} (gave : S → List (List ℕ) → S → Type 0) (took : 
     }
 
 -- a step that took a chunk was made of a session that went on
-pub was_going : (s : Stage) (result : Result Step RunFault) → (s ≡ Stopped → result ≡ Err fault.Stopped) → ((end : End) → s ≡ Ended end → result ≡ Ok step.End) → result ≡ Ok step.More → s ≡ Going
+pub was_going : (s : SessionState) (result : Result Step RunFault) → (s ≡ Stopped → result ≡ Err fault.Stopped) → ((end : End) → s ≡ Ended end → result ≡ Ok step.End) → result ≡ Ok step.More → s ≡ Going
 was_going Going result stopped ended more = refl
 was_going (Ended end) result stopped ended more = absurd (more_is_no_end result more (ended end refl))
 was_going Stopped result stopped ended more = absurd (ok_is_no_err result _ _ more (stopped refl))

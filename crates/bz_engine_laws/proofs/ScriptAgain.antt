@@ -9,7 +9,7 @@ use Rattle.bz_command.specs.Labels.{Package, Target, Name}
 use Rattle.bz_command.specs.Passes.{Slot, Pass, with_mark, marked, executed, is_missing, some_missing, slots_after_pass}
 use Rattle.bz_passes.specs.Exchange.{slot_after_commands, slot_after_pass, slot_after, some_of_commands_alone, some_alone}
 use Rattle.bz_passes.proofs.ExchangeLaw.{pass_alone, some_alone_lem}
-use Rattle.bz_attribute.specs.Marks.{marks, marks_if}
+use Rattle.bz_attribute.specs.Marks.{marks, marks_rule}
 use Rattle.bz_attribute.specs.Rules.{Rule, is_text, name_in, rule_of}
 use Rattle.bz_command.specs.declared.arguments.Attributes.{Attributes}
 use Rattle.bz_command.specs.declared.arguments.Attributes.TheVariants.{Every, Named}
@@ -20,11 +20,12 @@ use Rattle.bz_rule_laws.specs.Unmentioned.{arguments_of}
 use Rattle.bz_rule_laws.proofs.CommandsAgain.{FindsNothing as SecondTime, all_find_nothing, steady_leaves}
 use Rattle.bz_rule_laws.proofs.MarksStay.{marks_stay}
 use Rattle.bz_engine.specs.Changes.{AreCommands}
-use Rattle.bz_engine.specs.Meaning.{changes, fails_on, marks_slot, meaning}
+use Rattle.bz_engine.specs.Meaning.{changes, fails_on, meaning}
 use Rattle.bz_engine.specs.Outcome.{Script, left_in, slots_of, some_failure}
 use Rattle.bz_engine_laws.specs.Repeatable.{FindsNothing, HasNamesOnce, are_passes_apart, are_two_apart, each_apart, is_looked_past, is_repeatable, may_meet}
 use Rattle.bz_engine_laws.specs.Written.{left_by}
 use Rattle.bz_engine_laws.proofs.Unmarked.{left_alone, unmarked_commands}
+use Rattle.bz_token.specs.Common.{map_or}
 
 -- lists
 
@@ -72,7 +73,7 @@ same_text : (a b : List ℕ) (o : Option (List ℕ)) → is_text a o ≡ true �
 same_text a b None h k = absurd (false≢true h)
 same_text a b (Some text) h k = (bytes_eq-Decides a b).1 ((bytes_eq-Decides a text).0 h ∙ sym ((bytes_eq-Decides b text).0 k))
 
-names_meet : (a b : List ℕ) (start : ℕ) (o : Option Rule) → marks_if (Name a) start o ≡ true → marks_if (Name b) start o ≡ true → bytes_eq a b ≡ true
+names_meet : (a b : List ℕ) (start : ℕ) (o : Option Rule) → map_or false (marks_rule (Name a) start) o ≡ true → map_or false (marks_rule (Name b) start) o ≡ true → bytes_eq a b ≡ true
 names_meet a b start None h k = absurd (false≢true h)
 names_meet a b start (Some r) h k = same_text a b (name_in r.args) h k
 
@@ -357,7 +358,7 @@ abbrev still : Package → Script → List Statement → Bool
 still home [] ss = false
 still home (p ∷ ps) ss = is_missing (meaning home) p.target (list_any (marks p.target) ss) || still home ps ss
 
-any_slots : (home : Package) (target : Target) (ss : List Statement) → list_any (marks_slot target) (slots_of ss) ≡ list_any (marks target) ss
+any_slots : (home : Package) (target : Target) (ss : List Statement) → list_any (λ x0. map_or false (marks target) x0) (slots_of ss) ≡ list_any (marks target) ss
 any_slots home target [] = refl
 any_slots home target (s ∷ ss) = ap (λ b. marks target s || b) (any_slots home target ss)
 

@@ -5,7 +5,7 @@ use Rattle.std.specs.List.{AllByRecursion}
 use Rattle.bz_token.specs.Chunks.{chunks}
 use Rattle.bz_token.specs.Places.{line_at}
 use Rattle.bz_token.proofs.ChunkLaws.{first_chunk}
-use Rattle.bz_tree.specs.Chunk.{IsOneOf, begins_block}
+use Rattle.bz_tree.specs.Chunk.{IsOneOf}
 use Rattle.bz_tree.specs.Statement.{first_token}
 use Rattle.bz_tree.specs.Tree.{Statement}
 use Rattle.bz_layout_laws.specs.BlockIn.{IsBlockIn}
@@ -18,6 +18,8 @@ use Rattle.bz_engine.specs.declared.report.SyntaxFault.{SyntaxFault}
 use Rattle.bz_engine.specs.File.{Gives, Follows, Give, IsFile}
 use Rattle.bz_engine.specs.Outcome.{BeginsWith}
 use Rattle.bz_engine_laws.specs.Sound.{IsSound}
+use Rattle.bz_token.specs.Common.{map_or}
+use Rattle.bz_tree.specs.Blocks.{is_block_word}
 
 -- these bytes are one chunk by themselves
 abbrev IsAlone : List ℕ → Type 0
@@ -35,9 +37,9 @@ kept_block line depth chunk s alone block = record {
 }
 
 pub given_sound : (depth line : ℕ) (chunk : List ℕ) (s : Statement) → chunks chunk ≡ chunk ∷ [] → Gives depth line chunk (Ok (Some s)) → IsSound depth s
-given_sound depth line chunk s alone gives = by (begins_block (first_token gives.1.tokens)) refl gives.1.reads.chunk
+given_sound depth line chunk s alone gives = by (map_or false is_block_word (first_token gives.1.tokens)) refl gives.1.reads.chunk
   where
-    by : (b : Bool) → begins_block (first_token gives.1.tokens) ≡ b → IsOneOf b line chunk gives.1.tokens s → IsSound depth s
+    by : (b : Bool) → map_or false is_block_word (first_token gives.1.tokens) ≡ b → IsOneOf b line chunk gives.1.tokens s → IsSound depth s
     by true begins is =
         let block : IsBlockIn line depth chunk s = record { tokens = gives.1.tokens; are = gives.1.are; reads = gives.1.reads; begins = begins } in
         record { form = inr (kept_block line depth chunk s alone block); utf8 = block_utf8 line depth chunk s gives.0 block }

@@ -1,5 +1,5 @@
 -- A slot that no pass marks stays, and its text stands in the text of all.
-use Rattle.std.proofs.Common.{◌≡◌, ℕ, List, [], ◌∷◌, ◌++◌, map, Bool, true, false, not, refl, sym, ap, ◌∙◌, subst, append-nil, append_assoc, inl, inr}
+use Rattle.std.proofs.Common.{◌≡◌, ℕ, List, [], ◌∷◌, ◌++◌, map, Bool, true, false, not, refl, sym, ap, ◌∙◌, subst, append-nil, append_assoc, inl, inr, codes, if◌then◌else◌}
 use Rattle.std.specs.Prelude.{None, Some}
 use Rattle.std.specs.List.{list_all}
 use Rattle.std.proofs.lemmas.Bool.{and_parts}
@@ -16,7 +16,7 @@ use Rattle.bz_passes.proofs.ExchangeLaw.{slots_alone}
 use Rattle.bz_engine.specs.declared.report.End.TheVariants.{Whole}
 use Rattle.bz_engine.specs.File.{IsFile}
 use Rattle.bz_engine.specs.Meaning.{meaning}
-use Rattle.bz_engine.specs.Outcome.{Run, Script, Told, IsOutcome, is_query, left_in, slots_of, text_of, gap_text}
+use Rattle.bz_engine.specs.Outcome.{Run, Script, Told, IsOutcome, is_query, left_in, slots_of, text_of}
 use Rattle.bz_engine.proofs.OneOutcome.{one_give}
 use Rattle.bz_engine_laws.specs.Untouched.{is_unmarked, StandsIn}
 use Rattle.bz_engine_laws.specs.Written.{left_by, edited}
@@ -77,17 +77,17 @@ unmarked_stays home passes front back s h =
 -- its text stands in the text of all
 next_stands : (part : List ℕ) (f t : Statement) (ts : List Statement) → StandsIn part (text_of (t ∷ ts)) → StandsIn part (text_of (f ∷ t ∷ ts))
 next_stands part f t ts is =
-    let head = layout_text f ++ gap_text (gap_between f.class t.class) in
+    let head = layout_text f ++ (if (gap_between f.class t.class) then codes "\n" else []) in
     record {
       before = head ++ is.before;
       after = is.after;
-      text_is = sym (append_assoc (layout_text f) (gap_text (gap_between f.class t.class)) (text_of (t ∷ ts))) ∙ ap (λ rest. head ++ rest) is.text_is
+      text_is = sym (append_assoc (layout_text f) (if (gap_between f.class t.class) then codes "\n" else []) (text_of (t ∷ ts))) ∙ ap (λ rest. head ++ rest) is.text_is
           ∙ sym (append_assoc head is.before (part ++ is.after));
     }
 
 pub text_stands : (front : List Statement) (s : Statement) (back : List Statement) → StandsIn (layout_text s) (text_of (front ++ s ∷ back))
 text_stands [] s [] = record { before = []; after = []; text_is = sym (append-nil (layout_text s)) }
-text_stands [] s (t ∷ back) = record { before = []; after = gap_text (gap_between s.class t.class) ++ text_of (t ∷ back); text_is = refl }
+text_stands [] s (t ∷ back) = record { before = []; after = (if (gap_between s.class t.class) then codes "\n" else []) ++ text_of (t ∷ back); text_is = refl }
 text_stands (f ∷ []) s back = next_stands (layout_text s) f s back (text_stands [] s back)
 text_stands (f ∷ g ∷ front) s back = next_stands (layout_text s) f g (front ++ s ∷ back) (text_stands (g ∷ front) s back)
 

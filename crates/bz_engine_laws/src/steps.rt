@@ -2,7 +2,7 @@
 
 ghost use Rattle.std.specs.Prelude.{◌≡◌, ℕ, List};
 ghost use Rattle.bz_engine.specs.SessionValue.{IsSameRun, HasDone};
-ghost use Rattle.bz_engine.specs.declared.session.Stage.TheVariants.{Going, Ended};
+ghost use Rattle.bz_engine.specs.declared.session.SessionState.TheVariants.{Going, Ended};
 ghost use Rattle.bz_engine_laws.specs.Steps.{HasManyMore, HasComeTo};
 
 use bz_engine::{RunFault, Session, Sink, Source, Step};

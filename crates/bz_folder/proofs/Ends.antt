@@ -7,7 +7,7 @@ use Rattle.bz_folder.specs.Moments.{along_append, along_weaker, along_one, chang
 use Rattle.bz_folder.specs.Replace.{IsSafe}
 use Rattle.bz_folder.specs.private.Steps.{IsPut, IsPutEnd}
 use Rattle.bz_folder.specs.DraftValue.{DraftValue, IsTextAt, IsText, Sent}
-use Rattle.bz_folder.specs.declared.draft.Stage.TheVariants.{Made, Broken}
+use Rattle.bz_folder.specs.declared.draft.DraftState.TheVariants.{Made, Broken}
 use Rattle.bz_devices.specs.declared.device.Failed.{Failed}
 
 longer : (xs : List ℕ) (y : ℕ) (ys : List ℕ) → xs ≢ xs ++ y ∷ ys

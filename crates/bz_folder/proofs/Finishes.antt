@@ -9,8 +9,8 @@ use Rattle.bz_folder.specs.Replace.{IsSafe, IsEnd, IsUndone}
 use Rattle.bz_folder.specs.private.Steps.{IsPut, IsPutEnd, IsFinished, IsFinishCaused, abandon_calls, abandon_answer, wanted_of}
 use Rattle.bz_folder.specs.DraftValue.{DraftValue, IsText}
 use Rattle.bz_folder.proofs.Ends.{safe_of, temporary_differs}
-use Rattle.bz_folder.specs.declared.draft.Stage.{Stage}
-use Rattle.bz_folder.specs.declared.draft.Stage.TheVariants.{Unmade, Made, Broken}
+use Rattle.bz_folder.specs.declared.draft.DraftState.{DraftState}
+use Rattle.bz_folder.specs.declared.draft.DraftState.TheVariants.{Unmade, Made, Broken}
 use Rattle.bz_devices.specs.declared.device.Failed.{Failed}
 use Rattle.bz_folder.specs.declared.trouble.Trouble.{Trouble}
 use Rattle.bz_folder.specs.declared.trouble.Trouble.TheVariants.{OutOfMemory, Clean, LeftBehind}
@@ -54,7 +54,7 @@ module _ (file : List ℕ) (wanted : Option Content) (answer : Result Bool Troub
       (λ m h. safe_of file wanted start m (same_trans T start now m same (changes_there T (Remove T) now m refl h))) l
 
   -- nothing is kept
-  pub abandons : (stage : Stage) (ok : Bool) (start now : Files) → SameBut T start now → (stage ≡ Unmade → now T ≡ start T)
+  pub abandons : (stage : DraftState) (ok : Bool) (start now : Files) → SameBut T start now → (stage ≡ Unmade → now T ≡ start T)
       → Along (IsSafe file wanted start) (IsEnd file wanted (abandon_answer stage ok answer) start) (abandon_calls stage T ok) now
   abandons Unmade ok start now same tidy = (safe_of file wanted start now same, ends start now (same file (temporary_differs file), inr (tidy refl)))
   abandons Made true start now same tidy = removes start now same true _ (λ m d. ends start m (gone start now m same d))
@@ -68,7 +68,7 @@ cause_more Before (Err (OutOfMemory _)) es fs h = absurd h
 cause_more Before (Err Clean) es fs h = ⊎_elim (λ f. inl (any_left es fs f)) (λ b. inr b) h
 cause_more Before (Err LeftBehind) es fs h = any_left es fs h
 
-abandon_cause : (Before : Type 0) (answer : Result Bool Trouble) (stage : Stage) (path : List ℕ) (ok : Bool) (es : List Event) → IsFinishCaused Before answer es
+abandon_cause : (Before : Type 0) (answer : Result Bool Trouble) (stage : DraftState) (path : List ℕ) (ok : Bool) (es : List Event) → IsFinishCaused Before answer es
     → IsFinishCaused Before (abandon_answer stage ok answer) (es ++ abandon_calls stage path ok)
 abandon_cause Before answer Unmade path ok es h = cause_more Before answer es [] h
 abandon_cause Before answer Made path true es h = cause_more Before answer es ((Remove path, true) ∷ []) h
@@ -81,21 +81,21 @@ IsFault (Ok b) = ⊥
 IsFault (Err e) = ⊤
 
 -- to remove what is there is never to keep it
-abandon_not_yes : (stage : Stage) (ok : Bool) (reply : Result Bool Trouble) → (reply ≢ Ok true) → abandon_answer stage ok reply ≡ Ok true → ⊥
+abandon_not_yes : (stage : DraftState) (ok : Bool) (reply : Result Bool Trouble) → (reply ≢ Ok true) → abandon_answer stage ok reply ≡ Ok true → ⊥
 abandon_not_yes Unmade ok reply never e = never e
 abandon_not_yes Made true reply never e = never e
 abandon_not_yes Made false reply never e = subst IsFault e tt
 abandon_not_yes Broken true reply never e = never e
 abandon_not_yes Broken false reply never e = subst IsFault e tt
 
-abandon_not_no : (stage : Stage) (ok : Bool) → abandon_answer stage ok (Err Clean) ≡ Ok false → ⊥
+abandon_not_no : (stage : DraftState) (ok : Bool) → abandon_answer stage ok (Err Clean) ≡ Ok false → ⊥
 abandon_not_no Unmade ok e = subst IsNo (sym e) tt
 abandon_not_no Made true e = subst IsNo (sym e) tt
 abandon_not_no Made false e = subst IsNo (sym e) tt
 abandon_not_no Broken true e = subst IsNo (sym e) tt
 abandon_not_no Broken false e = subst IsNo (sym e) tt
 
-idle_calls : (stage : Stage) (path : List ℕ) (ok : Bool) → stage ≡ Unmade → abandon_calls stage path ok ≡ []
+idle_calls : (stage : DraftState) (path : List ℕ) (ok : Bool) → stage ≡ Unmade → abandon_calls stage path ok ≡ []
 idle_calls stage path ok e = ap (λ s. abandon_calls s path ok) e
 
 module _ {D : Type 0} (old : DraftValue D) (file : List ℕ) (mode : ℕ) (answer : Result Bool Failed) where
@@ -118,7 +118,7 @@ module _ {D : Type 0} (old : DraftValue D) (file : List ℕ) (mode : ℕ) (answe
       yes (Err e) = false
 
   -- it could not be put
-  pub finished_unput : (es : List Event) (e : Failed) (stage : Stage) (ok : Bool) (temporary : List ℕ) → answer ≡ Ok true → temporary ≡ temporary_path file → stage ≢ Unmade
+  pub finished_unput : (es : List Event) (e : Failed) (stage : DraftState) (ok : Bool) (temporary : List ℕ) → answer ≡ Ok true → temporary ≡ temporary_path file → stage ≢ Unmade
       → (result : Result Bool Trouble) → result ≡ abandon_answer stage ok (Err Clean)
       → IsPut (IsText old) (old.stage ≡ Broken) file mode (Err e) es
       → IsFinished old file mode answer result (es ++ abandon_calls stage temporary ok)

@@ -10,8 +10,8 @@ use Rattle.bz_folder.specs.Replace.{IsSafe, IsEnd, IsCaused, ReplacesSafely, Rep
 use Rattle.bz_folder.specs.private.Steps.{IsFinished, IsFinishCaused, wanted_of}
 use Rattle.bz_folder.specs.DraftValue.{DraftValue, IsTextAt, IsText, Took, capacity}
 use Rattle.bz_folder.proofs.Ends.{safe_of}
-use Rattle.bz_folder.specs.declared.draft.Stage.{Stage}
-use Rattle.bz_folder.specs.declared.draft.Stage.TheVariants.{Unmade, Made, Broken}
+use Rattle.bz_folder.specs.declared.draft.DraftState.{DraftState}
+use Rattle.bz_folder.specs.declared.draft.DraftState.TheVariants.{Unmade, Made, Broken}
 use Rattle.bz_devices.specs.declared.device.Failed.{Failed}
 use Rattle.bz_folder.specs.declared.trouble.Trouble.{Trouble}
 use Rattle.bz_folder.specs.declared.trouble.Trouble.TheVariants.{OutOfMemory, Clean, LeftBehind}
@@ -63,7 +63,7 @@ module _ {D A : Type 0} (did : D → List Event → D → Type 0) (gives : A →
     broke : taken.stage ≡ Broken → AnyFails took.sent.events
     broke k = ⊎_elim (λ b. absurd (unmade-not-broken (sym unmade ∙ b))) (λ f. f) (took.sent.cause k)
       where
-        IsUnmade : Stage → Type 0
+        IsUnmade : DraftState → Type 0
         IsUnmade Unmade = ⊤
         IsUnmade Made = ⊥
         IsUnmade Broken = ⊥

@@ -5,16 +5,16 @@ use Rattle.bz_folder.specs.Files.{Files, Make, Write, Remove, Event, SameBut, Ha
 use Rattle.bz_folder.specs.Moments.{along_weaker, at_one, at_append, any_right}
 use Rattle.bz_folder.specs.private.Steps.{IsSent}
 use Rattle.bz_folder.specs.DraftValue.{DraftValue, HasSent, IsTextAt, IsText, Sent}
-use Rattle.bz_folder.specs.declared.draft.Stage.{Stage}
-use Rattle.bz_folder.specs.declared.draft.Stage.TheVariants.{Unmade, Made, Broken}
+use Rattle.bz_folder.specs.declared.draft.DraftState.{DraftState}
+use Rattle.bz_folder.specs.declared.draft.DraftState.TheVariants.{Unmade, Made, Broken}
 use Rattle.bz_devices.specs.declared.device.Failed.{Failed}
 
-abbrev IsBroken : Stage → Type 0
+abbrev IsBroken : DraftState → Type 0
 IsBroken Unmade = ⊥
 IsBroken Made = ⊥
 IsBroken Broken = ⊤
 
-abbrev IsUnmade : Stage → Type 0
+abbrev IsUnmade : DraftState → Type 0
 IsUnmade Unmade = ⊤
 IsUnmade Made = ⊥
 IsUnmade Broken = ⊥
@@ -91,7 +91,7 @@ makes_nothing path first removed (Err x) P h fails = record {
 }
 
 -- bytes are written after those that are there
-pub sends : (stage : Stage) (path bytes : List ℕ) (es : List Event) (before after : Result ⊤ Failed) → (x : ⊤) → before ≡ Ok x
+pub sends : (stage : DraftState) (path bytes : List ℕ) (es : List Event) (before after : Result ⊤ Failed) → (x : ⊤) → before ≡ Ok x
     → IsSent stage path [] before es → IsSent stage path bytes after (es ++ (Write path bytes, is_ok after) ∷ [])
 sends stage path bytes es before after x e h = record {
   written = λ sent start k.
@@ -116,7 +116,7 @@ sends stage path bytes es before after x e h = record {
     cause (Err x) = inr (any_right es ((Write path bytes, false) ∷ []) (inl refl))
 
 -- where the file could not be made, nothing is written
-pub sends_nothing : (stage : Stage) (path bytes : List ℕ) (es : List Event) (before after : Result ⊤ Failed) (P : Failed → Type 0) → (e : Failed) → before ≡ Err e
+pub sends_nothing : (stage : DraftState) (path bytes : List ℕ) (es : List Event) (before after : Result ⊤ Failed) (P : Failed → Type 0) → (e : Failed) → before ≡ Err e
     → IsErrAnd after P → IsSent stage path [] before es → IsSent stage path bytes after es
 sends_nothing stage path bytes es before (Ok x) P e b k h = absurd k
 sends_nothing stage path bytes es before (Err f) P e b k h = record {
@@ -126,7 +126,7 @@ sends_nothing stage path bytes es before (Err f) P e b k h = record {
 }
 
 -- what the temporary file has at a stage where the draft has a text
-has_sent : (stage : Stage) (temporary waiting text : List ℕ) (start : Files) → IsTextAt stage temporary waiting text start
+has_sent : (stage : DraftState) (temporary waiting text : List ℕ) (start : Files) → IsTextAt stage temporary waiting text start
     → (sent : List ℕ) × HasSent stage temporary sent start × (stage ≢ Broken → sent ++ waiting ≡ text)
 has_sent Unmade temporary waiting text start t = ([], refl, λ n. t)
 has_sent Made temporary waiting text start t = (t.0, t.1, λ n. t.2)

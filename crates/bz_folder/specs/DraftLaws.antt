@@ -4,8 +4,8 @@ use Rattle.std.proofs.Math.Nat.{add-zero}
 use Rattle.bz_folder.specs.Files.{Files, Event, SameBut}
 use Rattle.bz_folder.specs.Moments.{along_append, along_weaker, same_trans, same_refl, any_left, any_right}
 use Rattle.bz_folder.specs.DraftValue.{DraftValue, IsTextAt, IsText, Sent, Took, capacity}
-use Rattle.bz_folder.specs.declared.draft.Stage.{Stage}
-use Rattle.bz_folder.specs.declared.draft.Stage.TheVariants.{Unmade, Made, Broken}
+use Rattle.bz_folder.specs.declared.draft.DraftState.{DraftState}
+use Rattle.bz_folder.specs.declared.draft.DraftState.TheVariants.{Unmade, Made, Broken}
 
 module _ {D : Type 0} (did : D → List Event → D → Type 0) where
   pub sent_nothing : ((s : D) → did s [] s) → (s : DraftValue D) → Sent did s s []
@@ -70,7 +70,7 @@ module _ {D : Type 0} (did : D → List Event → D → Type 0) where
       after : DraftValue D
       after = record { folder = b.folder; temporary = b.temporary; stage = b.stage; waiting = waiting; failures = b.failures }
 
-      text_after : (stage : Stage) (text : List ℕ) (start : Files) → IsTextAt stage b.temporary b.waiting text start
+      text_after : (stage : DraftState) (text : List ℕ) (start : Files) → IsTextAt stage b.temporary b.waiting text start
           → IsTextAt stage b.temporary waiting (text ++ piece) start
       text_after Unmade text start h = e ∙ ap (λ l. l ++ piece) h
       text_after Made text start h = (h.0, h.1, ap (λ l. h.0 ++ l) e ∙ sym (append_assoc h.0 b.waiting piece) ∙ ap (λ l. l ++ piece) h.2)

@@ -1,8 +1,8 @@
 -- A draft: the text that an author writes, in a temporary file and in the bytes that wait for it.
 use Rattle.std.specs.Prelude.{◌≡◌, ◌⊎◌, ℕ, ◌+◌, ◌<◌, List, [], ◌++◌, length, ⊤}
 use Rattle.bz_folder.specs.Files.{Files, Event, SameBut, HasBytes, Along, AnyFails}
-use Rattle.bz_folder.specs.declared.draft.Stage.{Stage}
-use Rattle.bz_folder.specs.declared.draft.Stage.TheVariants.{Unmade, Made, Broken}
+use Rattle.bz_folder.specs.declared.draft.DraftState.{DraftState}
+use Rattle.bz_folder.specs.declared.draft.DraftState.TheVariants.{Unmade, Made, Broken}
 
 -- how many bytes wait at most
 abbrev pub capacity : ℕ
@@ -13,20 +13,20 @@ pub record DraftValue (D : Type 0) : Type 0 where
   -- the path of the temporary file
   pub temporary : List ℕ
   -- whether there is a temporary file
-  pub stage : Stage
+  pub stage : DraftState
   -- the bytes that were taken and not yet written
   pub waiting : List ℕ
   -- how many writes failed
   pub failures : ℕ
 
 -- at this stage the temporary file has these bytes
-abbrev pub HasSent : Stage → List ℕ → List ℕ → Files → Type 0
+abbrev pub HasSent : DraftState → List ℕ → List ℕ → Files → Type 0
 HasSent Unmade temporary sent files = sent ≡ []
 HasSent Made temporary sent files = HasBytes temporary sent files
 HasSent Broken temporary sent files = ⊤
 
 -- the temporary file and the bytes that wait are this text, unless a call failed
-abbrev pub IsTextAt : Stage → List ℕ → List ℕ → List ℕ → Files → Type 0
+abbrev pub IsTextAt : DraftState → List ℕ → List ℕ → List ℕ → Files → Type 0
 IsTextAt Unmade temporary waiting text files = waiting ≡ text
 IsTextAt Made temporary waiting text files = (sent : List ℕ) × HasBytes temporary sent files × (sent ++ waiting ≡ text)
 IsTextAt Broken temporary waiting text files = ⊤

@@ -4,9 +4,9 @@ ghost use Rattle.std.specs.Prelude.{◌≡◌, ◌≢◌, List, [], Ok, Err};
 ghost use Rattle.bz_folder.specs.Files.{Event, HasBytes};
 ghost use Rattle.bz_folder.specs.Paths.{temporary_path};
 ghost use Rattle.bz_folder.specs.private.Steps.{IsSent, IsPut};
-ghost use Rattle.bz_folder.specs.declared.draft.Stage.TheVariants.{Unmade};
+ghost use Rattle.bz_folder.specs.declared.draft.DraftState.TheVariants.{Unmade};
 
-use crate::draft::Stage;
+use crate::draft::DraftState;
 use crate::folder::Folder;
 use bz_devices::device::Failed;
 
@@ -24,20 +24,20 @@ fn make_empty<D: Folder>(folder: &mut D, path: &str) -> Result<(), Failed>
 }
 
 /// Makes the temporary file where it is not made.
-fn ready<D: Folder>(folder: &mut D, stage: Stage, path: &str) -> Result<(), Failed>
+fn ready<D: Folder>(folder: &mut D, stage: DraftState, path: &str) -> Result<(), Failed>
     ensures { (events : List Event) × D.did folder.old events folder.new × IsSent stage path.now [] result events }
 {
     match stage {
-        Stage::Unmade => make_empty(folder, path),
-        Stage::Made => Ok(()),
-        Stage::Broken => Err(Failed),
+        DraftState::Unmade => make_empty(folder, path),
+        DraftState::Made => Ok(()),
+        DraftState::Broken => Err(Failed),
     }
 }
 
 /// Writes bytes at the end of the temporary file, which is made first if need be.
 pub(crate) fn send<D: Folder>(
     folder: &mut D,
-    stage: Stage,
+    stage: DraftState,
     path: &str,
     bytes: &[u8],
 ) -> Result<(), Failed>

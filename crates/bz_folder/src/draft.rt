@@ -7,7 +7,7 @@ ghost use Rattle.bz_folder.specs.Paths.{temporary_path};
 ghost use Rattle.bz_folder.specs.DraftValue.{capacity, Sent, Took, IsText};
 ghost use Rattle.bz_folder.specs.DraftLaws.{took_nothing_lem, took_more_lem};
 ghost use Rattle.bz_folder.specs.private.Steps.{IsPut, IsFinished, abandon_calls, abandon_answer};
-ghost use Rattle.bz_folder.specs.declared.draft.Stage.TheVariants.{Unmade, Made, Broken};
+ghost use Rattle.bz_folder.specs.declared.draft.DraftState.TheVariants.{Unmade, Made, Broken};
 
 use crate::calls::{install, send};
 use crate::folder::Folder;
@@ -20,7 +20,7 @@ use std::marker::Model;
 
 /// Whether there is a temporary file.
 #[derive(Clone, Copy, Debug, PartialEq, Eq)]
-pub(crate) enum Stage {
+pub(crate) enum DraftState {
     Unmade,
     Made,
     /// A call failed: the text is not whole, and is not to be kept.
@@ -37,7 +37,7 @@ pub struct Draft<D> {
     folder: D,
     /// The path of the temporary file.
     temporary: String,
-    stage: Stage,
+    stage: DraftState,
     waiting: Waiting,
     /// How many writes failed. It stays at its greatest value.
     failures: u64,
@@ -62,7 +62,7 @@ impl<D: Drop> Draft<D> {
         Ok(Draft {
             folder,
             temporary: String::new(alloc),
-            stage: Stage::Unmade,
+            stage: DraftState::Unmade,
             waiting,
             failures: 0,
         })
@@ -83,7 +83,7 @@ impl<D: Folder> Draft<D> {
         ensures empty { OnOk result ((self.new.stage ≡ Unmade) × (self.new.waiting ≡ [])) }
         ensures folder { self.new.folder ≡ self.old.folder }
     {
-        self.stage = Stage::Unmade;
+        self.stage = DraftState::Unmade;
         self.waiting.clear();
         self.temporary.clear();
         push_str(&mut self.temporary, file)?;
@@ -106,12 +106,12 @@ impl<D: Folder> Draft<D> {
             self.waiting.bytes(),
         ) {
             Ok(()) => {
-                self.stage = Stage::Made;
+                self.stage = DraftState::Made;
                 self.waiting.clear();
                 Ok(())
             }
             Err(failed) => {
-                self.stage = Stage::Broken;
+                self.stage = DraftState::Broken;
                 self.failures = self.failures.saturating_add(1);
                 Err(failed)
             }
@@ -150,7 +150,7 @@ impl<D: Folder> Draft<D> {
             × D.did self.old.folder (abandon_calls self.old.stage self.old.temporary ok) self.new.folder
             × (result ≡ abandon_answer self.old.stage ok answer) }
     {
-        if self.stage == Stage::Unmade {
+        if self.stage == DraftState::Unmade {
             return answer;
         }
         match self.folder.remove(&self.temporary) {

@@ -5,8 +5,8 @@ use Rattle.bz_token.specs.declared.token.Kind.TheVariants.{Operator}
 use Rattle.bz_tree.specs.declared.stmt.GroupKind.{GroupKind}
 use Rattle.bz_tree.specs.Tree.{Item, leaf, group, Items, no_items, item, Segs, no_segs, seg}
 use Rattle.bz_tree.specs.Rows.{RowPart, opening, closing, segment_end, above, beside_part, item_parts, items_parts, segs_parts}
-use Rattle.bz_layout.specs.declared.marks.Mark.{Mark}
-use Rattle.bz_layout.specs.declared.walk.Frame.{Frame}
+use Rattle.bz_layout.specs.declared.marks.BracketForm.{BracketForm}
+use Rattle.bz_layout.specs.declared.walk.OpenBracket.{OpenBracket}
 use Rattle.bz_layout.specs.declared.spacing.Edge.{Edge}
 use Rattle.bz_layout.specs.declared.spacing.Edge.TheVariants.{Start, Operand}
 use Rattle.bz_layout.specs.declared.spacing.Gap.{Gap}
@@ -22,7 +22,7 @@ use Rattle.bz_layout.proofs.Rules.{gap_is}
 use Rattle.bz_layout.proofs.Pieces.{bytes_append}
 use Rattle.bz_layout.proofs.Scans.{mark_as, item_marks, items_marks, segs_marks}
 
-abbrev pub at : List ℕ → List Mark → List Frame → Frame → Edge → ℕ → Laid
+abbrev pub at : List ℕ → List BracketForm → List OpenBracket → OpenBracket → Edge → ℕ → Laid
 at text marks outer here left level = record { text = text; marks = marks; outer = outer; here = here; left = left; level = level }
 
 -- what the nodes leave to the one after them
@@ -30,18 +30,18 @@ abbrev pub last_edge : Option GroupKind → Edge → Items → Edge
 last_edge within left no_items = left
 last_edge within left (item x xs) = last_edge within (edge_after within left x) xs
 
-abbrev broken_frame : GroupKind → Bool → Frame
+abbrev broken_frame : GroupKind → Bool → OpenBracket
 broken_frame kind comma = record { within = Some kind; mark = record { broken = true; comma = comma }; later = false }
 
-abbrev flat_frame : GroupKind → Bool → Bool → Frame
+abbrev flat_frame : GroupKind → Bool → Bool → OpenBracket
 flat_frame kind later comma = record { within = Some kind; mark = record { broken = false; comma = comma }; later = later }
 
 -- in flat text the walk has no marks, so that no bracket is broken
-abbrev pub supply : Style → List Mark → List Mark
+abbrev pub supply : Style → List BracketForm → List BracketForm
 supply Flat ms = []
 supply Broken ms = ms
 
-abbrev mark_in : Style → Mark → Mark
+abbrev mark_in : Style → BracketForm → BracketForm
 mark_in Flat m = whole
 mark_in Broken m = m
 
@@ -49,20 +49,20 @@ down : (n : ℕ) → n + 1 - 1 ≡ n
 down n = omega arith
 
 -- comments in a broken bracket are written
-run_above : (comment_texts : List (List ℕ)) (rest : List RowPart) (t : List ℕ) (ms : List Mark) (o : List Frame) (kind : GroupKind) (comma : Bool) (l : Edge) (n : ℕ) → run (map above comment_texts ++ rest) (at t ms o (broken_frame kind comma) l n) ≡ run rest (at (t ++ bytes_of (comments n comment_texts)) ms o (broken_frame kind comma) l n)
+run_above : (comment_texts : List (List ℕ)) (rest : List RowPart) (t : List ℕ) (ms : List BracketForm) (o : List OpenBracket) (kind : GroupKind) (comma : Bool) (l : Edge) (n : ℕ) → run (map above comment_texts ++ rest) (at t ms o (broken_frame kind comma) l n) ≡ run rest (at (t ++ bytes_of (comments n comment_texts)) ms o (broken_frame kind comma) l n)
 run_above [] rest t ms o kind comma l n = rw (append-nil t) refl
 run_above (comment ∷ comment_texts) rest t ms o kind comma l n = run_above comment_texts rest (t ++ (gap_bytes (Line n) ++ comment)) ms o kind comma l n ∙ ap (λ (u : List ℕ). run rest (at u ms o (broken_frame kind comma) l n)) (simp append_assoc)
 
-run_beside : (suffix : Option (List ℕ)) (rest : List RowPart) (t : List ℕ) (ms : List Mark) (o : List Frame) (kind : GroupKind) (comma : Bool) (l : Edge) (n : ℕ) → run (beside_part suffix ++ rest) (at t ms o (broken_frame kind comma) l n) ≡ run rest (at (t ++ bytes_of (suffix_piece suffix)) ms o (broken_frame kind comma) l n)
+run_beside : (suffix : Option (List ℕ)) (rest : List RowPart) (t : List ℕ) (ms : List BracketForm) (o : List OpenBracket) (kind : GroupKind) (comma : Bool) (l : Edge) (n : ℕ) → run (beside_part suffix ++ rest) (at t ms o (broken_frame kind comma) l n) ≡ run rest (at (t ++ bytes_of (suffix_piece suffix)) ms o (broken_frame kind comma) l n)
 run_beside None rest t ms o kind comma l n = rw (append-nil t) refl
 run_beside (Some comment) rest t ms o kind comma l n = rw (append-nil comment) refl
 
 -- in place they are left out
-skip_above : (comment_texts : List (List ℕ)) (rest : List RowPart) (t : List ℕ) (ms : List Mark) (o : List Frame) (kind : GroupKind) (later comma : Bool) (l : Edge) (n : ℕ) → run (map above comment_texts ++ rest) (at t ms o (flat_frame kind later comma) l n) ≡ run rest (at t ms o (flat_frame kind later comma) l n)
+skip_above : (comment_texts : List (List ℕ)) (rest : List RowPart) (t : List ℕ) (ms : List BracketForm) (o : List OpenBracket) (kind : GroupKind) (later comma : Bool) (l : Edge) (n : ℕ) → run (map above comment_texts ++ rest) (at t ms o (flat_frame kind later comma) l n) ≡ run rest (at t ms o (flat_frame kind later comma) l n)
 skip_above [] rest t ms o kind later comma l n = refl
 skip_above (comment ∷ comment_texts) rest t ms o kind later comma l n = ap (λ (u : List ℕ). run (map above comment_texts ++ rest) (at u ms o (flat_frame kind later comma) l n)) (append-nil t) ∙ skip_above comment_texts rest t ms o kind later comma l n
 
-skip_beside : (suffix : Option (List ℕ)) (rest : List RowPart) (t : List ℕ) (ms : List Mark) (o : List Frame) (kind : GroupKind) (later comma : Bool) (l : Edge) (n : ℕ) → run (beside_part suffix ++ rest) (at t ms o (flat_frame kind later comma) l n) ≡ run rest (at t ms o (flat_frame kind later comma) l n)
+skip_beside : (suffix : Option (List ℕ)) (rest : List RowPart) (t : List ℕ) (ms : List BracketForm) (o : List OpenBracket) (kind : GroupKind) (later comma : Bool) (l : Edge) (n : ℕ) → run (beside_part suffix ++ rest) (at t ms o (flat_frame kind later comma) l n) ≡ run rest (at t ms o (flat_frame kind later comma) l n)
 skip_beside None rest t ms o kind later comma l n = refl
 skip_beside (Some comment) rest t ms o kind later comma l n = ap (λ (u : List ℕ). run rest (at u ms o (flat_frame kind later comma) l n)) (append-nil t)
 
@@ -77,7 +77,7 @@ abbrev due_at : Edge → Items → List ℕ
 due_at left no_items = []
 due_at left (item x xs) = comma_bytes (is_start left)
 
-abbrev pub due_items : Frame → Edge → Items → List ℕ
+abbrev pub due_items : OpenBracket → Edge → Items → List ℕ
 due_items f left xs = if f.mark.broken then [] else (if f.later then due_at left xs else [])
 
 nothing_due : (broken later : Bool) (none : List ℕ) → none ≡ [] → (if broken then [] else (if later then none else [])) ≡ []
@@ -108,7 +108,7 @@ not_at : (left : Edge) (xs : Items) → is_start left ≡ false → due_at left 
 not_at left no_items h = refl
 not_at left (item x xs) h = rw h refl
 
-not_due : (f : Frame) (left : Edge) (xs : Items) → is_start left ≡ false → due_items f left xs ≡ []
+not_due : (f : OpenBracket) (left : Edge) (xs : Items) → is_start left ≡ false → due_items f left xs ≡ []
 not_due f left xs h = nothing_due f.mark.broken f.later (due_at left xs) (not_at left xs h)
 
 -- a text that is written in two goes
@@ -156,23 +156,23 @@ abbrev opening_bytes : List ℕ → Gap → GroupKind → List ℕ
 opening_bytes d gap kind = d ++ (gap_bytes gap ++ opening_text kind)
 
 -- a bracket opens, and its mark is taken
-opens : (style : Style) (m : Mark) (marks : List Mark) (kind : GroupKind) (ps : List RowPart) (t : List ℕ) (o : List Frame) (h : Frame) (l : Edge) (n : ℕ) →
+opens : (style : Style) (m : BracketForm) (marks : List BracketForm) (kind : GroupKind) (ps : List RowPart) (t : List ℕ) (o : List OpenBracket) (h : OpenBracket) (l : Edge) (n : ℕ) →
     run (opening kind ∷ ps) (at t (supply style (m ∷ marks)) o h l n)
     ≡ run ps (at (t ++ opening_bytes (due h l) (gap_for (first_gap h n) l (hugs kind)) kind) (supply style marks) (h ∷ o) (record { within = Some kind; mark = mark_in style m; later = false }) Start (level_in (mark_in style m) n))
 opens Flat m marks kind ps t o h l n = refl
 opens Broken m marks kind ps t o h l n = refl
 
 -- segments on lines of their own, or in place up to the bracket's end
-abbrev BrokenRuns : Style → Segs → List RowPart → List ℕ → List Mark → List Frame → GroupKind → Bool → ℕ → Type 0
+abbrev BrokenRuns : Style → Segs → List RowPart → List ℕ → List BracketForm → List OpenBracket → GroupKind → Bool → ℕ → Type 0
 BrokenRuns style ss rest t ms o kind comma n =
     run (segs_parts ss ++ rest) (at t (supply style (segs_marks ss ++ ms)) o (broken_frame kind comma) Start n) ≡ run rest (at (t ++ bytes_of (broken_segs style n kind comma ss)) (supply style ms) o (broken_frame kind comma) Start n)
 
-abbrev FlatRuns : Style → Segs → List (List ℕ) → List RowPart → List ℕ → List Mark → List Frame → GroupKind → Bool → Bool → Bool → ℕ → Type 0
+abbrev FlatRuns : Style → Segs → List (List ℕ) → List RowPart → List ℕ → List BracketForm → List OpenBracket → GroupKind → Bool → Bool → Bool → ℕ → Type 0
 FlatRuns style ss end rest t ms o kind comma one later n =
     run (segs_parts ss ++ (map above end ++ closing one ∷ rest)) (at t (supply style (segs_marks ss ++ ms)) o (flat_frame kind later comma) Start n) ≡ run rest (at (t ++ (bytes_of (flat_segs style n kind (not later) ss) ++ (comma_bytes one ++ closing_text kind))) (supply style ms) (tail o) (first_frame o) Operand n)
 
 -- a group in place, where its mark has any comma
-run_in_place : (style : Style) (comma : Bool) (kind : GroupKind) (segs : Segs) (one : Bool) (end : List (List ℕ)) (rest : List RowPart) (t : List ℕ) (ms : List Mark) (o : List Frame) (h : Frame) (d : List ℕ) (gap : Gap) (n : ℕ) →
+run_in_place : (style : Style) (comma : Bool) (kind : GroupKind) (segs : Segs) (one : Bool) (end : List (List ℕ)) (rest : List RowPart) (t : List ℕ) (ms : List BracketForm) (o : List OpenBracket) (h : OpenBracket) (d : List ℕ) (gap : Gap) (n : ℕ) →
     FlatRuns style segs end rest (t ++ opening_bytes d gap kind) ms (h ∷ o) kind comma one false n →
     run ((segs_parts segs ++ (map above end ++ closing one ∷ [])) ++ rest) (at (t ++ opening_bytes d gap kind) (supply style (segs_marks segs ++ ms)) (h ∷ o) (flat_frame kind false comma) Start n)
     ≡ run rest (at (t ++ (opening_bytes d gap kind ++ bytes_of (group_rest style false n kind segs one end))) (supply style ms) o h Operand n)
@@ -182,7 +182,7 @@ run_in_place style comma kind segs one end rest t ms o h d gap n flat =
     let text = flat_group_text t begun (flat_segs style n kind true segs) one (closing_text kind) in
     joined ∙ (flat ∙ ap (λ (u : List ℕ). run rest (at u (supply style ms) o h Operand n)) text)
 
-run_group : (style : Style) (b : Bool) (kind : GroupKind) (segs : Segs) (one : Bool) (end : List (List ℕ)) (rest : List RowPart) (t : List ℕ) (ms : List Mark) (o : List Frame) (h : Frame) (d : List ℕ) (gap : Gap) (n : ℕ) →
+run_group : (style : Style) (b : Bool) (kind : GroupKind) (segs : Segs) (one : Bool) (end : List (List ℕ)) (rest : List RowPart) (t : List ℕ) (ms : List BracketForm) (o : List OpenBracket) (h : OpenBracket) (d : List ℕ) (gap : Gap) (n : ℕ) →
     BrokenRuns style segs (map above end ++ closing one ∷ rest) (t ++ opening_bytes d gap kind) ms (h ∷ o) kind (has_commas kind one (count segs)) (n + 1) →
     ((comma : Bool) → FlatRuns style segs end rest (t ++ opening_bytes d gap kind) ms (h ∷ o) kind comma one false n) →
     run ((segs_parts segs ++ (map above end ++ closing one ∷ [])) ++ rest) (at (t ++ opening_bytes d gap kind) (supply style (segs_marks segs ++ ms)) (h ∷ o) (record { within = Some kind; mark = mark_in style (mark_as b kind segs one); later = false }) Start (level_in (mark_in style (mark_as b kind segs one)) n))
@@ -206,7 +206,7 @@ group_text : (t d p : List ℕ) (gap : Gap) (close : List ℕ) → t ++ ((d ++ (
 group_text t d p gap close = simp append_assoc
 
 mutual
-  pub run_item : (style : Style) (x : Item) (rest : List RowPart) (t : List ℕ) (ms : List Mark) (o : List Frame) (h : Frame) (l : Edge) (n : ℕ) →
+  pub run_item : (style : Style) (x : Item) (rest : List RowPart) (t : List ℕ) (ms : List BracketForm) (o : List OpenBracket) (h : OpenBracket) (l : Edge) (n : ℕ) →
       run (item_parts x ++ rest) (at t (supply style (item_marks x ++ ms)) o h l n) ≡ run rest (at (t ++ (due h l ++ bytes_of (item_pieces style n (gap_before (first_gap h n) l x) x))) (supply style ms) o h (edge_after h.within l x) n)
   run_item style (leaf kind text) rest t ms o h l n = rw (gap_is (first_gap h n) l (leaf kind text), append-nil) refl
   run_item style (group kind segs one end) rest t ms o h l n =
@@ -220,7 +220,7 @@ mutual
       let begin = opens style (mark_as b kind segs one) (segs_marks segs ++ ms) kind ((segs_parts segs ++ (map above end ++ closing one ∷ [])) ++ rest) t o h l n in
       rw (gap_is (first_gap h n) l (group kind segs one end)) (begin ∙ (all ∙ ap (λ (u : List ℕ). run rest (at u (supply style ms) o h Operand n)) (group_text t d (bytes_of (group_rest style (breaks style b) n kind segs one end)) gap (opening_text kind))))
 
-  pub run_items : (style : Style) (xs : Items) (rest : List RowPart) (t : List ℕ) (ms : List Mark) (o : List Frame) (h : Frame) (l : Edge) (n : ℕ) →
+  pub run_items : (style : Style) (xs : Items) (rest : List RowPart) (t : List ℕ) (ms : List BracketForm) (o : List OpenBracket) (h : OpenBracket) (l : Edge) (n : ℕ) →
       run (items_parts xs ++ rest) (at t (supply style (items_marks xs ++ ms)) o h l n) ≡ run rest (at (t ++ (due_items h l xs ++ bytes_of (items_pieces style n h.within (first_gap h n) l xs))) (supply style ms) o h (last_edge h.within l xs) n)
   run_items style no_items rest t ms o h l n = rw (nothing_due h.mark.broken h.later [] refl, append-nil t) refl
   run_items style (item x xs) rest t ms o h l n =
@@ -230,7 +230,7 @@ mutual
       (run_item style x (items_parts xs ++ rest) t (items_marks xs ++ ms) o h l n ∙ (run_items style xs rest (t ++ (due h l ++ bytes_of ps)) ms o h left n ∙
       ap (λ (u : List ℕ). run rest (at u (supply style ms) o h (last_edge h.within left xs) n)) (two t (due h l) (due_items h left xs) ps (items_pieces style n h.within (first_gap h n) left xs) (not_due h left xs (item_leaves h.within l x)))))
 
-  pub run_broken : (style : Style) (ss : Segs) (rest : List RowPart) (t : List ℕ) (ms : List Mark) (o : List Frame) (kind : GroupKind) (comma : Bool) (n : ℕ) → BrokenRuns style ss rest t ms o kind comma n
+  pub run_broken : (style : Style) (ss : Segs) (rest : List RowPart) (t : List ℕ) (ms : List BracketForm) (o : List OpenBracket) (kind : GroupKind) (comma : Bool) (n : ℕ) → BrokenRuns style ss rest t ms o kind comma n
   run_broken style no_segs rest t ms o kind comma n = rw (append-nil t) refl
   run_broken style (seg before nodes suffix ss) rest t ms o kind comma n =
       let frame = broken_frame kind comma in
@@ -247,7 +247,7 @@ mutual
       (run_above before (items_parts nodes ++ ending) t (supply style (items_marks nodes ++ later)) o kind comma Start n ∙ (run_items style nodes ending t1 later o frame Start n ∙ (run_beside suffix after t3 (supply style later) o kind comma Start n ∙
       (run_broken style ss rest (t3 ++ bytes_of c) ms o kind comma n ∙ ap (λ (u : List ℕ). run rest (at u (supply style ms) o frame Start n)) (broken_seg_text t a b comma c d)))))
 
-  pub run_flat : (style : Style) (ss : Segs) (end : List (List ℕ)) (rest : List RowPart) (t : List ℕ) (ms : List Mark) (o : List Frame) (kind : GroupKind) (comma one later : Bool) (n : ℕ) → FlatRuns style ss end rest t ms o kind comma one later n
+  pub run_flat : (style : Style) (ss : Segs) (end : List (List ℕ)) (rest : List RowPart) (t : List ℕ) (ms : List BracketForm) (o : List OpenBracket) (kind : GroupKind) (comma one later : Bool) (n : ℕ) → FlatRuns style ss end rest t ms o kind comma one later n
   run_flat style no_segs end rest t ms o kind comma one later n = skip_above end (closing one ∷ rest) t (supply style ms) o kind later comma Start n
   run_flat style (seg before nodes suffix ss) end rest t ms o kind comma one later n =
       let frame = flat_frame kind later comma in

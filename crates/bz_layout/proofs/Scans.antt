@@ -5,38 +5,39 @@ use Rattle.bz_tree.specs.declared.stmt.GroupKind.{GroupKind}
 use Rattle.bz_tree.specs.declared.stmt.GroupKind.TheVariants.{Call, RuleCall, Load, Paren, List as ListKind, Index, Dict, ListComp, DictComp}
 use Rattle.bz_tree.specs.Tree.{Item, leaf, group, Items, no_items, item, Segs, no_segs, seg}
 use Rattle.bz_tree.specs.Rows.{RowPart, closing, segment_end, above, beside_part, item_parts, items_parts, segs_parts}
-use Rattle.bz_layout.specs.declared.marks.Mark.{Mark}
-use Rattle.bz_layout.specs.declared.marks.Inside.{Inside}
-use Rattle.bz_layout.specs.Broken.{count, has_some, have_comments, breaks_by_count, is_broken, holds_broken, items_hold, segs_hold}
+use Rattle.bz_layout.specs.declared.marks.BracketForm.{BracketForm}
+use Rattle.bz_layout.specs.declared.marks.Contents.{Contents}
+use Rattle.bz_layout.specs.Broken.{count, have_comments, breaks_by_count, is_broken, holds_broken, items_hold, segs_hold}
 use Rattle.bz_layout.specs.Layout.{has_commas}
 use Rattle.bz_layout.specs.private.RowLayout.{Scan, closed, one_more, mark_of, breaks_with, holding, back, below, opened_back, scan, scan_onto}
+use Rattle.bz_token.specs.Common.{is_filled}
 
 -- the mark of a group, and those in an item
-abbrev pub mark_as : Bool → GroupKind → Segs → Bool → Mark
+abbrev pub mark_as : Bool → GroupKind → Segs → Bool → BracketForm
 mark_as broken kind segs one_comma = record { broken = broken; comma = has_commas kind one_comma (count segs) }
 
 abbrev mutual
-  pub item_marks : Item → List Mark
+  pub item_marks : Item → List BracketForm
   item_marks (leaf kind text) = []
   item_marks (group kind segs one_comma end) = mark_as (is_broken kind segs end (segs_hold segs)) kind segs one_comma ∷ segs_marks segs
 
-  pub items_marks : Items → List Mark
+  pub items_marks : Items → List BracketForm
   items_marks no_items = []
   items_marks (item x xs) = item_marks x ++ items_marks xs
 
-  pub segs_marks : Segs → List Mark
+  pub segs_marks : Segs → List BracketForm
   segs_marks no_segs = []
   segs_marks (seg before nodes suffix ss) = items_marks nodes ++ segs_marks ss
 
 -- what an item adds to what stands after it, and what segments add
-abbrev found : List Mark → Bool → Scan → Scan
+abbrev found : List BracketForm → Bool → Scan → Scan
 found ms b s = record { marks = ms ++ s.marks; here = holding b s.here; outer = s.outer }
 
 abbrev add : Segs → ℕ → ℕ
 add no_segs n = n
 add (seg before nodes suffix ss) n = one_more (add ss n)
 
-abbrev in_segs : Bool → Bool → ℕ → Inside → Inside
+abbrev in_segs : Bool → Bool → ℕ → Contents → Contents
 in_segs comments holds n i = record { one_comma = i.one_comma; comments = comments || i.comments; holds = holds || i.holds; segs = n }
 
 abbrev seen : Segs → Scan → Scan
@@ -104,20 +105,20 @@ commas Dict one ss = refl
 commas ListComp one ss = refl
 commas DictComp one ss = refl
 
-breaks_as : (kind : GroupKind) (ss : Segs) (end : List (List ℕ)) → breaks_with kind (have_comments ss || (has_some end || false)) (add ss 0) (segs_hold ss || false) ≡ is_broken kind ss end (segs_hold ss)
-breaks_as kind ss end = rw (or_false (has_some end), or_comm (have_comments ss) (has_some end), or_false (segs_hold ss), counts kind ss, add_two ss) refl
+breaks_as : (kind : GroupKind) (ss : Segs) (end : List (List ℕ)) → breaks_with kind (have_comments ss || (is_filled end || false)) (add ss 0) (segs_hold ss || false) ≡ is_broken kind ss end (segs_hold ss)
+breaks_as kind ss end = rw (or_false (is_filled end), or_comm (have_comments ss) (is_filled end), or_false (segs_hold ss), counts kind ss, add_two ss) refl
 
-abbrev pub inside_of : Bool → Segs → List (List ℕ) → Inside
-inside_of one ss end = in_segs (have_comments ss) (segs_hold ss) (add ss 0) (in_segs (has_some end) false 0 (closed one))
+abbrev pub inside_of : Bool → Segs → List (List ℕ) → Contents
+inside_of one ss end = in_segs (have_comments ss) (segs_hold ss) (add ss 0) (in_segs (is_filled end) false 0 (closed one))
 
 marked : (kind : GroupKind) (ss : Segs) (end : List (List ℕ)) (one : Bool) → mark_of kind (inside_of one ss end) ≡ mark_as (is_broken kind ss end (segs_hold ss)) kind ss one
 marked kind ss end one = rw (breaks_as kind ss end, commas kind one ss) refl
 
 -- one after the other
-found_both : (a c : List Mark) (b d : Bool) (s : Scan) → found a b (found c d s) ≡ found (a ++ c) (b || d) s
+found_both : (a c : List BracketForm) (b d : Bool) (s : Scan) → found a b (found c d s) ≡ found (a ++ c) (b || d) s
 found_both a c b d s = rw (append_assoc a c s.marks, or_assoc b d s.here.holds) refl
 
-pub scan_above : (comments : List (List ℕ)) (rest : List RowPart) → scan (map above comments ++ rest) ≡ record { marks = (scan rest).marks; here = in_segs (has_some comments) false (scan rest).here.segs (scan rest).here; outer = (scan rest).outer }
+pub scan_above : (comments : List (List ℕ)) (rest : List RowPart) → scan (map above comments ++ rest) ≡ record { marks = (scan rest).marks; here = in_segs (is_filled comments) false (scan rest).here.segs (scan rest).here; outer = (scan rest).outer }
 scan_above [] rest = refl
 scan_above (comment ∷ comments) rest = rw (scan_above comments rest) refl
 
@@ -141,16 +142,16 @@ group_found kind segs one end s =
     let inside = inside_of one segs end in
     let marks = segs_marks segs ++ s.marks in
     let mark = mark_as (is_broken kind segs end (segs_hold segs)) kind segs one in
-    let same = ap (λ (m : Mark). below m (m.broken || inside.holds) marks (s.here ∷ s.outer)) (marked kind segs end one) in
+    let same = ap (λ (m : BracketForm). below m (m.broken || inside.holds) marks (s.here ∷ s.outer)) (marked kind segs end one) in
     same ∙ ap (λ (b : Bool). below mark (mark.broken || b) marks (s.here ∷ s.outer)) (or_false (segs_hold segs))
 
 seg_seen : (before : List (List ℕ)) (nodes : Items) (suffix : Option (List ℕ)) (ss : Segs) (s : Scan) →
     record {
       marks = items_marks nodes ++ (segs_marks ss ++ s.marks);
-      here = in_segs (has_some before) false (one_more (add ss s.here.segs)) (holding (items_hold nodes) (in_segs (is_some suffix) false (one_more (add ss s.here.segs)) (in_segs (have_comments ss) (segs_hold ss) (add ss s.here.segs) s.here)));
+      here = in_segs (is_filled before) false (one_more (add ss s.here.segs)) (holding (items_hold nodes) (in_segs (is_some suffix) false (one_more (add ss s.here.segs)) (in_segs (have_comments ss) (segs_hold ss) (add ss s.here.segs) s.here)));
       outer = s.outer;
     } ≡ seen (seg before nodes suffix ss) s
-seg_seen before nodes suffix ss s = rw (append_assoc (items_marks nodes) (segs_marks ss) s.marks, or_four (has_some before) (is_some suffix) (have_comments ss) s.here.comments, or_assoc (items_hold nodes) (segs_hold ss) s.here.holds) refl
+seg_seen before nodes suffix ss s = rw (append_assoc (items_marks nodes) (segs_marks ss) s.marks, or_four (is_filled before) (is_some suffix) (have_comments ss) s.here.comments, or_assoc (items_hold nodes) (segs_hold ss) s.here.holds) refl
 
 mutual
   pub scan_item : (x : Item) (rest : List RowPart) → scan (item_parts x ++ rest) ≡ found (item_marks x) (holds_broken x) (scan rest)

@@ -7,8 +7,8 @@ use Rattle.bz_tree.specs.declared.row.Part.{Part}
 use Rattle.bz_tree.specs.declared.stmt.Class.{Class}
 use Rattle.bz_tree.specs.declared.stmt.GroupKind.{GroupKind}
 use Rattle.bz_token.specs.declared.token.Kind.TheVariants.{Newline}
-use Rattle.bz_layout.specs.declared.marks.Mark.{Mark}
-use Rattle.bz_layout.specs.declared.walk.Frame.{Frame}
+use Rattle.bz_layout.specs.declared.marks.BracketForm.{BracketForm}
+use Rattle.bz_layout.specs.declared.walk.OpenBracket.{OpenBracket}
 use Rattle.bz_layout.specs.declared.spacing.Edge.{Edge}
 use Rattle.bz_layout.specs.declared.spacing.Edge.TheVariants.{Start}
 use Rattle.bz_layout.specs.declared.spacing.Gap.TheVariants.{Closed}
@@ -35,7 +35,7 @@ leads [] ps h = h
 leads (comment ∷ comments) ps h = ap (λ ns. comment ∷ ns) (leads comments ps h)
 
 -- the walk leaves them out
-skips : (comments : List (List ℕ)) (rest : List RowPart) (t : List ℕ) (ms : List Mark) (o : List Frame) (l : Edge) (n : ℕ) → run (map above comments ++ rest) (at t ms o (top None) l n) ≡ run rest (at t ms o (top None) l n)
+skips : (comments : List (List ℕ)) (rest : List RowPart) (t : List ℕ) (ms : List BracketForm) (o : List OpenBracket) (l : Edge) (n : ℕ) → run (map above comments ++ rest) (at t ms o (top None) l n) ≡ run rest (at t ms o (top None) l n)
 skips [] rest t ms o l n = refl
 skips (comment ∷ comments) rest t ms o l n = ap (λ (u : List ℕ). run (map above comments ++ rest) (at u ms o (top None) l n)) (append-nil t) ∙ skips comments rest t ms o l n
 
@@ -46,7 +46,7 @@ marks_are xs (Some comment) = rw (scan_items xs (beside_part (Some comment))) re
 all_marks : (s : Statement) → (scan (parts_of s)).marks ≡ items_marks (items_of s.nodes) ++ []
 all_marks s = ap (λ (z : Scan). z.marks) (scan_above s.before (rest_of s)) ∙ marks_are (items_of s.nodes) s.suffix
 
-beside_text : (suffix : Option (List ℕ)) (t : List ℕ) (ms : List Mark) (o : List Frame) (l : Edge) (n : ℕ) → (run (beside_part suffix) (at t ms o (top None) l n)).text ≡ t ++ bytes_of (suffix_piece suffix)
+beside_text : (suffix : Option (List ℕ)) (t : List ℕ) (ms : List BracketForm) (o : List OpenBracket) (l : Edge) (n : ℕ) → (run (beside_part suffix) (at t ms o (top None) l n)).text ≡ t ++ bytes_of (suffix_piece suffix)
 beside_text None t ms o l n = sym (append-nil t)
 beside_text (Some comment) t ms o l n = rw (append-nil comment) refl
 
@@ -97,9 +97,9 @@ comments_end out all parts k d h other is =
 pub comment_row : (before now : List ℕ) (ps : List RowPart) (class : Class) → is_comment class ≡ true → now ≡ before ++ bytes_of (comment_lines (leading ps)) → now ≡ row_text before ps class
 comment_row before now ps class is text = rw is text
 
-pub line_row : (before text now : List ℕ) (ps : List RowPart) (class : Class) (ms : List Mark) (first last : Laid) → is_comment class ≡ false → text ≡ before ++ bytes_of (comment_lines (leading ps)) → ms ≡ (scan ps).marks → first ≡ start text ms None → last ≡ run ps first → now ≡ last.text ++ codes "\n" → now ≡ row_text before ps class
+pub line_row : (before text now : List ℕ) (ps : List RowPart) (class : Class) (ms : List BracketForm) (first last : Laid) → is_comment class ≡ false → text ≡ before ++ bytes_of (comment_lines (leading ps)) → ms ≡ (scan ps).marks → first ≡ start text ms None → last ≡ run ps first → now ≡ last.text ++ codes "\n" → now ≡ row_text before ps class
 line_row before text now ps class ms first last is leads marks begun laid put =
-    let started = begun ∙ ap (λ (t : List ℕ). start t ms None) leads ∙ ap (λ (m : List Mark). start (before ++ bytes_of (comment_lines (leading ps))) m None) marks in
+    let started = begun ∙ ap (λ (t : List ℕ). start t ms None) leads ∙ ap (λ (m : List BracketForm). start (before ++ bytes_of (comment_lines (leading ps))) m None) marks in
     rw is (put ∙ ap (λ (l : Laid). l.text ++ codes "\n") (laid ∙ ap (run ps) started))
 
 -- with no marks all brackets stand in place

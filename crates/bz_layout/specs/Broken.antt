@@ -3,19 +3,16 @@ use Rattle.std.specs.Prelude.{ℕ, suc, List, [], ◌∷◌, Bool, true, false, 
 use Rattle.bz_tree.specs.declared.stmt.GroupKind.{GroupKind}
 use Rattle.bz_tree.specs.declared.stmt.GroupKind.TheVariants.{RuleCall, List as ListKind, Dict}
 use Rattle.bz_tree.specs.Tree.{Item, leaf, group, Items, no_items, item, Segs, no_segs, seg}
+use Rattle.bz_token.specs.Common.{is_filled}
 
 abbrev pub count : Segs → ℕ
 count no_segs = 0
 count (seg before nodes suffix ss) = suc (count ss)
 
-abbrev pub has_some : List (List ℕ) → Bool
-has_some [] = false
-has_some (comment ∷ comments) = true
-
 -- a segment has a comment above it or after it
 abbrev pub have_comments : Segs → Bool
 have_comments no_segs = false
-have_comments (seg before nodes suffix ss) = has_some before || is_some suffix || have_comments ss
+have_comments (seg before nodes suffix ss) = is_filled before || is_some suffix || have_comments ss
 
 -- lists and rules of two or more segments, dicts of one or more
 abbrev pub breaks_by_count : GroupKind → ℕ → Bool
@@ -26,7 +23,7 @@ breaks_by_count _ n = false
 
 -- a group is broken, where `inside` tells whether a segment of it holds a broken group at any depth
 abbrev pub is_broken : GroupKind → Segs → List (List ℕ) → Bool → Bool
-is_broken kind segs end inside = has_some end || have_comments segs || breaks_by_count kind (count segs) || (nat_le 2 (count segs) && inside)
+is_broken kind segs end inside = is_filled end || have_comments segs || breaks_by_count kind (count segs) || (nat_le 2 (count segs) && inside)
 
 abbrev mutual
   -- it is a broken group, or holds one at any depth

@@ -19,26 +19,20 @@ use Rattle.bz_layout.specs.Broken.{count, is_broken, segs_hold}
 use Rattle.bz_layout.specs.Pieces.{Piece, piece, bytes_of, comma_if, comments, comment_lines, suffix_piece}
 
 abbrev pub opening : GroupKind → List ℕ
-opening Call = codes "("
-opening RuleCall = codes "("
-opening Load = codes "("
-opening Paren = codes "("
 opening ListKind = codes "["
 opening Index = codes "["
 opening ListComp = codes "["
 opening Dict = codes "{"
 opening DictComp = codes "{"
+opening _ = codes "("
 
 abbrev pub closing : GroupKind → List ℕ
-closing Call = codes ")"
-closing RuleCall = codes ")"
-closing Load = codes ")"
-closing Paren = codes ")"
 closing ListKind = codes "]"
 closing Index = codes "]"
 closing ListComp = codes "]"
 closing Dict = codes "}"
 closing DictComp = codes "}"
+closing _ = codes ")"
 
 -- a broken group has a comma after each segment, but for these
 abbrev pub has_commas : GroupKind → Bool → ℕ → Bool

@@ -4,7 +4,7 @@ ghost use Rattle.std.specs.Prelude.{◌≡◌, IfOk, string_bytes};
 ghost use Rattle.bz_tree.specs.View.{nodes_view};
 ghost use Rattle.bz_layout.specs.Layout.{flat_text};
 
-use crate::walk::Walk;
+use crate::walk::RowWriter;
 use bz_memory::NoMemory;
 use bz_tree::{GroupKind, Node, push_nodes};
 use std::alloc::Global;
@@ -21,7 +21,7 @@ pub fn flat(
     let mut parts = Vec::new(alloc);
     push_nodes(nodes, &mut parts)?;
     let mut text = String::new(alloc);
-    let mut walk = Walk::new(alloc, Vec::new(alloc), in_group)?;
+    let mut walk = RowWriter::new(alloc, Vec::new(alloc), in_group)?;
     walk.run(&parts, &mut text)?;
     Ok(text)
 }

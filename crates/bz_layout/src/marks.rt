@@ -14,7 +14,7 @@ use std::alloc::Global;
 
 /// How a bracket is written.
 #[derive(Clone, Copy)]
-pub(crate) struct Mark {
+pub(crate) struct BracketForm {
     pub(crate) broken: bool,
     // If it is broken, a comma stands after each segment.
     pub(crate) comma: bool,
@@ -25,7 +25,7 @@ const FIRST_CAPACITY: usize = 16;
 
 // What stands in a bracket, or at the top, after a part.
 #[derive(Clone, Copy)]
-pub(crate) struct Inside {
+pub(crate) struct Contents {
     pub(crate) one_comma: bool,
     // It has comments.
     pub(crate) comments: bool,
@@ -38,17 +38,17 @@ pub(crate) struct Inside {
 #[derive(Drop)]
 pub(crate) struct Marks {
     // The last is that of the first bracket.
-    pub(crate) marks: Vec<Mark>,
-    pub(crate) here: Inside,
-    pub(crate) outer: Vec<Inside>,
+    pub(crate) marks: Vec<BracketForm>,
+    pub(crate) here: Contents,
+    pub(crate) outer: Vec<Contents>,
 }
 
-impl Inside {
+impl Contents {
     #[inline(always)]
-    fn closed(one_comma: bool) -> Inside
+    fn closed(one_comma: bool) -> Contents
         ensures { result ≡ closed one_comma }
     {
-        Inside {
+        Contents {
             one_comma,
             comments: false,
             holds: false,
@@ -65,11 +65,11 @@ fn one_more(n: u8) -> u8
 }
 
 #[inline(always)]
-fn mark_of(kind: GroupKind, inside: Inside) -> Mark
+fn mark_of(kind: GroupKind, inside: Contents) -> BracketForm
     ensures { result ≡ mark_of kind inside }
 {
     let segs = usize::from(inside.segs);
-    Mark {
+    BracketForm {
         broken: breaks_with(kind, inside.comments, segs, inside.holds),
         comma: has_commas(kind, inside.one_comma, segs),
     }
@@ -85,7 +85,7 @@ impl Marks {
         push(&mut self.marks, mark)?;
         self.here = match self.outer.pop() {
             Some(below) => below,
-            None => Inside::closed(false),
+            None => Contents::closed(false),
         };
         self.here.holds = holds || self.here.holds;
         Ok(())
@@ -100,7 +100,7 @@ impl Marks {
             Part::Open(kind) => self.open(kind)?,
             Part::Close(one_comma) => {
                 push(&mut self.outer, self.here)?;
-                self.here = Inside::closed(one_comma);
+                self.here = Contents::closed(one_comma);
             }
             Part::End => self.here.segs = one_more(self.here.segs),
             Part::Above(_) | Part::Beside(_) => self.here.comments = true,
@@ -121,12 +121,12 @@ impl Marks {
 }
 
 // The marks of all brackets, that of the first one last.
-pub(crate) fn marks_of(alloc: Global, parts: &[Part<'_>]) -> Result<Vec<Mark>, NoMemory>
+pub(crate) fn marks_of(alloc: Global, parts: &[Part<'_>]) -> Result<Vec<BracketForm>, NoMemory>
     ensures { IfOk result (λ ms. reverse ms.items ≡ (scan (map part_view parts.now)).marks) }
 {
     let mut walk = Marks {
         marks: with_capacity(alloc, FIRST_CAPACITY)?,
-        here: Inside::closed(false),
+        here: Contents::closed(false),
         outer: with_capacity(alloc, FIRST_DEPTH)?,
     };
     walk.run_back(parts)?;

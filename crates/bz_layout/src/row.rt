@@ -11,7 +11,7 @@ ghost use Rattle.bz_layout.specs.private.RowLayout.{leading, row_text};
 
 use crate::append::Append;
 use crate::marks::marks_of;
-use crate::walk::Walk;
+use crate::walk::RowWriter;
 use bz_memory::{NoMemory, with_capacity};
 use bz_tree::{Class, Part, Row, Stmt, push_parts};
 use std::alloc::Global;
@@ -57,7 +57,7 @@ fn put_text(
         return Ok(());
     }
     let marks = marks_of(alloc, parts)?;
-    let mut walk = Walk::new(alloc, marks, None)?;
+    let mut walk = RowWriter::new(alloc, marks, None)?;
     walk.run(parts, out)?;
     out.put("\n")
 }

@@ -8,7 +8,7 @@ ghost use Rattle.bz_layout.specs.Pieces.{gap_bytes};
 ghost use Rattle.bz_layout.specs.private.RowLayout.{due, gap_for, top, first_gap, has_beside, start, with_token, opened, closed_by, ended, step, run, laid};
 
 use crate::append::NewLine;
-use crate::marks::Mark;
+use crate::marks::BracketForm;
 use crate::respell::put_written;
 use crate::spacing::{Edge, Gap, hugs, is_byte, token_closes_up, token_edge};
 use crate::write::{closing, opening, put};
@@ -23,32 +23,32 @@ pub(crate) const FIRST_DEPTH: usize = 16;
 
 // A bracket that is open, or the top.
 #[derive(Clone, Copy)]
-pub(crate) struct Frame {
+pub(crate) struct OpenBracket {
     // None at the top.
     pub(crate) within: Option<GroupKind>,
-    pub(crate) mark: Mark,
+    pub(crate) mark: BracketForm,
     // In place, after a segment: a comma is due, which is written where the next one begins.
     pub(crate) later: bool,
 }
 
 #[derive(Drop)]
-pub(crate) struct Walk {
+pub(crate) struct RowWriter {
     // Those of the brackets to come, the next one last.
-    pub(crate) marks: Vec<Mark>,
-    pub(crate) outer: Vec<Frame>,
-    pub(crate) here: Frame,
+    pub(crate) marks: Vec<BracketForm>,
+    pub(crate) outer: Vec<OpenBracket>,
+    pub(crate) here: OpenBracket,
     pub(crate) left: Edge,
     // That of the line which is being written.
     pub(crate) level: usize,
 }
 
-impl Frame {
-    fn top(within: Option<GroupKind>) -> Frame
+impl OpenBracket {
+    fn top(within: Option<GroupKind>) -> OpenBracket
         ensures { result ≡ top within }
     {
-        Frame {
+        OpenBracket {
             within,
-            mark: Mark {
+            mark: BracketForm {
                 broken: false,
                 comma: false,
             },
@@ -65,22 +65,22 @@ impl Frame {
     }
 }
 
-impl Walk {
+impl RowWriter {
     // `within` is the group that all the parts stand in. With no marks no bracket is broken.
     pub(crate) fn new(
         alloc: Global,
-        marks: Vec<Mark>,
+        marks: Vec<BracketForm>,
         within: Option<GroupKind>,
-    ) -> Result<Walk, NoMemory>
+    ) -> Result<RowWriter, NoMemory>
         ensures laid { IfOk result
             (λ walk. (text : List ℕ) → laid walk text ≡ start text (reverse marks.items) within) }
         ensures level { IfOk result (λ walk. walk.level ≡ 0) }
     {
         let depth = min(marks.len(), FIRST_DEPTH);
-        Ok(Walk {
+        Ok(RowWriter {
             marks,
             outer: with_capacity(alloc, depth)?,
-            here: Frame::top(within),
+            here: OpenBracket::top(within),
             left: Edge::Start,
             level: 0,
         })
@@ -167,12 +167,12 @@ impl Walk {
         push(&mut self.outer, self.here)?;
         let mark = match self.marks.pop() {
             Some(mark) => mark,
-            None => Frame::top(None).mark,
+            None => OpenBracket::top(None).mark,
         };
         if mark.broken {
             self.level += 1;
         }
-        self.here = Frame {
+        self.here = OpenBracket {
             within: Some(kind),
             mark,
             later: false,
@@ -197,7 +197,7 @@ impl Walk {
         }
         self.here = match self.outer.pop() {
             Some(below) => below,
-            None => Frame::top(None),
+            None => OpenBracket::top(None),
         };
         self.left = Edge::Operand;
         Ok(())

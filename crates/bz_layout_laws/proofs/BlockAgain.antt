@@ -8,8 +8,8 @@ use Rattle.bz_token.proofs.Progress.{column_from-append, lines_of}
 use Rattle.bz_token_laws.proofs.Readable.{laid_tokens}
 use Rattle.bz_tree.specs.Blocks.{above, is_block_word, block_indent, is_block, kept_statement, IsKeptText, IsBlockOf}
 use Rattle.bz_tree.specs.Brackets.{without_lines, end_line}
-use Rattle.bz_tree.specs.Chunk.{IsOneOf, IsChunkOf, IsReadAs, IsStatementIn, begins_block, indent_at, indent_fault}
-use Rattle.bz_tree.specs.Statement.{first_of, last_of, first_token, first_seen, last_seen}
+use Rattle.bz_tree.specs.Chunk.{IsOneOf, IsChunkOf, IsReadAs, IsStatementIn, indent_at, indent_fault}
+use Rattle.bz_tree.specs.Statement.{last_of, first_token, first_seen, last_seen}
 use Rattle.bz_tree.specs.Tree.{Statement}
 use Rattle.bz_tree.proofs.Sound.{none_is_some}
 use Rattle.bz_tree_laws.proofs.ChunkLaws.{chunk_same}
@@ -23,6 +23,7 @@ use Rattle.bz_layout_laws.proofs.BlockPlaces.{body_tokens, header_token, told}
 use Rattle.bz_layout_laws.proofs.BlockTests.{newline, close}
 use Rattle.bz_layout_laws.proofs.BlockBody.{Body, body_of}
 use Rattle.bz_layout_laws.proofs.BlockWritten.{lines_above, written, written_passes, with_above, written_text, lines_column, above_lines, written_parts}
+use Rattle.bz_token.specs.Common.{first_of, map_or}
 
 -- something is seen where a last token is
 some_seen : (tokens : List Placed) (t : Placed) → last_seen tokens ≡ Some t → IsSome (first_seen tokens)
@@ -36,7 +37,7 @@ some_seen tokens t h = by (without_lines tokens) h
 pub record Again (second depth : ℕ) (texts : List (List ℕ)) (s : Statement) (more : ℕ) : Type 0 where
   pub tokens : List Placed
   pub are : AreTokensOf second depth (layout_text (with_above texts s) ++ replicate more 10) tokens
-  pub begins : begins_block (first_token tokens) ≡ true
+  pub begins : map_or false is_block_word (first_token tokens) ≡ true
   pub found : Statement
   pub reads : IsReadAs second (layout_text (with_above texts s) ++ replicate more 10) tokens found
   pub same : lineless found ≡ lineless (with_above texts s)
@@ -58,7 +59,7 @@ block_again first second depth bytes s b texts more h =
     body_shown first second (bytes_of front) (bytes_of b.front) (lines_of second [] [] front) (lines_of first [] [] b.front) b.header b.mid (column ∙ sym b.column) in
     let indent : block_indent tokens ≡ None = t.indent ∙ same_indent (body_tokens second front header b.mid) (body_tokens first b.front b.header b.mid) shown b.indent in
     let block : is_block tokens ≡ true = t.block ∙ same_block (body_tokens second front header b.mid) (body_tokens first b.front b.header b.mid) shown ∙ b.block in
-    let begins : begins_block (first_token tokens) ≡ true = ap begins_block t.is_header ∙ b.word in
+    let begins : map_or false is_block_word (first_token tokens) ≡ true = ap (map_or false is_block_word) t.is_header ∙ b.word in
     let kept = b.header.text ++ bytes_of b.mid in
     let found = kept_statement (above tokens) kept here (end_line t.last) in
     let is : IsBlockOf second text tokens found = record {

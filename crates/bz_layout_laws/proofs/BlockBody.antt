@@ -9,7 +9,7 @@ use Rattle.bz_token_laws.proofs.Readable.{read_is_laid}
 use Rattle.bz_tree.specs.declared.stmt.Class.TheVariants.{Block}
 use Rattle.bz_tree.specs.Blocks.{above, is_block_word_at, is_block_word, block_indent, is_block, kept_statement, IsKeptText, IsBlockOf}
 use Rattle.bz_tree.specs.Brackets.{end_line}
-use Rattle.bz_tree.specs.Chunk.{IsOneOf, begins_block, indent_at}
+use Rattle.bz_tree.specs.Chunk.{IsOneOf, indent_at}
 use Rattle.bz_tree.specs.Statement.{first_token, last_seen}
 use Rattle.bz_tree.specs.Tree.{leaf, Statement}
 use Rattle.bz_tree.proofs.Sound.{none_is_some, some_injective}
@@ -18,6 +18,7 @@ use Rattle.bz_layout_laws.specs.BlockIn.{IsBlockIn}
 use Rattle.bz_layout_laws.proofs.BlockParts.{AreParts, parts_of}
 use Rattle.bz_layout_laws.proofs.BlockPlaces.{body_tokens, header_token, told}
 use Rattle.bz_layout_laws.proofs.BlockTests.{Passes}
+use Rattle.bz_token.specs.Common.{map_or}
 
 -- what a block that was read says of its pieces
 pub record Body (first depth : ℕ) (bytes : List ℕ) (s : Statement) : Type 0 where
@@ -68,7 +69,7 @@ body_of first depth bytes s b =
     (subst (λ h. IsKeptText first (bytes_of whole ++ rest) h a.last (found.header.text ++ bytes_of found.mid)) header
     (subst (λ l. IsKeptText first (bytes_of whole ++ rest) here l (found.header.text ++ bytes_of found.mid)) last t.is_kept)))
     a.is_kept in
-    let word : is_block_word here ≡ true = sym (ap begins_block is_header) ∙ b.begins in
+    let word : is_block_word here ≡ true = sym (ap (map_or false is_block_word) is_header) ∙ b.begins in
     let stands = no_fault here b.tokens word (sym (ap (λ o. indent_at o b.tokens) is_header) ∙ b.reads.upright) in
     record {
       front = found.front;

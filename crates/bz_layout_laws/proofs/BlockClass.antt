@@ -5,13 +5,16 @@ use Rattle.std.proofs.lemmas.Bool.{false≢true}
 use Rattle.bz_token.specs.declared.token.Kind.TheVariants.{Kept}
 use Rattle.bz_tree.specs.declared.stmt.Class.{Class}
 use Rattle.bz_tree.specs.declared.stmt.Class.TheVariants.{Load, Assign, Rule, Other, Block}
-use Rattle.bz_tree.specs.Chunk.{IsOneOf, IsStatementIn, begins_block}
-use Rattle.bz_tree.specs.Statement.{class_of, is_load_word, has_assign, is_rule, first_token}
+use Rattle.bz_tree.specs.Chunk.{IsOneOf, IsStatementIn}
+use Rattle.bz_tree.specs.Statement.{class_of, is_load_word, is_rule, first_token, is_assign}
 use Rattle.bz_tree.specs.Tree.{Item, leaf, group, Statement, items_of}
 use Rattle.bz_layout_laws.specs.BlockIn.{IsBlockIn}
 use Rattle.bz_layout_laws.specs.TextsOfKinds.{HaveTexts}
 use Rattle.bz_layout_laws.proofs.LinesRead.{read_parsed}
 use Rattle.bz_layout_laws.proofs.TextsRead.{read_texts}
+use Rattle.bz_token.specs.Common.{map_or}
+use Rattle.bz_tree.specs.Blocks.{is_block_word}
+use Rattle.std.specs.List.{list_any}
 
 abbrev is_block_class : Class → Bool
 is_block_class Block = true
@@ -25,18 +28,18 @@ either false m r p q = q
 none_kept : (xs : List Item) → HaveTexts (items_of xs) → is_block_class (class_of xs) ≡ false
 none_kept [] h = refl
 none_kept (x ∷ xs) h =
-    let others = either (is_load_word x) Load _ refl (either (has_assign (x ∷ xs)) Assign _ refl (either (is_rule (x ∷ xs)) Rule Other refl refl)) in
+    let others = either (is_load_word x) Load _ refl (either (list_any is_assign (x ∷ xs)) Assign _ refl (either (is_rule (x ∷ xs)) Rule Other refl refl)) in
     first x h others
   where
-    first : (x : Item) → HaveTexts (items_of (x ∷ xs)) → is_block_class (if is_load_word x then Load else (if has_assign (x ∷ xs) then Assign else (if is_rule (x ∷ xs) then Rule else Other))) ≡ false → is_block_class (class_of (x ∷ xs)) ≡ false
+    first : (x : Item) → HaveTexts (items_of (x ∷ xs)) → is_block_class (if is_load_word x then Load else (if list_any is_assign (x ∷ xs) then Assign else (if is_rule (x ∷ xs) then Rule else Other))) ≡ false → is_block_class (class_of (x ∷ xs)) ≡ false
     first (leaf Kept text) h others = absurd (false≢true h.0.0)
     first (leaf _ text) h others = others
     first (group kind segs one_comma end) h others = others
 
 pub known_by_class : (first depth : ℕ) (bytes : List ℕ) (s : Statement) → IsStatementIn first depth bytes s → s.class ≡ Block → IsBlockIn first depth bytes s
-known_by_class first depth bytes s is class = by (begins_block (first_token is.tokens)) refl is.reads.chunk
+known_by_class first depth bytes s is class = by (map_or false is_block_word (first_token is.tokens)) refl is.reads.chunk
   where
-    by : (b : Bool) → begins_block (first_token is.tokens) ≡ b → IsOneOf b first bytes is.tokens s → IsBlockIn first depth bytes s
+    by : (b : Bool) → map_or false is_block_word (first_token is.tokens) ≡ b → IsOneOf b first bytes is.tokens s → IsBlockIn first depth bytes s
     by true begins chunk = record { tokens = is.tokens; are = is.are; reads = is.reads; begins = begins }
     by false begins chunk =
         let texts = read_texts first depth bytes is.tokens s is.are chunk.tree in

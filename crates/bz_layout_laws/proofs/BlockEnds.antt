@@ -9,12 +9,12 @@ use Rattle.bz_token.specs.Brackets.{is_line}
 use Rattle.bz_token.specs.Places.{Placed}
 use Rattle.bz_tree.specs.declared.kinds.Mark.{Mark}
 use Rattle.bz_tree.specs.declared.kinds.Mark.TheVariants.{Open, Close, Comma, Comment, Newline as NewlineMark, Plain}
-use Rattle.bz_tree.specs.Blocks.{is_colon, with_token, logical_lines, indented, ends_open, bad_line, block_indent, header_line, has_colon, is_open_end, is_block}
+use Rattle.bz_tree.specs.Blocks.{is_colon, with_token, logical_lines, indented, ends_open, bad_line, block_indent, header_line, has_colon, is_block}
 use Rattle.bz_tree.specs.Kinds.{kind_mark, mark_of}
-use Rattle.bz_tree.specs.Owners.{is_filled}
 use Rattle.bz_tree.specs.Statement.{is_aside, bare_tokens, last_of}
 use Rattle.bz_layout_laws.proofs.BlockTokens.{fault_at, are_aside, front_bad, front_header, front_bare}
 use Rattle.bz_layout_laws.proofs.Unlined.{line_aside}
+use Rattle.bz_token.specs.Common.{is_filled, map_or}
 
 abbrev pub are_newlines : List Placed → Bool
 are_newlines ts = list_all (λ t. is_line t.kind) ts
@@ -105,4 +105,4 @@ pub block_between : (aa ts ns : List Placed) → are_aside aa ≡ true → are_n
 block_between aa ts ns a n =
     let header : header_line (logical_lines (aa ++ (ts ++ ns))) ≡ header_line (logical_lines ts) = front_header aa (ts ++ ns) a ∙ ap header_line (lines_more ts ns n) ∙ header_more (logical_lines ts) ns in
     let bare : bare_tokens (aa ++ (ts ++ ns)) ≡ bare_tokens ts = front_bare aa (ts ++ ns) a ∙ bare_more ts ns n in
-    λ i. has_colon 0 (header i) && not (is_open_end (last_of None (bare i)))
+    λ i. has_colon 0 (header i) && not (map_or false is_colon (last_of None (bare i)))

@@ -7,7 +7,6 @@ use Rattle.bz_token.specs.declared.cutter.scan.LineKind.TheVariants.{Statement}
 use Rattle.bz_token.specs.Blocks.{opener_of, opener}
 use Rattle.bz_token.specs.Brackets.{is_line}
 use Rattle.bz_token.specs.Ends.{ends}
-use Rattle.bz_token.specs.Lexical.{is_empty}
 use Rattle.bz_token.specs.LogicalLines.{Line}
 use Rattle.bz_token.specs.Places.{column_from}
 use Rattle.bz_token.specs.Reading.{is_gap, Piece, bytes_of}
@@ -17,6 +16,7 @@ use Rattle.bz_tree.specs.Blocks.{is_block_word_at}
 use Rattle.bz_layout_laws.proofs.BlockHead.{by_word, word_no_line, word_no_comment, word_ended, head_opens}
 use Rattle.bz_layout_laws.proofs.BlockLines.{cut_line, keep_line, stops_front}
 use Rattle.bz_layout_laws.proofs.BranchWords.{stops_word}
+use Rattle.bz_token.specs.Common.{is_empty}
 
 -- the first of the lines of pieces after some that have begun it
 record First (line qs : List Piece) (rest : List ℕ) : Type 0 where

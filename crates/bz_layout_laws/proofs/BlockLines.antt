@@ -8,13 +8,14 @@ use Rattle.bz_token.specs.declared.cutter.block.Opener.{Opener}
 use Rattle.bz_token.specs.declared.cutter.block.Opener.TheVariants.{Def, For, If}
 use Rattle.bz_token.specs.Blocks.{is_white, word_at, has_branch, goes_on}
 use Rattle.bz_token.specs.Brackets.{is_line}
-use Rattle.bz_token.specs.Lexical.{is_empty, is_word_byte}
+use Rattle.bz_token.specs.Lexical.{is_word_byte}
 use Rattle.bz_token.specs.LogicalLines.{Line}
 use Rattle.bz_token.specs.Reading.{Piece, bytes_of}
 use Rattle.bz_token.specs.TokenLines.{is_newline_piece, line_of, lines_from}
 use Rattle.bz_token_laws.proofs.Readable.{bytes_join}
 use Rattle.bz_layout_laws.proofs.BlockTests.{newline}
 use Rattle.bz_layout_laws.proofs.BranchWords.{is_branch, stops_word}
+use Rattle.bz_token.specs.Common.{is_empty}
 
 -- lines are cut after a newline piece and nowhere else
 pub cut_line : (line : List Piece) (p : Piece) (ps : List Piece) (rest : List ℕ) → is_line p.kind ≡ true → lines_from line (p ∷ ps) rest ≡ line_of (line ++ p ∷ []) [] ∷ lines_from [] ps rest

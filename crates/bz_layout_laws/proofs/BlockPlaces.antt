@@ -10,12 +10,13 @@ use Rattle.bz_token_laws.proofs.Readable.{bytes_join}
 use Rattle.bz_tree.specs.Blocks.{IsAt, IsKeptText, block_indent, is_block}
 use Rattle.bz_tree.specs.Brackets.{is_line as is_line_mark, without_lines}
 use Rattle.bz_tree.specs.Kinds.{mark_of}
-use Rattle.bz_tree.specs.Statement.{bare_tokens, first_of, last_of, first_token, last_seen}
+use Rattle.bz_tree.specs.Statement.{bare_tokens, last_of, first_token, last_seen}
 use Rattle.bz_tree.proofs.Sound.{none_is_some}
 use Rattle.bz_layout_laws.proofs.BlockTokens.{front_bare}
 use Rattle.bz_layout_laws.proofs.BlockEnds.{are_newlines, indent_between, block_between}
 use Rattle.bz_layout_laws.proofs.BlockParts.{ends_seen, AreParts, tokens_join, asides_tokens, newline_tokens}
 use Rattle.bz_layout_laws.proofs.Unlined.{line_mark}
+use Rattle.bz_token.specs.Common.{first_of}
 
 last_found : (o : Option Placed) (us : List Placed) (t : Placed) → last_of None us ≡ Some t → last_of o us ≡ Some t
 last_found o [] t h = absurd (none_is_some t h)

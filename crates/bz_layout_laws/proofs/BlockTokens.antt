@@ -8,9 +8,10 @@ use Rattle.bz_token.specs.declared.token.Kind.TheVariants.{Newline, Comment as C
 use Rattle.bz_token.specs.Places.{Placed}
 use Rattle.bz_tree.specs.declared.kinds.Mark.{Mark}
 use Rattle.bz_tree.specs.declared.kinds.Mark.TheVariants.{Open, Close, Comma, Comment, Newline as NewlineMark, Plain}
-use Rattle.bz_tree.specs.Blocks.{is_colon, with_token, logical_lines, indented, ends_open, bad_line, block_indent, header_line, depth_after, has_colon, is_open_end, is_block}
+use Rattle.bz_tree.specs.Blocks.{is_colon, with_token, logical_lines, indented, ends_open, bad_line, block_indent, header_line, depth_after, has_colon, is_block}
 use Rattle.bz_tree.specs.Kinds.{kind_mark, mark_of}
 use Rattle.bz_tree.specs.Statement.{is_aside, bare_tokens, last_of, last_token}
+use Rattle.bz_token.specs.Common.{map_or}
 
 -- a token without its line
 abbrev pub shown : Placed → Placed
@@ -75,7 +76,7 @@ shown_last : (o : Option Placed) (ts : List Placed) → last_of (option_map show
 shown_last o [] = refl
 shown_last o (t ∷ ts) = shown_last (Some t) ts
 
-shown_end : (o : Option Placed) → is_open_end (option_map shown o) ≡ is_open_end o
+shown_end : (o : Option Placed) → map_or false is_colon (option_map shown o) ≡ map_or false is_colon o
 shown_end None = refl
 shown_end (Some t) = refl
 
@@ -83,8 +84,8 @@ shown_block : (ts : List Placed) → is_block (all_shown ts) ≡ is_block ts
 shown_block ts =
     let colon : has_colon 0 (header_line (logical_lines (all_shown ts))) ≡ has_colon 0 (header_line (logical_lines ts)) =
     ap (λ ls. has_colon 0 (header_line ls)) (shown_lines ts) ∙ ap (has_colon 0) (shown_header (logical_lines ts)) ∙ shown_colon 0 (header_line (logical_lines ts)) in
-    let last : is_open_end (last_token (all_shown ts)) ≡ is_open_end (last_token ts) =
-    ap (λ us. is_open_end (last_of None us)) (shown_bare ts) ∙ ap is_open_end (shown_last None (bare_tokens ts)) ∙ shown_end (last_token ts) in
+    let last : map_or false is_colon (last_token (all_shown ts)) ≡ map_or false is_colon (last_token ts) =
+    ap (λ us. map_or false is_colon (last_of None us)) (shown_bare ts) ∙ ap (map_or false is_colon) (shown_last None (bare_tokens ts)) ∙ shown_end (last_token ts) in
     λ i. colon i && not (last i)
 
 is_none : (o : Option ℕ) → is_some o ≡ false → o ≡ None

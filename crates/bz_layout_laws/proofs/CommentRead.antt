@@ -1,14 +1,14 @@
 -- Comment lines with the empty line after them are parsed as the comment lines.
-use Rattle.std.proofs.Common.{◌≡◌, ℕ, ◌≤◌, List, [], ◌∷◌, ◌++◌, true, None, IsSome, refl, sym, ap, subst, ◌∙◌}
+use Rattle.std.proofs.Common.{◌≡◌, ℕ, ◌≤◌, List, [], ◌∷◌, ◌++◌, true, None, IsSome, refl, sym, ap, subst, ◌∙◌, false}
 use Rattle.std.specs.Prelude.{codes, if◌then◌else◌}
 use Rattle.bz_token.specs.Places.{Placed, line_at}
 use Rattle.bz_token.specs.Reading.{Piece, tokens_of, token_of}
 use Rattle.bz_tree.specs.Brackets.{is_line as is_line_mark, elems_own, without_lines}
-use Rattle.bz_tree.specs.Chunk.{IsOneOf, IsPlain, IsStatementIn, begins_block as begins_block_at, indent_at}
+use Rattle.bz_tree.specs.Chunk.{IsOneOf, IsPlain, IsStatementIn, indent_at}
 use Rattle.bz_tree.specs.declared.kinds.Preceding.TheVariants.{Other}
 use Rattle.bz_tree.specs.Grammar.{IsStatement}
 use Rattle.bz_tree.specs.Kinds.{mark_of}
-use Rattle.bz_tree.specs.Statement.{first_token, first_seen, first_of, bare_tokens, is_aside, segment_of, statement_with}
+use Rattle.bz_tree.specs.Statement.{first_token, first_seen, bare_tokens, is_aside, segment_of, statement_with}
 use Rattle.bz_tree.specs.Tree.{Statement, items_of}
 use Rattle.bz_layout.specs.Pieces.{comment_lines}
 use Rattle.bz_layout.specs.Layout.{statement_line, is_comment, layout, layout_text}
@@ -22,6 +22,8 @@ use Rattle.bz_layout_laws.proofs.ParsedAgain.{comments_bare, comments_seen}
 use Rattle.bz_layout_laws.proofs.ReadStatement.{none_there, statement_reads}
 use Rattle.bz_layout_laws.proofs.SameGrammar.{grammar_stays}
 use Rattle.bz_layout_laws.proofs.TokensBack.{tokens_back, read_lines, lines_are_tokens}
+use Rattle.bz_token.specs.Common.{first_of, map_or}
+use Rattle.bz_tree.specs.Blocks.{is_block_word}
 
 -- a newline at the end is neither a comment nor another token
 newline_out : (first : ℕ) (ps : List Piece) (before lines : List ℕ) → without_lines (tokens_of first before lines (ps ++ newline ∷ [])) ≡ without_lines (tokens_of first before lines ps)
@@ -74,7 +76,7 @@ comments_read first depth s legible parsed room grammar class =
         reads = record {
           upright = ap (λ o. indent_at o all) none;
           some = some_seen first s parsed class;
-          chunk = subst (λ b. IsOneOf b first bytes all t) (sym (ap begins_block_at none)) plain;
+          chunk = subst (λ b. IsOneOf b first bytes all t) (sym (ap (map_or false is_block_word) none)) plain;
         };
       },
       same,

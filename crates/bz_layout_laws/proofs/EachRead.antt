@@ -1,13 +1,14 @@
 -- What holds of each node and each comment that stands in a bracket holds of those of its segments and of its end.
-use Rattle.std.proofs.Common.{◌≡◌, ℕ, List, [], ◌∷◌, ◌++◌, Bool, true, false, refl}
+use Rattle.std.proofs.Common.{◌≡◌, ℕ, List, [], ◌∷◌, ◌++◌, Bool, true, false, refl, drop}
 use Rattle.std.specs.Prelude.{if◌then◌else◌}
 use Rattle.std.specs.List.{list_all}
 use Rattle.std.proofs.lemmas.Bool.{false≢true, and_parts}
 use Rattle.bz_token.proofs.Quiet.{both}
 use Rattle.bz_tree.specs.Comments.{beside}
-use Rattle.bz_tree.specs.Owners.{Entry, a_node, a_comma, a_comment, first_cell, other_cells, same_line, later_lines, nodes_in, is_filled, has_node, comments_in, above_last, beside_last, below_last, first, others, cell_segment, with_segment, segments_from, end_from, inside_by_cells}
+use Rattle.bz_tree.specs.Owners.{Entry, a_node, a_comma, a_comment, first_cell, other_cells, same_line, later_lines, nodes_in, has_node, comments_in, above_last, beside_last, below_last, cell_segment, with_segment, segments_from, end_from, inside_by_cells}
 use Rattle.bz_tree.specs.Tree.{Item, Items, no_items, item, Segs, no_segs, seg, Segment, items_of, segs_of}
 use Rattle.bz_layout_laws.specs.Legible.{are_some}
+use Rattle.bz_token.specs.Common.{first_of, is_filled}
 
 -- texts that pass a test
 abbrev pub AllPass : (List ℕ → Bool) → List (List ℕ) → Type 0
@@ -101,11 +102,11 @@ below_each P q (a_node x ∷ es) h = pick q (has_node es) (below_last es) (comme
 below_each P q (a_comma ∷ es) h = below_each P q es h
 below_each P q (a_comment on text ∷ es) h = pick q (has_node es) (below_last es) (text ∷ comments_in es) (below_each P q es h.1) (one_more q text (comments_in es) h.0 (comments_each P q es h.1))
 
-first_comment : (q : List ℕ → Bool) (texts : List (List ℕ)) → AllPass q texts → AllPass q (beside (first texts))
+first_comment : (q : List ℕ → Bool) (texts : List (List ℕ)) → AllPass q texts → AllPass q (beside (first_of texts))
 first_comment q [] h = refl
 first_comment q (text ∷ texts) h = one_more q text [] (and_parts (q text) (list_all q texts) h).0 refl
 
-other_comments : (q : List ℕ → Bool) (texts : List (List ℕ)) → AllPass q texts → AllPass q (others texts)
+other_comments : (q : List ℕ → Bool) (texts : List (List ℕ)) → AllPass q texts → AllPass q (drop 1 texts)
 other_comments q [] h = refl
 other_comments q (text ∷ texts) h = (and_parts (q text) (list_all q texts) h).1
 
@@ -125,7 +126,7 @@ cell_each P q cell below comment ss h down more rest = by (is_filled (nodes_in c
 
     by : (b : Bool) → is_filled (nodes_in cell) ≡ b → EachSegment P q (segs_of (if b then cell_segment cell below comment ∷ ss else ss))
     by false e = rest
-    by true e = (comments_join q (above_last cell) (below ++ others shown) (above_each P q cell h) (comments_join q below (others shown) down (other_comments q shown are)), filled_some (nodes_in cell) e, nodes_each P q cell h, first_comment q shown are, rest)
+    by true e = (comments_join q (above_last cell) (below ++ drop 1 shown) (above_each P q cell h) (comments_join q below (drop 1 shown) down (other_comments q shown are)), filled_some (nodes_in cell) e, nodes_each P q cell h, first_comment q shown are, rest)
 
 cells_each : (P : Item → Type 0) (q : List ℕ → Bool) (cell : List Entry) (cells : List (List Entry)) → Each P q cell → EachCell P q cells → EachSegment P q (segs_of (segments_from cell cells))
 cells_each P q cell [] h rest = cell_each P q cell [] [] [] h refl refl tt

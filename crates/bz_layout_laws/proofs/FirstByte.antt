@@ -19,7 +19,6 @@ use Rattle.bz_tree.specs.Tree.{leaf, group, Items, no_items, item, Statement, it
 use Rattle.bz_layout.specs.declared.spacing.Edge.TheVariants.{Start}
 use Rattle.bz_layout.specs.declared.spacing.Gap.TheVariants.{Closed}
 use Rattle.bz_layout.specs.declared.broken.Style.TheVariants.{Broken}
-use Rattle.bz_layout.specs.Broken.{has_some}
 use Rattle.bz_layout.specs.Respell.{is_single, respell}
 use Rattle.bz_layout.specs.Pieces.{Piece, piece, bytes_of, comment_lines, suffix_piece}
 use Rattle.bz_layout.specs.Layout.{opening, items_pieces, statement_line, is_comment, layout_text}
@@ -29,6 +28,7 @@ use Rattle.bz_layout_laws.proofs.BranchWords.{is_branch, no_branch}
 use Rattle.bz_layout_laws.proofs.Ended.{read_bytes, line_ended}
 use Rattle.bz_layout_laws.proofs.NoBrackets.{leaf_line}
 use Rattle.bz_layout_laws.proofs.Texts.{line_whole}
+use Rattle.bz_token.specs.Common.{is_filled}
 
 -- the first node is a word of a branch
 abbrev pub begins_branch : Items → Bool
@@ -80,13 +80,13 @@ comment_begins (b ∷ bs) rest h = by b (and_parts (b == 35) _ (and_parts ((b ==
 
 -- comment lines alone are one at least
 abbrev HasLines : Statement → Type 0
-HasLines s = is_comment s.class ≡ true → has_some s.before ≡ true
+HasLines s = is_comment s.class ≡ true → is_filled s.before ≡ true
 
 pub text_begins : (s : Statement) → IsLegible s → HasLines s → begins_branch (items_of s.nodes) ≡ false → (rest : List ℕ) → goes_on If (layout_text s ++ rest) ≡ false
 text_begins s h lines none rest = above s.before refl
   where
     by : (b : Bool) → is_comment s.class ≡ b → s.before ≡ [] → goes_on If (bytes_of (if b then [] else statement_line s) ++ rest) ≡ false
-    by true class e = absurd (false≢true (sym (ap has_some e) ∙ lines class))
+    by true class e = absurd (false≢true (sym (ap is_filled e) ∙ lines class))
     by false class e = nodes_begin (items_of s.nodes) (suffix_piece s.suffix ++ piece Closed Newline (codes "\n") ∷ []) rest (h.some class) h.nodes none (line_whole s h).texts (line_ended s rest h).ended
 
     above : (before : List (List ℕ)) → s.before ≡ before → goes_on If (bytes_of (comment_lines s.before ++ (if is_comment s.class then [] else statement_line s)) ++ rest) ≡ false

@@ -9,8 +9,8 @@ use Rattle.bz_token.specs.Blocks.{opener_of}
 use Rattle.bz_token.specs.Places.{Placed, line_at, column_from, column_at}
 use Rattle.bz_token.specs.Reading.{tokens_of}
 use Rattle.bz_tree.specs.Blocks.{is_block_word_at, is_block_word, block_indent}
-use Rattle.bz_tree.specs.Chunk.{begins_block as begins_block_at, indent_at, indent_fault}
-use Rattle.bz_tree.specs.Statement.{is_aside, bare_tokens, first_of, first_token}
+use Rattle.bz_tree.specs.Chunk.{indent_at, indent_fault}
+use Rattle.bz_tree.specs.Statement.{is_aside, bare_tokens, first_token}
 use Rattle.bz_tree.specs.Tree.{leaf, group, Items, no_items, item, Statement, items_of}
 use Rattle.bz_layout.specs.declared.spacing.Edge.TheVariants.{Start}
 use Rattle.bz_layout.specs.declared.spacing.Gap.TheVariants.{Closed}
@@ -21,6 +21,7 @@ use Rattle.bz_layout.specs.Layout.{items_pieces, statement_line, is_comment, lay
 use Rattle.bz_layout_laws.specs.Legible.{AreLegible, IsLegible, are_some, begins_block}
 use Rattle.bz_layout_laws.specs.ReadPieces.{read_pieces}
 use Rattle.bz_layout_laws.proofs.ReadSteps.{no_aside}
+use Rattle.bz_token.specs.Common.{first_of, map_or}
 
 column_newline : (column : ℕ) (bytes : List ℕ) → column_from column (bytes ++ 10 ∷ []) ≡ 1
 column_newline column [] = refl
@@ -77,8 +78,8 @@ layout_front first s h class word =
     (after_comments first s.before (statement_line s) [] [] refl (λ bs ls column. line_front first s (items_of s.nodes) _ bs ls (h.some class) h.nodes word column))
 
 -- so no line is indented, and no block begins
-pub upright : (tokens : List Placed) → Front tokens → (indent_fault tokens ≡ None) × (begins_block_at (first_token tokens) ≡ false)
+pub upright : (tokens : List Placed) → Front tokens → (indent_fault tokens ≡ None) × (map_or false is_block_word (first_token tokens) ≡ false)
 upright tokens f = (
   ap (λ o. indent_at o tokens) f.first ∙ ap (λ n. if n == 1 then (if is_block_word f.token then block_indent tokens else None) else Some f.token.line) f.col ∙ ap (λ b. if b then block_indent tokens else None) f.word,
-  ap begins_block_at f.first ∙ f.word,
+  ap (map_or false is_block_word) f.first ∙ f.word,
 )

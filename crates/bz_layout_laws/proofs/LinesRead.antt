@@ -8,14 +8,14 @@ use Rattle.bz_tree.specs.declared.kinds.Mark.TheVariants.{Open, Close, Comma, Co
 use Rattle.bz_tree.specs.declared.kinds.Preceding.TheVariants.{Other}
 use Rattle.bz_tree.specs.Brackets.{single, bracket, Elems, no_elems, elem, elems_tokens, elems_own, own_items, own_of, as_node}
 use Rattle.bz_tree.specs.Kinds.{mark_of}
-use Rattle.bz_tree.specs.Owners.{Own, no_token, Entry, a_node, a_comma, a_comment, is_filled, first_cell, other_cells, later_lines, same_line, below_last, nodes_in, comments_in, cell_segment, with_segment, segments_from, end_from, inside, entries_of}
-use Rattle.bz_tree.specs.Statement.{is_rule, rule_call, one_segment, first_of, first_seen, IsStatementOf}
+use Rattle.bz_tree.specs.Owners.{Own, no_token, Entry, a_node, a_comma, a_comment, first_cell, other_cells, later_lines, same_line, below_last, nodes_in, comments_in, cell_segment, with_segment, segments_from, end_from, inside, entries_of}
+use Rattle.bz_tree.specs.Statement.{is_rule, rule_call, one_segment, first_seen, IsStatementOf}
 use Rattle.bz_tree.specs.Tree.{Item, Segment, Statement}
-use Rattle.bz_layout.specs.Broken.{has_some}
 use Rattle.bz_layout_laws.specs.Parsed.{IsParsed}
 use Rattle.bz_layout_laws.proofs.KindsRead.{no_cells}
 use Rattle.bz_layout_laws.proofs.ParsedRead.{read_kinds}
 use Rattle.bz_layout_laws.proofs.SameTests.{rule_nodes}
+use Rattle.bz_token.specs.Common.{first_of, is_filled}
 
 -- each segment has a node
 abbrev pub AreFilled : List Segment → Type 0
@@ -61,7 +61,7 @@ starts (a_comma ∷ es) = false
 starts (e ∷ es) = true
 
 -- of one cell: without nodes its comments stand before
-cell_lines : (cell : List Entry) → starts cell ≡ true → (one_segment (segments_from cell []) (end_from cell [])).nodes ≡ [] → has_some (one_segment (segments_from cell []) (end_from cell [])).before ≡ true
+cell_lines : (cell : List Entry) → starts cell ≡ true → (one_segment (segments_from cell []) (end_from cell [])).nodes ≡ [] → is_filled (one_segment (segments_from cell []) (end_from cell [])).before ≡ true
 cell_lines [] h none = absurd (false≢true h)
 cell_lines (a_comma ∷ es) h none = absurd (false≢true h)
 cell_lines (a_node x ∷ es) h none = absurd (false≢true (sym (ap is_filled none)))
@@ -69,7 +69,7 @@ cell_lines (a_comment on text ∷ es) h none = by (is_filled (nodes_in es)) refl
   where
     by : (b : Bool) → is_filled (nodes_in es) ≡ b
         → (one_segment (if b then cell_segment (a_comment on text ∷ es) [] [] ∷ [] else []) (if b then below_last es else text ∷ comments_in es)).nodes ≡ []
-        → has_some (one_segment (if b then cell_segment (a_comment on text ∷ es) [] [] ∷ [] else []) (if b then below_last es else text ∷ comments_in es)).before ≡ true
+        → is_filled (one_segment (if b then cell_segment (a_comment on text ∷ es) [] [] ∷ [] else []) (if b then below_last es else text ∷ comments_in es)).before ≡ true
     by true e gone = absurd (false≢true (sym (ap is_filled gone) ∙ e))
     by false e gone = refl
 
@@ -86,11 +86,11 @@ some_starts no_elems some = absurd (false≢true some)
 some_starts (elem (single t) xs) some = token_starts (mark_of t) t _
 some_starts (elem (bracket shape opening inner closing) xs) some = refl
 
-has_lines : (xs : Elems) → IsSome (first_of (elems_tokens xs)) → let i = inside (own_items true (elems_own Other xs)) in ((one_segment i.segs i.end).nodes ≡ [] → has_some (one_segment i.segs i.end).before ≡ true)
+has_lines : (xs : Elems) → IsSome (first_of (elems_tokens xs)) → let i = inside (own_items true (elems_own Other xs)) in ((one_segment i.segs i.end).nodes ≡ [] → is_filled (one_segment i.segs i.end).before ≡ true)
 has_lines xs some =
     let os = elems_own Other xs in
     let es = entries_of no_token (own_items true os) in
-    subst (λ cells. (one_segment (segments_from (first_cell es) cells) (end_from (first_cell es) cells)).nodes ≡ [] → has_some (one_segment (segments_from (first_cell es) cells) (end_from (first_cell es) cells)).before ≡ true) (sym (no_cells no_token os)) (cell_lines (first_cell es) (some_starts xs some))
+    subst (λ cells. (one_segment (segments_from (first_cell es) cells) (end_from (first_cell es) cells)).nodes ≡ [] → is_filled (one_segment (segments_from (first_cell es) cells) (end_from (first_cell es) cells)).before ≡ true) (sym (no_cells no_token os)) (cell_lines (first_cell es) (some_starts xs some))
 
 pub read_parsed : (tokens : List Placed) (t : Statement) → IsStatementOf tokens t → IsSome (first_seen tokens) → IsParsed t
 read_parsed tokens t is some =
@@ -104,5 +104,5 @@ read_parsed tokens t is some =
       rule = kinds.1;
       class = kinds.2;
       alone = λ none. ap (λ (u : Statement). u.suffix) is.is ∙ no_suffix i.segs i.end (segments_filled (first_cell es) (other_cells es)) (gone none);
-      lines = λ none. ap (λ (u : Statement). has_some u.before) is.is ∙ has_lines is.elems (subst (λ ts. IsSome (first_of ts)) is.tokens_are some) (gone none);
+      lines = λ none. ap (λ (u : Statement). is_filled u.before) is.is ∙ has_lines is.elems (subst (λ ts. IsSome (first_of ts)) is.tokens_are some) (gone none);
     }

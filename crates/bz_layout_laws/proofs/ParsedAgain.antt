@@ -7,12 +7,10 @@ use Rattle.bz_token.specs.Places.{Placed}
 use Rattle.bz_token.specs.Reading.{tokens_of}
 use Rattle.bz_token.proofs.OneFault.{one_tokens}
 use Rattle.bz_tree.specs.Brackets.{without_lines}
-use Rattle.bz_tree.specs.Chunk.{IsOneOf, IsPlain, IsStatementIn, begins_block as begins_block_at, indent_at, indent_fault}
+use Rattle.bz_tree.specs.Chunk.{IsOneOf, IsPlain, IsStatementIn, indent_at, indent_fault}
 use Rattle.bz_tree.specs.Grammar.{IsStatement}
-use Rattle.bz_tree.specs.Owners.{is_filled}
-use Rattle.bz_tree.specs.Statement.{first_token, first_seen, first_of, bare_tokens}
+use Rattle.bz_tree.specs.Statement.{first_token, first_seen, bare_tokens}
 use Rattle.bz_tree.specs.Tree.{Statement, items_of}
-use Rattle.bz_layout.specs.Broken.{has_some}
 use Rattle.bz_layout.specs.Pieces.{Piece, comment_lines}
 use Rattle.bz_layout.specs.Layout.{statement_line, is_comment, layout_text}
 use Rattle.bz_layout_laws.specs.Legible.{IsLegible, depth_of, begins_block}
@@ -25,6 +23,8 @@ use Rattle.bz_layout_laws.proofs.ReadStatement.{none_there, statement_reads, sta
 use Rattle.bz_layout_laws.proofs.SameGrammar.{grammar_stays}
 use Rattle.bz_layout_laws.proofs.TokensBack.{tokens_back, read_lines, lines_are_tokens}
 use Rattle.bz_layout_laws.proofs.Unlined.{line_mark, line_aside}
+use Rattle.bz_token.specs.Common.{first_of, is_filled, map_or}
+use Rattle.bz_tree.specs.Blocks.{is_block_word}
 
 bare_empty : (ts : List Placed) → without_lines ts ≡ [] → bare_tokens ts ≡ []
 bare_empty [] h = refl
@@ -45,7 +45,7 @@ seen_some ts t e = by (without_lines ts) refl
 -- tokens of a chunk that is not indented, no block and not blank
 record Upright (tokens : List Placed) : Type 0 where
   indent : indent_fault tokens ≡ None
-  block : begins_block_at (first_token tokens) ≡ false
+  block : map_or false is_block_word (first_token tokens) ≡ false
   some : IsSome (first_seen tokens)
 
 -- comment lines alone
@@ -53,7 +53,7 @@ pub comments_bare : (first : ℕ) (texts : List (List ℕ)) (before lines : List
 comments_bare first [] before lines = refl
 comments_bare first (text ∷ texts) before lines = comments_bare first texts _ _
 
-pub comments_seen : (first : ℕ) (texts : List (List ℕ)) (rest : List Piece) → has_some texts ≡ true → IsSome (first_seen (tokens_of first [] [] (read_pieces (comment_lines texts ++ rest))))
+pub comments_seen : (first : ℕ) (texts : List (List ℕ)) (rest : List Piece) → is_filled texts ≡ true → IsSome (first_seen (tokens_of first [] [] (read_pieces (comment_lines texts ++ rest))))
 comments_seen first [] rest h = absurd (false≢true h)
 comments_seen first (text ∷ texts) rest h = refl
 
@@ -63,7 +63,7 @@ lines_upright first s parsed class =
     subst (λ b. Upright (tokens_of first [] [] (read_pieces (comment_lines s.before ++ (if b then [] else statement_line s))))) (sym class)
     (let tokens = tokens_of first [] [] (read_pieces (comment_lines s.before ++ [])) in
     let bare : first_token tokens ≡ None = ap first_of (comments_bare first s.before [] []) in
-    record { indent = ap (λ o. indent_at o tokens) bare; block = ap begins_block_at bare; some = comments_seen first s.before [] (parsed.lines none) })
+    record { indent = ap (λ o. indent_at o tokens) bare; block = ap (map_or false is_block_word) bare; some = comments_seen first s.before [] (parsed.lines none) })
 
 is_upright : (first : ℕ) (s : Statement) → IsLegible s → IsParsed s → begins_block (items_of s.nodes) ≡ false → Upright (tokens_back first s)
 is_upright first s legible parsed word = by (is_comment s.class) refl
@@ -104,5 +104,5 @@ parsed_only first depth s t legible parsed room word is =
     let are = lines_are_tokens first depth (layout_text s) tokens (read_lines first depth s legible room) in
     let same : is.tokens ≡ tokens = one_tokens first depth (layout_text s) is.tokens tokens is.are are in
     let stands = is_upright first s legible parsed word in
-    let plain : IsPlain is.tokens t = subst (λ b. IsOneOf b first (layout_text s) is.tokens t) (ap (λ ts. begins_block_at (first_token ts)) same ∙ stands.block) is.reads.chunk in
+    let plain : IsPlain is.tokens t = subst (λ b. IsOneOf b first (layout_text s) is.tokens t) (ap (λ ts. map_or false is_block_word (first_token ts)) same ∙ stands.block) is.reads.chunk in
     statement_only first depth s t is.tokens legible parsed room is.are plain.tree

@@ -8,12 +8,12 @@ use Rattle.bz_token.specs.Lexical.{keywords, operators}
 use Rattle.bz_tree.specs.declared.stmt.GroupKind.TheVariants.{RuleCall, ListComp, Call}
 use Rattle.bz_tree.specs.declared.stmt.Class.TheVariants.{Rule, Comment}
 use Rattle.bz_tree.specs.declared.kinds.Shape.TheVariants.{Round, Square}
-use Rattle.bz_tree.specs.Owners.{is_filled}
 use Rattle.bz_tree.specs.Tree.{Item, leaf, group, Segs, Statement, items_of, segs_of}
 use Rattle.bz_layout.specs.Layout.{layout_text}
 use Rattle.bz_layout_laws.specs.Inside.{HasShape}
 use Rattle.bz_layout_laws.specs.Legible.{IsLegible, begins_block}
 use Rattle.bz_layout_laws.specs.Parsed.{IsParsed, have_for}
+use Rattle.bz_token.specs.Common.{is_filled}
 
 abbrev word : List ℕ → Item
 word text = leaf Keyword text

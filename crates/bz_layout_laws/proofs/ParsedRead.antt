@@ -1,5 +1,5 @@
 -- A statement that tokens are read as has kinds and class of a parsed one.
-use Rattle.std.proofs.Common.{◌≡◌, List, [], ◌∷◌, Bool, true, false, refl, sym, ap, subst, ◌∙◌}
+use Rattle.std.proofs.Common.{◌≡◌, List, [], ◌∷◌, Bool, true, false, refl, sym, ap, subst, ◌∙◌, codes}
 use Rattle.std.specs.Prelude.{if◌then◌else◌}
 use Rattle.std.proofs.lemmas.Bool.{false≢true, and_parts}
 use Rattle.bz_token.specs.Places.{Placed}
@@ -10,9 +10,9 @@ use Rattle.bz_tree.specs.declared.kinds.Shape.TheVariants.{Round, Square, Curly}
 use Rattle.bz_tree.specs.declared.kinds.Preceding.{Preceding}
 use Rattle.bz_tree.specs.declared.kinds.Preceding.TheVariants.{Operand, LoadWord, Other}
 use Rattle.bz_tree.specs.Brackets.{elems_own, own_items, after_item}
-use Rattle.bz_tree.specs.Kinds.{group_kind}
+use Rattle.bz_tree.specs.Kinds.{group_kind, is_operator_at}
 use Rattle.bz_tree.specs.Owners.{inside}
-use Rattle.bz_tree.specs.Statement.{is_ident, is_dot, is_call, is_rule, is_rule_after, rule_call, one_segment, class_of, IsStatementOf}
+use Rattle.bz_tree.specs.Statement.{is_ident, is_call, is_rule, is_rule_after, rule_call, one_segment, class_of, IsStatementOf}
 use Rattle.bz_tree.specs.Tree.{Item, leaf, group, Statement, items_of}
 use Rattle.bz_layout_laws.specs.Parsed.{HaveKinds, plain_kind, plain_call, plain_calls, HasKind}
 use Rattle.bz_layout_laws.proofs.KindsRead.{outside_kinds}
@@ -53,7 +53,7 @@ mutual
   plain_after : (xs : List Item) → is_rule_after xs ≡ true → plain_calls (rule_call xs) ≡ plain_calls xs
   plain_after [] h = refl
   plain_after (leaf kind text ∷ []) h = refl
-  plain_after (leaf kind text ∷ y ∷ ys) h = ap (λ l. leaf kind text ∷ l) (plain_rule (y ∷ ys) (and_parts (is_dot kind text) (is_rule (y ∷ ys)) h).1)
+  plain_after (leaf kind text ∷ y ∷ ys) h = ap (λ l. leaf kind text ∷ l) (plain_rule (y ∷ ys) (and_parts (is_operator_at (codes ".") kind text) (is_rule (y ∷ ys)) h).1)
   plain_after (group kind segs one_comma end ∷ []) h = ap (λ k. group k segs one_comma end ∷ []) (call_kind kind (and_parts (is_call kind) true h).0)
   plain_after (group kind segs one_comma end ∷ y ∷ ys) h = absurd (false≢true (and_parts (is_call kind) false h).1)
 

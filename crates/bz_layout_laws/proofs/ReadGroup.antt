@@ -12,7 +12,7 @@ use Rattle.bz_tree.specs.declared.kinds.Preceding.{Preceding}
 use Rattle.bz_tree.specs.declared.kinds.Preceding.TheVariants.{Operand, LoadWord, Other}
 use Rattle.bz_tree.specs.Brackets.{bracket, elems_tokens, elems_own, has_for, is_paren, own_items, group_of, end_line}
 use Rattle.bz_tree.specs.Kinds.{operator_mark, group_kind, is_one}
-use Rattle.bz_tree.specs.Owners.{Entry, a_node, no_token, end_of_node, no_empty, is_filled}
+use Rattle.bz_tree.specs.Owners.{Entry, a_node, no_token, end_of_node, no_empty}
 use Rattle.bz_tree.specs.Tree.{group, Segs, segments}
 use Rattle.bz_tree_laws.specs.Written.{written_entries, HaveNodes}
 use Rattle.bz_layout.specs.Layout.{opening, closing}
@@ -24,6 +24,7 @@ use Rattle.bz_layout_laws.proofs.Taken.{placed_at, take_first, begins_beside, fr
 use Rattle.bz_layout_laws.proofs.ReadSteps.{Read, Reads, own_node, agree_node, add_node}
 use Rattle.bz_layout_laws.proofs.Fors.{same_for}
 use Rattle.bz_layout_laws.proofs.SameInside.{group_same}
+use Rattle.bz_token.specs.Common.{is_filled}
 
 -- brackets of a kind are those of its shape
 opens : (shape : Shape) (b : Preceding) (comp : Bool) → operator_mark (opening (group_kind shape b comp)) ≡ Open shape

@@ -12,8 +12,8 @@ use Rattle.bz_tree.specs.declared.stmt.Class.TheVariants.{Load as LoadClass, Ass
 use Rattle.bz_tree.specs.declared.kinds.Preceding.{Preceding}
 use Rattle.bz_tree.specs.declared.kinds.Preceding.TheVariants.{Other}
 use Rattle.bz_tree.specs.Brackets.{Elems, elems_tokens, elems_own, own_items, AreWell, after_item, is_paren, without_lines}
-use Rattle.bz_tree.specs.Owners.{Own, Entry, a_node, no_token, is_filled, entries_of}
-use Rattle.bz_tree.specs.Statement.{segment_of, class_of, is_kept, is_load_word, has_assign, is_rule, statement_with, IsStatementOf}
+use Rattle.bz_tree.specs.Owners.{Own, Entry, a_node, no_token, entries_of}
+use Rattle.bz_tree.specs.Statement.{segment_of, class_of, is_kept, is_load_word, is_rule, statement_with, IsStatementOf, is_assign}
 use Rattle.bz_tree.specs.Tree.{Item, leaf, group, Segs, Segment, Statement, items_of}
 use Rattle.bz_tree_laws.specs.Written.{own_lines, suffix_entry, written_entries}
 use Rattle.bz_tree_laws.proofs.WrittenBack.{statement_back, comments_back}
@@ -39,6 +39,8 @@ use Rattle.bz_layout_laws.proofs.TokensBack.{layout_tokens_only}
 use Rattle.bz_layout_laws.proofs.Unlined.{lines_out}
 use Rattle.bz_layout_laws.proofs.Written.{bracket_written, comma_read}
 use Rattle.bz_layout_laws.proofs.WrittenLine.{statement_line_is, comments_written}
+use Rattle.bz_token.specs.Common.{is_filled}
+use Rattle.std.specs.List.{list_any}
 
 -- the call of a rule has the shape of a call
 rule_shape : (segs : Segs) (one_comma : Bool) → HasShape Call segs one_comma → HasShape RuleCall segs one_comma
@@ -121,7 +123,7 @@ no_comment false m r p q = q
 
 pub none_there : (xs : List Item) → is_comment (class_of xs) ≡ true → xs ≡ []
 none_there [] h = refl
-none_there (x ∷ xs) h = absurd (false≢true (sym (no_comment (is_kept x) Block _ refl (no_comment (is_load_word x) LoadClass _ refl (no_comment (has_assign (x ∷ xs)) Assign _ refl (no_comment (is_rule (x ∷ xs)) Rule OtherClass refl refl)))) ∙ h))
+none_there (x ∷ xs) h = absurd (false≢true (sym (no_comment (is_kept x) Block _ refl (no_comment (is_load_word x) LoadClass _ refl (no_comment (list_any is_assign (x ∷ xs)) Assign _ refl (no_comment (is_rule (x ∷ xs)) Rule OtherClass refl refl)))) ∙ h))
 
 comment_tree : (s : Statement) (tokens : List Placed) → IsParsed s → is_comment s.class ≡ true → lexemes_from None (without_lines tokens) ≡ without_newlines (lexemes_of s) → Tree s tokens
 comment_tree s tokens parsed class lexemes =

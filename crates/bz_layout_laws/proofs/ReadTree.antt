@@ -10,7 +10,7 @@ use Rattle.bz_tree.specs.declared.kinds.Preceding.{Preceding}
 use Rattle.bz_tree.specs.declared.kinds.Preceding.TheVariants.{Other}
 use Rattle.bz_tree.specs.Brackets.{after_item}
 use Rattle.bz_tree.specs.Kinds.{is_one}
-use Rattle.bz_tree.specs.Owners.{Entry, a_node, is_filled}
+use Rattle.bz_tree.specs.Owners.{Entry, a_node}
 use Rattle.bz_tree.specs.Tree.{Item, leaf, group, Items, no_items, item, Segs, no_segs, seg, list_of, segments}
 use Rattle.bz_tree_laws.specs.Written.{own_lines, suffix_entry, written_entries}
 use Rattle.bz_layout.specs.declared.spacing.Edge.{Edge}
@@ -28,6 +28,7 @@ use Rattle.bz_layout_laws.proofs.Taken.{begins_beside}
 use Rattle.bz_layout_laws.proofs.ReadSteps.{Reads, read_nothing, read_comment, read_comma, read_leaf}
 use Rattle.bz_layout_laws.proofs.SameInside.{filled_spelled, have_nodes}
 use Rattle.bz_layout_laws.proofs.ReadGroup.{read_group}
+use Rattle.bz_token.specs.Common.{is_filled}
 
 -- comments on lines of their own
 pub read_comments : (one : Bool) (b : Preceding) (texts : List (List ℕ)) (ls : List Lexeme) (es : List Entry) (tail : List Lexeme) → Reads one b ls es tail → Reads one b (comment_lexemes texts ++ ls) (own_lines texts ++ es) tail

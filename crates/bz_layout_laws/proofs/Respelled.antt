@@ -10,12 +10,13 @@ use Rattle.bz_token.specs.declared.scan_string.Quotes.{Quotes}
 use Rattle.bz_token.specs.declared.scan_string.Opening.{Opening}
 use Rattle.bz_token.specs.declared.scan_string.Escape.TheVariants.{Unescaped, AfterBackslash}
 use Rattle.bz_token.specs.Pieces.{is_quote}
-use Rattle.bz_token.specs.Lexical.{is_empty, is_string, opening, is_closed, is_text, is_string_kind}
+use Rattle.bz_token.specs.Lexical.{is_string, opening, is_closed, is_text, is_string_kind}
 use Rattle.bz_token.specs.private.Closing.{closes, starts_escape}
 use Rattle.bz_token.proofs.StringUnits.{closes_units}
 use Rattle.bz_token.proofs.Classes.{same_bytes}
 use Rattle.bz_token.proofs.Progress.{newlines-append}
 use Rattle.bz_layout.specs.Respell.{is_plain, content, is_single, respell}
+use Rattle.bz_token.specs.Common.{is_empty}
 
 abbrev short : ℕ → Quotes
 short q = record { byte = q; long = false }

@@ -5,13 +5,13 @@ use Rattle.std.specs.Str.{bytes_eq}
 use Rattle.std.proofs.lemmas.Bool.{cases_Bool, or_cases, false≢true, eqb-true}
 use Rattle.bz_token.specs.declared.token.Kind.{Kind}
 use Rattle.bz_token.specs.declared.token.Kind.TheVariants.{Identifier, Keyword, Integer, String, Operator as OperatorToken}
-use Rattle.bz_token.specs.Lexical.{begins, is_text}
+use Rattle.bz_token.specs.Lexical.{begins, is_text, is_one_of}
 use Rattle.bz_token.proofs.Classes.{mark, class_of, can_start, same_bytes, text_class}
 use Rattle.bz_tree.specs.declared.stmt.GroupKind.{GroupKind}
 use Rattle.bz_tree.specs.declared.role.Role.{Role}
 use Rattle.bz_tree.specs.declared.role.Role.TheVariants.{Name, Number, Value, Dot, Comma, Colon, Equals, Augmented, If, Else, For, In, Not, Tilde, Sum, Star, Stars, Operator, Stray}
-use Rattle.bz_tree.specs.Grammar.{is_among, is_augmented, is_infix, operator_role, leaf_role, token_role}
-use Rattle.bz_tree.specs.Statement.{is_load_word}
+use Rattle.bz_tree.specs.Grammar.{is_infix, operator_role, leaf_role, token_role}
+use Rattle.bz_tree.specs.Statement.{is_load_word, is_augmented}
 use Rattle.bz_tree.specs.Tree.{Item, leaf, group}
 use Rattle.bz_layout.specs.declared.spacing.Edge.{Edge}
 use Rattle.bz_layout.specs.Spacing.{edge_after, holds_on}
@@ -93,7 +93,7 @@ one_text : (b : Bool) (text word : List ℕ) (r next : Role) → bytes_eq text w
 one_text true text word r next is apart rest h = ap (begins is_later) (same_bytes text word is) ∙ apart
 one_text false text word r next is apart rest h = rest h
 
-two_texts : (b : Bool) (text one two : List ℕ) (r next : Role) → is_among text (one ∷ two ∷ []) ≡ b → begins is_later one ≡ false → begins is_later two ≡ false → BeginsApart text next → BeginsApart text (if b then r else next)
+two_texts : (b : Bool) (text one two : List ℕ) (r next : Role) → is_one_of (one ∷ two ∷ []) text ≡ b → begins is_later one ≡ false → begins is_later two ≡ false → BeginsApart text next → BeginsApart text (if b then r else next)
 two_texts false text one two r next is first second rest h = rest h
 two_texts true text one two r next is first second rest h = elim (or_cases (bytes_eq text one) _ is) [
   | inl here ↦ ap (begins is_later) (same_bytes text one here) ∙ first
@@ -109,7 +109,7 @@ operator_begins text =
     (one_text (bytes_eq text (codes "~")) text (codes "~") Tilde _ refl refl
     (no_test (bytes_eq text (codes "*")) text Star _ refl
     (no_test (bytes_eq text (codes "**")) text Stars _ refl
-    (two_texts (is_among text (codes "+" ∷ codes "-" ∷ [])) text (codes "+") (codes "-") Sum _ refl refl refl
+    (two_texts (is_one_of (codes "+" ∷ codes "-" ∷ []) text) text (codes "+") (codes "-") Sum _ refl refl refl
     (no_test (is_augmented text) text Augmented _ refl
     (no_test (is_infix text) text Operator Stray refl
     (λ h. absurd (false≢true h)))))))))))
@@ -147,7 +147,7 @@ operator_no_operand text =
     (either_role (bytes_eq text (codes "~")) Tilde _ refl
     (either_role (bytes_eq text (codes "*")) Star _ refl
     (either_role (bytes_eq text (codes "**")) Stars _ refl
-    (either_role (is_among text (codes "+" ∷ codes "-" ∷ [])) Sum _ refl
+    (either_role (is_one_of (codes "+" ∷ codes "-" ∷ []) text) Sum _ refl
     (either_role (is_augmented text) Augmented _ refl
     (either_role (is_infix text) Operator Stray refl refl)))))))))
 

@@ -1,13 +1,16 @@
 -- What a statement is does not hang on the spelling of strings.
-use Rattle.std.proofs.Common.{◌≡◌, ℕ, ◌&&◌, ◌||◌, List, [], ◌∷◌, map, Bool, true, false, refl, sym, ap, ◌∙◌}
+use Rattle.std.proofs.Common.{◌≡◌, ℕ, ◌&&◌, ◌||◌, List, [], ◌∷◌, map, Bool, true, false, refl, sym, ap, ◌∙◌, codes}
 use Rattle.std.specs.Prelude.{if◌then◌else◌}
 use Rattle.bz_token.specs.declared.token.Kind.{Kind}
 use Rattle.bz_token.specs.declared.token.Kind.TheVariants.{String}
 use Rattle.bz_tree.specs.declared.stmt.Class.TheVariants.{Load, Assign, Rule, Other, Block}
-use Rattle.bz_tree.specs.Statement.{is_ident, is_dot, is_call, is_nothing, is_rule, is_rule_after, as_rule_call, rule_call, is_assign, has_assign, is_load_word, is_kept, class_of}
+use Rattle.bz_tree.specs.Statement.{is_ident, is_call, is_rule, is_rule_after, as_rule_call, rule_call, is_assign, is_load_word, is_kept, class_of}
 use Rattle.bz_tree.specs.Tree.{Item, leaf, group}
 use Rattle.bz_layout.specs.Respell.{respell}
 use Rattle.bz_layout_laws.specs.Spelled.{spelled}
+use Rattle.bz_token.specs.Common.{is_empty}
+use Rattle.bz_tree.specs.Kinds.{is_operator_at}
+use Rattle.std.specs.List.{list_any}
 
 kept_spelled : (x : Item) → is_kept (spelled x) ≡ is_kept x
 kept_spelled (group kind segs one_comma end) = refl
@@ -24,11 +27,11 @@ assign_spelled (group kind segs one_comma end) = refl
 assign_spelled (leaf String text) = refl
 assign_spelled (leaf _ text) = refl
 
-dot_spelled : (kind : Kind) (text : List ℕ) → is_dot kind (respell kind text) ≡ is_dot kind text
+dot_spelled : (kind : Kind) (text : List ℕ) → is_operator_at (codes ".") kind (respell kind text) ≡ is_operator_at (codes ".") kind text
 dot_spelled String text = refl
 dot_spelled _ text = refl
 
-nothing_spelled : (xs : List Item) → is_nothing (map spelled xs) ≡ is_nothing xs
+nothing_spelled : (xs : List Item) → is_empty (map spelled xs) ≡ is_empty xs
 nothing_spelled [] = refl
 nothing_spelled (x ∷ xs) = refl
 
@@ -64,7 +67,7 @@ nodes_spelled xs = by (is_rule xs) ∙ ap (λ b. if b then rule_call (map spelle
     by true = last_call xs
     by false = refl
 
-assigned : (xs : List Item) → has_assign (map spelled xs) ≡ has_assign xs
+assigned : (xs : List Item) → list_any is_assign (map spelled xs) ≡ list_any is_assign xs
 assigned [] = refl
 assigned (x ∷ xs) = λ i. assign_spelled x i || assigned xs i
 

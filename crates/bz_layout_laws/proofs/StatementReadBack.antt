@@ -7,7 +7,6 @@ use Rattle.bz_tree.specs.declared.stmt.Class.{Class}
 use Rattle.bz_tree.specs.declared.stmt.Class.TheVariants.{Comment, Block}
 use Rattle.bz_tree.specs.Chunk.{IsStatementIn}
 use Rattle.bz_tree.specs.Tree.{Statement, items_of}
-use Rattle.bz_layout.specs.Broken.{has_some}
 use Rattle.bz_layout.specs.Layout.{is_comment, layout_text}
 use Rattle.bz_layout_laws.specs.FileText.{gap_text, takes_line}
 use Rattle.bz_layout_laws.specs.Legible.{IsLegible}
@@ -22,6 +21,7 @@ use Rattle.bz_layout_laws.proofs.NoBranch.{begins_no_branch}
 use Rattle.bz_layout_laws.proofs.ReadStatement.{none_there}
 use Rattle.bz_layout_laws.proofs.WellFormed.{formed_legible, formed_no_block, formed_class, formed_again}
 use Rattle.bz_layout_laws.proofs.WholeChunk.{statement_chunked, comments_chunked}
+use Rattle.bz_token.specs.Common.{is_filled}
 
 -- it is no block, so what takes the empty line after it are comment lines
 no_others : (class : Class) → takes_line class ≡ true → (class ≡ Block → ⊥) → is_comment class ≡ true
@@ -37,14 +37,14 @@ comment_takes Comment h = refl
 comment_takes _ h = absurd (false≢true h)
 
 -- comment lines are one at least
-has_lines : (depth : ℕ) (s : Statement) → IsWellFormed depth s → is_comment s.class ≡ true → has_some s.before ≡ true
+has_lines : (depth : ℕ) (s : Statement) → IsWellFormed depth s → is_comment s.class ≡ true → is_filled s.before ≡ true
 has_lines depth s h class = h.parsed.lines (none_there s.nodes (ap is_comment (sym h.parsed.class) ∙ class))
 
 -- comment lines where the file ends
-comments_end : (s : Statement) → IsLegible s → is_comment s.class ≡ true → has_some s.before ≡ true → chunks (layout_text s) ≡ layout_text s ∷ []
+comments_end : (s : Statement) → IsLegible s → is_comment s.class ≡ true → is_filled s.before ≡ true → chunks (layout_text s) ≡ layout_text s ∷ []
 comments_end s legible class some = by s.before refl some
   where
-    by : (texts : List (List ℕ)) → s.before ≡ texts → has_some texts ≡ true → chunks (layout_text s) ≡ layout_text s ∷ []
+    by : (texts : List (List ℕ)) → s.before ≡ texts → is_filled texts ≡ true → chunks (layout_text s) ≡ layout_text s ∷ []
     by [] e h = absurd (false≢true h)
     by (text ∷ texts) e h = comments_chunked s text texts legible class e
 

@@ -14,7 +14,6 @@ use Rattle.bz_tree.specs.Brackets.{is_line as is_line_mark, without_lines, end_l
 use Rattle.bz_tree.specs.declared.kinds.Shape.TheVariants.{Round, Square, Curly}
 use Rattle.bz_tree.specs.declared.kinds.Mark.TheVariants.{Open, Close, Comma, Plain}
 use Rattle.bz_tree.specs.Kinds.{kind_mark}
-use Rattle.bz_tree.specs.Owners.{is_filled}
 use Rattle.bz_tree.specs.Statement.{is_aside}
 use Rattle.bz_tree.specs.Tree.{Statement, items_of}
 use Rattle.bz_layout.specs.declared.spacing.Edge.TheVariants.{Start}
@@ -29,6 +28,7 @@ use Rattle.bz_layout_laws.specs.ReadPieces.{piece_lexemes, read_pieces}
 use Rattle.bz_layout_laws.proofs.NoLines.{items_no_line}
 use Rattle.bz_layout_laws.proofs.Pieces.{items_pieces_are}
 use Rattle.bz_layout_laws.proofs.Taken.{no_tokens}
+use Rattle.bz_token.specs.Common.{is_filled}
 
 -- each newline stands directly after a comment or a newline, or nothing stands after it
 abbrev newlines_end : Bool → List Lexeme → Bool

@@ -7,8 +7,8 @@ use Rattle.bz_token.specs.Places.{Placed}
 use Rattle.bz_token.specs.Reading.{AreTokensOf}
 use Rattle.bz_tree.specs.declared.stmt.Class.{Class}
 use Rattle.bz_tree.specs.declared.stmt.Class.TheVariants.{Load, Assign, Rule, Other, Block}
-use Rattle.bz_tree.specs.Chunk.{IsPlain, IsOneOf, IsStatementIn, begins_block as begins_block_at}
-use Rattle.bz_tree.specs.Statement.{first_seen, first_token, is_kept, is_load_word, has_assign, is_rule, class_of}
+use Rattle.bz_tree.specs.Chunk.{IsPlain, IsOneOf, IsStatementIn}
+use Rattle.bz_tree.specs.Statement.{first_seen, first_token, is_kept, is_load_word, is_rule, class_of, is_assign}
 use Rattle.bz_tree.specs.Tree.{Item, leaf, group, Statement, items_of}
 use Rattle.bz_layout.specs.Layout.{layout_text}
 use Rattle.bz_layout_laws.specs.Legible.{IsLegible, begins_block}
@@ -23,6 +23,9 @@ use Rattle.bz_layout_laws.proofs.LinesRead.{read_parsed}
 use Rattle.bz_layout_laws.proofs.NoBlock.{begins_no_block}
 use Rattle.bz_layout_laws.proofs.ParsedAgain.{parsed_again, parsed_only}
 use Rattle.bz_layout_laws.proofs.TextsRead.{read_texts}
+use Rattle.bz_token.specs.Common.{map_or}
+use Rattle.bz_tree.specs.Blocks.{is_block_word}
+use Rattle.std.specs.List.{list_any}
 
 pub formed_legible : (depth : ℕ) (s : Statement) → IsWellFormed depth s → IsLegible s
 formed_legible depth s formed = legible s formed.texts (nodes_may_follow s formed.grammar formed.texts)
@@ -47,7 +50,7 @@ plain_formed first depth bytes tokens s are some plain = record {
 }
 
 pub chunk_formed : (first depth : ℕ) (bytes : List ℕ) (s : Statement) → IsStatementIn first depth bytes s → (s.class ≡ Block → ⊥) → IsWellFormed depth s
-chunk_formed first depth bytes s is none = by (begins_block_at (first_token is.tokens)) is.reads.chunk
+chunk_formed first depth bytes s is none = by (map_or false is_block_word (first_token is.tokens)) is.reads.chunk
   where
     by : (b : Bool) → IsOneOf b first bytes is.tokens s → IsWellFormed depth s
     by true block = absurd (none (ap (λ (u : Statement). u.class) block.is))
@@ -70,8 +73,8 @@ either_class false m r p q = q
 class_no_block : (xs : List Item) → HaveTexts (items_of xs) → is_block_class (class_of xs) ≡ false
 class_no_block [] h = refl
 class_no_block (x ∷ xs) h =
-    ap (λ b. is_block_class (if b then Block else (if is_load_word x then Load else (if has_assign (x ∷ xs) then Assign else (if is_rule (x ∷ xs) then Rule else Other))))) (not_kept x h.0)
-    ∙ either_class (is_load_word x) Load _ refl (either_class (has_assign (x ∷ xs)) Assign _ refl (either_class (is_rule (x ∷ xs)) Rule Other refl refl))
+    ap (λ b. is_block_class (if b then Block else (if is_load_word x then Load else (if list_any is_assign (x ∷ xs) then Assign else (if is_rule (x ∷ xs) then Rule else Other))))) (not_kept x h.0)
+    ∙ either_class (is_load_word x) Load _ refl (either_class (list_any is_assign (x ∷ xs)) Assign _ refl (either_class (is_rule (x ∷ xs)) Rule Other refl refl))
 
 pub formed_class : (depth : ℕ) (s : Statement) → IsWellFormed depth s → s.class ≡ Block → ⊥
 formed_class depth s formed e = false≢true (sym (class_no_block s.nodes formed.texts.nodes) ∙ ap is_block_class (sym formed.parsed.class ∙ e))

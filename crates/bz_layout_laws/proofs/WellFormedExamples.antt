@@ -9,7 +9,6 @@ use Rattle.bz_tree.specs.declared.stmt.GroupKind.TheVariants.{RuleCall, Call, In
 use Rattle.bz_tree.specs.declared.stmt.Class.TheVariants.{Rule}
 use Rattle.bz_tree.specs.declared.kinds.Shape.TheVariants.{Round, Square}
 use Rattle.bz_tree.specs.Grammar.{IsStatement}
-use Rattle.bz_tree.specs.Owners.{is_filled}
 use Rattle.bz_tree.specs.Tree.{Item, leaf, group, Items, Segs, Segment, Statement, items_of, segs_of}
 use Rattle.bz_tree.proofs.Recognized.{statement_accepted, accepted_statement}
 use Rattle.bz_layout.specs.declared.spacing.Edge.TheVariants.{Start}
@@ -20,6 +19,7 @@ use Rattle.bz_layout_laws.specs.Legible.{depth_of}
 use Rattle.bz_layout_laws.specs.Parsed.{IsParsed}
 use Rattle.bz_layout_laws.specs.TextsOfKinds.{HasTexts}
 use Rattle.bz_layout_laws.specs.WellFormed.{IsWellFormed}
+use Rattle.bz_token.specs.Common.{is_filled}
 
 abbrev operator : List ℕ → Item
 operator text = leaf Operator text

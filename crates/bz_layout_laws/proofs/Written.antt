@@ -7,14 +7,15 @@ use Rattle.bz_token.specs.declared.token.Kind.TheVariants.{Operator, Comment}
 use Rattle.bz_tree.specs.declared.stmt.GroupKind.{GroupKind}
 use Rattle.bz_tree.specs.declared.stmt.GroupKind.TheVariants.{Paren, Index, ListComp, DictComp}
 use Rattle.bz_tree.specs.Brackets.{is_paren}
-use Rattle.bz_tree.specs.Owners.{Entry, a_node, a_comma, is_filled}
+use Rattle.bz_tree.specs.Owners.{Entry, a_node, a_comma}
 use Rattle.bz_tree.specs.Tree.{group, Items, no_items, item, Segs, no_segs, seg, list_of, segments}
 use Rattle.bz_tree_laws.specs.Written.{own_lines, suffix_entry, written_entries}
-use Rattle.bz_layout.specs.Broken.{count, has_some, have_comments, breaks_by_count, is_broken, segs_hold}
+use Rattle.bz_layout.specs.Broken.{count, have_comments, breaks_by_count, is_broken, segs_hold}
 use Rattle.bz_layout.specs.Layout.{opening, closing, has_commas}
 use Rattle.bz_layout_laws.specs.Lexemes.{Lexeme, lexeme, comment_lexemes, suffix_lexemes, comma_lexemes, item_lexemes, items_lexemes, ended_lexemes, separated_lexemes}
 use Rattle.bz_layout_laws.proofs.Texts.{both}
 use Rattle.bz_layout_laws.specs.Inside.{entry_lexemes, entries_lexemes, has_last_comma, HasShape}
+use Rattle.bz_token.specs.Common.{is_filled}
 
 join : (xs ys : List Entry) → entries_lexemes (xs ++ ys) ≡ entries_lexemes xs ++ entries_lexemes ys
 join [] ys = refl
@@ -79,7 +80,7 @@ ended_false (seg before nodes suffix no_segs) end h =
     spread before nodes suffix y = simp append_assoc
 
 -- on one line
-no_comments : (before : List (List ℕ)) → has_some before ≡ false → comment_lexemes before ≡ []
+no_comments : (before : List (List ℕ)) → is_filled before ≡ false → comment_lexemes before ≡ []
 no_comments [] h = refl
 no_comments (text ∷ texts) h = absurd (false≢true (sym h))
 
@@ -91,8 +92,8 @@ separated_are : (ss : Segs) (c : Bool) → have_comments ss ≡ false → (c ≡
 separated_are no_segs true none some = absurd (none_is_not_one (some refl))
 separated_are no_segs false none some = refl
 separated_are (seg before nodes suffix no_segs) c none some =
-    let p = or_parts (has_some before || is_some suffix) false none in
-    let q = or_parts (has_some before) (is_some suffix) p.0 in
+    let p = or_parts (is_filled before || is_some suffix) false none in
+    let q = or_parts (is_filled before) (is_some suffix) p.0 in
     let above = no_comments before q.0 in
     let aside = no_suffix suffix q.1 in
     ap (λ l. l ++ comma_lexemes c) (append-nil (items_lexemes nodes)) ∙ sym (ap (λ b. entries_lexemes (segment_entries before nodes b suffix [])) (alone c) ∙ segment_is before nodes c suffix [] ∙ rw (above, aside, append-nil (comma_lexemes c)) refl)
@@ -105,8 +106,8 @@ separated_are (seg before nodes suffix (seg b n s ss)) true none some = absurd (
     not_one : suc (suc (count ss)) ≡ 1 → ⊥
     not_one e = omega (arith, e)
 separated_are (seg before nodes suffix (seg b n s ss)) false none some =
-    let p = or_parts (has_some before || is_some suffix) (have_comments (seg b n s ss)) none in
-    let q = or_parts (has_some before) (is_some suffix) p.0 in
+    let p = or_parts (is_filled before || is_some suffix) (have_comments (seg b n s ss)) none in
+    let q = or_parts (is_filled before) (is_some suffix) p.0 in
     let above = no_comments before q.0 in
     let aside = no_suffix suffix q.1 in
     let es = written_entries false (segments (seg b n s ss)) [] in
@@ -132,7 +133,7 @@ ended_are : (kind : GroupKind) (one_comma : Bool) (ss : Segs) (end : List (List 
 ended_are kind one_comma ss end h true e = ended_true ss end
 ended_are kind one_comma ss end h false e = ended_false ss end (few kind one_comma ss h e)
 
-no_end : (end : List (List ℕ)) → has_some end ≡ false → end ≡ []
+no_end : (end : List (List ℕ)) → is_filled end ≡ false → end ≡ []
 no_end [] h = refl
 no_end (text ∷ texts) h = absurd (false≢true (sym h))
 
@@ -147,9 +148,9 @@ bracket_written kind segs one_comma end h = ap (λ l. lexeme Operator (opening k
         sym (append_assoc (ended_lexemes (has_commas kind one_comma (count segs)) segs) (comment_lexemes end) (lexeme Operator (closing kind) ∷ []))
         ∙ ap (λ l. l ++ lexeme Operator (closing kind) ∷ []) (ended_are kind one_comma segs end h (has_commas kind one_comma (count segs)) refl)
     by false e =
-        let p = or_parts (has_some end || have_comments segs || breaks_by_count kind (count segs)) (nat_le 2 (count segs) && segs_hold segs) e in
-        let q = or_parts (has_some end || have_comments segs) (breaks_by_count kind (count segs)) p.0 in
-        let r = or_parts (has_some end) (have_comments segs) q.0 in
+        let p = or_parts (is_filled end || have_comments segs || breaks_by_count kind (count segs)) (nat_le 2 (count segs) && segs_hold segs) e in
+        let q = or_parts (is_filled end || have_comments segs) (breaks_by_count kind (count segs)) p.0 in
+        let r = or_parts (is_filled end) (have_comments segs) q.0 in
         sym (append_assoc (separated_lexemes true segs) (comma_lexemes one_comma) (lexeme Operator (closing kind) ∷ []))
         ∙ ap (λ l. l ++ lexeme Operator (closing kind) ∷ []) (separated_are segs one_comma r.1 (λ is. (h.comma is).1) ∙ ap (λ ts. entries_lexemes (written_entries one_comma (segments segs) ts)) (sym (no_end end r.0)))
 

@@ -11,8 +11,8 @@ use Rattle.bz_tree.specs.Kinds.{kind_mark, group_kind, is_one}
 use Rattle.bz_tree.specs.Brackets.{after_item, is_for_item}
 use Rattle.bz_tree.specs.Statement.{class_of, is_rule, rule_call}
 use Rattle.bz_tree.specs.Tree.{Item, leaf, group, Items, no_items, item, Segs, no_segs, seg, Statement, items_of}
-use Rattle.bz_layout.specs.Broken.{has_some}
 use Rattle.bz_layout_laws.specs.Inside.{HasShape}
+use Rattle.bz_token.specs.Common.{is_filled}
 
 abbrev pub is_comma_mark : Mark → Bool
 is_comma_mark Comma = true
@@ -66,4 +66,4 @@ pub record IsParsed (s : Statement) : Type 0 where
   pub rule : s.nodes ≡ (if is_rule (plain_calls s.nodes) then rule_call (plain_calls s.nodes) else plain_calls s.nodes)
   pub class : s.class ≡ class_of s.nodes
   pub alone : s.nodes ≡ [] → s.suffix ≡ None
-  pub lines : s.nodes ≡ [] → has_some s.before ≡ true
+  pub lines : s.nodes ≡ [] → is_filled s.before ≡ true

@@ -4,13 +4,13 @@ ghost use Rattle.std.specs.Prelude.{◌≡◌, ◌++◌, ◌∷◌, ◌&&◌, �
 ghost use Rattle.bz_token.specs.declared.token.Kind.TheVariants.{Operator};
 ghost use Rattle.bz_tree.specs.declared.stmt.GroupKind.{GroupKind};
 ghost use Rattle.bz_tree.specs.Brackets.{is_paren};
-ghost use Rattle.bz_tree.specs.Owners.{is_filled};
 ghost use Rattle.bz_tree.specs.Tree.{Segs, Statement, group, segments};
 ghost use Rattle.bz_tree_laws.specs.Written.{written_entries};
 ghost use Rattle.bz_layout.specs.Layout.{opening, closing, is_comment};
 ghost use Rattle.bz_layout_laws.specs.Inside.{HasShape, entries_lexemes, has_last_comma, own_segment, without_newlines};
 ghost use Rattle.bz_layout_laws.specs.Lexemes.{lexeme, item_lexemes, lexemes_of};
 ghost use Rattle.bz_layout_laws.specs.Legible.{IsLegible};
+ghost use Rattle.bz_token.specs.Common.{is_filled};
 
 /// What stands in a bracket is written, broken over lines or not, as `group_read_back` of bz_tree_laws asks for it; and
 /// what that law reads of the comma after the last segment is what the group says of it.

@@ -10,7 +10,7 @@ use Rattle.bz_command.specs.Labels.{Package}
 use Rattle.bz_command.specs.LabelSetViews.{Gains, has as holds_label}
 use Rattle.bz_command.specs.declared.label_set.LabelSet.{LabelSet}
 use Rattle.bz_attribute.specs.Add.{add, adds, fresh, is_fresh, new_elements, with_added}
-use Rattle.bz_attribute.specs.Effects.{argument, done, edit_first, failed, has, is_nil, list_item, no_parts, not_a_list, string, with_args}
+use Rattle.bz_attribute.specs.Effects.{argument, done, edit_first, has, list_item, not_a_list, string, with_args}
 use Rattle.bz_attribute.specs.Elements.{AreElementsTo, AreLists, IsListIn, IsValueAt, value_parts}
 use Rattle.bz_attribute.specs.Lists.{edit_first_part, parts, same, with_value}
 use Rattle.bz_attribute.specs.RowEdits.{replaced_at}
@@ -25,6 +25,7 @@ use Rattle.bz_attribute.proofs.ListEdits.{appended}
 use Rattle.bz_list_commands.specs.private.AddSteps.{IsAdding, Knows}
 use Rattle.bz_list_commands.proofs.Known.{knows_fresh, knows_more}
 use Rattle.bz_list_commands.proofs.Named.{add_local, is_there}
+use Rattle.bz_token.specs.Common.{is_empty}
 
 -- value by value
 pub adding_begins : (home : Package) (lists : List (List Segment)) (values : List (List ℕ)) (set : LabelSet) (before : List RowPart) → Knows home lists values 0 set → IsAdding home lists values 0 set before before
@@ -69,15 +70,15 @@ told home attr values args = done (not_a_list attr (first_named attr args)) (add
 pub told_absent : (home : Package) (attr : List ℕ) (values : List (List ℕ)) (args : List Segment) → has attr args ≡ false → done None true ≡ told home attr values args
 told_absent home attr values args none = sym (ap (λ (a : Option Segment). done (not_a_list attr a) (adds home values a)) (none_first attr args none))
 
-pub told_no_list : (home : Package) (attr : List ℕ) (values : List (List ℕ)) (args : List Segment) (a : Segment) → first_named attr args ≡ Some a → parts (value a) ≡ [] → failed (NotAList attr) ≡ told home attr values args
+pub told_no_list : (home : Package) (attr : List ℕ) (values : List (List ℕ)) (args : List Segment) (a : Segment) → first_named attr args ≡ Some a → parts (value a) ≡ [] → done (Some (NotAList attr)) false ≡ told home attr values args
 told_no_list home attr values args a first none =
-    sym (ap (λ (b : Option Segment). done (not_a_list attr b) (adds home values b)) first ∙ ap (λ (b : Bool). done (if b then Some (NotAList attr) else None) (adds home values (Some a))) (ap no_parts none))
+    sym (ap (λ (b : Option Segment). done (not_a_list attr b) (adds home values b)) first ∙ ap (λ (b : Bool). done (if b then Some (NotAList attr) else None) (adds home values (Some a))) (ap is_empty none))
 
 pub told_list : (home : Package) (attr : List ℕ) (values : List (List ℕ)) (args : List Segment) (a : Segment) (ss : List Segment) (lists : List (List Segment)) (b : Bool) → first_named attr args ≡ Some a → parts (value a) ≡ ss ∷ lists
-    → not (is_nil (new_elements home (parts (value a)) values)) ≡ b → done None b ≡ told home attr values args
+    → not (is_empty (new_elements home (parts (value a)) values)) ≡ b → done None b ≡ told home attr values args
 told_list home attr values args a ss lists b first some is =
     sym (ap (λ (c : Option Segment). done (not_a_list attr c) (adds home values c)) first
-    ∙ ap (λ (c : Bool). done (if c then Some (NotAList attr) else None) (adds home values (Some a))) (ap no_parts some) ∙ ap (done None) is)
+    ∙ ap (λ (c : Bool). done (if c then Some (NotAList attr) else None) (adds home values (Some a))) (ap is_empty some) ∙ ap (done None) is)
 
 -- whether there is something new
 segment_some : (s : Segment) (ss : List Segment) → 1 ≤ length (segs_parts (segs_of (s ∷ ss)))
@@ -87,11 +88,11 @@ segment_some s ss = omega (
   length-append (items_parts (items_of s.nodes)) (segment_end ∷ (beside_part s.suffix ++ segs_parts (segs_of ss))),
 )
 
-pub none_new : (ss : List Segment) (ps : List RowPart) → ps ≡ segs_parts (segs_of ss) → length ps ≡ 0 → not (is_nil ss) ≡ false
+pub none_new : (ss : List Segment) (ps : List RowPart) → ps ≡ segs_parts (segs_of ss) → length ps ≡ 0 → not (is_empty ss) ≡ false
 none_new [] ps is h = refl
 none_new (s ∷ ss) ps is h = absurd (omega (arith, ap length is, h, segment_some s ss))
 
-pub some_new : (ss : List Segment) (ps : List RowPart) → ps ≡ segs_parts (segs_of ss) → 1 ≤ length ps → not (is_nil ss) ≡ true
+pub some_new : (ss : List Segment) (ps : List RowPart) → ps ≡ segs_parts (segs_of ss) → 1 ≤ length ps → not (is_empty ss) ≡ true
 some_new [] ps is h = absurd (omega (arith, ap length is, h))
 some_new (s ∷ ss) ps is h = refl
 
@@ -108,7 +109,7 @@ pub added_there : (home : Package) (attr : List ℕ) (values : List (List ℕ)) 
 added_there home attr values s r ps new place list end h v l e written =
     let edit : Segment → List Segment = λ a. with_added home values a ∷ [] in
     let elements : List Segment = new_elements home (parts (value v.arg)) values in
-    let some : no_parts (parts (value v.arg)) ≡ false = ap no_parts l.lists in
+    let some : is_empty (parts (value v.arg)) ≡ false = ap is_empty l.lists in
     let made : edit v.arg ≡ with_value (edit_first_part (λ ss. ss ++ elements) (value v.arg)) v.arg ∷ [] = rw some refl in
     let front : take end ps ≡ take place ps ++ take (end - place) (drop place ps) = ap (λ (n : ℕ). take n ps) (omega (arith, l.begins, e.size)) ∙ take-add place (end - place) ps in
     let edits : add home attr values r.args ≡ edit_first (is_named attr) edit r.args = rw (is_there attr r.args v.arg v.first) refl in

@@ -12,7 +12,7 @@ use Rattle.bz_tree.specs.declared.stmt.GroupKind.TheVariants.{List as ListKind}
 use Rattle.bz_tree.specs.Tree.{Item, leaf, group, Segment, items_of, segments, segs_of}
 use Rattle.bz_tree.specs.Rows.{RowPart, a_token, above, beside_part, segment_end, items_parts, segs_parts}
 use Rattle.bz_attribute.specs.Elements.{value_parts}
-use Rattle.bz_attribute.specs.Effects.{filtered, is_nil, loses_all}
+use Rattle.bz_attribute.specs.Effects.{filtered, loses_all}
 use Rattle.bz_attribute.specs.FirstArguments.{IsFirstArgument, argument_parts}
 use Rattle.bz_attribute.specs.Lists.{edit_parts, is_attribute, is_list, parts, with_value}
 use Rattle.bz_attribute.specs.Rules.{elements, ident_of, is_operator_item, name_of, value}
@@ -25,6 +25,7 @@ use Rattle.bz_list_commands.specs.private.StringEdits.{become_all, changes, is_m
 use Rattle.bz_list_commands.specs.private.WrittenParts.{HasPut, IsWithin, IsWritten}
 use Rattle.bz_list_commands.proofs.ElementEdits.{after_them, and_them}
 use Rattle.bz_list_commands.proofs.WrittenParts.{passed}
+use Rattle.bz_token.specs.Common.{is_empty}
 
 -- the parts of an argument, and what stands after it
 apart : (a : Segment) (others : List Segment) → argument_parts a others ≡ segs_parts (segs_of (a ∷ [])) ++ segs_parts (segs_of others)
@@ -124,9 +125,9 @@ value_early a h nodes to name first =
 gone_value : (f : List Segment → List Segment) (a : Segment) → loses_all f (value a) ≡ true → filtered f a ≡ []
 gone_value f a is = ap (λ (b : Bool). if b then [] else with_value (edit_parts f (value a)) a ∷ []) is
 
-any_gone : (p : List ℕ → Bool) (ss : List Segment) → (not (is_nil ss) && is_nil (become_all p None ss)) ≡ true → list_any (is_meant p) ss ≡ true
+any_gone : (p : List ℕ → Bool) (ss : List Segment) → (not (is_empty ss) && is_empty (become_all p None ss)) ≡ true → list_any (is_meant p) ss ≡ true
 any_gone p [] h = absurd (false≢true h)
-any_gone p (s ∷ ss) h = elim (is_meant p s) as (λ b. is_nil ((if b then [] else s ∷ []) ++ become_all p None ss) ≡ true → (b || list_any (is_meant p) ss) ≡ true) [ true ↦ λ e. refl | false ↦ λ e. absurd (false≢true e) ] h
+any_gone p (s ∷ ss) h = elim (is_meant p s) as (λ b. is_empty ((if b then [] else s ∷ []) ++ become_all p None ss) ≡ true → (b || list_any (is_meant p) ss) ≡ true) [ true ↦ λ e. refl | false ↦ λ e. absurd (false≢true e) ] h
 
 pub lost_changes : (p : List ℕ → Bool) (nodes : List Item) → loses_all (become_all p None) nodes ≡ true → list_any (list_any (is_meant p)) (parts nodes) ≡ true
 lost_changes p [] h = absurd (false≢true h)
@@ -136,15 +137,15 @@ lost_changes p (leaf k text ∷ []) h = absurd (false≢true h)
 lost_changes p (x ∷ y ∷ xs) h = absurd (false≢true h)
 
 -- what becomes another is never lost
-never_nil : (p : List ℕ → Bool) (literal : List ℕ) (ss : List Segment) → (not (is_nil ss) && is_nil (become_all p (Some literal) ss)) ≡ false
+never_nil : (p : List ℕ → Bool) (literal : List ℕ) (ss : List Segment) → (not (is_empty ss) && is_empty (become_all p (Some literal) ss)) ≡ false
 never_nil p literal [] = refl
-never_nil p literal (s ∷ ss) = elim (is_meant p s) as (λ b. is_nil ((if b then record s { nodes = leaf String literal ∷ [] } ∷ [] else s ∷ []) ++ become_all p (Some literal) ss) ≡ false) [ true ↦ refl | false ↦ refl ]
+never_nil p literal (s ∷ ss) = elim (is_meant p s) as (λ b. is_empty ((if b then record s { nodes = leaf String literal ∷ [] } ∷ [] else s ∷ []) ++ become_all p (Some literal) ss) ≡ false) [ true ↦ refl | false ↦ refl ]
 
 pub never_lost : (p : List ℕ → Bool) (literal : List ℕ) (nodes : List Item) → loses_all (become_all p (Some literal)) nodes ≡ false
 never_lost p literal [] = refl
 never_lost p literal (x ∷ y ∷ xs) = refl
 never_lost p literal (x ∷ []) =
-    elim (is_list x) as (λ b. (b && not (is_nil (elements x)) && is_nil (become_all p (Some literal) (elements x))) ≡ false) [ true ↦ never_nil p literal (elements x) | false ↦ refl ]
+    elim (is_list x) as (λ b. (b && not (is_empty (elements x)) && is_empty (become_all p (Some literal) (elements x))) ≡ false) [ true ↦ never_nil p literal (elements x) | false ↦ refl ]
 
 pub lost : (p : List ℕ → Bool) (literal : Option (List ℕ)) (a : Segment) (others : List Segment) (w next : Written) (nodes to : ℕ) (name : Option (List ℕ)) (ps before out : List RowPart) → HasPut w next (w.at + to) None ps before out
     → drop w.at ps ≡ argument_parts a others → IsFirstArgument a nodes to name → loses_all (become_all p literal) (value a) ≡ true → HasEdited (filtered (become_all p literal)) (changes p) a others w next ps before out

@@ -15,13 +15,14 @@ use Rattle.bz_command.specs.declared.arguments.Moved.{Moved}
 use Rattle.bz_command.specs.declared.arguments.Moved.TheVariants.{Values}
 use Rattle.bz_attribute.specs.Rules.{elements, is_named, is_text, name_of, first_named, string_value, value}
 use Rattle.bz_attribute.specs.Lists.{with_value, parts, parts_from, is_part, is_plus, is_joint, edit_list, edit_one_from, edit_first_part, edit_parts, equals}
-use Rattle.bz_attribute.specs.Effects.{has, chooses_in, edit_first, filtered, unchosen, is_chosen, loses_all, argument, list_item}
+use Rattle.bz_attribute.specs.Effects.{has, edit_first, filtered, unchosen, is_chosen, loses_all, argument, list_item, chooses}
 use Rattle.bz_attribute.specs.private.ChosenViews.{words_of}
 use Rattle.bz_attribute.specs.private.Places.{IsFirst, first_length, first_list}
-use Rattle.bz_attribute.specs.Move.{arrivals, chosen_of, elements_of, is_among, joined, moved}
+use Rattle.bz_attribute.specs.Move.{arrivals, elements_of, joined, moved}
 use Rattle.bz_attribute.proofs.LabelSets.{or_false}
 use Rattle.bz_list_commands.specs.private.MoveSteps.{value_of, with_list, with_more}
 use Rattle.bz_list_commands.proofs.Leaving.{swapped_front, swapped_rest}
+use Rattle.bz_token.specs.Common.{map_or}
 
 pub any-joined : (p : Segment → Bool) (lists : List (List Segment)) → list_any p (joined lists) ≡ list_any (list_any p) lists
 any-joined p [] = refl
@@ -36,7 +37,7 @@ pub arrived_start : (home : Package) (there : List Segment) (old : List Seg) →
 arrived_start home there old = record { after = omega arith; same = ap (λ (zs : List Segment). arrivals home zs (segs_view old)) (append-nil there) }
 
 pub arrived_more : (home : Package) (there : List Segment) (old now zs : List Seg) (k i : ℕ) (x : Seg) → Arrived home there old now k i → i < length now → x ≡ get_or now i x
-    → is_among home (there ++ segs_view (take k now)) (string_value (seg_view x).nodes) ≡ false → SwappedAt now zs k i → Arrived home there old zs (k + 1) (i + 1)
+    → map_or false (λ word. list_any (equals home word) (there ++ segs_view (take k now))) (string_value (seg_view x).nodes) ≡ false → SwappedAt now zs k i → Arrived home there old zs (k + 1) (i + 1)
 arrived_more home there old now zs k i x h lt at among s =
     let front : segs_view (take (k + 1) zs) ≡ segs_view (take k now) ++ seg_view x ∷ [] = ap segs_view (swapped_front now zs k i x h.after lt at s) ∙ map-append seg_view (take k now) (x ∷ []) in
     let rest : drop (i + 1) zs ≡ drop (i + 1) now = swapped_rest now zs k i x h.after s in
@@ -54,7 +55,7 @@ arrived_more home there old now zs k i x h lt at among s =
     }
 
 pub arrived_not : (home : Package) (there : List Segment) (old now : List Seg) (k i : ℕ) (x : Seg) → Arrived home there old now k i → i < length now → x ≡ get_or now i x
-    → is_among home (there ++ segs_view (take k now)) (string_value (seg_view x).nodes) ≡ true → Arrived home there old now k (i + 1)
+    → map_or false (λ word. list_any (equals home word) (there ++ segs_view (take k now))) (string_value (seg_view x).nodes) ≡ true → Arrived home there old now k (i + 1)
 arrived_not home there old now k i x h lt at among =
     let here : drop i now ≡ x ∷ drop (i + 1) now = drop_more now i x lt ∙ ap (λ (z : Seg). z ∷ drop (i + 1) now) (sym at) in
     let first : List Segment = segs_view (take k now) in
@@ -131,7 +132,7 @@ none_first name (a ∷ args) h =
 
 -- the elements that left arrive in a list that is there
 moved_to_list : (home : Package) (old new : List ℕ) (chosen : Moved) (args left now ts : List Segment) → bytes_eq old new ≡ false → has new args ≡ true
-    → left ≡ edit_first (is_named old) (filtered (unchosen home chosen)) args → ts ≡ chosen_of home chosen (first_named old args)
+    → left ≡ edit_first (is_named old) (filtered (unchosen home chosen)) args → ts ≡ filter (is_chosen home chosen) (elements_of (first_named old args))
     → now ≡ edit_first (is_named new) (λ a. with_value (edit_first_part (λ there. there ++ arrivals home (elements_of (first_named new left)) ts) (value a)) a ∷ []) left
     → now ≡ moved home old new chosen args
 moved_to_list home old new chosen args left now ts other there is took made =
@@ -143,7 +144,7 @@ moved_to_list home old new chosen args left now ts other there is took made =
 
 -- or in a new attribute
 moved_to_new : (home : Package) (old new : List ℕ) (chosen : Moved) (args left now ts : List Segment) → bytes_eq old new ≡ false → has new args ≡ false
-    → left ≡ edit_first (is_named old) (filtered (unchosen home chosen)) args → ts ≡ chosen_of home chosen (first_named old args)
+    → left ≡ edit_first (is_named old) (filtered (unchosen home chosen)) args → ts ≡ filter (is_chosen home chosen) (elements_of (first_named old args))
     → now ≡ left ++ argument new (list_item (arrivals home [] ts) ∷ []) ∷ []
     → now ≡ moved home old new chosen args
 moved_to_new home old new chosen args left now ts other absent is took made =
@@ -165,7 +166,7 @@ none_in home (ss ∷ lists) = ap (λ (b : Bool). b || list_any (list_any (is_cho
 
 -- what may be a string is the same label as one of these or of those
 pub like_there : (home : Package) (lists : List (List Segment)) (ys : List Segment) (o : Option (List ℕ))
-    → (list_any (list_any (is_chosen home (Values (words_of o)))) lists || list_any (is_chosen home (Values (words_of o))) ys) ≡ is_among home (joined lists ++ ys) o
+    → (list_any (list_any (is_chosen home (Values (words_of o)))) lists || list_any (is_chosen home (Values (words_of o))) ys) ≡ map_or false (λ word. list_any (equals home word) (joined lists ++ ys)) o
 like_there home lists ys None = ap (λ (b : Bool). b || list_any (is_chosen home (Values [])) ys) (none_in home lists) ∙ none_chosen home ys
 like_there home lists ys (Some word) =
     (λ j. list_any (list_any (λ (s : Segment). or_false (equals home word s) j)) lists || list_any (λ (s : Segment). or_false (equals home word s) j) ys) ∙ sym (any_there (equals home word) lists ys)
@@ -217,21 +218,21 @@ room_given old new f args other =
 
 -- what leaves arrives in the list that is there or given
 pub moved_by : (home : Package) (old new : List ℕ) (chosen : Moved) (args given left now ts : List Segment) → bytes_eq old new ≡ false → given ≡ with_list new args
-    → left ≡ edit_first (is_named old) (filtered (unchosen home chosen)) given → ts ≡ chosen_of home chosen (first_named old given)
+    → left ≡ edit_first (is_named old) (filtered (unchosen home chosen)) given → ts ≡ filter (is_chosen home chosen) (elements_of (first_named old given))
     → now ≡ edit_first (is_named new) (λ a. with_value (edit_first_part (λ there. there ++ arrivals home (elements_of (first_named new left)) ts) (value a)) a ∷ []) left
     → now ≡ moved home old new chosen args
 moved_by home old new chosen args given left now ts other gives is took made = elim (cases_Bool (has new args)) [
   | inl there ↦
       let same : given ≡ args = gives ∙ rw there refl in
-      moved_to_list home old new chosen args left now ts other there (is ∙ ap (edit_first (is_named old) (filtered (unchosen home chosen))) same) (took ∙ ap (λ (ss : List Segment). chosen_of home chosen (first_named old ss)) same) made
+      moved_to_list home old new chosen args left now ts other there (is ∙ ap (edit_first (is_named old) (filtered (unchosen home chosen))) same) (took ∙ ap (λ (ss : List Segment). filter (is_chosen home chosen) (elements_of (first_named old ss))) same) made
   | inr absent ↦
       let x : Segment = argument new (list_item [] ∷ []) in
       let kept : List Segment = edit_first (is_named old) (filtered (unchosen home chosen)) args in
       let more : given ≡ args ++ argument new (list_item [] ∷ []) ∷ [] = gives ∙ rw absent refl in
       let left_is : left ≡ edit_first (is_named old) (filtered (unchosen home chosen)) args ++ argument new (list_item [] ∷ []) ∷ [] =
       is ∙ ap (edit_first (is_named old) (filtered (unchosen home chosen))) more ∙ edit_before (is_named old) (filtered (unchosen home chosen)) args x other in
-      let took_of : ts ≡ chosen_of home chosen (first_named old args) =
-      took ∙ ap (λ (ss : List Segment). chosen_of home chosen (first_named old ss)) more ∙ ap (chosen_of home chosen) (first_before old args x other) in
+      let took_of : ts ≡ filter (is_chosen home chosen) (elements_of (first_named old args)) =
+      took ∙ ap (λ (ss : List Segment). filter (is_chosen home chosen) (elements_of (first_named old ss))) more ∙ ap (λ arg. filter (is_chosen home chosen) (elements_of arg)) (first_before old args x other) in
       let gone : has new (edit_first (is_named old) (filtered (unchosen home chosen)) args) ≡ false = has_still old new (unchosen home chosen) args other ∙ absent in
       let first : first_named new left ≡ Some (argument new (list_item [] ∷ [])) = ap (first_named new) left_is ∙ first_last new kept x gone (itself new) in
       moved_to_new home old new chosen args kept now ts other absent refl took_of
@@ -251,7 +252,7 @@ any_filtered p (s ∷ ss) = elim (p s) as (λ b. (b || list_any p ss) ≡ nat_lt
   | false ↦ any_filtered p ss
 ]
 
-pub chosen_counted : (home : Package) (chosen : Moved) (o : Option Segment) → chooses_in home chosen o ≡ nat_lt 0 (length (filter (is_chosen home chosen) (joined (parts (value_of o)))))
+pub chosen_counted : (home : Package) (chosen : Moved) (o : Option Segment) → map_or false (chooses home chosen) o ≡ nat_lt 0 (length (filter (is_chosen home chosen) (joined (parts (value_of o)))))
 chosen_counted home chosen None = refl
 chosen_counted home chosen (Some a) = sym (any-joined (is_chosen home chosen) (parts (value a))) ∙ any_filtered (is_chosen home chosen) (joined (parts (value a)))
 

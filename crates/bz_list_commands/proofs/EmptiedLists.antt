@@ -9,12 +9,13 @@ use Rattle.bz_tree.specs.declared.stmt.GroupKind.TheVariants.{List as ListKind}
 use Rattle.bz_tree.specs.Tree.{Item, leaf, group, Segment, Segs, items_of, segments, segs_of}
 use Rattle.bz_tree.specs.Rows.{RowPart, above, beside_part, closing, opening, segment_end, item_parts, items_parts, segs_parts}
 use Rattle.bz_attribute.specs.Elements.{IsElementOf, ListRest, list_item, rest_parts, value_parts}
-use Rattle.bz_attribute.specs.Effects.{is_nil, loses_all}
+use Rattle.bz_attribute.specs.Effects.{loses_all}
 use Rattle.bz_attribute.proofs.RuleNodes.{segs_back}
 use Rattle.bz_attribute.proofs.Views.{segments_of}
 use Rattle.bz_list_commands.specs.private.StringEdits.{become, become_all, passes}
 use Rattle.bz_list_commands.specs.private.ElementEdits.{begins_list, is_node}
 use Rattle.bz_list_commands.proofs.ElementEdits.{after_them}
+use Rattle.bz_token.specs.Common.{is_empty}
 
 -- Some elements of a list were seen, and all are meant.
 pub record AreGone (p : List ℕ → Bool) (nodes : List Item) (after ps : List RowPart) (first at : ℕ) : Type 0 where
@@ -25,7 +26,7 @@ pub record AreGone (p : List ℕ → Bool) (nodes : List Item) (after ps : List 
   pub elements : list.elements ≡ front ++ others
   pub read : drop at ps ≡ rest_parts (record list { elements = others }) after
   pub gone : become_all p None front ≡ []
-  pub some : nat_lt first at ≡ not (is_nil front)
+  pub some : nat_lt first at ≡ not (is_empty front)
 
 -- the parts do not begin with a list
 no_list_value : (f : List Segment → List Segment) (nodes : List Item) (after : List RowPart) → begins_list (value_parts nodes after) ≡ false → loses_all f nodes ≡ false
@@ -73,7 +74,7 @@ none_gone p nodes after ps value are h =
       some = grind (arith, nat_tests);
     }
 
-some_last : (ss : List Segment) (s : Segment) → is_nil (ss ++ s ∷ []) ≡ false
+some_last : (ss : List Segment) (s : Segment) → is_empty (ss ++ s ∷ []) ≡ false
 some_last [] s = refl
 some_last (x ∷ ss) s = refl
 
@@ -94,8 +95,8 @@ one_gone p nodes after ps first at token to string g e is later =
     }
 
 -- of what is a list alone, by the elements that are left
-alone : (f : List Segment → List Segment) (list : ListRest) → loses_all f (list_item list ∷ []) ≡ (not (is_nil list.elements) && is_nil (f list.elements))
-alone f list = (λ i. not (is_nil (segments_of list.elements i)) && is_nil (f (segments_of list.elements i)))
+alone : (f : List Segment → List Segment) (list : ListRest) → loses_all f (list_item list ∷ []) ≡ (not (is_empty list.elements) && is_empty (f list.elements))
+alone f list = (λ i. not (is_empty (segments_of list.elements i)) && is_empty (f (segments_of list.elements i)))
 
 not_alone : (f : List Segment → List Segment) (list : ListRest) (x : Item) (xs : List Item) → list.items ≡ x ∷ xs → loses_all f (list_item list ∷ list.items) ≡ false
 not_alone f list x xs is = ap (λ (ns : List Item). loses_all f (list_item list ∷ ns)) is
@@ -108,11 +109,11 @@ and_true : (b : Bool) → (b && true) ≡ b
 and_true true = refl
 and_true false = refl
 
-nil_of : (ss : List Segment) → is_nil ss ≡ false → (b : Bool) → (b && is_nil ss) ≡ false
+nil_of : (ss : List Segment) → is_empty ss ≡ false → (b : Bool) → (b && is_empty ss) ≡ false
 nil_of ss h b = ap (λ (c : Bool). b && c) h ∙ and_false b
 
-stays_in : (f : List Segment → List Segment) (list : ListRest) (items : List Item) → is_nil (f list.elements) ≡ false → loses_all f (list_item list ∷ items) ≡ false
-stays_in f list [] h = alone f list ∙ nil_of (f list.elements) h (not (is_nil list.elements))
+stays_in : (f : List Segment → List Segment) (list : ListRest) (items : List Item) → is_empty (f list.elements) ≡ false → loses_all f (list_item list ∷ items) ≡ false
+stays_in f list [] h = alone f list ∙ nil_of (f list.elements) h (not (is_empty list.elements))
 stays_in f list (x ∷ xs) h = refl
 
 pub one_stays : (p : List ℕ → Bool) (nodes : List Item) (after ps : List RowPart) (first at token to : ℕ) (string : Option (List ℕ)) → (g : AreGone p nodes after ps first at) → IsElementOf (record g.list { elements = g.others }) after ps at token to string → passes p string ≡ false
@@ -123,7 +124,7 @@ one_stays p nodes after ps first at token to string g e is =
     let stays : become p None s ≡ s ∷ [] = ap (λ (b : Bool). if b then [] else s ∷ []) (ap (passes p) (sym e.text) ∙ is) in
     let left : f g.list.elements ≡ s ∷ f e.others =
     ap f (g.elements ∙ ap (λ (zs : List Segment). g.front ++ zs) e.are) ∙ flat_map-append (become p None) g.front (s ∷ e.others) ∙ (λ i. g.gone i ++ (stays i ++ f e.others)) in
-    ap (loses_all f) g.are ∙ stays_in f g.list g.list.items (ap is_nil left)
+    ap (loses_all f) g.are ∙ stays_in f g.list g.list.items (ap is_empty left)
 
 -- what stands after the elements has a node exactly where the value goes on
 no_nodes : (texts : List (List ℕ)) (ps : List RowPart) → list_any is_node (map above texts ++ ps) ≡ list_any is_node ps
@@ -138,7 +139,7 @@ has_node : (x : Item) (ps : List RowPart) → list_any is_node (item_parts x ++ 
 has_node (leaf k text) ps = refl
 has_node (group k segs one_comma end) ps = refl
 
-by_items : (f : List Segment → List Segment) (list : ListRest) (items : List Item) (suffix : Option (List ℕ)) (b : Bool) → (not (is_nil list.elements) && is_nil (f list.elements)) ≡ b
+by_items : (f : List Segment → List Segment) (list : ListRest) (items : List Item) (suffix : Option (List ℕ)) (b : Bool) → (not (is_empty list.elements) && is_empty (f list.elements)) ≡ b
     → (b && not (list_any is_node (value_parts items (beside_part suffix)))) ≡ loses_all f (list_item list ∷ items)
 by_items f list [] suffix b is = ap (λ (c : Bool). b && not c) (none_beside suffix) ∙ and_true b ∙ sym (alone f list ∙ is)
 by_items f list (x ∷ xs) suffix b is =
@@ -150,8 +151,8 @@ all_gone p nodes suffix ps first at g none =
     let f : List Segment → List Segment = become_all p None in
     let list : ListRest = g.list in
     let front : list.elements ≡ g.front = g.elements ∙ ap (λ (zs : List Segment). g.front ++ zs) none ∙ append-nil g.front in
-    let lost : (not (is_nil list.elements) && is_nil (f list.elements)) ≡ nat_lt first at =
-    (λ i. not (is_nil (front i)) && is_nil (f (front i))) ∙ ap (λ (zs : List Segment). not (is_nil g.front) && is_nil zs) g.gone ∙ and_true (not (is_nil g.front)) ∙ sym g.some in
+    let lost : (not (is_empty list.elements) && is_empty (f list.elements)) ≡ nat_lt first at =
+    (λ i. not (is_empty (front i)) && is_empty (f (front i))) ∙ ap (λ (zs : List Segment). not (is_empty g.front) && is_empty zs) g.gone ∙ and_true (not (is_empty g.front)) ∙ sym g.some in
     let rest : list_any is_node (drop at ps) ≡ list_any is_node (value_parts list.items (beside_part suffix)) =
     ap (list_any is_node) (g.read ∙ ap (λ (zs : List Segment). rest_parts (record list { elements = zs }) (beside_part suffix)) none)
     ∙ no_nodes list.end (closing list.one_comma ∷ value_parts list.items (beside_part suffix)) in

@@ -15,18 +15,19 @@ use Rattle.bz_command.specs.declared.arguments.Moved.TheVariants.{All}
 use Rattle.bz_command.specs.Labels.{Package}
 use Rattle.bz_command.specs.Same.{completed}
 use Rattle.bz_attribute.specs.Rules.{string_value}
-use Rattle.bz_attribute.specs.Lists.{equals, same, same_value}
+use Rattle.bz_attribute.specs.Lists.{equals, same}
 use Rattle.bz_attribute.specs.private.ElementSets.{is_in}
-use Rattle.bz_attribute.specs.Move.{is_among, joined}
+use Rattle.bz_attribute.specs.Move.{joined}
 use Rattle.bz_list_commands.specs.private.MoveSteps.{flags, has_value}
 use Rattle.bz_list_commands.proofs.Arriving.{Arrived, any-joined, arrived_more, arrived_not}
 use Rattle.bz_attribute.proofs.LabelSets.{or_false}
 use Rattle.bz_list_commands.proofs.Leaving.{swapped_front, swapped_rest}
+use Rattle.bz_token.specs.Common.{map_or}
 
 pub length_flags : (home : Package) (there ss : List Segment) → length (flags home there ss) ≡ length ss
 length_flags home there [] = refl
 length_flags home there (s ∷ ss) =
-    elim (is_among home there (string_value s.nodes)) as (λ b. length (if b then false ∷ flags home there ss else true ∷ flags home (there ++ s ∷ []) ss) ≡ length (s ∷ ss))
+    elim (map_or false (λ word. list_any (equals home word) there) (string_value s.nodes)) as (λ b. length (if b then false ∷ flags home there ss else true ∷ flags home (there ++ s ∷ []) ss) ≡ length (s ∷ ss))
     [ true ↦ ap suc (length_flags home there ss) | false ↦ ap suc (length_flags home (there ++ s ∷ []) ss) ]
 
 -- the flags where a test tells which labels are there
@@ -34,11 +35,11 @@ abbrev pub flags_by : Package → (List ℕ → Bool) → List Segment → List 
 flags_by home p [] = []
 flags_by home p (s ∷ ss) = not (has_value p (string_value s.nodes)) ∷ flags_by home (λ text. equals home text s || p text) ss
 
-told_value : (home : Package) (p : List ℕ → Bool) (there : List Segment) (o : Option (List ℕ)) → ((text : List ℕ) → p text ≡ list_any (equals home text) there) → has_value p o ≡ is_among home there o
+told_value : (home : Package) (p : List ℕ → Bool) (there : List Segment) (o : Option (List ℕ)) → ((text : List ℕ) → p text ≡ list_any (equals home text) there) → has_value p o ≡ map_or false (λ word. list_any (equals home word) there) o
 told_value home p there None h = refl
 told_value home p there (Some text) h = h text
 
-same_for : (home : Package) (text word : List ℕ) (o : Option (List ℕ)) → same home word text ≡ true → same_value home text o ≡ same_value home word o
+same_for : (home : Package) (text word : List ℕ) (o : Option (List ℕ)) → same home word text ≡ true → map_or false (λ value. same home value text) o ≡ map_or false (λ value. same home value word) o
 same_for home text word None is = refl
 same_for home text word (Some value) is = ap (λ (label : List ℕ). bytes_eq (completed home value) label) (sym (same_bytes (completed home word) (completed home text) is))
 
@@ -46,8 +47,8 @@ any_same_for : (home : Package) (text word : List ℕ) (there : List Segment) �
 any_same_for home text word there is = λ j. list_any (λ (s : Segment). same_for home text word (string_value s.nodes) is j) there
 
 -- a label that is there already
-told_again : (home : Package) (p : List ℕ → Bool) (there : List Segment) (o : Option (List ℕ)) → ((text : List ℕ) → p text ≡ list_any (equals home text) there) → is_among home there o ≡ true
-    → (text : List ℕ) → (same_value home text o || p text) ≡ list_any (equals home text) there
+told_again : (home : Package) (p : List ℕ → Bool) (there : List Segment) (o : Option (List ℕ)) → ((text : List ℕ) → p text ≡ list_any (equals home text) there) → map_or false (λ word. list_any (equals home word) there) o ≡ true
+    → (text : List ℕ) → (map_or false (λ value. same home value text) o || p text) ≡ list_any (equals home text) there
 told_again home p there None h among text = absurd cc
 told_again home p there (Some word) h among text = elim (cases_Bool (same home word text)) [
   | inl is ↦ ap (λ (b : Bool). b || p text) is ∙ sym (any_same_for home text word there is ∙ among)
@@ -71,8 +72,8 @@ told_more home p there s h text =
 pub told : (home : Package) (p : List ℕ → Bool) (there ss : List Segment) → ((text : List ℕ) → p text ≡ list_any (equals home text) there) → flags_by home p ss ≡ flags home there ss
 told home p there [] h = refl
 told home p there (s ∷ ss) h =
-    let value : has_value p (string_value s.nodes) ≡ is_among home there (string_value s.nodes) = told_value home p there (string_value s.nodes) h in
-    elim (cases_Bool (is_among home there (string_value s.nodes))) [
+    let value : has_value p (string_value s.nodes) ≡ map_or false (λ word. list_any (equals home word) there) (string_value s.nodes) = told_value home p there (string_value s.nodes) h in
+    elim (cases_Bool (map_or false (λ word. list_any (equals home word) there) (string_value s.nodes))) [
       | inl is ↦ rw is (λ j. not ((value ∙ is) j) ∷ told home (λ text. equals home text s || p text) there ss (told_again home p there (string_value s.nodes) h is) j)
       | inr new ↦ rw new (λ j. not ((value ∙ new) j) ∷ told home (λ text. equals home text s || p text) (there ++ s ∷ []) ss (told_more home p there s h) j)
     ]
@@ -122,18 +123,18 @@ one_flag home there k i now arrive x d h lt at =
     ∙ ap (λ (zs : List Seg). flags home (there ++ segs_view (take k now)) (segs_view zs)) (drop_more now i x lt ∙ ap (λ (z : Seg). z ∷ drop (i + 1) now) (sym at))
 
 pub told_flag : (home : Package) (there : List Segment) (k i : ℕ) (now : List Seg) (arrive : List Bool) (x : Seg) (d : Bool) → Tells home there k i now arrive → i < length now → x ≡ get_or now i x
-    → get_or arrive i d ≡ not (is_among home (there ++ segs_view (take k now)) (string_value (seg_view x).nodes))
+    → get_or arrive i d ≡ not (map_or false (λ word. list_any (equals home word) (there ++ segs_view (take k now))) (string_value (seg_view x).nodes))
 told_flag home there k i now arrive x d h lt at = first_flag _ _ _ _ _ (one_flag home there k i now arrive x d h lt at)
 
 -- one element on: it did not arrive, or came to the place k
-pub tells_not : (home : Package) (there : List Segment) (k i : ℕ) (now : List Seg) (x : Seg) → i < length now → x ≡ get_or now i x → is_among home (there ++ segs_view (take k now)) (string_value (seg_view x).nodes) ≡ true
+pub tells_not : (home : Package) (there : List Segment) (k i : ℕ) (now : List Seg) (x : Seg) → i < length now → x ≡ get_or now i x → map_or false (λ word. list_any (equals home word) (there ++ segs_view (take k now))) (string_value (seg_view x).nodes) ≡ true
     → (arrive : List Bool) → Tells home there k i now arrive → Tells home there k (i + 1) now arrive
 tells_not home there k i now x lt at among arrive h =
     let rest : List Segment = segs_view (drop (i + 1) now) in
     let first : List Segment = there ++ segs_view (take k now) in
     other_flags _ _ _ _ _ (one_flag home there k i now arrive x false h lt at) ∙ ap (λ (b : Bool). if b then flags home first rest else flags home (first ++ seg_view x ∷ []) rest) among
 
-pub tells_more : (home : Package) (there : List Segment) (k i : ℕ) (now zs : List Seg) (x : Seg) → k ≤ i → i < length now → x ≡ get_or now i x → is_among home (there ++ segs_view (take k now)) (string_value (seg_view x).nodes) ≡ false
+pub tells_more : (home : Package) (there : List Segment) (k i : ℕ) (now zs : List Seg) (x : Seg) → k ≤ i → i < length now → x ≡ get_or now i x → map_or false (λ word. list_any (equals home word) (there ++ segs_view (take k now))) (string_value (seg_view x).nodes) ≡ false
     → SwappedAt now zs k i → (arrive : List Bool) → Tells home there k i now arrive → Tells home there (k + 1) (i + 1) zs arrive
 tells_more home there k i now zs x after lt at among s arrive h =
     let rest : List Segment = segs_view (drop (i + 1) now) in
@@ -150,7 +151,7 @@ where_some f (Some x) h = f x h
 
 -- the element at i arrives
 pub came : (home : Package) (there : List Segment) (old now zs : List Seg) (k i : ℕ) (o : Option (Vec Bool)) → Arrived home there old now k i → i < length now
-    → ((d : Seg) → is_among home (there ++ segs_view (take k now)) (string_value (seg_view (get_or now i d)).nodes) ≡ false) → SwappedAt now zs k i → IfSome o (λ flags. Tells home there k i now flags.items)
+    → ((d : Seg) → map_or false (λ word. list_any (equals home word) (there ++ segs_view (take k now))) (string_value (seg_view (get_or now i d)).nodes) ≡ false) → SwappedAt now zs k i → IfSome o (λ flags. Tells home there k i now flags.items)
     → Arrived home there old zs (k + 1) (i + 1) × IfSome o (λ flags. Tells home there (k + 1) (i + 1) zs flags.items)
 came home there old [] zs k i o h lt new s told = absurd (omega (arith, lt))
 came home there old (y ∷ ys) zs k i o h lt new s told =
@@ -160,7 +161,7 @@ came home there old (y ∷ ys) zs k i o h lt new s told =
 
 -- or not
 pub stayed : (home : Package) (there : List Segment) (old now : List Seg) (k i : ℕ) (o : Option (Vec Bool)) → Arrived home there old now k i → i < length now
-    → ((d : Seg) → is_among home (there ++ segs_view (take k now)) (string_value (seg_view (get_or now i d)).nodes) ≡ true) → IfSome o (λ flags. Tells home there k i now flags.items)
+    → ((d : Seg) → map_or false (λ word. list_any (equals home word) (there ++ segs_view (take k now))) (string_value (seg_view (get_or now i d)).nodes) ≡ true) → IfSome o (λ flags. Tells home there k i now flags.items)
     → Arrived home there old now k (i + 1) × IfSome o (λ flags. Tells home there k (i + 1) now flags.items)
 stayed home there old [] k i o h lt known told = absurd (omega (arith, lt))
 stayed home there old (y ∷ ys) k i o h lt known told =

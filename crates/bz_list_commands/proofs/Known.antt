@@ -12,13 +12,14 @@ use Rattle.bz_command.specs.Same.{completed}
 use Rattle.bz_command.specs.declared.arguments.Moved.TheVariants.{All, Values}
 use Rattle.bz_command.specs.declared.label_set.LabelSet.{LabelSet}
 use Rattle.bz_command.specs.LabelSetViews.{Gains, has}
-use Rattle.bz_attribute.specs.Lists.{same, same_value}
+use Rattle.bz_attribute.specs.Lists.{same}
 use Rattle.bz_attribute.specs.Rules.{string_value}
-use Rattle.bz_attribute.specs.Effects.{is_chosen, is_nil, string}
+use Rattle.bz_attribute.specs.Effects.{is_chosen, string}
 use Rattle.bz_attribute.specs.Add.{is_fresh}
 use Rattle.bz_attribute.specs.private.ElementSets.{is_in}
 use Rattle.bz_attribute.proofs.LabelSets.{or_false}
 use Rattle.bz_list_commands.specs.private.AddSteps.{Knows}
+use Rattle.bz_token.specs.Common.{map_or}
 
 and_false : (a : Bool) → (a && false) ≡ false
 and_false true = refl
@@ -32,7 +33,7 @@ or_last false true false = refl
 or_last false false true = refl
 or_last false false false = refl
 
-same_for : (home : Package) (words : List (List ℕ)) (text : List ℕ) (value : Option (List ℕ)) → list_any (same home text) words ≡ true → (same_value home text value || false) ≡ true → list_any (λ w. same_value home w value) words ≡ true
+same_for : (home : Package) (words : List (List ℕ)) (text : List ℕ) (value : Option (List ℕ)) → list_any (same home text) words ≡ true → (map_or false (λ value. same home value text) value || false) ≡ true → list_any (λ w. map_or false (λ value. same home value w) value) words ≡ true
 same_for home words text None among is = absurd (false≢true is)
 same_for home words text (Some value) among is =
     let alike : completed home value ≡ completed home text = same_bytes (completed home value) (completed home text) (sym (or_false (same home value text)) ∙ is) in

@@ -1,5 +1,5 @@
 -- The edits of strings and arguments are what `remove` and `replace` mean.
-use Rattle.std.proofs.Common.{◌≡◌, ℕ, ◌≤◌, ◌<◌, List, [], ◌∷◌, ◌++◌, Bool, true, false, ◌&&◌, not, cond, if◌then◌else◌, Option, Some, None, length, map, get_or, refl, ap, sym, subst, ◌∙◌, arith}
+use Rattle.std.proofs.Common.{◌≡◌, ℕ, ◌≤◌, ◌<◌, List, [], ◌∷◌, ◌++◌, Bool, true, false, ◌&&◌, not, cond, if◌then◌else◌, Option, Some, None, length, map, get_or, refl, ap, sym, subst, ◌∙◌, arith, option_and_then}
 use Rattle.std.specs.Prelude.{filter}
 use Rattle.std.specs.List.{flat_map, list_any}
 use Rattle.std.proofs.lemmas.List.Concat.{flat_map_single}
@@ -7,22 +7,23 @@ use Rattle.bz_token.specs.declared.token.Kind.TheVariants.{String}
 use Rattle.bz_tree.specs.Tree.{leaf, Segment}
 use Rattle.bz_tree.specs.Rows.{RowPart}
 use Rattle.bz_command.specs.Labels.{Package}
-use Rattle.bz_command.specs.Values.{quoted}
+use Rattle.bz_command.specs.Values.{quoted, value_of}
 use Rattle.bz_command.specs.declared.arguments.Attributes.{Attributes}
 use Rattle.bz_command.specs.declared.arguments.Attributes.TheVariants.{Every, Named}
 use Rattle.bz_command.specs.declared.arguments.Moved.TheVariants.{Values}
-use Rattle.bz_attribute.specs.Effects.{chooses_in, done, edit_first, filtered, is_chosen, unchosen}
-use Rattle.bz_attribute.specs.Lists.{edit_parts, is_attribute, parts, same_value, with_value}
-use Rattle.bz_attribute.specs.Remove.{filtered_everywhere, remove, removes}
-use Rattle.bz_attribute.specs.Replace.{is_replaced, replace, replaced, replaced_in, replaces, replaces_first}
+use Rattle.bz_attribute.specs.Effects.{done, edit_first, filtered, is_chosen, unchosen, chooses}
+use Rattle.bz_attribute.specs.Lists.{edit_parts, is_attribute, parts, with_value, same}
+use Rattle.bz_attribute.specs.Remove.{remove, removes}
+use Rattle.bz_attribute.specs.Replace.{is_replaced, replace, replaced, replaced_in, replaces, replaces_in}
 use Rattle.bz_attribute.specs.RowEdits.{IsRowEdit}
-use Rattle.bz_attribute.specs.Rules.{first_named, is_named, is_text, only_text, value, value_in}
+use Rattle.bz_attribute.specs.Rules.{first_named, is_named, is_text, only_text, value}
 use Rattle.bz_attribute.specs.declared.edit.Edit.{Edit}
 use Rattle.bz_attribute.proofs.LabelSets.{none_same, or_false}
 use Rattle.bz_list_commands.specs.private.ArgumentEdits.{edited, goes_by, kept}
 use Rattle.bz_list_commands.specs.private.PlaceEdits.{changes_first, changes_in, edited_in}
 use Rattle.bz_list_commands.specs.private.StringEdits.{become, become_all, equals_one, equals_word, is_meant, is_unlike, passes}
 use Rattle.bz_list_commands.proofs.ArgumentEdits.{never_lost}
+use Rattle.bz_token.specs.Common.{map_or}
 
 -- those that do not go
 left_as_filter : (p : Segment → Bool) (ss : List Segment) → flat_map (λ s. if p s then [] else s ∷ []) ss ≡ filter (λ s. not (p s)) ss
@@ -47,7 +48,7 @@ rows_dropped home attributes values ps new e none h =
     (subst (λ (f : List Segment → List Segment). IsRowEdit f (λ args. done None (list_any (goes_by attributes) args)) ps new e) (dropped home attributes) h))
 
 -- the strings that equal a word are the elements that do
-chosen_text : (home : Package) (words : List (List ℕ)) (o : Option (List ℕ)) → passes (equals_one home words) o ≡ list_any (λ w. same_value home w (value_in o)) words
+chosen_text : (home : Package) (words : List (List ℕ)) (o : Option (List ℕ)) → passes (equals_one home words) o ≡ list_any (λ w. map_or false (λ value. same home value w) (option_and_then value_of o)) words
 chosen_text home words None = sym (none_same home words)
 chosen_text home words (Some text) = refl
 
@@ -58,10 +59,10 @@ left_unchosen : (home : Package) (words : List (List ℕ)) → become_all (equal
 left_unchosen home words = λ i ss. (left_as_filter (is_meant (equals_one home words)) ss ∙ ap (λ (p : Segment → Bool). filter (λ s. not (p s)) ss) (meant_chosen home words)) i
 
 removed : (home : Package) (attributes : Attributes) (v : List ℕ) (values : List (List ℕ)) → edited_in (equals_one home (v ∷ values)) None attributes ≡ remove home attributes (v ∷ values)
-removed home Every v values = λ i args. filtered_everywhere (left_unchosen home (v ∷ values) i) args
+removed home Every v values = λ i args. flat_map (λ a. if is_attribute a then filtered (left_unchosen home (v ∷ values) i) a else a ∷ []) args
 removed home (Named attr) v values = λ i args. edit_first (is_named attr) (filtered (left_unchosen home (v ∷ values) i)) args
 
-told_first : (home : Package) (words : List (List ℕ)) (o : Option Segment) → changes_first (equals_one home words) o ≡ chooses_in home (Values words) o
+told_first : (home : Package) (words : List (List ℕ)) (o : Option Segment) → changes_first (equals_one home words) o ≡ map_or false (chooses home (Values words)) o
 told_first home words None = refl
 told_first home words (Some a) = ap (λ (p : Segment → Bool). list_any (list_any p) (parts (value a))) (meant_chosen home words)
 
@@ -88,7 +89,7 @@ one_alone (w ∷ []) v d few many is = ap (λ (z : List ℕ). z ∷ []) (sym is)
 one_alone (w ∷ x ∷ values) v d few many is = absurd (omega arith)
 
 -- the strings that become another are the elements that do
-replaced_text : (home : Package) (old new : List ℕ) (o : Option (List ℕ)) → passes (is_unlike home old new) o ≡ (same_value home old (value_in o) && not (is_text new (value_in o)))
+replaced_text : (home : Package) (old new : List ℕ) (o : Option (List ℕ)) → passes (is_unlike home old new) o ≡ (map_or false (λ value. same home value old) (option_and_then value_of o) && not (is_text new (option_and_then value_of o)))
 replaced_text home old new None = refl
 replaced_text home old new (Some text) = refl
 
@@ -120,7 +121,7 @@ replaced_by : (home : Package) (attributes : Attributes) (old new : List ℕ) �
 replaced_by home Every old new = λ i args. ((λ j. flat_map (λ a. each_replaced home old new a j) args) ∙ flat_map_single (λ a. if is_attribute a then replaced_in home old new a else a) args) i
 replaced_by home (Named attr) old new = λ i args. edit_first (is_named attr) (λ a. argument_replaced home old new a i) args
 
-told_first_replaced : (home : Package) (old new : List ℕ) (o : Option Segment) → changes_first (is_unlike home old new) o ≡ replaces_first home old new o
+told_first_replaced : (home : Package) (old new : List ℕ) (o : Option Segment) → changes_first (is_unlike home old new) o ≡ map_or false (replaces_in home old new) o
 told_first_replaced home old new None = refl
 told_first_replaced home old new (Some a) = ap (λ (p : Segment → Bool). list_any (list_any p) (parts (value a))) (meant_replaced home old new)
 

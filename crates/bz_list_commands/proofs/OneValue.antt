@@ -1,5 +1,5 @@
 -- `add` of one value, which is compared with each element.
-use Rattle.std.proofs.Common.{◌≡◌, ℕ, List, [], ◌∷◌, Bool, true, false, ◌||◌, not, Option, drop, refl, ap, sym, ◌∙◌}
+use Rattle.std.proofs.Common.{◌≡◌, ℕ, List, [], ◌∷◌, Bool, true, false, ◌||◌, not, Option, drop, refl, ap, sym, ◌∙◌, option_and_then}
 use Rattle.std.specs.List.{list_any}
 use Rattle.std.proofs.lemmas.List.Folds.{list_any-append}
 use Rattle.bz_tree.specs.Rows.{RowPart}
@@ -9,31 +9,32 @@ use Rattle.bz_command.specs.declared.arguments.Moved.TheVariants.{Values}
 use Rattle.bz_attribute.specs.Add.{is_fresh, new_elements}
 use Rattle.bz_attribute.specs.Effects.{is_chosen, string}
 use Rattle.bz_attribute.specs.Elements.{AreListsAt, IsNextElement, ListRest, elements_left, rest_parts}
-use Rattle.bz_attribute.specs.Lists.{equals, same_value}
+use Rattle.bz_attribute.specs.Lists.{equals, same}
 use Rattle.bz_attribute.specs.Move.{joined}
-use Rattle.bz_attribute.specs.Rules.{value_in}
 use Rattle.bz_attribute.proofs.LabelSets.{or_false}
 use Rattle.bz_list_commands.specs.private.AddSteps.{HasSought}
+use Rattle.bz_command.specs.Values.{value_of}
+use Rattle.bz_token.specs.Common.{map_or}
 
 pub sought_none : (home : Package) (word : List ℕ) (ps : List RowPart) (from : ℕ) → HasSought home word ps from from
 sought_none home word ps from = λ l after read. record { left = l; read = read; same = refl }
 
 -- whether the next element equals the word
-next_equals : (home : Package) (word : List ℕ) (ps : List RowPart) (at to : ℕ) (text : Option (List ℕ)) (l : ListRest) (after : List RowPart) (b : Bool) → (n : IsNextElement l after ps to text) → b ≡ same_value home word (value_in text)
+next_equals : (home : Package) (word : List ℕ) (ps : List RowPart) (at to : ℕ) (text : Option (List ℕ)) (l : ListRest) (after : List RowPart) (b : Bool) → (n : IsNextElement l after ps to text) → b ≡ map_or false (λ value. same home value word) (option_and_then value_of text)
     → list_any (equals home word) (elements_left l) ≡ (b || list_any (equals home word) (elements_left n.left))
 next_equals home word ps at to text l after b n is =
     ap (list_any (equals home word)) n.are
-    ∙ ap (λ (c : Bool). c || list_any (equals home word) (elements_left n.left)) (ap (λ (t : Option (List ℕ)). same_value home word (value_in t)) (sym n.text) ∙ sym is)
+    ∙ ap (λ (c : Bool). c || list_any (equals home word) (elements_left n.left)) (ap (λ (t : Option (List ℕ)). map_or false (λ value. same home value word) (option_and_then value_of t)) (sym n.text) ∙ sym is)
 
 pub sought_more : (home : Package) (word : List ℕ) (ps : List RowPart) (from at to : ℕ) (text : Option (List ℕ)) → HasSought home word ps from at
-    → ((l : ListRest) (after : List RowPart) → drop at ps ≡ rest_parts l after → IsNextElement l after ps to text) → false ≡ same_value home word (value_in text) → HasSought home word ps from to
+    → ((l : ListRest) (after : List RowPart) → drop at ps ≡ rest_parts l after → IsNextElement l after ps to text) → false ≡ map_or false (λ value. same home value word) (option_and_then value_of text) → HasSought home word ps from to
 sought_more home word ps from at to text sought next is = λ l after read.
     let h = sought l after read in
     let n = next h.left after h.read in
     record { left = n.left; read = n.read; same = sym (next_equals home word ps at to text h.left after false n is) ∙ h.same }
 
 pub sought_found : (home : Package) (word : List ℕ) (ps : List RowPart) (from at to : ℕ) (text : Option (List ℕ)) → HasSought home word ps from at
-    → ((l : ListRest) (after : List RowPart) → drop at ps ≡ rest_parts l after → IsNextElement l after ps to text) → true ≡ same_value home word (value_in text)
+    → ((l : ListRest) (after : List RowPart) → drop at ps ≡ rest_parts l after → IsNextElement l after ps to text) → true ≡ map_or false (λ value. same home value word) (option_and_then value_of text)
     → (l : ListRest) (after : List RowPart) → drop from ps ≡ rest_parts l after → true ≡ list_any (equals home word) (elements_left l)
 sought_found home word ps from at to text sought next is l after read =
     let h = sought l after read in

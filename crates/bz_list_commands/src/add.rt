@@ -1,15 +1,17 @@
 //! `add`: values that are missing go to the end of a list.
 
-ghost use Rattle.std.specs.Prelude.{◌≡◌, ◌≤◌, ◌++◌, ◌∷◌, [], List, drop, map, length, option_map, IfOk, IfSome, OnOk};
+ghost use Rattle.std.specs.Prelude.{◌≡◌, ◌≤◌, ◌++◌, ◌∷◌, [], List, drop, map, length, option_map, IfOk, IfSome, OnOk, false, option_and_then};
 ghost use Rattle.std.specs.List.{list_any};
 ghost use Rattle.bz_tree.specs.Tree.{Segment, segs_of};
 ghost use Rattle.bz_tree.specs.Rows.{RowPart, part_view, segs_parts};
 ghost use Rattle.bz_attribute.specs.Elements.{AreLists, ListRest, elements_left, rest_parts};
-ghost use Rattle.bz_attribute.specs.Lists.{equals, same_value};
+ghost use Rattle.bz_attribute.specs.Lists.{equals, same};
 ghost use Rattle.bz_attribute.specs.RowEdits.{IsRowEdit};
-ghost use Rattle.bz_attribute.specs.Rules.{first_named, value_in};
+ghost use Rattle.bz_attribute.specs.Rules.{first_named};
 ghost use Rattle.bz_attribute.specs.Add as spec;
 ghost use Rattle.bz_attribute.specs.Effects as effects;
+ghost use Rattle.bz_command.specs.Values.{value_of};
+ghost use Rattle.bz_token.specs.Common.{map_or};
 
 use crate::new_attribute::{close_attribute, open_attribute};
 use bz_attribute::equals::text_equals;
@@ -160,7 +162,7 @@ fn is_from(home: &Package, word: &str, parts: &[Part<'_>], from: usize) -> bool
 }
 
 fn is_word(home: &Package, word: &str, string: Option<&str>) -> bool
-    ensures { result ≡ same_value home.now word.now (value_in (option_map (λ text. text.now) string.entry)) }
+    ensures { result ≡ map_or false (λ value. same home.now value word.now) (option_and_then value_of (option_map (λ text. text.now) string.entry)) }
 {
     match string {
         None => false,

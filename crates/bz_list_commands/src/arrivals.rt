@@ -1,13 +1,16 @@
 //! Of the elements that leave a list, those that arrive in another: no string arrives that is there already.
 
-ghost use Rattle.std.specs.Prelude.{◌≡◌, ◌≤◌, ◌++◌, take, not, IfOk, OnOk};
+ghost use Rattle.std.specs.Prelude.{◌≡◌, ◌≤◌, ◌++◌, take, not, IfOk, OnOk, false};
 ghost use Rattle.std.specs.Vec.{vec_len, vec_capacity};
 ghost use Rattle.bz_tree.specs.View.{nodes_view, seg_view, segs_view};
 ghost use Rattle.bz_attribute.specs.Rules as rules;
 ghost use Rattle.bz_attribute.specs.Lists.{equals, parts};
 ghost use Rattle.bz_command.specs.LabelSetViews.{Gains, has};
+ghost use Rattle.bz_attribute.specs.Lists as lists;
 ghost use Rattle.bz_attribute.specs.Move as spec;
 ghost use Rattle.bz_list_commands.specs.private.MoveSteps.{flags, has_value};
+ghost use Rattle.bz_token.specs.Common.{map_or};
+ghost use Rattle.std.specs.List.{list_any};
 
 use bz_attribute::equals::string_of;
 use bz_attribute::{Chosen, Env, any_chosen, is_any_chosen, labels_in};
@@ -79,7 +82,9 @@ fn is_new<'s>(element: &'s Seg<'_>, there: &mut LabelSet<'s>) -> Result<bool, No
 
 // It is a string that is the same label as an element of a value's list parts, or one that arrived before.
 fn is_among(home: &Package, value: &[Node<'_>], arrived: &[Seg<'_>], element: &Seg<'_>) -> bool
-    ensures { result ≡ spec.is_among home.now (spec.joined (parts (nodes_view value.now)) ++ segs_view arrived.now)
+    ensures { result ≡ map_or false
+        (λ word. list_any (lists.equals home.now word)
+        (spec.joined (parts (nodes_view value.now)) ++ segs_view arrived.now))
         (rules.string_value (seg_view element.now).nodes) }
 {
     is_any_chosen(home, Chosen::Like(element), value)

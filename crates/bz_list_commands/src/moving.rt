@@ -1,6 +1,6 @@
 //! `move`: elements go from one attribute to another, each with its comments.
 
-ghost use Rattle.std.specs.Prelude.{◌≡◌, ◌≤◌, ◌+◌, ◌++◌, ◌∷◌, [], false, length, bytes_eq, is_some, None, IfOk, OnOk, OnErr};
+ghost use Rattle.std.specs.Prelude.{◌≡◌, ◌≤◌, ◌+◌, ◌++◌, ◌∷◌, [], false, length, bytes_eq, is_some, None, IfOk, OnOk, OnErr, if◌then◌else◌};
 ghost use Rattle.std.specs.Vec.{vec_len, vec_capacity};
 ghost use Rattle.bz_tree.specs.View.{node_view, seg_view, segs_view};
 ghost use Rattle.bz_attribute.specs.Rules.{elements, first_named, is_named};
@@ -79,7 +79,9 @@ fn move_chosen(
     requires { bytes_eq old.now new.now ≡ false }
     ensures args { OnOk result
         (segs_view args.new.items
-        ≡ spec.moved_where env.entry.home.now old.now new.now (chosen_view chosen.entry) (segs_view args.old.items)) }
+        ≡ (if spec.moves env.entry.home.now old.now (chosen_view chosen.entry) (segs_view args.old.items)
+        then spec.moved env.entry.home.now old.now new.now (chosen_view chosen.entry) (segs_view args.old.items)
+        else segs_view args.old.items)) }
     ensures done { IfOk result
         (λ done. done
         ≡ effects.done None

@@ -1,5 +1,5 @@
 -- A log by its parts, and more entries at the end.
-use Rattle.std.proofs.Common.{◌≡◌, ℕ, List, [], ◌∷◌, ◌++◌, map, refl, sym, ap, ◌∙◌}
+use Rattle.std.proofs.Common.{◌≡◌, ℕ, List, [], ◌∷◌, ◌++◌, map, refl, sym, ap, ◌∙◌, take}
 use Rattle.std.proofs.lemmas.Grind.{flat_map-append}
 use Rattle.std.proofs.lemmas.List.{map-append}
 use Rattle.std.specs.List.{flat_map}
@@ -8,7 +8,7 @@ use Rattle.bz_passes.specs.declared.entry.Entry.{Entry}
 use Rattle.bz_passes.specs.declared.entry.Entry.TheVariants.{Line, Warning, Failure}
 use Rattle.bz_passes.specs.declared.entry.EntryKind.{EntryKind}
 use Rattle.bz_passes.specs.declared.entry.EntryKind.TheVariants as kind
-use Rattle.bz_passes.specs.Entries.{line_text, message_text, failure_text, first_of}
+use Rattle.bz_passes.specs.Entries.{line_text, message_text, failure_text}
 use Rattle.bz_passes.specs.private.Logs.{kind_of, woven, AreWoven}
 
 -- the parts of entries are woven to these entries
@@ -65,15 +65,15 @@ woven_pushed ks ks3 ls ms ls3 ms3 e es kinds lines messages a is =
 -- the entries that are still to come, by their parts: the first failure is among them, if there is one
 abbrev pub Rest : List Entry → List EntryKind → List (List ℕ) → Type 0
 Rest es ks ms = (rest : List Entry) × (ks ≡ map kind_of rest) × (ms ≡ flat_map message_text rest)
-    × (first_of (flat_map failure_text rest) ≡ first_of (flat_map failure_text es))
+    × (take 1 (flat_map failure_text rest) ≡ take 1 (flat_map failure_text es))
 
 pub all_rest : (ks : List EntryKind) (ls ms : List (List ℕ)) (es : List Entry) (a : AreWoven ks ls ms) → woven ks ls ms ≡ es → Rest es ks ms
-all_rest ks ls ms es a is = (a.entries, a.kinds, a.messages, ap (λ xs. first_of (flat_map failure_text xs)) (sym (woven_is ks ls ms a) ∙ is))
+all_rest ks ls ms es a is = (a.entries, a.kinds, a.messages, ap (λ xs. take 1 (flat_map failure_text xs)) (sym (woven_is ks ls ms a) ∙ is))
 
 pub line_rest : (es : List Entry) (ks : List EntryKind) (ms : List (List ℕ)) → Rest es (kind.Line ∷ ks) ms → Rest es ks ms
 line_rest es ks ms r = from r.0 r.1 r.2 r.3
   where
-    from : (rest : List Entry) → (kind.Line ∷ ks) ≡ map kind_of rest → ms ≡ flat_map message_text rest → first_of (flat_map failure_text rest) ≡ first_of (flat_map failure_text es) → Rest es ks ms
+    from : (rest : List Entry) → (kind.Line ∷ ks) ≡ map kind_of rest → ms ≡ flat_map message_text rest → take 1 (flat_map failure_text rest) ≡ take 1 (flat_map failure_text es) → Rest es ks ms
     from [] k m s = absurd cc
     from (Line text ∷ rest) k m s = (rest, cc, m, s)
     from (Warning text ∷ rest) k m s = absurd cc
@@ -84,7 +84,7 @@ pub warning_rest : {X : Type 0} (f : X → List ℕ) (es : List Entry) (ks : Lis
 warning_rest {X} f es ks ms ms2 next some none r = from next some none r.0 r.1 r.2 r.3
   where
     from : (next : Option X) → IfSome next (λ x. ms ≡ f x ∷ ms2) → IfNone next ((ms ≡ []) × (ms2 ≡ [])) → (rest : List Entry) → (kind.Warning ∷ ks) ≡ map kind_of rest
-        → ms ≡ flat_map message_text rest → first_of (flat_map failure_text rest) ≡ first_of (flat_map failure_text es) → Rest es ks ms2
+        → ms ≡ flat_map message_text rest → take 1 (flat_map failure_text rest) ≡ take 1 (flat_map failure_text es) → Rest es ks ms2
     from next some none [] k m s = absurd cc
     from next some none (Line text ∷ rest) k m s = absurd cc
     from None some none (Warning text ∷ rest) k m s = let none = none.0 in absurd cc
@@ -92,22 +92,22 @@ warning_rest {X} f es ks ms ms2 next some none r = from next some none r.0 r.1 r
     from next some none (Failure text ∷ rest) k m s = absurd cc
 
 pub failure_is : {X : Type 0} (f : X → List ℕ) (es : List Entry) (ks : List EntryKind) (ms ms2 : List (List ℕ)) (next : Option X) → IfSome next (λ x. ms ≡ f x ∷ ms2)
-    → IfNone next ((ms ≡ []) × (ms2 ≡ [])) → Rest es (kind.Failure ∷ ks) ms → option_to_list (option_map f next) ≡ first_of (flat_map failure_text es)
+    → IfNone next ((ms ≡ []) × (ms2 ≡ [])) → Rest es (kind.Failure ∷ ks) ms → option_to_list (option_map f next) ≡ take 1 (flat_map failure_text es)
 failure_is {X} f es ks ms ms2 next some none r = from next some none r.0 r.1 r.2 r.3
   where
     from : (next : Option X) → IfSome next (λ x. ms ≡ f x ∷ ms2) → IfNone next ((ms ≡ []) × (ms2 ≡ [])) → (rest : List Entry) → (kind.Failure ∷ ks) ≡ map kind_of rest
-        → ms ≡ flat_map message_text rest → first_of (flat_map failure_text rest) ≡ first_of (flat_map failure_text es)
-        → option_to_list (option_map f next) ≡ first_of (flat_map failure_text es)
+        → ms ≡ flat_map message_text rest → take 1 (flat_map failure_text rest) ≡ take 1 (flat_map failure_text es)
+        → option_to_list (option_map f next) ≡ take 1 (flat_map failure_text es)
     from next some none [] k m s = absurd cc
     from next some none (Line text ∷ rest) k m s = absurd cc
     from next some none (Warning text ∷ rest) k m s = absurd cc
     from None some none (Failure text ∷ rest) k m s = let none = none.0 in absurd cc
     from (Some x) some none (Failure text ∷ rest) k m s = let same : f x ≡ text = cc in ap (λ t. t ∷ []) same ∙ s
 
-pub none_is : (es : List Entry) (ms : List (List ℕ)) → Rest es [] ms → [] ≡ first_of (flat_map failure_text es)
+pub none_is : (es : List Entry) (ms : List (List ℕ)) → Rest es [] ms → [] ≡ take 1 (flat_map failure_text es)
 none_is es ms r = from r.0 r.1 r.3
   where
-    from : (rest : List Entry) → [] ≡ map kind_of rest → first_of (flat_map failure_text rest) ≡ first_of (flat_map failure_text es) → [] ≡ first_of (flat_map failure_text es)
+    from : (rest : List Entry) → [] ≡ map kind_of rest → take 1 (flat_map failure_text rest) ≡ take 1 (flat_map failure_text es) → [] ≡ take 1 (flat_map failure_text es)
     from [] k s = s
     from (Line text ∷ rest) k s = absurd cc
     from (Warning text ∷ rest) k s = absurd cc

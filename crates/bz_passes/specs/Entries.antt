@@ -6,8 +6,7 @@ use Rattle.bz_passes.specs.declared.entry.Entry.TheVariants.{Line, Warning, Fail
 -- the text of an entry where it is a line, where it is a message, and where it is the message of a failure
 abbrev pub line_text : Entry → List (List ℕ)
 line_text (Line text) = text ∷ []
-line_text (Warning text) = []
-line_text (Failure text) = []
+line_text _ = []
 
 abbrev pub message_text : Entry → List (List ℕ)
 message_text (Line text) = []
@@ -15,10 +14,5 @@ message_text (Warning text) = text ∷ []
 message_text (Failure text) = text ∷ []
 
 abbrev pub failure_text : Entry → List (List ℕ)
-failure_text (Line text) = []
-failure_text (Warning text) = []
 failure_text (Failure text) = text ∷ []
-
-abbrev pub first_of : List (List ℕ) → List (List ℕ)
-first_of [] = []
-first_of (text ∷ texts) = text ∷ []
+failure_text _ = []

@@ -1,8 +1,8 @@
 //! The log of a run. Lines and messages are entries of one type, since their order is one.
 
-ghost use Rattle.std.specs.Prelude.{◌≡◌, [], ◌∷◌, ◌++◌, List, OnOk, OnErr, option_map, option_to_list};
+ghost use Rattle.std.specs.Prelude.{◌≡◌, [], ◌∷◌, ◌++◌, List, OnOk, OnErr, option_map, option_to_list, take};
 ghost use Rattle.std.specs.List.{flat_map};
-ghost use Rattle.bz_passes.specs.Entries.{line_text, message_text, failure_text, first_of};
+ghost use Rattle.bz_passes.specs.Entries.{line_text, message_text, failure_text};
 ghost use Rattle.bz_passes.specs.private.Logs.{kind_of};
 
 use crate::entry::{Entry, EntryKind};
@@ -83,7 +83,7 @@ impl Log {
     /// The text of the first entry that is a failure.
     pub fn first_failure(&self) -> Option<&str>
         ensures { option_to_list (option_map (λ text. text.now) result)
-            ≡ first_of (flat_map failure_text self.now) }
+            ≡ take 1 (flat_map failure_text self.now) }
     {
         let mut messages = self.parts.messages.iter();
         for kind in &self.parts.kinds {

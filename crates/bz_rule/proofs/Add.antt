@@ -5,7 +5,7 @@ use Rattle.bz_tree.specs.Tree.{Segment}
 use Rattle.bz_command.specs.Labels.{Package}
 use Rattle.bz_attribute.specs.Rules.{is_named, first_named, value}
 use Rattle.bz_attribute.specs.Lists.{edit_first_part, is_attribute, parts, same, with_value}
-use Rattle.bz_attribute.specs.Effects.{argument, done, edit_first, has, is_nil, list_item, no_parts, not_a_list}
+use Rattle.bz_attribute.specs.Effects.{argument, done, edit_first, has, list_item, not_a_list}
 use Rattle.bz_attribute.specs.Add.{add, adds, new_elements, with_added, fresh, is_fresh}
 use Rattle.bz_attribute.specs.declared.done.Note.TheVariants.{NotAList}
 use Rattle.bz_rule.proofs.PartLaws.{edit_head, first_part_stays, parts_first_edited}
@@ -32,8 +32,9 @@ use Rattle.bz_token.specs.declared.token.Kind.TheVariants.{Identifier}
 use Rattle.bz_tree.specs.Grammar.{IsArg}
 use Rattle.std.specs.Str.{is_utf8}
 use Rattle.bz_rule.specs.Commands.{Command, IsRead, add_of}
+use Rattle.bz_token.specs.Common.{is_empty}
 
-pub parts_with : (home : Package) (values : List (List ℕ)) (a : Segment) → is_attribute a ≡ true → no_parts (parts (value a)) ≡ false
+pub parts_with : (home : Package) (values : List (List ℕ)) (a : Segment) → is_attribute a ≡ true → is_empty (parts (value a)) ≡ false
     → parts (value (with_added home values a)) ≡ edit_head (λ ss. ss ++ new_elements home (parts (value a)) values) (parts (value a))
 parts_with home values a h some =
     rw some (ap parts (value_put (edit_first_part (λ ss. ss ++ new_elements home (parts (value a)) values) (value a)) a h) ∙ parts_first_edited (λ ss. ss ++ new_elements home (parts (value a)) values) (value a))
@@ -47,7 +48,7 @@ head_stays (ss ∷ lists) = ap (λ (zs : List Segment). zs ∷ lists) (append-ni
 
 pub added_nothing : (home : Package) (values : List (List ℕ)) (a : Segment) → new_elements home (parts (value a)) values ≡ [] → with_added home values a ≡ a
 added_nothing home values a h =
-    elim (no_parts (parts (value a))) as (λ b. (if b then a else with_value (edit_first_part (λ ss. ss ++ new_elements home (parts (value a)) values) (value a)) a) ≡ a) [
+    elim (is_empty (parts (value a))) as (λ b. (if b then a else with_value (edit_first_part (λ ss. ss ++ new_elements home (parts (value a)) values) (value a)) a) ≡ a) [
       | true ↦ refl
       | false ↦
           let kept : edit_first_part (λ ss. ss ++ []) (value a) ≡ value a = first_part_stays (λ ss. ss ++ []) (value a) (head_stays (parts (value a))) in
@@ -64,7 +65,7 @@ add_kept home attr values args a e h =
     some_same : {x y : Segment} → Some x ≡ Some y → x ≡ y
     some_same h = cc
 
-nothing_new : (ss : List Segment) → not (is_nil ss) ≡ false → ss ≡ []
+nothing_new : (ss : List Segment) → not (is_empty ss) ≡ false → ss ≡ []
 nothing_new [] h = refl
 nothing_new (s ∷ ss) h = absurd cc
 
@@ -73,22 +74,22 @@ add_stays home attr values args h =
     elim (first_named attr args) as (λ o. first_named attr args ≡ o → (done (not_a_list attr o) (adds home values o)).changed ≡ false → add home attr values args ≡ args) [
       | None ↦ λ e k. absurd cc
       | Some a ↦ λ e k. add_kept home attr values args a e
-          (elim (no_parts (parts (value a))) as (λ b. no_parts (parts (value a)) ≡ b → (done (if b then Some (NotAList attr) else None) (adds home values (Some a))).changed ≡ false → with_added home values a ≡ a)
+          (elim (is_empty (parts (value a))) as (λ b. is_empty (parts (value a)) ≡ b → (done (if b then Some (NotAList attr) else None) (adds home values (Some a))).changed ≡ false → with_added home values a ≡ a)
           [ true ↦ λ n m. rw n refl | false ↦ λ n m. added_nothing home values a (nothing_new (new_elements home (parts (value a)) values) m) ] refl k)
     ] refl h
 
-same_head : (new : List Segment) (lists : List (List Segment)) → no_parts lists ≡ false → edit_head (λ ss. ss ++ new) lists ≡ lists → new ≡ []
+same_head : (new : List Segment) (lists : List (List Segment)) → is_empty lists ≡ false → edit_head (λ ss. ss ++ new) lists ≡ lists → new ≡ []
 same_head new [] some h = absurd cc
 same_head new (ss ∷ lists) some h =
     let front : ss ++ new ≡ ss = cc in
     append_cancel_left ss new [] (front ∙ sym (append-nil ss))
 
-added_differs : (home : Package) (values : List (List ℕ)) (a : Segment) → is_attribute a ≡ true → no_parts (parts (value a)) ≡ false → adds home values (Some a) ≡ true → with_added home values a ≡ a → ⊥
+added_differs : (home : Package) (values : List (List ℕ)) (a : Segment) → is_attribute a ≡ true → is_empty (parts (value a)) ≡ false → adds home values (Some a) ≡ true → with_added home values a ≡ a → ⊥
 added_differs home values a h some told same =
     let new : List Segment = new_elements home (parts (value a)) values in
     let lists : edit_head (λ ss. ss ++ new) (parts (value a)) ≡ parts (value a) = sym (parts_with home values a h some) ∙ ap (λ (z : Segment). parts (value z)) same in
     let nothing : new ≡ [] = same_head new (parts (value a)) some lists in
-    let clash : false ≡ true = ap (λ (z : List Segment). not (is_nil z)) (sym nothing) ∙ told in
+    let clash : false ≡ true = ap (λ (z : List Segment). not (is_empty z)) (sym nothing) ∙ told in
     cc
 
 add_differs : (home : Package) (attr : List ℕ) (values : List (List ℕ)) (args : List Segment) → (done (not_a_list attr (first_named attr args)) (adds home values (first_named attr args))).changed ≡ true → add home attr values args ≡ args → ⊥
@@ -105,14 +106,14 @@ add_differs home attr values args h same =
           let stays : with_added home values a ∷ [] ≡ a ∷ [] = first_same attr (λ z. with_added home values z ∷ []) args a e kept in
           let is : with_added home values a ≡ a = cc in
           let attribute : is_attribute a ≡ true = attribute_named attr a (is_first_named attr args a e) in
-          elim (no_parts (parts (value a))) as (λ b. no_parts (parts (value a)) ≡ b → (done (if b then Some (NotAList attr) else None) (adds home values (Some a))).changed ≡ true → ⊥)
+          elim (is_empty (parts (value a))) as (λ b. is_empty (parts (value a)) ≡ b → (done (if b then Some (NotAList attr) else None) (adds home values (Some a))).changed ≡ true → ⊥)
           [ true ↦ λ n m. cc | false ↦ λ n m. added_differs home values a attribute n m is ] refl k
     ] refl h
 
 -- beside changes of other arguments
 with_added_kept : (g : Segment → Segment) (home : Package) (attr : List ℕ) (values : List (List ℕ)) → Leaves attr g → (a : Segment) → is_named attr a ≡ true → g (with_added home values a) ≡ with_added home values a
 with_added_kept g home attr values leaves a named =
-    elim (no_parts (parts (value a))) as (λ b. let new : Segment = if b then a else with_value (edit_first_part (λ ss. ss ++ new_elements home (parts (value a)) values) (value a)) a in g new ≡ new)
+    elim (is_empty (parts (value a))) as (λ b. let new : Segment = if b then a else with_value (edit_first_part (λ ss. ss ++ new_elements home (parts (value a)) values) (value a)) a in g new ≡ new)
     [ true ↦ leaves a named | false ↦ put_kept g attr leaves _ a named ]
 
 add_aside : (g : Segment → Segment) → KeepsEach g → (home : Package) (attr : List ℕ) (values : List (List ℕ)) → Leaves attr g → (args : List Segment) → add home attr values (map g args) ≡ map g (add home attr values args)
@@ -124,7 +125,7 @@ add_aside g names home attr values leaves args =
 added_good : (depth : ℕ) (home : Package) (values : List (List ℕ)) (a : Segment) → is_attribute a ≡ true → IsFormed IsArg (suc depth) a → IsFormed IsArg (suc depth) (with_added home values a)
 added_good depth home values a h good =
     let more : List Segment = new_elements home (parts (value a)) values in
-    either_way (IsFormed IsArg (suc depth)) (no_parts (parts (value a))) good
+    either_way (IsFormed IsArg (suc depth)) (is_empty (parts (value a))) good
     (good_with (suc depth) (edit_first_part (λ ss. ss ++ more) (value a)) a h good (edited_first_part_good depth (λ ss. ss ++ more) (appended_good depth more (strings_good depth (fresh home (parts (value a)) [] values))) (value a) (good_value (suc depth) a h good)))
 
 add_good : (depth : ℕ) (home : Package) (attr : List ℕ) (values : List (List ℕ)) (args : List Segment) → is_text Identifier attr ≡ true → AreFormed IsArg (suc depth) args → AreFormed IsArg (suc depth) (add home attr values args)
@@ -143,7 +144,7 @@ new_elements_pass q w home lists values h = strings_pass q w (fresh home lists [
 
 added_passes : (q : List ℕ → Bool) → PassesWritten q → (home : Package) (values : List (List ℕ)) → AllByRecursion (WordPasses q) values → (a : Segment) → SegmentPasses q a → SegmentPasses q (with_added home values a)
 added_passes q w home values k a h =
-    either_way (SegmentPasses q) (no_parts (parts (value a))) h (elements_added q (new_elements home (parts (value a)) values) a (new_elements_pass q w home (parts (value a)) values k) h)
+    either_way (SegmentPasses q) (is_empty (parts (value a))) h (elements_added q (new_elements home (parts (value a)) values) a (new_elements_pass q w home (parts (value a)) values k) h)
 
 add_passes : (q : List ℕ → Bool) → PassesWritten q → (home : Package) (attr : List ℕ) (values : List (List ℕ)) (args : List Segment) → q attr ≡ true → AllByRecursion (WordPasses q) values → SegmentsPass q args
     → SegmentsPass q (add home attr values args)
@@ -154,11 +155,11 @@ add_passes q w home attr values args name k h =
 -- comments stay
 pub add_keeps : (home : Package) (attr : List ℕ) (values : List (List ℕ)) (args : List Segment) → map own_comments (add home attr values args) ≡ map own_comments args ++ (if has attr args then [] else no_comments ∷ [])
 add_keeps home attr values args = seen_or_new attr (with_added home values) (list_item (new_elements home [] values) ∷ []) (λ a.
-    either_way (λ (z : Segment). own_comments z ≡ own_comments a) (no_parts (parts (value a))) refl refl) args
+    either_way (λ (z : Segment). own_comments z ≡ own_comments a) (is_empty (parts (value a))) refl refl) args
 
 added_keeps : (home : Package) (values : List (List ℕ)) (a : Segment) → in_one (with_added home values a) ≡ in_one a
 added_keeps home values a =
-    either_way (λ (z : Segment). in_one z ≡ in_one a) (no_parts (parts (value a))) refl
+    either_way (λ (z : Segment). in_one z ≡ in_one a) (is_empty (parts (value a))) refl
     (value_keeps (edit_first_part (λ ss. ss ++ new_elements home (parts (value a)) values) (value a)) a (first_part_keeps (λ ss. ss ++ new_elements home (parts (value a)) values) (λ ss. after_none ss (fresh home (parts (value a)) [] values)) (value a)))
 
 add_leaves_all : (home : Package) (attr : List ℕ) (values : List (List ℕ)) (args : List Segment) → in_all (add home attr values args) ≡ in_all args

@@ -5,9 +5,10 @@ use Rattle.bz_tree.specs.declared.stmt.GroupKind.TheVariants.{RuleCall}
 use Rattle.bz_tree.specs.Tree.{Item, group, Segment, Statement, segs_of}
 use Rattle.bz_attribute.specs.Rules.{Rule, call_at, comma_of, dotted, elements, end_of, is_call, rule_from, rule_of}
 use Rattle.bz_attribute.specs.declared.done.Done.{Done}
-use Rattle.bz_attribute.specs.Effects.{done_in, nodes_after, nodes_of, slot_done, with_args}
+use Rattle.bz_attribute.specs.Effects.{nodes_after, nodes_of, slot_done, with_args, done}
 use Rattle.bz_attribute.proofs.Views.{segments_of}
 use Rattle.bz_attribute.proofs.Calls.{rule_from_end}
+use Rattle.bz_token.specs.Common.{map_or}
 
 call_dotted : (kind : List Item) (x : Item) (r : Rule) → call_at kind x ≡ Some r → dotted true r.kind ≡ true
 call_dotted kind x r h =
@@ -48,7 +49,7 @@ pub slot_again : (f : List Segment → List Segment) (g : List Segment → Done)
     → (slot_done g (option_map (with_args f) slot)).changed ≡ false
 slot_again f g quiet None = refl
 slot_again f g quiet (Some s) =
-    elim (rule_of s.nodes) as (λ o. rule_of s.nodes ≡ o → (done_in g (rule_of (nodes_after f s.nodes o))).changed ≡ false) [
+    elim (rule_of s.nodes) as (λ o. rule_of s.nodes ≡ o → (map_or (done None false) (λ r. g r.args) (rule_of (nodes_after f s.nodes o))).changed ≡ false) [
       | None ↦ λ e. rw e refl
       | Some r ↦ λ e. rw (rule_back s.nodes r (f r.args) e) (quiet r.args)
     ] refl

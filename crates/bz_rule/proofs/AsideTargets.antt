@@ -1,14 +1,15 @@
 -- Targets and the texts of rules look at names alone: they stay where other arguments are changed.
-use Rattle.std.proofs.Common.{◌≡◌, ℕ, List, ◌++◌, Option, Some, None, map, option_map, refl, ap, ◌∙◌}
+use Rattle.std.proofs.Common.{◌≡◌, ℕ, List, ◌++◌, Option, Some, None, map, option_map, refl, ap, ◌∙◌, [], false}
 use Rattle.bz_tree.specs.Tree.{Segment, Statement}
 use Rattle.bz_command.specs.Labels.{Package, Target, Name, Pkg, All, Kind as OfKind, Line}
-use Rattle.bz_attribute.specs.Rules.{Rule, is_text, rule_of}
+use Rattle.bz_attribute.specs.Rules.{Rule, is_text, rule_of, name_in}
 use Rattle.bz_attribute.specs.Effects.{with_args}
-use Rattle.bz_attribute.specs.Marks.{marks, marks_if, marks_rule}
-use Rattle.bz_attribute.specs.Texts.{home_text, name_or_kind, rule_text, shown_text}
+use Rattle.bz_attribute.specs.Marks.{marks, marks_rule}
+use Rattle.bz_attribute.specs.Texts.{home_text, name_or_kind, shown_text}
 use Rattle.bz_rule.specs.Aside.{KeepsNames}
 use Rattle.bz_rule.proofs.NamesKept.{name_kept}
 use Rattle.bz_rule.proofs.Rebuilt.{rule_after, rule_with}
+use Rattle.bz_token.specs.Common.{map_or}
 
 marks_rule_kept : (target : Target) (start : ℕ) (r : Rule) (g : Segment → Segment) → KeepsNames g → marks_rule target start (rule_with (map g) r) ≡ marks_rule target start r
 marks_rule_kept (Name text) start r g keeps = ap (is_text text) (name_kept g keeps.names keeps.name r.args)
@@ -19,13 +20,13 @@ marks_rule_kept (Line line) start r g keeps = refl
 
 pub marks_kept : (target : Target) (s : Statement) (g : Segment → Segment) → KeepsNames g → marks target (with_args (map g) s) ≡ marks target s
 marks_kept target s g keeps =
-    ap (marks_if target s.start) (rule_after (map g) s)
-    ∙ elim (rule_of s.nodes) as (λ o. marks_if target s.start (option_map (rule_with (map g)) o) ≡ marks_if target s.start o) [ None ↦ refl | Some r ↦ marks_rule_kept target s.start r g keeps ]
+    ap (map_or false (marks_rule target s.start)) (rule_after (map g) s)
+    ∙ elim (rule_of s.nodes) as (λ o. map_or false (marks_rule target s.start) (option_map (rule_with (map g)) o) ≡ map_or false (marks_rule target s.start) o) [ None ↦ refl | Some r ↦ marks_rule_kept target s.start r g keeps ]
 
 pub shown_kept : (home : Package) (s : Statement) (g : Segment → Segment) → KeepsNames g → shown_text home (with_args (map g) s) ≡ shown_text home s
 shown_kept home s g keeps =
-    ap (rule_text home) (rule_after (map g) s)
-    ∙ elim (rule_of s.nodes) as (λ o. rule_text home (option_map (rule_with (map g)) o) ≡ rule_text home o) [
+    ap (λ x0. map_or [] (λ r. home_text home ++ name_or_kind (name_in r.args) r.kind) x0) (rule_after (map g) s)
+    ∙ elim (rule_of s.nodes) as (λ o. map_or [] (λ r. home_text home ++ name_or_kind (name_in r.args) r.kind) (option_map (rule_with (map g)) o) ≡ map_or [] (λ r. home_text home ++ name_or_kind (name_in r.args) r.kind) o) [
       | None ↦ refl
       | Some r ↦ ap (λ (name : Option (List ℕ)). home_text home ++ name_or_kind name r.kind) (name_kept g keeps.names keeps.name r.args)
     ]

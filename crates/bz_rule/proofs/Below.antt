@@ -9,7 +9,7 @@ use Rattle.bz_tree.specs.Rows.{RowPart, above, beside_part, items_parts, parts_o
 use Rattle.bz_command.specs.Labels.{Package}
 use Rattle.bz_command.specs.declared.arguments.Commented.TheVariants.{Rule as Above, Attribute, Value}
 use Rattle.bz_command.specs.declared.arguments.Setting.TheVariants.{ToKind, ToValues}
-use Rattle.bz_attribute.specs.Comment.{comment_line, comments_above}
+use Rattle.bz_attribute.specs.Comment.{comment_line}
 use Rattle.bz_attribute.specs.Rules.{Rule, rule_of}
 use Rattle.bz_attribute.specs.RowEdits.{replaced_at}
 use Rattle.bz_attribute.specs.RowPlaces.{IsRuleRow}
@@ -17,6 +17,7 @@ use Rattle.bz_attribute.specs.declared.place.Place.{Place}
 use Rattle.bz_rule.specs.Commands.{Command, done_of}
 use Rattle.bz_rule.specs.declared.command.Action.TheVariants.{Add, Comment, Delete, Move, Print, Remove, Rename, Replace, Set, SetIfAbsent}
 use Rattle.bz_rule.specs.private.RowEdits.{below, is_edit, rule_after}
+use Rattle.bz_token.specs.Common.{map_or}
 
 -- what stands below the comments
 abbrev own_parts : Statement → List RowPart
@@ -39,7 +40,7 @@ parts_below n s h = drop-append-le n (map above s.before) (own_parts s) (omega (
 
 -- and so after a command
 commented : (n : ℕ) (text : List ℕ) (s : Statement) (o : Option Rule) → n ≤ length s.before
-    → map above (comments_above s.before text o) ++ own_parts s ≡ map above (take n s.before) ++ (map above (comments_above (drop n s.before) text o) ++ own_parts s)
+    → map above (map_or s.before (λ r. s.before ++ comment_line text ∷ []) o) ++ own_parts s ≡ map above (take n s.before) ++ (map above (map_or (drop n s.before) (λ r. (drop n s.before) ++ comment_line text ∷ []) o) ++ own_parts s)
 commented n text s None h = off n s.before (own_parts s)
 commented n text s (Some r) h =
     let line : List RowPart = above (comment_line text) ∷ [] in

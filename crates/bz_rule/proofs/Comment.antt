@@ -9,8 +9,8 @@ use Rattle.bz_attribute.specs.Rules.{rule_of, is_named, first_named, value, elem
 use Rattle.bz_attribute.specs.Lists.{edit_list, equals, is_joint, is_part, is_plus, parts, parts_from, is_attribute}
 use Rattle.bz_attribute.specs.declared.done.Note.{Note}
 use Rattle.bz_attribute.specs.declared.done.Note.TheVariants.{NoAttribute, NoValue}
-use Rattle.bz_attribute.specs.Effects.{done, edit_first, first_note, has, holds_rule, is_absent, not_a_list}
-use Rattle.bz_attribute.specs.Comment.{comment_attribute, comment_element, comment_line, comment_note, comment_rule, comment_value, comments_above, edit_element, edit_element_from, is_missing, with_comment}
+use Rattle.bz_attribute.specs.Effects.{done, edit_first, has, holds_rule, is_absent, not_a_list}
+use Rattle.bz_attribute.specs.Comment.{comment_attribute, comment_element, comment_line, comment_note, comment_rule, comment_value, edit_element, edit_element_from, is_missing, with_comment}
 use Rattle.bz_attribute.proofs.Views.{segments_of}
 use Rattle.bz_command.specs.declared.arguments.Commented.{Commented}
 use Rattle.bz_command.specs.declared.arguments.Commented.TheVariants.{Rule as OfRule, Attribute, Value}
@@ -43,6 +43,8 @@ use Rattle.bz_token.specs.Lexical.{is_comment}
 use Rattle.bz_tree.specs.Comments.{beside}
 use Rattle.bz_tree.specs.Grammar.{IsArg, IsTest}
 use Rattle.std.specs.Str.{is_utf8}
+use Rattle.bz_token.specs.Common.{map_or}
+use Rattle.std.specs.Option.{option_or}
 
 push_longer : (xs : List (List ℕ)) (y : List ℕ) → xs ++ y ∷ [] ≡ xs → ⊥
 push_longer xs y h = let long : length xs + 1 ≡ length xs = sym (length_push xs y) ∙ ap length h in absurd (omega arith)
@@ -65,7 +67,7 @@ first_differs p f (s ∷ ss) differs any h = elim (cases_Bool (p s)) [
 comment_rule_stays : (text : List ℕ) (slot : Option Statement) → holds_rule slot ≡ false → option_map (comment_rule text) slot ≡ slot
 comment_rule_stays text None h = refl
 comment_rule_stays text (Some s) h =
-    elim (rule_of s.nodes) as (λ r. is_some r ≡ false → Some (record s { before = comments_above s.before text r }) ≡ Some s)
+    elim (rule_of s.nodes) as (λ r. is_some r ≡ false → Some (record s { before = map_or s.before (λ r. s.before ++ comment_line text ∷ []) r }) ≡ Some s)
     [ None ↦ λ k. refl | Some r ↦ λ k. absurd cc ] h
 
 lines_of : Option Statement → List (List ℕ)
@@ -76,8 +78,8 @@ comment_rule_differs : (text : List ℕ) (slot : Option Statement) → holds_rul
 unfolding lines_of
 comment_rule_differs text None h same = absurd cc
 comment_rule_differs text (Some s) h same =
-    let lines : comments_above s.before text (rule_of s.nodes) ≡ s.before = ap lines_of same in
-    elim (rule_of s.nodes) as (λ r. is_some r ≡ true → comments_above s.before text r ≡ s.before → ⊥)
+    let lines : map_or s.before (λ r. s.before ++ comment_line text ∷ []) (rule_of s.nodes) ≡ s.before = ap lines_of same in
+    elim (rule_of s.nodes) as (λ r. is_some r ≡ true → map_or s.before (λ r. s.before ++ comment_line text ∷ []) r ≡ s.before → ⊥)
     [ None ↦ λ k l. absurd cc | Some r ↦ λ k l. push_longer s.before (comment_line text) l ] h lines
 
 -- `comment <attr> <text>`
@@ -126,7 +128,7 @@ element_differs p f nodes differs any h = elim (cases_Bool (list_all is_joint no
   | inr other ↦ let none : false ≡ true = rw other at any in absurd cc
 ]
 
-both_none : (a b : Option Note) → first_note a b ≡ None → (a ≡ None) × (b ≡ None)
+both_none : (a b : Option Note) → option_or a b ≡ None → (a ≡ None) × (b ≡ None)
 both_none None b h = (refl, h)
 both_none (Some note) b h = absurd cc
 
@@ -206,7 +208,7 @@ comment_value_formed depth home attr word text args one_line h =
 
 comment_stays_formed : (depth : ℕ) (text : List ℕ) → list_any breaks_line text ≡ false → (s : Statement) → IsWellFormed (suc depth) s → IsWellFormed (suc depth) (comment_rule text s)
 comment_stays_formed depth text h s w =
-    elim (rule_of s.nodes) as (λ o. rule_of s.nodes ≡ o → IsWellFormed (suc depth) (record s { before = comments_above s.before text o })) [
+    elim (rule_of s.nodes) as (λ o. rule_of s.nodes ≡ o → IsWellFormed (suc depth) (record s { before = map_or s.before (λ r. s.before ++ comment_line text ∷ []) o })) [
       | None ↦ λ e. w
       | Some r ↦ λ e.
           let p = rule_parts depth s r e w in
@@ -238,7 +240,7 @@ comment_value_passes : (q : List ℕ → Bool) → PassesWritten q → (home : P
 comment_value_passes q w home attr v text args word h =
     either_way (SegmentsPass q) (is_some (comment_note home attr v args)) h (first_of_name_edited q attr (comment_element home v text) (element_passes q w home v text word) args h)
 
-above_passes : (q : List ℕ → Bool) → PassesWritten q → (before : List (List ℕ)) (text : List ℕ) (rule : Option Rule) → q text ≡ true → list_all q before ≡ true → list_all q (comments_above before text rule) ≡ true
+above_passes : (q : List ℕ → Bool) → PassesWritten q → (before : List (List ℕ)) (text : List ℕ) (rule : Option Rule) → q text ≡ true → list_all q before ≡ true → list_all q (map_or before (λ r. before ++ comment_line text ∷ []) rule) ≡ true
 above_passes q w before text None word h = h
 above_passes q w before text (Some r) word h = line_added q w before text word h
 
@@ -246,7 +248,7 @@ comment_passes : (q : List ℕ → Bool) → PassesWritten q → (text : List �
 comment_passes q w text s word h =
     let a = and_parts (list_all q s.before && items_pass q (items_of s.nodes)) (list_all q (beside s.suffix)) h in
     let b = and_parts (list_all q s.before) (items_pass q (items_of s.nodes)) a.0 in
-    let above = comments_above s.before text (rule_of s.nodes) in
+    let above = map_or s.before (λ r. s.before ++ comment_line text ∷ []) (rule_of s.nodes) in
     and_from (list_all q above && items_pass q (items_of s.nodes)) (list_all q (beside s.suffix))
     (and_from (list_all q above) (items_pass q (items_of s.nodes)) (above_passes q w s.before text (rule_of s.nodes) word b.0) b.1) a.1
 

@@ -9,7 +9,7 @@ use Rattle.bz_command.specs.Same.{completed}
 use Rattle.bz_command.specs.declared.arguments.Moved.TheVariants.{Values}
 use Rattle.bz_attribute.specs.Rules.{is_named, is_text, first_named, value}
 use Rattle.bz_attribute.specs.Lists.{edit_first_part, is_attribute, parts, same, with_value}
-use Rattle.bz_attribute.specs.Effects.{chooses, chooses_in, has, is_chosen, no_parts, not_a_list, string}
+use Rattle.bz_attribute.specs.Effects.{chooses, has, is_chosen, not_a_list, string}
 use Rattle.bz_attribute.specs.Add.{add, fresh, is_fresh, new_elements, with_added}
 use Rattle.bz_attribute.specs.declared.done.Note.TheVariants.{NotAList}
 use Rattle.bz_attribute.proofs.Views.{segments_of}
@@ -17,6 +17,7 @@ use Rattle.bz_rule.proofs.PartLaws.{edit_head}
 use Rattle.bz_rule.proofs.Arguments.{attribute_named, first_after, has_first, is_first_named, name_put, same_bytes}
 use Rattle.bz_rule.proofs.Likeness.{all_follow, chosen_alike, in_full, same_self, strings_chosen, or_none}
 use Rattle.bz_rule.proofs.Add.{add_kept, added_nothing, new_argument, parts_with}
+use Rattle.bz_token.specs.Common.{is_empty, map_or}
 
 -- an element of some lists equals the word
 abbrev stands_in : Package → List (List Segment) → List ℕ → Bool
@@ -83,12 +84,12 @@ grouped false true false = refl
 grouped false false true = refl
 grouped false false false = refl
 
-any_head : (p : Segment → Bool) (new : List Segment) (lists : List (List Segment)) → no_parts lists ≡ false → list_any (list_any p) (edit_head (λ ss. ss ++ new) lists) ≡ (list_any (list_any p) lists || list_any p new)
+any_head : (p : Segment → Bool) (new : List Segment) (lists : List (List Segment)) → is_empty lists ≡ false → list_any (list_any p) (edit_head (λ ss. ss ++ new) lists) ≡ (list_any (list_any p) lists || list_any p new)
 any_head p new [] h = absurd cc
 any_head p new (ss ∷ lists) h = rw (list_any-append p ss new) (grouped (list_any p ss) (list_any (list_any p) lists) (list_any p new))
 
 -- the values are found in the argument to which they were added
-found_in_added : (home : Package) (values : List (List ℕ)) (a : Segment) → is_attribute a ≡ true → no_parts (parts (value a)) ≡ false
+found_in_added : (home : Package) (values : List (List ℕ)) (a : Segment) → is_attribute a ≡ true → is_empty (parts (value a)) ≡ false
     → list_all (λ v. chooses home (Values (v ∷ [])) (with_added home values a)) values ≡ true
 found_in_added home values a h some =
     let lists : List (List Segment) = parts (value a) in
@@ -120,7 +121,7 @@ first_at_end attr (a ∷ args) x h named =
 
 added_named : (home : Package) (attr : List ℕ) (values : List (List ℕ)) (a : Segment) → is_named attr a ≡ true → is_named attr (with_added home values a) ≡ true
 added_named home attr values a h =
-    elim (no_parts (parts (value a))) as (λ b. is_named attr (if b then a else with_value (edit_first_part (λ ss. ss ++ new_elements home (parts (value a)) values) (value a)) a) ≡ true) [
+    elim (is_empty (parts (value a))) as (λ b. is_named attr (if b then a else with_value (edit_first_part (λ ss. ss ++ new_elements home (parts (value a)) values) (value a)) a) ≡ true) [
       | true ↦ h
       | false ↦ ap (is_text attr) (name_put (edit_first_part (λ ss. ss ++ new_elements home (parts (value a)) values) (value a)) a (attribute_named attr a h)) ∙ h
     ]
@@ -143,12 +144,12 @@ first_after_add home attr values args =
 
 -- each value is found where it was to be added
 pub add_found : (home : Package) (attr : List ℕ) (values : List (List ℕ)) (args : List Segment) → not_a_list attr (first_named attr args) ≡ None
-    → list_all (λ v. chooses_in home (Values (v ∷ [])) (first_named attr (add home attr values args))) values ≡ true
+    → list_all (λ v. map_or false (chooses home (Values (v ∷ []))) (first_named attr (add home attr values args))) values ≡ true
 add_found home attr values args h =
     let after : first_named attr (add home attr values args) ≡ Some (first_added home attr values (first_named attr args)) = first_after_add home attr values args in
     rw after (elim (first_named attr args) as (λ o. first_named attr args ≡ o → not_a_list attr o ≡ None → list_all (λ v. chooses home (Values (v ∷ [])) (first_added home attr values o)) values ≡ true) [
       | None ↦ λ e k. found_in_new home attr values
-      | Some a ↦ λ e k. found_in_added home values a (attribute_named attr a (is_first_named attr args a e)) (lists_there attr (no_parts (parts (value a))) k)
+      | Some a ↦ λ e k. found_in_added home values a (attribute_named attr a (is_first_named attr args a e)) (lists_there attr (is_empty (parts (value a))) k)
     ] refl h)
   where
     lists_there : (attr : List ℕ) (b : Bool) → (if b then Some (NotAList attr) else None) ≡ None → b ≡ false
@@ -166,7 +167,7 @@ added_found home values a h = added_nothing home values a (ap (map string) (none
 
 added_twice : (home : Package) (values : List (List ℕ)) (a : Segment) → is_attribute a ≡ true → with_added home values (with_added home values a) ≡ with_added home values a
 added_twice home values a h =
-    elim (no_parts (parts (value a))) as (λ b. no_parts (parts (value a)) ≡ b → with_added home values (with_added home values a) ≡ with_added home values a) [
+    elim (is_empty (parts (value a))) as (λ b. is_empty (parts (value a)) ≡ b → with_added home values (with_added home values a) ≡ with_added home values a) [
       | true ↦ λ e. let stays : with_added home values a ≡ a = rw e refl in ap (with_added home values) stays
       | false ↦ λ e. added_found home values (with_added home values a) (found_in_added home values a h e)
     ] refl
@@ -184,4 +185,4 @@ add_twice home attr values args =
 pub added_elements : (home : Package) (values : List (List ℕ)) (a : Segment) (ss : List Segment) (lists : List (List Segment)) → is_attribute a ≡ true → parts (value a) ≡ ss ∷ lists
     → parts (value (with_added home values a)) ≡ (ss ++ new_elements home (ss ∷ lists) values) ∷ lists
 added_elements home values a ss lists h is =
-    parts_with home values a h (ap no_parts is) ∙ ap (λ (ls : List (List Segment)). edit_head (λ zs. zs ++ new_elements home ls values) ls) is
+    parts_with home values a h (ap is_empty is) ∙ ap (λ (ls : List (List Segment)). edit_head (λ zs. zs ++ new_elements home ls values) ls) is

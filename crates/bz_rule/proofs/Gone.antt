@@ -1,5 +1,5 @@
 -- `remove` leaves none of what it removes.
-use Rattle.std.proofs.Common.{◌≡◌, ℕ, List, [], ◌∷◌, ◌++◌, true, false, ◌||◌, if◌then◌else◌, Option, Some, None, filter, cond, length, ◌≤◌, arith, refl, ap, ◌∙◌}
+use Rattle.std.proofs.Common.{◌≡◌, ℕ, List, [], ◌∷◌, ◌++◌, true, false, ◌||◌, if◌then◌else◌, Option, Some, None, filter, cond, length, ◌≤◌, arith, refl, ap, ◌∙◌, not, ◌&&◌}
 use Rattle.std.specs.List.{list_any}
 use Rattle.std.proofs.lemmas.Bool.{and_right}
 use Rattle.bz_tree.specs.Tree.{Segment}
@@ -9,11 +9,12 @@ use Rattle.bz_command.specs.declared.arguments.Moved.{Moved}
 use Rattle.bz_command.specs.declared.arguments.Moved.TheVariants.{Values}
 use Rattle.bz_attribute.specs.Rules.{is_named, is_text, first_named, value}
 use Rattle.bz_attribute.specs.Lists.{edit_parts, is_attribute, parts, with_value}
-use Rattle.bz_attribute.specs.Effects.{chooses_in, edit_first, filtered, has, is_chosen, loses_all, unchosen}
-use Rattle.bz_attribute.specs.Remove.{chooses_anywhere, remove, remove_all, remove_attribute}
+use Rattle.bz_attribute.specs.Effects.{edit_first, filtered, has, is_chosen, loses_all, unchosen, chooses}
+use Rattle.bz_attribute.specs.Remove.{remove, goes_with_all}
 use Rattle.bz_rule.proofs.Kept.{none_left_in}
 use Rattle.bz_rule.proofs.Arguments.{attribute_named, name_put}
 use Rattle.bz_rule.proofs.Remove.{everywhere_left, parts_put}
+use Rattle.bz_token.specs.Common.{map_or}
 
 nothing_chosen : (home : Package) (ss : List Segment) → list_any (is_chosen home (Values [])) ss ≡ false
 nothing_chosen home [] = refl
@@ -23,11 +24,11 @@ nothing_chosen_in : (home : Package) (lists : List (List Segment)) → list_any 
 nothing_chosen_in home [] = refl
 nothing_chosen_in home (ss ∷ lists) = rw (nothing_chosen home ss) (nothing_chosen_in home lists)
 
-no_value : (home : Package) (first : Option Segment) → chooses_in home (Values []) first ≡ false
+no_value : (home : Package) (first : Option Segment) → map_or false (chooses home (Values [])) first ≡ false
 no_value home None = refl
 no_value home (Some a) = nothing_chosen_in home (parts (value a))
 
-no_value_anywhere : (home : Package) (args : List Segment) → chooses_anywhere home (Values []) args ≡ false
+no_value_anywhere : (home : Package) (args : List Segment) → list_any (λ a. is_attribute a && chooses home (Values []) a) args ≡ false
 no_value_anywhere home [] = refl
 no_value_anywhere home (a ∷ args) = rw (nothing_chosen_in home (parts (value a)), and_right (is_attribute a) false refl) (no_value_anywhere home args)
 
@@ -39,28 +40,28 @@ no_more attr (a ∷ args) h =
 
 -- of the only argument of a name, no element is left that equals a value
 values_gone : (home : Package) (attr : List ℕ) (chosen : Moved) (args : List Segment) → length (filter (is_named attr) args) ≤ 1
-    → chooses_in home chosen (first_named attr (edit_first (is_named attr) (filtered (unchosen home chosen)) args)) ≡ false
+    → map_or false (chooses home chosen) (first_named attr (edit_first (is_named attr) (filtered (unchosen home chosen)) args)) ≡ false
 values_gone home attr chosen [] h = refl
 values_gone home attr chosen (a ∷ args) h =
     let f : List Segment → List Segment = unchosen home chosen in
     elim (is_named attr a) as (λ b. is_named attr a ≡ b → length (cond b (a ∷ filter (is_named attr) args) (filter (is_named attr) args)) ≤ 1
-    → chooses_in home chosen (first_named attr (if b then filtered f a ++ args else a ∷ edit_first (is_named attr) (filtered f) args)) ≡ false) [
+    → map_or false (chooses home chosen) (first_named attr (if b then filtered f a ++ args else a ∷ edit_first (is_named attr) (filtered f) args)) ≡ false) [
       | true ↦ λ e k.
           let attribute : is_attribute a ≡ true = attribute_named attr a e in
           let none : first_named attr args ≡ None = no_more attr args (omega arith) in
           let named : is_named attr (with_value (edit_parts f (value a)) a) ≡ true = ap (is_text attr) (name_put (edit_parts f (value a)) a attribute) ∙ e in
-          elim (loses_all f (value a)) as (λ l. chooses_in home chosen (first_named attr ((if l then [] else with_value (edit_parts f (value a)) a ∷ []) ++ args)) ≡ false)
+          elim (loses_all f (value a)) as (λ l. (map_or false (chooses home chosen) (first_named attr ((if l then [] else with_value (edit_parts f (value a)) a ∷ []) ++ args))) ≡ false)
           [ true ↦ rw none refl | false ↦ rw (named, parts_put home chosen a attribute) (none_left_in (is_chosen home chosen) (parts (value a))) ]
       | false ↦ λ e k. rw e (values_gone home attr chosen args k)
     ] refl h
 
 pub removed_named : (home : Package) (attr : List ℕ) (values : List (List ℕ)) (args : List Segment) → length (filter (is_named attr) args) ≤ 1
-    → chooses_in home (Values values) (first_named attr (remove home (Named attr) values args)) ≡ false
-removed_named home attr [] args h = no_value home (first_named attr (remove_attribute attr args))
+    → map_or false (chooses home (Values values)) (first_named attr (remove home (Named attr) values args)) ≡ false
+removed_named home attr [] args h = no_value home (first_named attr (filter (λ a. not (is_named attr a)) args))
 removed_named home attr (v ∷ values) args h = values_gone home attr (Values (v ∷ values)) args h
 
-pub removed_everywhere : (home : Package) (values : List (List ℕ)) (args : List Segment) → chooses_anywhere home (Values values) (remove home Every values args) ≡ false
-removed_everywhere home [] args = no_value_anywhere home (remove_all args)
+pub removed_everywhere : (home : Package) (values : List (List ℕ)) (args : List Segment) → list_any (λ a. is_attribute a && chooses home (Values values) a) (remove home Every values args) ≡ false
+removed_everywhere home [] args = no_value_anywhere home (filter (λ a. not (goes_with_all a)) args)
 removed_everywhere home (v ∷ values) args = everywhere_left home (Values (v ∷ values)) args
 
 -- the first argument of a name is edited, and all else stays

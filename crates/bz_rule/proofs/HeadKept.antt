@@ -1,5 +1,5 @@
 -- The head of a rule, where a command edits another attribute than its name.
-use Rattle.std.proofs.Common.{◌≡◌, ◌∙◌, ℕ, List, [], ◌∷◌, ◌++◌, Bool, true, false, ◌||◌, if◌then◌else◌, Option, Some, None, is_some, map, option_map, refl, ap, sym, subst}
+use Rattle.std.proofs.Common.{◌≡◌, ◌∙◌, ℕ, List, [], ◌∷◌, ◌++◌, Bool, true, false, ◌||◌, if◌then◌else◌, Option, Some, None, is_some, map, option_map, refl, ap, sym, subst, option_and_then}
 use Rattle.std.specs.Prelude.{bytes_eq, codes}
 use Rattle.std.proofs.lemmas.Slice.Eq.{bytes_eq-Decides}
 use Rattle.bz_tree.specs.Tree.{Item, Segment, Statement}
@@ -8,13 +8,12 @@ use Rattle.bz_command.specs.declared.arguments.Attributes.TheVariants.{Every, Na
 use Rattle.bz_command.specs.declared.arguments.Commented.TheVariants.{Rule as Above, Attribute, Value}
 use Rattle.bz_command.specs.declared.arguments.Moved.TheVariants.{Values}
 use Rattle.bz_command.specs.declared.arguments.Setting.TheVariants.{ToKind, ToValues}
-use Rattle.bz_attribute.specs.Rules.{Rule, first_named, is_named, is_text, name_of, rule_of, string_in, value}
+use Rattle.bz_attribute.specs.Rules.{Rule, first_named, is_named, is_text, name_of, rule_of, value, string_value}
 use Rattle.bz_attribute.specs.Lists.{edit_first_part, edit_parts, equals, parts, with_value}
 use Rattle.bz_attribute.specs.Add.{add, new_elements, with_added}
 use Rattle.bz_attribute.specs.Comment.{comment_attribute, comment_element, edit_element, comment_line, comment_note, comment_rule, comment_value, with_comment}
-use Rattle.bz_attribute.specs.Effects.{argument, edit_first, filtered, has, list_item, loses_all, no_parts, unchosen, with_args}
+use Rattle.bz_attribute.specs.Effects.{argument, edit_first, filtered, has, list_item, loses_all, unchosen, with_args}
 use Rattle.bz_attribute.specs.Heads.{HasHead, IsHeadOf}
-use Rattle.bz_attribute.specs.Remove.{remove_values}
 use Rattle.bz_attribute.specs.Replace.{replace, replaced, replaced_in}
 use Rattle.bz_attribute.specs.RowPlaces.{IsLocal}
 use Rattle.bz_attribute.specs.Set.{is_value, new_of, new_value, set, set_if_absent, set_in}
@@ -29,6 +28,7 @@ use Rattle.bz_rule.proofs.Lawful.{Local}
 use Rattle.bz_rule.proofs.Rebuilt.{rule_with}
 use Rattle.bz_rule.proofs.Rebuilt as rebuilt
 use Rattle.bz_rule.proofs.RowEdited.{args_rule}
+use Rattle.bz_token.specs.Common.{is_empty}
 
 -- two names that differ, either way round
 other_way : (a b : List ℕ) → bytes_eq a b ≡ false → bytes_eq b a ≡ false
@@ -96,7 +96,7 @@ stays n attr a h is = same_name n attr a a h is refl
 added : (home : Package) (n attr : List ℕ) (values : List (List ℕ)) (a : Segment) → bytes_eq attr n ≡ false → is_named attr a ≡ true → has n (with_added home values a ∷ []) ≡ false
 added home n attr values a h is =
     let more : List Item = edit_first_part (λ ss. ss ++ new_elements home (parts (value a)) values) (value a) in
-    elim (no_parts (parts (value a))) as (λ b. has n ((if b then a else with_value more a) ∷ []) ≡ false) [ true ↦ stays n attr a h is | false ↦ put n attr more a h is ]
+    elim (is_empty (parts (value a))) as (λ b. has n ((if b then a else with_value more a) ∷ []) ≡ false) [ true ↦ stays n attr a h is | false ↦ put n attr more a h is ]
 
 less : (home : Package) (n attr : List ℕ) (f : List Segment → List Segment) (a : Segment) → bytes_eq attr n ≡ false → is_named attr a ≡ true → has n (filtered f a) ≡ false
 less home n attr f a h is = elim (loses_all f (value a)) as (λ b. has n (if b then [] else with_value (edit_parts f (value a)) a ∷ []) ≡ false) [ true ↦ refl | false ↦ put n attr (edit_parts f (value a)) a h is ]
@@ -114,7 +114,7 @@ no_add home n attr values h = record {
       ∙ edited n attr (λ x. with_added home values x ∷ []) a e (added home n attr values a h e);
 }
 
-no_less : (home : Package) (n attr : List ℕ) (values : List (List ℕ)) → bytes_eq attr n ≡ false → MakesNo n attr (remove_values home attr values)
+no_less : (home : Package) (n attr : List ℕ) (values : List (List ℕ)) → bytes_eq attr n ≡ false → MakesNo n attr (λ x0. edit_first (is_named attr) (filtered (unchosen home (Values values))) x0)
 no_less home n attr values h = record {
   absent = refl;
   there = λ a e. edited n attr (filtered (unchosen home (Values values))) a e (less home n attr (unchosen home (Values values)) a h e);
@@ -201,7 +201,7 @@ with_head f s same (Some head) has = record {
   rule = rule_with f has.rule;
   is = rebuilt.rule_after f s ∙ ap (option_map (rule_with f)) has.is;
   kind_is = has.kind_is;
-  name_is = has.name_is ∙ sym (ap string_in (same has.rule.args));
+  name_is = has.name_is ∙ sym (ap (option_and_then (λ a. string_value (value a))) (same has.rule.args));
   start_is = has.start_is;
   end_is = has.end_is;
 }

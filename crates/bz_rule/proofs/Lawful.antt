@@ -9,7 +9,7 @@ use Rattle.bz_rule.specs.Commands.{Command, is_command, command_passes, after, a
 use Rattle.bz_attribute.specs.Rules.{Rule, rule_of}
 use Rattle.bz_attribute.specs.declared.done.Done.{Done}
 use Rattle.bz_attribute.specs.declared.done.Note.{Note}
-use Rattle.bz_attribute.specs.Effects.{done, done_in, holds_rule, nodes_after, nodes_of, slot_done, with_args}
+use Rattle.bz_attribute.specs.Effects.{done, holds_rule, nodes_after, nodes_of, slot_done, with_args}
 use Rattle.bz_rule.specs.Aside.{IsAside}
 use Rattle.bz_attribute.specs.RowPlaces.{IsLocal, LooksAt}
 use Rattle.bz_rule.specs.private.RowEdits.{one_attribute}
@@ -26,6 +26,7 @@ use Rattle.bz_rule.proofs.Segments.{AreFormed}
 use Rattle.bz_tree.specs.Comments.{comments_of}
 use Rattle.bz_rule.proofs.AllComments.{in_all, slot_comments}
 use Rattle.bz_rule.specs.declared.command.CommandFault.{CommandFault}
+use Rattle.bz_token.specs.Common.{map_or}
 
 -- Of a command that looks at the first argument of a name alone.
 pub record Local (c : Command) (home : Package) (name : List ℕ) : Type 0 where
@@ -88,18 +89,18 @@ call_same r args h =
     let segs : segs_of args ≡ segs_of r.args = cc in
     sym (segments_of args) ∙ ap segments segs ∙ segments_of r.args
 
-statement_stays : (c : Command) (home : Package) → OnArguments c home → (s : Statement) → (done_in (args_done c home) (rule_of s.nodes)).changed ≡ false → with_args (args_after c home) s ≡ s
+statement_stays : (c : Command) (home : Package) → OnArguments c home → (s : Statement) → (map_or (done None false) (λ r. (args_done c home) r.args) (rule_of s.nodes)).changed ≡ false → with_args (args_after c home) s ≡ s
 statement_stays c home law s h =
-    elim (rule_of s.nodes) as (λ r. rule_of s.nodes ≡ r → (done_in (args_done c home) r).changed ≡ false → record s { nodes = nodes_after (args_after c home) s.nodes r } ≡ s) [
+    elim (rule_of s.nodes) as (λ r. rule_of s.nodes ≡ r → (map_or (done None false) (λ r. (args_done c home) r.args) r).changed ≡ false → record s { nodes = nodes_after (args_after c home) s.nodes r } ≡ s) [
       | None ↦ λ e k. refl
       | Some r ↦ λ e k.
           let kept : nodes_after (args_after c home) s.nodes (Some r) ≡ s.nodes = ap (λ (args : List Segment). nodes_of (record r { args = args })) (law.stays r.args k) ∙ rule_nodes [] s.nodes r e in
           ap (λ (nodes : List Item). record s { nodes = nodes }) kept
     ] refl h
 
-statement_differs : (c : Command) (home : Package) → OnArguments c home → is_command c ≡ true → (s : Statement) → (done_in (args_done c home) (rule_of s.nodes)).changed ≡ true → with_args (args_after c home) s ≡ s → ⊥
+statement_differs : (c : Command) (home : Package) → OnArguments c home → is_command c ≡ true → (s : Statement) → (map_or (done None false) (λ r. (args_done c home) r.args) (rule_of s.nodes)).changed ≡ true → with_args (args_after c home) s ≡ s → ⊥
 statement_differs c home law read s h same =
-    elim (rule_of s.nodes) as (λ r. rule_of s.nodes ≡ r → (done_in (args_done c home) r).changed ≡ true → record s { nodes = nodes_after (args_after c home) s.nodes r } ≡ s → ⊥) [
+    elim (rule_of s.nodes) as (λ r. rule_of s.nodes ≡ r → (map_or (done None false) (λ r. (args_done c home) r.args) r).changed ≡ true → record s { nodes = nodes_after (args_after c home) s.nodes r } ≡ s → ⊥) [
       | None ↦ λ e k i. cc
       | Some r ↦ λ e k i. law.differs read r.args k (call_same r (args_after c home r.args) (ap (λ (z : Statement). z.nodes) i ∙ sym (rule_nodes [] s.nodes r e)))
     ] refl h same
@@ -115,11 +116,11 @@ slot_differs c home law read (Some s) h same = let is : with_args (args_after c 
 slot_noted : (c : Command) (home : Package) → OnArguments c home → (slot : Option Statement) → is_some (slot_done (args_done c home) slot).note ≡ true → (slot_done (args_done c home) slot).changed ≡ false
 slot_noted c home law None h = refl
 slot_noted c home law (Some s) h =
-    elim (rule_of s.nodes) as (λ r. is_some (done_in (args_done c home) r).note ≡ true → (done_in (args_done c home) r).changed ≡ false) [ None ↦ λ k. refl | Some r ↦ λ k. law.noted r.args k ] h
+    elim (rule_of s.nodes) as (λ r. is_some (map_or (done None false) (λ r. (args_done c home) r.args) r).note ≡ true → (map_or (done None false) (λ r. (args_done c home) r.args) r).changed ≡ false) [ None ↦ λ k. refl | Some r ↦ λ k. law.noted r.args k ] h
 
 slot_no_rule : (g : List Segment → Done) (slot : Option Statement) → holds_rule slot ≡ false → (slot_done g slot).changed ≡ false
 slot_no_rule g None h = refl
-slot_no_rule g (Some s) h = elim (rule_of s.nodes) as (λ r. is_some r ≡ false → (done_in g r).changed ≡ false) [ None ↦ λ k. refl | Some r ↦ λ k. absurd cc ] h
+slot_no_rule g (Some s) h = elim (rule_of s.nodes) as (λ r. is_some r ≡ false → (map_or (done None false) (λ r. g r.args) r).changed ≡ false) [ None ↦ λ k. refl | Some r ↦ λ k. absurd cc ] h
 
 -- other arguments of a rule
 args_stay_formed : (depth : ℕ) (f : List Segment → List Segment) → ((args : List Segment) → AreFormed IsArg depth args → AreFormed IsArg depth (f args)) → (s : Statement) → IsWellFormed (suc depth) s → IsWellFormed (suc depth) (with_args f s)

@@ -8,10 +8,11 @@ use Rattle.bz_command.specs.Labels.{Package}
 use Rattle.bz_command.specs.Same.{completed}
 use Rattle.bz_command.specs.declared.arguments.Moved.TheVariants.{Values}
 use Rattle.bz_attribute.specs.Rules.{string_value}
-use Rattle.bz_attribute.specs.Lists.{same, same_value}
+use Rattle.bz_attribute.specs.Lists.{same}
 use Rattle.bz_attribute.specs.Effects.{is_chosen, string}
 use Rattle.bz_command.proofs.ReadBack.{quoted_value}
 use Rattle.bz_rule.proofs.Arguments.{same_bytes}
+use Rattle.bz_token.specs.Common.{map_or}
 
 pub same_self : (home : Package) (v : List ℕ) → same home v v ≡ true
 same_self home v = same_bytes (completed home v)
@@ -30,12 +31,12 @@ same_swapped home v w = elim (cases_Bool (same home v w)) [
 
 pub chosen_alike : (home : Package) (v w : List ℕ) (s : Segment) → completed home v ≡ completed home w → is_chosen home (Values (v ∷ [])) s ≡ is_chosen home (Values (w ∷ [])) s
 chosen_alike home v w s h =
-    elim (string_value s.nodes) as (λ o. same_value home v o || false ≡ same_value home w o || false)
+    elim (string_value s.nodes) as (λ o. map_or false (λ value. same home value v) o || false ≡ map_or false (λ value. same home value w) o || false)
     [ None ↦ refl | Some text ↦ ap (λ (z : List ℕ). bytes_eq (completed home text) z || false) h ]
 
 -- the element for a word equals what the word is the same as
 string_chosen : (home : Package) (v w : List ℕ) → is_chosen home (Values (v ∷ [])) (string w) ≡ same home w v || false
-string_chosen home v w = ap (λ (o : Option (List ℕ)). same_value home v o || false) (quoted_value w)
+string_chosen home v w = ap (λ (o : Option (List ℕ)). map_or false (λ value. same home value v) o || false) (quoted_value w)
 
 pub or_none : (b : Bool) → b || false ≡ b
 or_none true = refl

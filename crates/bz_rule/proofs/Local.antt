@@ -4,7 +4,7 @@ use Rattle.std.specs.Prelude.{option_to_list}
 use Rattle.bz_tree.specs.Tree.{Segment}
 use Rattle.bz_command.specs.Labels.{Package}
 use Rattle.bz_attribute.specs.Rules.{Rule, first_named, is_named}
-use Rattle.bz_attribute.specs.Effects.{argument, edit_first, first_note, has, list_item, not_a_list}
+use Rattle.bz_attribute.specs.Effects.{argument, edit_first, has, list_item, not_a_list}
 use Rattle.bz_attribute.specs.Add.{add, new_elements, with_added}
 use Rattle.bz_attribute.specs.Comment.{comment_attribute, comment_element, comment_line, comment_note, comment_value, is_missing, with_comment}
 use Rattle.bz_attribute.specs.RowPlaces.{alone, IsLocal, LooksAt}
@@ -14,6 +14,7 @@ use Rattle.bz_attribute.specs.declared.done.Note.TheVariants.{NoAttribute}
 use Rattle.bz_attribute.proofs.EditedAt.{none_first}
 use Rattle.bz_attribute.proofs.First.{edit_first_none}
 use Rattle.bz_rule.proofs.Arguments.{has_first, is_first_named, rest_same}
+use Rattle.std.specs.Option.{option_or}
 
 -- the first of a name is the first of itself
 first_alone : (name : List ℕ) (args : List Segment) (a : Segment) → first_named name args ≡ Some a → first_named name (a ∷ []) ≡ Some a
@@ -97,10 +98,10 @@ comment_local attr text =
 
 -- the note of `comment ATTR VALUE`, by the argument
 abbrev pub note_of : Package → List ℕ → List ℕ → Option Segment → Option Note
-note_of home attr v o = first_note (if is_some o then None else Some (NoAttribute attr)) (first_note (not_a_list attr o) (is_missing home attr v o))
+note_of home attr v o = option_or (if is_some o then None else Some (NoAttribute attr)) (option_or (not_a_list attr o) (is_missing home attr v o))
 
 pub note_by_first : (home : Package) (attr v : List ℕ) (args : List Segment) → comment_note home attr v args ≡ note_of home attr v (first_named attr args)
-note_by_first home attr v args = ap (λ (b : Bool). first_note (if b then None else Some (NoAttribute attr)) (first_note (not_a_list attr (first_named attr args)) (is_missing home attr v (first_named attr args)))) (has_first attr args)
+note_by_first home attr v args = ap (λ (b : Bool). option_or (if b then None else Some (NoAttribute attr)) (option_or (not_a_list attr (first_named attr args)) (is_missing home attr v (first_named attr args)))) (has_first attr args)
 
 pub comment_value_local : (home : Package) (attr v text : List ℕ) → IsLocal attr (comment_value home attr v text)
 comment_value_local home attr v text =

@@ -9,9 +9,9 @@ use Rattle.bz_rule.specs.Commands.{is_command, Command, IsRead, move_of}
 use Rattle.bz_command.specs.declared.arguments.Moved.{Moved}
 use Rattle.bz_rule.specs.declared.command.Action.TheVariants.{Move}
 use Rattle.bz_attribute.specs.Rules.{first_named, is_named, is_text as is_word, name_of, value, string_value}
-use Rattle.bz_attribute.specs.Lists.{edit_first_part, edit_parts, with_value, is_attribute, parts}
-use Rattle.bz_attribute.specs.Effects.{argument, chooses_in, edit_first, filtered, has, list_item, loses_all, unchosen, is_chosen}
-use Rattle.bz_attribute.specs.Move.{arrivals, chosen_of, elements_of, move, move_note, moved, moves, put_in, is_among, joined}
+use Rattle.bz_attribute.specs.Lists.{edit_first_part, edit_parts, with_value, is_attribute, parts, equals}
+use Rattle.bz_attribute.specs.Effects.{argument, edit_first, filtered, has, list_item, loses_all, unchosen, is_chosen, chooses}
+use Rattle.bz_attribute.specs.Move.{arrivals, elements_of, move, move_note, moved, moves, put_in, joined}
 use Rattle.bz_rule.proofs.Arguments.{attribute_named, is_first_named, name_put}
 use Rattle.bz_list_commands.proofs.Arriving.{text_of_one}
 use Rattle.bz_list_commands.proofs.Leaving.{filter-append}
@@ -21,7 +21,7 @@ use Rattle.std.specs.Prelude.{not, ◌&&◌}
 use Rattle.bz_rule.proofs.Lawful.{Lawful, done_changed, guarded_same, note_unchanged, on_arguments}
 use Rattle.bz_rule.proofs.NamesKept.{KeepsEach, Leaves, append_kept, edit_kept, edit_one_kept, first_kept, has_kept, put_kept, taken}
 use Rattle.bz_rule.proofs.Aside.{leaves_both}
-use Rattle.std.specs.List.{AllByRecursion, list_all}
+use Rattle.std.specs.List.{AllByRecursion, list_all, list_any}
 use Rattle.bz_rule.proofs.ArgumentValues.{good_value, good_with}
 use Rattle.bz_rule.proofs.GoodArguments.{appended_good, argument_good, filtered_good, first_good}
 use Rattle.bz_rule.proofs.ListParts.{edited_first_part_good, list_value, parts_good}
@@ -33,6 +33,7 @@ use Rattle.bz_token.specs.Lexical.{is_text}
 use Rattle.bz_token.specs.declared.token.Kind.TheVariants.{Identifier}
 use Rattle.bz_tree.specs.Grammar.{IsArg, IsTest}
 use Rattle.std.specs.Str.{is_utf8}
+use Rattle.bz_token.specs.Common.{map_or}
 
 -- an argument of the new name has not the old one
 not_old : (old new : List ℕ) (name : Option (List ℕ)) → bytes_eq old new ≡ false → is_word new name ≡ true → is_word old name ≡ false
@@ -90,12 +91,12 @@ first_left old f (b ∷ args) a h same = elim (cases_Bool (is_named old b)) [
 ]
 
 first_chosen : (home : Package) (old new : List ℕ) (chosen : Moved) (args : List Segment) (first : Option Segment) → first_named old args ≡ first → bytes_eq old new ≡ false
-    → moved home old new chosen args ≡ args → chooses_in home chosen first ≡ false
+    → moved home old new chosen args ≡ args → map_or false (chooses home chosen) first ≡ false
 first_chosen home old new chosen args None e other same = refl
 first_chosen home old new chosen args (Some a) e other same =
     let left : List Segment = edit_first (is_named old) (filtered (unchosen home chosen)) args in
     let named : filter (is_named old) left ≡ filter (is_named old) args =
-    sym (named_put old new (arrivals home (elements_of (first_named new args)) (chosen_of home chosen (first_named old args))) left other) ∙ ap (filter (is_named old)) same in
+    sym (named_put old new (arrivals home (elements_of (first_named new args)) (filter (is_chosen home chosen) (elements_of (first_named old args)))) left other) ∙ ap (filter (is_named old)) same in
     filtered_same home chosen a (attribute_named old a (is_first_named old args a e)) (first_left old (unchosen home chosen) args a e named)
 
 move_differs : (home : Package) (old new : List ℕ) (chosen : Moved) (args : List Segment) → bytes_eq old new ≡ false → move_note old new args ≡ None
@@ -120,7 +121,7 @@ put_in_kept g names new ss leaves args =
 moved_kept : (g : Segment → Segment) → KeepsEach g → (home : Package) (old new : List ℕ) (chosen : Moved) → Leaves old g → Leaves new g → (args : List Segment)
     → moved home old new chosen (map g args) ≡ map g (moved home old new chosen args)
 moved_kept g names home old new chosen leaves_old leaves_new args =
-    let ss : List Segment = arrivals home (elements_of (first_named new args)) (chosen_of home chosen (first_named old args)) in
+    let ss : List Segment = arrivals home (elements_of (first_named new args)) (filter (is_chosen home chosen) (elements_of (first_named old args))) in
     let left : List Segment → List Segment = edit_first (is_named old) (filtered (unchosen home chosen)) in
     let emptied : left (map g args) ≡ map g (left args) = edit_kept g names old leaves_old (filtered (unchosen home chosen)) (filtered_kept g (unchosen home chosen) old leaves_old) args in
     rw (first_kept g names new leaves_new args, first_kept g names old leaves_old args) (ap (put_in new ss) emptied ∙ put_in_kept g names new ss leaves_new (left args))
@@ -152,13 +153,13 @@ elements_formed depth attr (a ∷ args) h =
       | false ↦ λ e. elements_formed depth attr args h.1
     ] refl
 
-chosen_formed : (depth : ℕ) (home : Package) (old : List ℕ) (chosen : Moved) (args : List Segment) → AreFormed IsArg (suc depth) args → AreFormed IsTest depth (chosen_of home chosen (first_named old args))
+chosen_formed : (depth : ℕ) (home : Package) (old : List ℕ) (chosen : Moved) (args : List Segment) → AreFormed IsArg (suc depth) args → AreFormed IsTest depth (filter (is_chosen home chosen) (elements_of (first_named old args)))
 chosen_formed depth home old chosen args h = all_filtered (IsFormed IsTest depth) (is_chosen home chosen) (elements_of (first_named old args)) (elements_formed depth old args h)
 
 arrivals_formed : (depth : ℕ) (home : Package) (there ss : List Segment) → AreFormed IsTest depth ss → AreFormed IsTest depth (arrivals home there ss)
 arrivals_formed depth home there [] h = tt
 arrivals_formed depth home there (s ∷ ss) h =
-    either_way (AreFormed IsTest depth) (is_among home there (string_value s.nodes)) (arrivals_formed depth home there ss h.1) (h.0, arrivals_formed depth home (there ++ s ∷ []) ss h.1)
+    either_way (AreFormed IsTest depth) (map_or false (λ word. list_any (equals home word) there) (string_value s.nodes)) (arrivals_formed depth home there ss h.1) (h.0, arrivals_formed depth home (there ++ s ∷ []) ss h.1)
 
 -- where they go
 put_in_formed : (depth : ℕ) (new : List ℕ) (ss args : List Segment) → is_text Identifier new ≡ true → AreFormed IsTest depth ss → AreFormed IsArg (suc depth) args → AreFormed IsArg (suc depth) (put_in new ss args)
@@ -174,7 +175,7 @@ put_in_formed depth new ss args name k h =
 moved_formed : (depth : ℕ) (home : Package) (old new : List ℕ) (chosen : Moved) (args : List Segment) → is_text Identifier new ≡ true → AreFormed IsArg (suc depth) args → AreFormed IsArg (suc depth) (moved home old new chosen args)
 moved_formed depth home old new chosen args name h =
     let there : List Segment = elements_of (first_named new args) in
-    let leaving : List Segment = chosen_of home chosen (first_named old args) in
+    let leaving : List Segment = filter (is_chosen home chosen) (elements_of (first_named old args)) in
     put_in_formed depth new (arrivals home there leaving) (edit_first (is_named old) (filtered (unchosen home chosen)) args) name
     (arrivals_formed depth home there leaving (chosen_formed depth home old chosen args h))
     (first_good (suc depth) old (filtered (unchosen home chosen)) (filtered_good depth home chosen) args h)
@@ -196,7 +197,7 @@ elements_of_pass q (Some a) h = joined_passes q (parts (value a)) (parts_pass q 
 arrivals_pass : (q : List ℕ → Bool) (home : Package) (there ss : List Segment) → SegmentsPass q ss → SegmentsPass q (arrivals home there ss)
 arrivals_pass q home there [] h = tt
 arrivals_pass q home there (s ∷ ss) h =
-    either_way (SegmentsPass q) (is_among home there (string_value s.nodes)) (arrivals_pass q home there ss h.1) (h.0, arrivals_pass q home (there ++ s ∷ []) ss h.1)
+    either_way (SegmentsPass q) (map_or false (λ word. list_any (equals home word) there) (string_value s.nodes)) (arrivals_pass q home there ss h.1) (h.0, arrivals_pass q home (there ++ s ∷ []) ss h.1)
 
 put_in_passes : (q : List ℕ → Bool) → PassesWritten q → (new : List ℕ) (ss args : List Segment) → q new ≡ true → SegmentsPass q ss → SegmentsPass q args → SegmentsPass q (put_in new ss args)
 put_in_passes q w new ss args name k h =
@@ -206,8 +207,8 @@ put_in_passes q w new ss args name k h =
 moved_passes : (q : List ℕ → Bool) → PassesWritten q → (home : Package) (old new : List ℕ) (chosen : Moved) (args : List Segment) → q new ≡ true → SegmentsPass q args → SegmentsPass q (moved home old new chosen args)
 moved_passes q w home old new chosen args name h =
     let leaving = all_filtered (SegmentPasses q) (is_chosen home chosen) (elements_of (first_named old args)) (elements_of_pass q (first_named old args) (first_named_passes q old args h)) in
-    put_in_passes q w new (arrivals home (elements_of (first_named new args)) (chosen_of home chosen (first_named old args))) (edit_first (is_named old) (filtered (unchosen home chosen)) args) name
-    (arrivals_pass q home (elements_of (first_named new args)) (chosen_of home chosen (first_named old args)) leaving)
+    put_in_passes q w new (arrivals home (elements_of (first_named new args)) (filter (is_chosen home chosen) (elements_of (first_named old args)))) (edit_first (is_named old) (filtered (unchosen home chosen)) args) name
+    (arrivals_pass q home (elements_of (first_named new args)) (filter (is_chosen home chosen) (elements_of (first_named old args))) leaving)
     (edited_first_passes q (is_named old) (filtered (unchosen home chosen)) (filtered_passes q home chosen) args h)
 
 move_passes : (q : List ℕ → Bool) → PassesWritten q → (home : Package) (old new : List ℕ) (chosen : Moved) (args : List Segment) → q new ≡ true → SegmentsPass q args → SegmentsPass q (move home old new chosen args)

@@ -1,7 +1,7 @@
 -- Arguments of which each keeps its name, and those of one name stay as they are.
-use Rattle.std.proofs.Common.{◌≡◌, ℕ, List, [], ◌∷◌, ◌++◌, Bool, true, false, cond, if◌then◌else◌, Some, map, filter, codes, refl, ap, sym, ◌∙◌}
+use Rattle.std.proofs.Common.{◌≡◌, ℕ, List, [], ◌∷◌, ◌++◌, Bool, true, false, cond, if◌then◌else◌, Some, map, filter, codes, refl, ap, sym, ◌∙◌, option_and_then}
 use Rattle.bz_tree.specs.Tree.{Item, Segment}
-use Rattle.bz_attribute.specs.Rules.{first_named, is_named, is_text, name_in, name_of, string_in}
+use Rattle.bz_attribute.specs.Rules.{first_named, is_named, is_text, name_in, name_of, string_value, value}
 use Rattle.bz_attribute.specs.Lists.{with_value}
 use Rattle.bz_attribute.specs.Effects.{argument, edit_first, has}
 use Rattle.bz_rule.proofs.Arguments.{attribute_named, name_put, same_bytes}
@@ -28,7 +28,7 @@ first_kept g names attr leaves (a ∷ args) =
     ] refl
 
 pub name_kept : (g : Segment → Segment) → KeepsEach g → Leaves (codes "name") g → (args : List Segment) → name_in (map g args) ≡ name_in args
-name_kept g names leaves args = ap string_in (first_kept g names (codes "name") leaves args)
+name_kept g names leaves args = ap (option_and_then (λ a. string_value (value a))) (first_kept g names (codes "name") leaves args)
 
 pub filter_kept : (g : Segment → Segment) (p : Segment → Bool) → ((a : Segment) → p (g a) ≡ p a) → (args : List Segment) → filter p (map g args) ≡ map g (filter p args)
 filter_kept g p same [] = refl

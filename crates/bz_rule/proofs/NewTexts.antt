@@ -13,7 +13,7 @@ use Rattle.bz_token.proofs.StringUnits.{closes_units}
 use Rattle.bz_token.proofs.Classes.{same_bytes}
 use Rattle.bz_command.specs.Values.{written, quoted}
 use Rattle.bz_command.specs.Arguments.{breaks_line}
-use Rattle.bz_attribute.specs.Set.{is_digit, is_constant, is_number as is_digits}
+use Rattle.bz_attribute.specs.Set.{is_constant, is_number as is_digits}
 use Rattle.bz_attribute.specs.Comment.{comment_line, is_blank as is_space, trimmed}
 
 abbrev double : Quotes
@@ -83,7 +83,7 @@ pub dot_text : is_text Operator (codes ".") ≡ true
 unfolding operators
 dot_text = refl
 
-digits : (bs : List ℕ) → list_all is_digit bs ≡ true → list_all is_ascii_digit bs ≡ true
+digits : (bs : List ℕ) → list_all is_ascii_digit bs ≡ true → list_all is_ascii_digit bs ≡ true
 digits bs h = h
 
 either : (a b : Bool) → a ≡ true → (a || b) ≡ true
@@ -94,8 +94,8 @@ number_text [] h = absurd (false≢true h)
 number_text (b ∷ bs) h = elim (cases_Bool (bytes_eq (b ∷ bs) (codes "0"))) [
   | inl zero_ ↦ ap is_number (same_bytes (b ∷ bs) (codes "0") zero_)
   | inr other ↦
-      let more : (false || list_all is_digit (b ∷ bs) && not (b == 48)) ≡ true = rw other at h in
-      either (list_all is_ascii_digit (b ∷ bs)) _ (digits (b ∷ bs) (and_parts (list_all is_digit (b ∷ bs)) (not (b == 48)) more).0)
+      let more : (false || list_all is_ascii_digit (b ∷ bs) && not (b == 48)) ≡ true = rw other at h in
+      either (list_all is_ascii_digit (b ∷ bs)) _ (digits (b ∷ bs) (and_parts (list_all is_ascii_digit (b ∷ bs)) (not (b == 48)) more).0)
 ]
 
 true_text : is_text Identifier (codes "True") ≡ true

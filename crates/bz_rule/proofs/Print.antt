@@ -1,7 +1,7 @@
 -- What is owed of `print`, which changes nothing.
 use Rattle.std.proofs.Common.{◌≡◌, ℕ, List, [], ◌∷◌, ◌++◌, true, false, ◌||◌, if◌then◌else◌, Option, Some, None, is_some, map, option_map, refl, ap, sym, ◌∙◌, Ok, inl, inr}
 use Rattle.std.specs.Prelude.{bytes_eq, codes}
-use Rattle.std.specs.List.{list_any, list_all}
+use Rattle.std.specs.List.{list_any, list_all, join_with_byte}
 use Rattle.std.proofs.lemmas.Bool.{or_right, cases_Bool, and_parts}
 use Rattle.std.proofs.lemmas.Slice.Eq.{bytes_eq-Decides}
 use Rattle.bz_tree.specs.Tree.{Item, Segment, Statement}
@@ -11,10 +11,10 @@ use Rattle.bz_command.specs.declared.arguments.Field.TheVariants.{EndLine, Kind,
 use Rattle.bz_rule.specs.declared.command.Action.TheVariants.{Print}
 use Rattle.bz_command.specs.Arguments.{field_mentions, is_field, is_named_field}
 use Rattle.bz_attribute.specs.Rules.{Rule, rule_of, value}
-use Rattle.bz_attribute.specs.Effects.{with_args}
+use Rattle.bz_attribute.specs.Effects.{with_args, done}
 use Rattle.bz_attribute.specs.Texts.{home_text}
 use Rattle.bz_attribute.specs.declared.done.Note.TheVariants.{Missing}
-use Rattle.bz_attribute_commands.specs.Print.{field_name, field_text, fields_of, missing, printed, printed_of, prints, shown_field, spaced, value_text}
+use Rattle.bz_attribute_commands.specs.Print.{field_name, field_text, fields_of, missing, printed, prints, value_text}
 use Rattle.bz_rule.specs.Aside.{IsAside}
 use Rattle.bz_rule.proofs.Lawful.{Lawful, held}
 use Rattle.bz_rule.proofs.NamesKept.{KeepsEach, Leaves, first_kept, name_kept}
@@ -23,10 +23,11 @@ use Rattle.bz_rule.proofs.Aside.{leaves_mentioned}
 use Rattle.std.specs.Str.{is_utf8}
 use Rattle.bz_rule.specs.declared.command.CommandFault.TheVariants.{BadAttribute}
 use Rattle.bz_rule.specs.Commands.{Command, IsRead, field_of, print_of}
+use Rattle.bz_token.specs.Common.{map_or}
 
 print_quiet : (home : Package) (fields : List Field) (slot : Option Statement) → (prints home fields slot).changed ≡ false
 print_quiet home fields None = refl
-print_quiet home fields (Some s) = elim (rule_of s.nodes) as (λ r. (printed_of home s fields r).changed ≡ false) [ None ↦ refl | Some r ↦ refl ]
+print_quiet home fields (Some s) = elim (rule_of s.nodes) as (λ r. (map_or (done None false) (λ r. printed home s r (fields_of fields)) r).changed ≡ false) [ None ↦ refl | Some r ↦ refl ]
 
 -- beside changes of other arguments
 
@@ -51,10 +52,10 @@ rest_shown : (g : Segment → Segment) (field : Field) (fields : List Field) →
 rest_shown g field fields leaves attr h = leaves attr (or_right (field_mentions attr field) (list_any (field_mentions attr) fields) h)
 
 texts_kept : (g : Segment → Segment) → KeepsEach g → Leaves (codes "name") g → (home : Package) (s : Statement) (nodes : List Item) (r : Rule) (fields : List Field) → LeavesShown fields g
-    → map (λ field. shown_field (field_text home (record s { nodes = nodes }) (rule_with (map g) r) field)) fields ≡ map (λ field. shown_field (field_text home s r field)) fields
+    → map (λ field. map_or (codes "(missing)") (λ text. text) (field_text home (record s { nodes = nodes }) (rule_with (map g) r) field)) fields ≡ map (λ field. map_or (codes "(missing)") (λ text. text) (field_text home s r field)) fields
 texts_kept g names name home s nodes r [] leaves = refl
 texts_kept g names name home s nodes r (field ∷ fields) leaves =
-    let here = ap shown_field (field_kept g names name home s nodes r field (head_shown g field fields leaves)) in
+    let here = ap (map_or (codes "(missing)") (λ text. text)) (field_kept g names name home s nodes r field (head_shown g field fields leaves)) in
     let rest = texts_kept g names name home s nodes r fields (rest_shown g field fields leaves) in
     λ i. here i ∷ rest i
 
@@ -71,7 +72,7 @@ printed_kept : (g : Segment → Segment) → KeepsEach g → Leaves (codes "name
 printed_kept g names name home s nodes r fields leaves =
     let texts = texts_kept g names name home s nodes r fields leaves in
     let note = missing_kept g names name home s nodes r fields leaves in
-    λ i. record { changed = false; line = Some (spaced (texts i)); note = note i }
+    λ i. record { changed = false; line = Some (join_with_byte 32 (texts i)); note = note i }
 
 shown_mentioned : (fields : List Field) (g : Segment → Segment) → IsAside (Print fields) g → LeavesShown (fields_of fields) g
 shown_mentioned [] g aside attr h = leaves_mentioned aside attr (name_alone attr h)
@@ -86,8 +87,8 @@ prints_aside : (fields : List Field) (home : Package) (g : Segment → Segment) 
     → prints home fields (option_map (with_args (map g)) slot) ≡ prints home fields slot
 prints_aside fields home g aside None = refl
 prints_aside fields home g aside (Some s) =
-    ap (printed_of home (with_args (map g) s) fields) (rule_after (map g) s)
-    ∙ elim (rule_of s.nodes) as (λ o. printed_of home (with_args (map g) s) fields (option_map (rule_with (map g)) o) ≡ printed_of home s fields o) [
+    ap (λ x0. map_or (done None false) (λ r. printed home (with_args (map g) s) r (fields_of fields)) x0) (rule_after (map g) s)
+    ∙ elim (rule_of s.nodes) as (λ o. map_or (done None false) (λ r. printed home (with_args (map g) s) r (fields_of fields)) (option_map (rule_with (map g)) o) ≡ map_or (done None false) (λ r. printed home s r (fields_of fields)) o) [
       | None ↦ refl
       | Some r ↦ printed_kept g aside.names aside.name home s (with_args (map g) s).nodes r (fields_of fields) (shown_mentioned fields g aside)
     ]

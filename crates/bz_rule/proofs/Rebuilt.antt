@@ -1,5 +1,5 @@
 -- A statement with other arguments: the rule that it is.
-use Rattle.std.proofs.Common.{◌≡◌, ℕ, ◌<◌, ◌==◌, List, [], ◌∷◌, ◌++◌, true, false, ◌&&◌, Option, Some, None, is_some, option_map, length, if◌then◌else◌, refl, ap, sym, ◌∙◌, arith}
+use Rattle.std.proofs.Common.{◌≡◌, ℕ, ◌<◌, ◌==◌, List, [], ◌∷◌, ◌++◌, true, false, ◌&&◌, Option, Some, None, is_some, option_map, length, if◌then◌else◌, refl, ap, sym, ◌∙◌, arith, not}
 use Rattle.std.specs.Prelude.{bytes_eq}
 use Rattle.std.specs.List.{slice_split}
 use Rattle.std.proofs.lemmas.Bool.{and_parts}
@@ -8,12 +8,13 @@ use Rattle.bz_tree.specs.Tree.{Item, group, Segment, Statement, segs_of}
 use Rattle.bz_command.proofs.Cuts.{some_part}
 use Rattle.bz_attribute.specs.Rules.{Rule, call_at, comma_of, dotted, elements, end_of, is_call, kind_text, rule_from, rule_of}
 use Rattle.bz_attribute.specs.declared.done.Done.{Done}
-use Rattle.bz_attribute.specs.Effects.{done_in, holds_rule, nodes_after, nodes_of, slot_done, with_args}
-use Rattle.bz_attribute.specs.Set.{joined_by_dots, kind_after, kind_items, sets_kind, sets_kind_of, with_kind}
-use Rattle.bz_attribute.specs.Comment.{comment_rule, comments_above}
+use Rattle.bz_attribute.specs.Effects.{holds_rule, nodes_after, nodes_of, slot_done, with_args, done}
+use Rattle.bz_attribute.specs.Set.{joined_by_dots, kind_after, kind_items, sets_kind_of, with_kind}
+use Rattle.bz_attribute.specs.Comment.{comment_rule, comment_line}
 use Rattle.bz_attribute.proofs.Calls.{rule_from_end}
 use Rattle.bz_attribute.proofs.RuleNodes.{rule_nodes}
 use Rattle.bz_attribute.proofs.Views.{segments_of}
+use Rattle.bz_token.specs.Common.{map_or}
 
 call_dotted : (kind : List Item) (x : Item) (r : Rule) → call_at kind x ≡ Some r → dotted true r.kind ≡ true
 call_dotted kind x r h =
@@ -89,7 +90,7 @@ pub told_alike : (t : List Segment → Done) (f : List Segment → List Segment)
     → slot_done t (option_map (with_args f) slot) ≡ slot_done t slot
 told_alike t f alike None = refl
 told_alike t f alike (Some s) =
-    ap (done_in t) (rule_after f s) ∙ elim (rule_of s.nodes) as (λ o. done_in t (option_map (rule_with f) o) ≡ done_in t o) [ None ↦ refl | Some r ↦ alike r.args ]
+    ap (λ x0. map_or (done None false) (λ r. t r.args) x0) (rule_after f s) ∙ elim (rule_of s.nodes) as (λ o. map_or (done None false) (λ r. t r.args) (option_map (rule_with f) o) ≡ map_or (done None false) (λ r. t r.args) o) [ None ↦ refl | Some r ↦ alike r.args ]
 
 -- `set kind`
 
@@ -126,14 +127,14 @@ slot_kind_exchanged kind f (Some s) = ap (λ (z : Statement). Some z) (kind_exch
 pub kind_told : (kind : List ℕ) (f : List Segment → List Segment) (slot : Option Statement) → sets_kind_of kind (option_map (with_args f) slot) ≡ sets_kind_of kind slot
 kind_told kind f None = refl
 kind_told kind f (Some s) =
-    ap (sets_kind kind) (rule_after f s) ∙ elim (rule_of s.nodes) as (λ o. sets_kind kind (option_map (rule_with f) o) ≡ sets_kind kind o) [ None ↦ refl | Some r ↦ refl ]
+    ap (λ x0. map_or (done None false) (λ r. done None (not (bytes_eq (kind_text r.kind) kind))) x0) (rule_after f s) ∙ elim (rule_of s.nodes) as (λ o. (map_or (done None false) (λ r. done None (not (bytes_eq (kind_text r.kind) kind))) (option_map (rule_with f) o)) ≡ (map_or (done None false) (λ r. done None (not (bytes_eq (kind_text r.kind) kind))) o)) [ None ↦ refl | Some r ↦ refl ]
 
 -- a comment above a rule
 pub comment_exchanged : (text : List ℕ) (f : List Segment → List Segment) (slot : Option Statement)
     → option_map (comment_rule text) (option_map (with_args f) slot) ≡ option_map (with_args f) (option_map (comment_rule text) slot)
 comment_exchanged text f None = refl
 comment_exchanged text f (Some s) =
-    let before : comments_above s.before text (rule_of (with_args f s).nodes) ≡ comments_above s.before text (rule_of s.nodes) =
-    ap (comments_above s.before text) (rule_after f s)
-    ∙ elim (rule_of s.nodes) as (λ o. comments_above s.before text (option_map (rule_with f) o) ≡ comments_above s.before text o) [ None ↦ refl | Some r ↦ refl ] in
+    let before : map_or s.before (λ r. s.before ++ comment_line text ∷ []) (rule_of (with_args f s).nodes) ≡ map_or s.before (λ r. s.before ++ comment_line text ∷ []) (rule_of s.nodes) =
+    ap (λ x0. map_or s.before (λ r. s.before ++ comment_line text ∷ []) x0) (rule_after f s)
+    ∙ elim (rule_of s.nodes) as (λ o. map_or s.before (λ r. s.before ++ comment_line text ∷ []) (option_map (rule_with f) o) ≡ map_or s.before (λ r. s.before ++ comment_line text ∷ []) o) [ None ↦ refl | Some r ↦ refl ] in
     ap (λ (lines : List (List ℕ)). Some (record (with_args f s) { before = lines })) before

@@ -1,5 +1,5 @@
 -- What is owed of `remove`: it changes something exactly where it says so, and leaves what is well formed so, texts that pass a test, and the comments of what stays.
-use Rattle.std.proofs.Common.{IfSome, ◌≡◌, ℕ, List, [], ◌∷◌, Bool, true, false, ◌&&◌, not, if◌then◌else◌, Option, Some, None, map, filter, refl, ap, sym, ◌∙◌, suc, rules, Ok}
+use Rattle.std.proofs.Common.{IfSome, ◌≡◌, ℕ, List, [], ◌∷◌, Bool, true, false, ◌&&◌, not, if◌then◌else◌, Option, Some, None, map, filter, refl, ap, sym, ◌∙◌, suc, rules, Ok, flat_map}
 use Rattle.std.specs.List.{list_any, list_all}
 use Rattle.std.proofs.lemmas.Bool.{or_parts, and_right}
 use Rattle.std.proofs.lemmas.List.Folds.{list_any-append}
@@ -13,8 +13,8 @@ use Rattle.bz_command.specs.declared.arguments.Moved.TheVariants.{Values}
 use Rattle.bz_rule.specs.declared.command.Action.TheVariants.{Remove}
 use Rattle.bz_attribute.specs.Rules.{is_named, first_named, value}
 use Rattle.bz_attribute.specs.Lists.{edit_parts, is_attribute, parts, with_value}
-use Rattle.bz_attribute.specs.Effects.{chooses, chooses_in, done, filtered, has, is_chosen, is_nil, loses_all, unchosen}
-use Rattle.bz_attribute.specs.Remove.{chooses_anywhere, filtered_everywhere, goes_with_all, remove, remove_values, removes}
+use Rattle.bz_attribute.specs.Effects.{chooses, done, filtered, has, is_chosen, loses_all, unchosen, edit_first}
+use Rattle.bz_attribute.specs.Remove.{goes_with_all, remove, removes}
 use Rattle.bz_rule.specs.Aside.{IsAside}
 use Rattle.bz_rule.proofs.Kept.{all_stay, all_stay_in, none_left_in, none_passes, none_passes_in}
 use Rattle.bz_rule.proofs.PartLaws.{parts_edited, parts_stay}
@@ -33,8 +33,9 @@ use Rattle.bz_rule.specs.OwnComments.{own_comments}
 use Rattle.bz_tree.specs.Grammar.{IsArg}
 use Rattle.std.specs.Str.{is_utf8}
 use Rattle.bz_rule.specs.Commands.{Command, IsRead, remove_of}
+use Rattle.bz_token.specs.Common.{is_empty, map_or}
 
-empty_or_not : (ss : List Segment) → not (is_nil ss) && is_nil ss ≡ false
+empty_or_not : (ss : List Segment) → not (is_empty ss) && is_empty ss ≡ false
 empty_or_not [] = refl
 empty_or_not (s ∷ ss) = refl
 
@@ -85,31 +86,31 @@ less p q (s ∷ ss) h =
     let both = or_parts (q s) (list_any q ss) h in
     rw (and_right (p s) (q s) both.0) (less p q ss both.1)
 
-pub everywhere_left : (home : Package) (chosen : Moved) (args : List Segment) → chooses_anywhere home chosen (filtered_everywhere (unchosen home chosen) args) ≡ false
+pub everywhere_left : (home : Package) (chosen : Moved) (args : List Segment) → list_any (λ a. is_attribute a && chooses home chosen a) (flat_map (λ a. if is_attribute a then filtered (unchosen home chosen) a else a ∷ []) args) ≡ false
 everywhere_left home chosen [] = refl
 everywhere_left home chosen (a ∷ args) =
     let p : Segment → Bool = λ z. is_attribute z && chooses home chosen z in
-    let rest : list_any p (filtered_everywhere (unchosen home chosen) args) ≡ false = everywhere_left home chosen args in
+    let rest : list_any p (flat_map (λ a. if is_attribute a then filtered (unchosen home chosen) a else a ∷ []) args) ≡ false = everywhere_left home chosen args in
     let here : list_any p (if is_attribute a then filtered (unchosen home chosen) a else a ∷ []) ≡ false =
     elim (is_attribute a) as (λ b. is_attribute a ≡ b → list_any p (if b then filtered (unchosen home chosen) a else a ∷ []) ≡ false)
     [ true ↦ λ e. less is_attribute (chooses home chosen) (filtered (unchosen home chosen) a) (filtered_left home chosen a e) | false ↦ λ e. rw e refl ] refl in
-    list_any-append p (if is_attribute a then filtered (unchosen home chosen) a else a ∷ []) (filtered_everywhere (unchosen home chosen) args) ∙ rw (here, rest) refl
+    list_any-append p (if is_attribute a then filtered (unchosen home chosen) a else a ∷ []) (flat_map (λ a. if is_attribute a then filtered (unchosen home chosen) a else a ∷ []) args) ∙ rw (here, rest) refl
 
-pub everywhere_stays : (home : Package) (chosen : Moved) (args : List Segment) → chooses_anywhere home chosen args ≡ false → filtered_everywhere (unchosen home chosen) args ≡ args
+pub everywhere_stays : (home : Package) (chosen : Moved) (args : List Segment) → list_any (λ a. is_attribute a && chooses home chosen a) args ≡ false → flat_map (λ a. if is_attribute a then filtered (unchosen home chosen) a else a ∷ []) args ≡ args
 everywhere_stays home chosen [] h = refl
 everywhere_stays home chosen (a ∷ args) h =
-    let both = or_parts (is_attribute a && chooses home chosen a) (chooses_anywhere home chosen args) h in
+    let both = or_parts (is_attribute a && chooses home chosen a) (list_any (λ a. is_attribute a && chooses home chosen a) args) h in
     let here : (if is_attribute a then filtered (unchosen home chosen) a else a ∷ []) ≡ a ∷ [] =
     elim (is_attribute a) as (λ b. b && chooses home chosen a ≡ false → (if b then filtered (unchosen home chosen) a else a ∷ []) ≡ a ∷ [])
     [ true ↦ λ k. filtered_stays home chosen a k | false ↦ λ k. refl ] both.0 in
     rw here (ap (λ (zs : List Segment). a ∷ zs) (everywhere_stays home chosen args both.1))
 
-values_stay : (home : Package) (attr : List ℕ) (values : List (List ℕ)) (args : List Segment) → chooses_in home (Values values) (first_named attr args) ≡ false → remove_values home attr values args ≡ args
+values_stay : (home : Package) (attr : List ℕ) (values : List (List ℕ)) (args : List Segment) → map_or false (chooses home (Values values)) (first_named attr args) ≡ false → edit_first (is_named attr) (filtered (unchosen home (Values values))) args ≡ args
 values_stay home attr values args h =
     rest_same attr (filtered (unchosen home (Values values))) args (λ a first.
-    filtered_stays home (Values values) a (ap (chooses_in home (Values values)) (sym first) ∙ h))
+    filtered_stays home (Values values) a (ap (map_or false (chooses home (Values values))) (sym first) ∙ h))
 
-values_differ : (home : Package) (attr : List ℕ) (values : List (List ℕ)) (args : List Segment) (first : Option Segment) → first_named attr args ≡ first → chooses_in home (Values values) first ≡ true → remove_values home attr values args ≡ args → ⊥
+values_differ : (home : Package) (attr : List ℕ) (values : List (List ℕ)) (args : List Segment) (first : Option Segment) → first_named attr args ≡ first → map_or false (chooses home (Values values)) first ≡ true → edit_first (is_named attr) (filtered (unchosen home (Values values))) args ≡ args → ⊥
 values_differ home attr values args None e h same = cc
 values_differ home attr values args (Some a) e h same =
     let attribute : is_attribute a ≡ true = attribute_named attr a (is_first_named attr args a e) in
@@ -125,7 +126,7 @@ remove_stays home (Named attr) (v ∷ values) args h = values_stay home attr (v 
 remove_differs : (home : Package) (attrs : Attributes) (values : List (List ℕ)) (args : List Segment) → removes home attrs values args ≡ true → remove home attrs values args ≡ args → ⊥
 remove_differs home Every [] args h same = let none : list_any goes_with_all args ≡ false = none_passes goes_with_all args same in cc
 remove_differs home Every (v ∷ values) args h same =
-    let none : chooses_anywhere home (Values (v ∷ values)) args ≡ false = ap (chooses_anywhere home (Values (v ∷ values))) (sym same) ∙ everywhere_left home (Values (v ∷ values)) args in cc
+    let none : list_any (λ a. is_attribute a && chooses home (Values (v ∷ values)) a) args ≡ false = ap (λ x0. list_any (λ a. is_attribute a && chooses home (Values (v ∷ values)) a) x0) (sym same) ∙ everywhere_left home (Values (v ∷ values)) args in cc
 remove_differs home (Named attr) [] args h same = let none : has attr args ≡ false = none_passes (is_named attr) args same in cc
 remove_differs home (Named attr) (v ∷ values) args h same = values_differ home attr (v ∷ values) args (first_named attr args) refl h same
 
@@ -195,7 +196,7 @@ remove_local home Every values = tt
 remove_local home (Named attr) [] = tt
 remove_local home (Named attr) (v ∷ values) = record {
   args = edit_local attr (filtered (unchosen home (Values (v ∷ values))));
-  told = looks_at_one attr _ (λ o. done None (chooses_in home (Values (v ∷ values)) o)) (λ args. refl);
+  told = looks_at_one attr _ (λ o. done None (map_or false (chooses home (Values (v ∷ values))) o)) (λ args. refl);
   slot = λ s. refl;
   done = λ s. refl;
 }

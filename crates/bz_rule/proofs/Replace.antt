@@ -9,9 +9,9 @@ use Rattle.bz_command.specs.declared.arguments.Attributes.{Attributes}
 use Rattle.bz_command.specs.declared.arguments.Attributes.TheVariants.{Every, Named}
 use Rattle.bz_rule.specs.declared.command.Action.TheVariants.{Replace}
 use Rattle.bz_attribute.specs.Rules.{is_named, is_text, first_named, string_value, value}
-use Rattle.bz_attribute.specs.Lists.{edit_parts, equals, is_attribute, parts, with_value, same_value}
+use Rattle.bz_attribute.specs.Lists.{edit_parts, equals, is_attribute, parts, with_value, same}
 use Rattle.bz_attribute.specs.Effects.{done, edit_first, string_item}
-use Rattle.bz_attribute.specs.Replace.{is_replaced, replaced, replaced_in, replace, replaces, replaces_first, replaces_in}
+use Rattle.bz_attribute.specs.Replace.{is_replaced, replaced, replaced_in, replace, replaces, replaces_in}
 use Rattle.bz_command.proofs.ReadBack.{quoted_value}
 use Rattle.bz_rule.specs.Aside.{IsAside}
 use Rattle.bz_rule.proofs.Arguments.{attribute_named, first_after, is_first_named, name_put, rest_same, same_bytes, value_back, value_put}
@@ -35,6 +35,7 @@ use Rattle.bz_tree.specs.Comments.{beside}
 use Rattle.bz_tree.specs.Grammar.{IsArg, IsTest}
 use Rattle.std.specs.Str.{is_utf8}
 use Rattle.bz_rule.specs.Commands.{Command, IsRead, replace_of}
+use Rattle.bz_token.specs.Common.{map_or}
 
 -- an element that was replaced is exactly `new`
 settled : (home : Package) (old new : List ℕ) (s : Segment) → is_replaced home old new (replaced home old new s) ≡ false
@@ -65,11 +66,11 @@ argument_settled home old new a h =
 still_named : (home : Package) (attr old new : List ℕ) (a : Segment) → is_named attr a ≡ true → is_named attr (replaced_in home old new a) ≡ true
 still_named home attr old new a is = ap (is_text attr) (name_put (edit_parts (map (replaced home old new)) (value a)) a (attribute_named attr a is)) ∙ is
 
-first_settled : (home : Package) (attr old new : List ℕ) (args : List Segment) → replaces_first home old new (first_named attr (edit_first (is_named attr) (λ a. replaced_in home old new a ∷ []) args)) ≡ false
+first_settled : (home : Package) (attr old new : List ℕ) (args : List Segment) → map_or false (replaces_in home old new) (first_named attr (edit_first (is_named attr) (λ a. replaced_in home old new a ∷ []) args)) ≡ false
 first_settled home attr old new args =
-    ap (replaces_first home old new) (first_after attr (replaced_in home old new) args (still_named home attr old new)) ∙ by (first_named attr args) refl
+    ap (map_or false (replaces_in home old new)) (first_after attr (replaced_in home old new) args (still_named home attr old new)) ∙ by (first_named attr args) refl
   where
-    by : (o : Option Segment) → first_named attr args ≡ o → replaces_first home old new (option_map (replaced_in home old new) o) ≡ false
+    by : (o : Option Segment) → first_named attr args ≡ o → map_or false (replaces_in home old new) (option_map (replaced_in home old new) o) ≡ false
     by None e = refl
     by (Some a) e = argument_settled home old new a (attribute_named attr a (is_first_named attr args a e))
 
@@ -118,10 +119,10 @@ argument_stays : (home : Package) (old new : List ℕ) (a : Segment) → replace
 argument_stays home old new a h =
     ap (λ (v : List Item). with_value v a) (parts_stay (map (replaced home old new)) (value a) (lists_stay home old new (parts (value a)) h)) ∙ value_back a
 
-first_stays : (home : Package) (attr old new : List ℕ) (args : List Segment) → replaces_first home old new (first_named attr args) ≡ false → edit_first (is_named attr) (λ a. replaced_in home old new a ∷ []) args ≡ args
+first_stays : (home : Package) (attr old new : List ℕ) (args : List Segment) → map_or false (replaces_in home old new) (first_named attr args) ≡ false → edit_first (is_named attr) (λ a. replaced_in home old new a ∷ []) args ≡ args
 first_stays home attr old new args h =
     rest_same attr (λ a. replaced_in home old new a ∷ []) args (λ a first.
-    ap (λ (z : Segment). z ∷ []) (argument_stays home old new a (ap (replaces_first home old new) (sym first) ∙ h)))
+    ap (λ (z : Segment). z ∷ []) (argument_stays home old new a (ap (map_or false (replaces_in home old new)) (sym first) ∙ h)))
 
 every_stays : (home : Package) (old new : List ℕ) (args : List Segment) → list_any (λ a. is_attribute a && replaces_in home old new a) args ≡ false → map (λ a. if is_attribute a then replaced_in home old new a else a) args ≡ args
 every_stays home old new [] h = refl
@@ -218,7 +219,7 @@ string_none (x ∷ y ∷ xs) v h = absurd cc
 
 equal_none : (home : Package) (old : List ℕ) (s : Segment) → equals home old s ≡ true → in_nodes s.nodes ≡ []
 equal_none home old s h =
-    elim (string_value s.nodes) as (λ o. string_value s.nodes ≡ o → same_value home old o ≡ true → in_nodes s.nodes ≡ [])
+    elim (string_value s.nodes) as (λ o. string_value s.nodes ≡ o → map_or false (λ value. same home value old) o ≡ true → in_nodes s.nodes ≡ [])
     [ None ↦ λ e k. absurd cc | Some v ↦ λ e k. string_none s.nodes v e ] refl h
 
 replaced_keeps : (home : Package) (old new : List ℕ) (s : Segment) → in_one (replaced home old new s) ≡ in_one s
@@ -244,7 +245,7 @@ replace_local : (home : Package) (attrs : Attributes) (old new : List ℕ) → I
 replace_local home Every old new = tt
 replace_local home (Named attr) old new = record {
   args = edit_local attr (λ a. replaced_in home old new a ∷ []);
-  told = looks_at_one attr _ (λ o. done None (replaces_first home old new o)) (λ args. refl);
+  told = looks_at_one attr _ (λ o. done None (map_or false (replaces_in home old new) o)) (λ args. refl);
   slot = λ s. refl;
   done = λ s. refl;
 }

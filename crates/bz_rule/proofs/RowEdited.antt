@@ -1,5 +1,5 @@
 -- What a command makes of the row of a rule.
-use Rattle.std.proofs.Common.{◌≡◌, ◌+◌, ◌∷◌, [], ℕ, List, length, length-append, arith, Bool, true, false, Option, None, Some, is_some, refl, ap, sym, ◌∙◌, if◌then◌else◌, rules}
+use Rattle.std.proofs.Common.{◌≡◌, ◌+◌, ◌∷◌, [], ℕ, List, length, length-append, arith, Bool, true, false, Option, None, Some, is_some, refl, ap, sym, ◌∙◌, if◌then◌else◌, rules, not, ◌++◌}
 use Rattle.std.specs.Prelude.{bytes_eq}
 use Rattle.std.proofs.lemmas.Bool.{false≢true}
 use Rattle.bz_tree.specs.Tree.{Item, Segment, Statement, segs_of}
@@ -9,24 +9,25 @@ use Rattle.bz_tree.specs.declared.stmt.Class.TheVariants.{Rule as RuleClass}
 use Rattle.bz_command.specs.Labels.{Package}
 use Rattle.bz_command.specs.declared.arguments.Commented.TheVariants.{Rule as Above, Attribute, Value}
 use Rattle.bz_command.specs.declared.arguments.Setting.TheVariants.{ToKind, ToValues}
-use Rattle.bz_attribute.specs.Comment.{comment_line, comments_above}
+use Rattle.bz_attribute.specs.Comment.{comment_line}
 use Rattle.bz_attribute.specs.Rules.{Rule, rule_of, kind_text}
-use Rattle.bz_attribute.specs.Effects.{done, done_in, holds_rule, nodes_of, slot_done, with_args}
+use Rattle.bz_attribute.specs.Effects.{done, holds_rule, nodes_of, slot_done, with_args}
 use Rattle.bz_attribute.specs.declared.done.Done.{Done}
 use Rattle.bz_attribute.specs.RowPlaces.{alone, IsPlaceOf, IsPlaceOfAll}
-use Rattle.bz_attribute.specs.Set.{kind_after, kind_items, sets_kind, sets_kind_of, with_kind}
+use Rattle.bz_attribute.specs.Set.{kind_after, kind_items, sets_kind_of, with_kind}
 use Rattle.bz_rule.specs.Commands.{Command, after, args_after, args_done, done_of}
 use Rattle.bz_rule.specs.declared.command.Action.TheVariants.{Add, Comment, Delete, Move, Print, Remove, Rename, Replace, Set, SetIfAbsent}
 use Rattle.bz_attribute.specs.RowEdits.{IsRowEdit}
 use Rattle.bz_attribute.specs.declared.edit.Edit.{Edit}
 use Rattle.bz_rule.specs.private.RowEdits.{HasMore, IsEditOf, IsNextOf, IsPlaceFor, edits_arguments, is_edit, rule_after}
 use Rattle.bz_command.specs.declared.arguments.Field.{Field}
-use Rattle.bz_attribute_commands.specs.Print.{printed_of, prints}
+use Rattle.bz_attribute_commands.specs.Print.{prints, fields_of, printed}
 use Rattle.bz_rule.proofs.Commands.{lawful}
 use Rattle.bz_rule.proofs.Lawful.{Lawful, Local}
 use Rattle.bz_rule.proofs.Local.{told_alone}
 use Rattle.bz_rule.proofs.Rebuilt.{kind_dotted}
 use Rattle.bz_rule.proofs.RuleClass.{call_class, class_after, rule_class}
+use Rattle.bz_token.specs.Common.{map_or}
 
 -- where the first argument of a name stands, or all
 pub place_alone : (c : Command) (home : Package) (name : List ℕ) (s : Statement) (r : Rule) (ps : List RowPart) (from to : ℕ) → Local c home name → IsPlaceOf name s r ps from to → IsPlaceFor c home s r ps from to
@@ -73,7 +74,7 @@ next_of (Rename old new) home s r ps is are = next_args _ s r ps is are
 next_of (Move old new chosen) home s r ps is are = next_args _ s r ps is are
 next_of (Replace attrs old new) home s r ps is are = next_args _ s r ps is are
 next_of (Comment Above text) home s r ps is are =
-    let more : length (comments_above s.before text (rule_of s.nodes)) ≡ length s.before + 1 = ap (λ (o : Option Rule). length (comments_above s.before text o)) is ∙ length-append s.before (comment_line text ∷ []) in
+    let more : length (map_or s.before (λ r. s.before ++ comment_line text ∷ []) (rule_of s.nodes)) ≡ length s.before + 1 = ap (λ (o : Option Rule). length (map_or s.before (λ r. s.before ++ comment_line text ∷ []) o)) is ∙ length-append s.before (comment_line text ∷ []) in
     record { are = are; rule = rule_class s.nodes r is; before = omega (arith, more); same = refl; start = refl; end = refl }
 next_of (Comment (Attribute attr) text) home s r ps is are = next_args _ s r ps is are
 next_of (Comment (Value attr value) text) home s r ps is are = next_args _ s r ps is are
@@ -86,15 +87,15 @@ edit_stays c home s h quiet = sym ((lawful c home).stays (Some s) quiet)
 -- of what is no rule nothing is told
 told_args : (g : List Segment → Done) (slot : Option Statement) → holds_rule slot ≡ false → slot_done g slot ≡ done None false
 told_args g None h = refl
-told_args g (Some s) h = elim (rule_of s.nodes) as (λ o. is_some o ≡ false → done_in g o ≡ done None false) [ None ↦ λ k. refl | Some r ↦ λ k. absurd (false≢true (sym k)) ] h
+told_args g (Some s) h = elim (rule_of s.nodes) as (λ o. is_some o ≡ false → map_or (done None false) (λ r. g r.args) o ≡ done None false) [ None ↦ λ k. refl | Some r ↦ λ k. absurd (false≢true (sym k)) ] h
 
 told_kind : (kind : List ℕ) (slot : Option Statement) → holds_rule slot ≡ false → sets_kind_of kind slot ≡ done None false
 told_kind kind None h = refl
-told_kind kind (Some s) h = elim (rule_of s.nodes) as (λ o. is_some o ≡ false → sets_kind kind o ≡ done None false) [ None ↦ λ k. refl | Some r ↦ λ k. absurd (false≢true (sym k)) ] h
+told_kind kind (Some s) h = elim (rule_of s.nodes) as (λ o. is_some o ≡ false → (map_or (done None false) (λ r. done None (not (bytes_eq (kind_text r.kind) kind))) o) ≡ done None false) [ None ↦ λ k. refl | Some r ↦ λ k. absurd (false≢true (sym k)) ] h
 
 pub told_print : (home : Package) (fields : List Field) (slot : Option Statement) → holds_rule slot ≡ false → prints home fields slot ≡ done None false
 told_print home fields None h = refl
-told_print home fields (Some s) h = elim (rule_of s.nodes) as (λ o. is_some o ≡ false → printed_of home s fields o ≡ done None false) [ None ↦ λ k. refl | Some r ↦ λ k. absurd (false≢true (sym k)) ] h
+told_print home fields (Some s) h = elim (rule_of s.nodes) as (λ o. is_some o ≡ false → map_or (done None false) (λ r. printed home s r (fields_of fields)) o ≡ done None false) [ None ↦ λ k. refl | Some r ↦ λ k. absurd (false≢true (sym k)) ] h
 
 pub told_of_none : (c : Command) (home : Package) (slot : Option Statement) → holds_rule slot ≡ false → done_of c home slot ≡ done None false
 told_of_none (Add attr values) home slot h = told_args _ slot h
@@ -132,18 +133,18 @@ args_rule (Comment (Value attr value) text) home s h = refl
 args_rule (Print fields) home s h = absurd (false≢true h)
 
 pub args_told : (c : Command) (home : Package) (s : Statement) (r : Rule) → edits_arguments c ≡ true → rule_of s.nodes ≡ Some r → args_done c home r.args ≡ done_of c home (Some s)
-args_told (Add attr values) home s r h is = sym (ap (done_in (args_done (Add attr values) home)) is)
-args_told (Remove attrs values) home s r h is = sym (ap (done_in (args_done (Remove attrs values) home)) is)
+args_told (Add attr values) home s r h is = sym (ap (λ x0. map_or (done None false) (λ r. (args_done (Add attr values) home) r.args) x0) is)
+args_told (Remove attrs values) home s r h is = sym (ap (λ x0. map_or (done None false) (λ r. (args_done (Remove attrs values) home) r.args) x0) is)
 args_told (Set (ToKind kind)) home s r h is = absurd (false≢true h)
-args_told (Set (ToValues attr values)) home s r h is = sym (ap (done_in (args_done (Set (ToValues attr values)) home)) is)
-args_told (SetIfAbsent attr values) home s r h is = sym (ap (done_in (args_done (SetIfAbsent attr values) home)) is)
+args_told (Set (ToValues attr values)) home s r h is = sym (ap (λ x0. map_or (done None false) (λ r. (args_done (Set (ToValues attr values)) home) r.args) x0) is)
+args_told (SetIfAbsent attr values) home s r h is = sym (ap (λ x0. map_or (done None false) (λ r. (args_done (SetIfAbsent attr values) home) r.args) x0) is)
 args_told Delete home s r h is = absurd (false≢true h)
 args_told (Rename old new) home s r h is = absurd (false≢true h)
-args_told (Move old new chosen) home s r h is = sym (ap (done_in (args_done (Move old new chosen) home)) is)
-args_told (Replace attrs old new) home s r h is = sym (ap (done_in (args_done (Replace attrs old new) home)) is)
+args_told (Move old new chosen) home s r h is = sym (ap (λ x0. map_or (done None false) (λ r. (args_done (Move old new chosen) home) r.args) x0) is)
+args_told (Replace attrs old new) home s r h is = sym (ap (λ x0. map_or (done None false) (λ r. (args_done (Replace attrs old new) home) r.args) x0) is)
 args_told (Comment Above text) home s r h is = absurd (false≢true h)
-args_told (Comment (Attribute attr) text) home s r h is = sym (ap (done_in (args_done (Comment (Attribute attr) text) home)) is)
-args_told (Comment (Value attr value) text) home s r h is = sym (ap (done_in (args_done (Comment (Value attr value) text) home)) is)
+args_told (Comment (Attribute attr) text) home s r h is = sym (ap (λ x0. map_or (done None false) (λ r. (args_done (Comment (Attribute attr) text) home) r.args) x0) is)
+args_told (Comment (Value attr value) text) home s r h is = sym (ap (λ x0. map_or (done None false) (λ r. (args_done (Comment (Value attr value) text) home) r.args) x0) is)
 args_told (Print fields) home s r h is = absurd (false≢true h)
 
 -- an edit of arguments, of a command that is one
@@ -159,12 +160,12 @@ pub arguments_edited : (c : Command) (home : Package) (kind : List ℕ) (ps new 
 arguments_edited c home kind ps new e edits edit = of_arguments c home kind ps new e (λ s. args_rule c home s edits) (λ s r is. args_told c home s r edits is) edit
 
 pub renamed : (old to : List ℕ) (home : Package) (kind : List ℕ) (ps new : List RowPart) (e : Edit) → IsRowEdit (args_after (Rename old to) home) (args_done (Rename old to) home) ps new e → IsEditOf (Rename old to) home kind ps new e
-renamed old to home kind ps new e edit = of_arguments (Rename old to) home kind ps new e (λ s. refl) (λ s r is. sym (ap (done_in (args_done (Rename old to) home)) is)) edit
+renamed old to home kind ps new e edit = of_arguments (Rename old to) home kind ps new e (λ s. refl) (λ s r is. sym (ap (λ x0. map_or (done None false) (λ r. (args_done (Rename old to) home) r.args) x0) is)) edit
 
 -- a comment more above the rule
 pub one_above : (text : List ℕ) (home : Package) (s : Statement) (r : Rule) → rule_of s.nodes ≡ Some r → HasMore 1 s (rule_after (Comment Above text) home s)
 one_above text home s r is =
-    let more : length (comments_above s.before text (rule_of s.nodes)) ≡ length s.before + 1 = ap (λ (o : Option Rule). length (comments_above s.before text o)) is ∙ length-append s.before (comment_line text ∷ []) in
+    let more : length (map_or s.before (λ r. s.before ++ comment_line text ∷ []) (rule_of s.nodes)) ≡ length s.before + 1 = ap (λ (o : Option Rule). length (map_or s.before (λ r. s.before ++ comment_line text ∷ []) o)) is ∙ length-append s.before (comment_line text ∷ []) in
     omega (arith, more)
 
 pub none_above : (c : Command) (home : Package) (s : Statement) (r : Rule) → rule_of s.nodes ≡ Some r → HasMore 0 s (rule_after c home s)

@@ -1,5 +1,5 @@
 -- A row is of one statement, and what is known of that by its head.
-use Rattle.std.proofs.Common.{◌≡◌, ◌≤◌, ◌∙◌, ℕ, length, List, Bool, [], false, Option, None, Some, is_some, map, option_map, ap, refl, sym, subst}
+use Rattle.std.proofs.Common.{◌≡◌, ◌≤◌, ◌∙◌, ℕ, length, List, Bool, [], false, Option, None, Some, is_some, map, option_map, ap, refl, sym, subst, ◌++◌}
 use Rattle.bz_tree.specs.Tree.{Item, Statement}
 use Rattle.bz_tree.specs.Rows.{RowPart, part_view, parts_of}
 use Rattle.bz_tree.specs.declared.row.Part.{Part}
@@ -8,12 +8,13 @@ use Rattle.bz_tree.specs.private.PartSteps.{content_of, last_beside}
 use Rattle.bz_tree.proofs.FromParts.{statement_of_parts}
 use Rattle.bz_command.specs.Labels.{Name, Package, Target}
 use Rattle.bz_attribute.specs.Heads.{HasHead, IsHeadOf}
-use Rattle.bz_attribute.specs.Marks.{marks, marks_if}
-use Rattle.bz_attribute.specs.Rules.{Rule, is_text, kind_text, rule_of}
-use Rattle.bz_attribute.specs.Texts.{rule_text, shown_text}
+use Rattle.bz_attribute.specs.Marks.{marks, marks_rule}
+use Rattle.bz_attribute.specs.Rules.{Rule, is_text, kind_text, rule_of, name_in}
+use Rattle.bz_attribute.specs.Texts.{shown_text, home_text, name_or_kind}
 use Rattle.bz_attribute.specs.declared.head.Head.{Head}
 use Rattle.bz_rule.specs.RowViews.{row_value, row_statement}
 use Rattle.bz_rule.specs.private.RowEdits.{HasItsHead}
+use Rattle.bz_token.specs.Common.{map_or}
 
 pub record IsOf (s : Statement) (parts : List Part) (class : Class) (start end : ℕ) : Type 0 where
   pub are : map part_view parts ≡ parts_of s
@@ -38,14 +39,14 @@ has_head s parts class start end head comments is has below =
 
 -- of what is no rule
 pub unmarked : (target : Target) (s : Statement) → rule_of s.nodes ≡ None → false ≡ marks target s
-unmarked target s none = sym (ap (marks_if target s.start) none)
+unmarked target s none = sym (ap (map_or false (marks_rule target s.start)) none)
 
 pub not_shown : (home : Package) (s : Statement) → rule_of s.nodes ≡ None → [] ≡ shown_text home s
-not_shown home s none = sym (ap (rule_text home) none)
+not_shown home s none = sym (ap (λ x0. map_or [] (λ r. home_text home ++ name_or_kind (name_in r.args) r.kind) x0) none)
 
 -- the name of a rule
 pub named_by : (name : List ℕ) (head : Head) (s : Statement) → IsHeadOf head s → marks (Name name) s ≡ is_text name (option_map (λ text. text.now) head.name)
-named_by name head s h = ap (marks_if (Name name) s.start) h.is ∙ ap (is_text name) (sym h.name_is)
+named_by name head s h = ap (map_or false (marks_rule (Name name) s.start)) h.is ∙ ap (is_text name) (sym h.name_is)
 
 pub head_some : (o : Option Head) (s : Statement) → HasHead o s → is_some o ≡ is_some (rule_of s.nodes)
 head_some None s h = sym (ap is_some h)

@@ -7,11 +7,12 @@ use Rattle.bz_token.specs.declared.token.Kind.TheVariants.{Identifier, Operator}
 use Rattle.bz_tree.specs.declared.stmt.GroupKind.TheVariants.{RuleCall}
 use Rattle.bz_tree.specs.declared.stmt.Class.TheVariants.{Rule as RuleClass}
 use Rattle.bz_tree.specs.Tree.{Item, leaf, group, Segs, Segment, Statement, segs_of}
-use Rattle.bz_tree.specs.Statement.{class_of, has_assign, is_rule, is_rule_after}
+use Rattle.bz_tree.specs.Statement.{class_of, is_rule, is_rule_after, is_assign}
 use Rattle.bz_attribute.specs.Rules.{Rule, rule_of, dotted, is_operator_item}
 use Rattle.bz_attribute.specs.Effects.{nodes_after, with_args}
 use Rattle.bz_attribute.proofs.RuleNodes.{rule_nodes}
 use Rattle.bz_rule.proofs.Rebuilt.{rule_dotted}
+use Rattle.std.specs.List.{list_any}
 
 same_bytes : (xs ys : List ℕ) → bytes_eq xs ys ≡ true → xs ≡ ys
 same_bytes xs ys h = search (rules, bytes_eq-Decides)
@@ -21,14 +22,14 @@ is_dot (leaf Operator text) h = ap (leaf Operator) (same_bytes text (codes ".") 
 is_dot (leaf _ text) h = absurd (false≢true h)
 is_dot (group k segs one_comma end) h = absurd (false≢true h)
 
-no_assign : (b : Bool) (kind : List Item) (segs : Segs) (one_comma : Bool) (end : List (List ℕ)) → dotted b kind ≡ true → has_assign (kind ++ group RuleCall segs one_comma end ∷ []) ≡ false
+no_assign : (b : Bool) (kind : List Item) (segs : Segs) (one_comma : Bool) (end : List (List ℕ)) → dotted b kind ≡ true → list_any is_assign (kind ++ group RuleCall segs one_comma end ∷ []) ≡ false
 no_assign b [] segs one_comma end h = refl
 no_assign true (leaf Identifier text ∷ kind) segs one_comma end h = no_assign false kind segs one_comma end h
 no_assign true (leaf _ text ∷ kind) segs one_comma end h = absurd (false≢true h)
 no_assign true (group k ss c e ∷ kind) segs one_comma end h = absurd (false≢true h)
 no_assign false (x ∷ kind) segs one_comma end h =
     let two = and_parts (is_operator_item (codes ".") x) (dotted true kind) h in
-    ap (λ (z : Item). has_assign (z ∷ (kind ++ group RuleCall segs one_comma end ∷ []))) (is_dot x two.0) ∙ no_assign true kind segs one_comma end two.1
+    ap (λ (z : Item). list_any is_assign (z ∷ (kind ++ group RuleCall segs one_comma end ∷ []))) (is_dot x two.0) ∙ no_assign true kind segs one_comma end two.1
 
 abbrev reads_on : Bool → List Item → Bool
 reads_on true nodes = is_rule nodes

@@ -10,7 +10,7 @@ use Rattle.bz_tree.specs.declared.kinds.Preceding.TheVariants.{Operand, Other}
 use Rattle.bz_tree.specs.declared.role.Role.TheVariants.{Dot}
 use Rattle.bz_tree.specs.Comments.{beside}
 use Rattle.bz_tree.specs.Tree.{Item, leaf, group, item, Segs, Statement, items_of, segs_of}
-use Rattle.bz_tree.specs.Statement.{class_of, has_assign, is_call, is_rule, rule_call}
+use Rattle.bz_tree.specs.Statement.{class_of, is_call, is_rule, rule_call, is_assign}
 use Rattle.bz_tree.specs.Grammar.{IsArg, AreArgs, token_role, AreSuffixes, member, suffix, no_suffix, call, IsPrimary, operand, ident, primary, single, plain, last_test, expression}
 use Rattle.bz_layout_laws.specs.Inside.{HasShape}
 use Rattle.bz_layout_laws.specs.Legible.{AreComments, are_some, item_depth, items_depth, segs_depth}
@@ -26,6 +26,7 @@ use Rattle.bz_rule.proofs.KindFormed.{IsDotted, last_name, name_before, dotted_i
 use Rattle.bz_rule.proofs.NewTexts.{dot_text}
 use Rattle.bz_rule.proofs.Segments.{AreFormed, form_args, good_arguments, taken_apart}
 use Rattle.bz_rule.proofs.Tests.{Each, IsOuter, statement_outer}
+use Rattle.std.specs.List.{list_any}
 
 -- The parts of a rule, where its arguments have so many brackets open at once at most.
 pub record IsRuleFormed (depth : ℕ) (s : Statement) (r : Rule) : Type 0 where
@@ -96,7 +97,7 @@ dotted_some : {kind : List Item} → IsDotted kind → (x : Item) → are_some (
 dotted_some (last_name n) x = refl
 dotted_some (name_before n more) x = refl
 
-dotted_assign : {kind : List Item} → IsDotted kind → (r : Rule) → has_assign (and_then kind (rule_call_of r)) ≡ false
+dotted_assign : {kind : List Item} → IsDotted kind → (r : Rule) → list_any is_assign (and_then kind (rule_call_of r)) ≡ false
 dotted_assign (last_name n) r = refl
 dotted_assign (name_before n more) r = dotted_assign more r
 

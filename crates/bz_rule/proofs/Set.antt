@@ -9,7 +9,7 @@ use Rattle.bz_tree.specs.declared.stmt.GroupKind.TheVariants.{RuleCall}
 use Rattle.bz_tree.specs.Tree.{Item, group, Segment, Statement, segs_of, leaf}
 use Rattle.bz_attribute.specs.Rules.{Rule, rule_of, written, kind_text, is_named, first_named, value, dotted, is_operator_item}
 use Rattle.bz_attribute.specs.Effects.{argument, done, edit_first, has, holds_rule, nodes_of, string}
-use Rattle.bz_attribute.specs.Set.{New, NewString, NewNumber, NewConstant, NewStrings, new_of, new_value, are_strings, is_value, set_in, set, sets, set_if_absent, joined_by_dots, kind_items, kind_after, with_kind, sets_kind, sets_kind_of, holds_list, is_constant, is_list_attribute, is_number, new_word}
+use Rattle.bz_attribute.specs.Set.{New, NewString, NewNumber, NewConstant, NewStrings, new_of, new_value, are_strings, is_value, set_in, set, sets, set_if_absent, joined_by_dots, kind_items, kind_after, with_kind, sets_kind_of, is_constant, is_list_attribute, is_number, new_word}
 use Rattle.bz_attribute.proofs.Views.{segments_of}
 use Rattle.bz_command.proofs.ReadBack.{quoted_value}
 use Rattle.bz_attribute.proofs.RuleNodes.{rule_nodes}
@@ -17,7 +17,7 @@ use Rattle.bz_command.specs.declared.arguments.Setting.{Setting}
 use Rattle.bz_command.specs.declared.arguments.Setting.TheVariants.{ToKind, ToValues}
 use Rattle.bz_rule.specs.declared.command.Action.TheVariants.{Set, SetIfAbsent}
 use Rattle.bz_command.specs.Labels.{Package}
-use Rattle.bz_attribute.specs.Lists.{with_value, is_attribute}
+use Rattle.bz_attribute.specs.Lists.{with_value, is_attribute, is_list, is_only}
 use Rattle.bz_rule.proofs.Arguments.{attribute_named, first_same, has_first, is_first_named, rest_same, same_bytes, value_put}
 use Rattle.bz_rule.proofs.Local.{looks_at_one, set_if_absent_local, set_local}
 use Rattle.bz_rule.proofs.Lawful.{Lawful, on_arguments, passed, held, none_of_either}
@@ -48,6 +48,7 @@ use Rattle.bz_tree.specs.Grammar.{IsArg, ident, no_suffix, number, operand, plai
 use Rattle.std.specs.Str.{is_utf8}
 use Rattle.bz_rule.specs.declared.command.CommandFault.TheVariants.{WrongCount, BadAttribute}
 use Rattle.bz_rule.specs.Commands.{Command, IsRead, on_attribute, set_if_absent_of, set_kind_of, set_of, takes_one}
+use Rattle.bz_token.specs.Common.{map_or}
 
 -- what is written is what was meant
 
@@ -161,11 +162,11 @@ kind_read kind = joined_text (slice_split (λ b. b == 46) kind) ∙ join_with_by
 rule_text : (r : Rule) → kind_text (nodes_of r) ≡ kind_text r.kind
 rule_text r = flat_map-append written r.kind (group RuleCall (segs_of r.args) r.one_comma r.end ∷ []) ∙ append-nil (kind_text r.kind)
 
-nodes_stay : (kind : List ℕ) (nodes : List Item) (r : Option Rule) → (sets_kind kind r).changed ≡ false → kind_after kind nodes r ≡ nodes
+nodes_stay : (kind : List ℕ) (nodes : List Item) (r : Option Rule) → (map_or (done None false) (λ r. done None (not (bytes_eq (kind_text r.kind) kind))) r).changed ≡ false → kind_after kind nodes r ≡ nodes
 nodes_stay kind nodes None h = refl
 nodes_stay kind nodes (Some r) h = rw (not-false _ h) refl
 
-nodes_differ : (kind : List ℕ) (nodes : List Item) (r : Option Rule) → rule_of nodes ≡ r → (sets_kind kind r).changed ≡ true → kind_after kind nodes r ≡ nodes → ⊥
+nodes_differ : (kind : List ℕ) (nodes : List Item) (r : Option Rule) → rule_of nodes ≡ r → (map_or (done None false) (λ r. done None (not (bytes_eq (kind_text r.kind) kind))) r).changed ≡ true → kind_after kind nodes r ≡ nodes → ⊥
 nodes_differ kind nodes None e h same = absurd cc
 nodes_differ kind nodes (Some r) e h same =
     let other : bytes_eq (kind_text r.kind) kind ≡ false = not-true _ h in
@@ -187,11 +188,11 @@ set_kind_differs kind (Some s) h same =
 
 kind_noted : (kind : List ℕ) (slot : Option Statement) → is_some (sets_kind_of kind slot).note ≡ true → (sets_kind_of kind slot).changed ≡ false
 kind_noted kind None h = refl
-kind_noted kind (Some s) h = elim (rule_of s.nodes) as (λ r. is_some (sets_kind kind r).note ≡ true → (sets_kind kind r).changed ≡ false) [ None ↦ λ k. refl | Some r ↦ λ k. absurd cc ] h
+kind_noted kind (Some s) h = elim (rule_of s.nodes) as (λ r. is_some (map_or (done None false) (λ r. done None (not (bytes_eq (kind_text r.kind) kind))) r).note ≡ true → (map_or (done None false) (λ r. done None (not (bytes_eq (kind_text r.kind) kind))) r).changed ≡ false) [ None ↦ λ k. refl | Some r ↦ λ k. absurd cc ] h
 
 kind_no_rule : (kind : List ℕ) (slot : Option Statement) → holds_rule slot ≡ false → (sets_kind_of kind slot).changed ≡ false
 kind_no_rule kind None h = refl
-kind_no_rule kind (Some s) h = elim (rule_of s.nodes) as (λ r. is_some r ≡ false → (sets_kind kind r).changed ≡ false) [ None ↦ λ k. refl | Some r ↦ λ k. absurd cc ] h
+kind_no_rule kind (Some s) h = elim (rule_of s.nodes) as (λ r. is_some r ≡ false → (map_or (done None false) (λ r. done None (not (bytes_eq (kind_text r.kind) kind))) r).changed ≡ false) [ None ↦ λ k. refl | Some r ↦ λ k. absurd cc ] h
 
 -- what it leaves is well formed, and passes a test
 
@@ -230,7 +231,7 @@ new_written : (depth : ℕ) (attr : List ℕ) (words : List (List ℕ)) (was : O
 new_written depth attr [] was = strings_written depth []
 new_written depth attr (word ∷ []) was =
     either_way (IsWritten depth) (bytes_eq attr (codes "name")) (string_written depth word)
-    (either_way (IsWritten depth) (is_list_attribute attr || holds_list was) (strings_written depth (word ∷ [])) (word_written depth word))
+    (either_way (IsWritten depth) (is_list_attribute attr || map_or false (λ a. is_only is_list (value a)) was) (strings_written depth (word ∷ [])) (word_written depth word))
 new_written depth attr (word ∷ other ∷ words) was = strings_written depth (word ∷ other ∷ words)
 
 -- an argument that is there, and one that is new
@@ -282,7 +283,7 @@ new_passes : (q : List ℕ → Bool) (attr : List ℕ) (words : List (List ℕ))
 new_passes q attr [] was h = tt
 new_passes q attr (word ∷ []) was h =
     either_way (NewPasses q) (bytes_eq attr (codes "name")) h.0
-    (either_way (NewPasses q) (is_list_attribute attr || holds_list was) h (word_passes q word h.0))
+    (either_way (NewPasses q) (is_list_attribute attr || map_or false (λ a. is_only is_list (value a)) was) h (word_passes q word h.0))
 new_passes q attr (word ∷ other ∷ words) was h = h
 
 new_value_passes : (q : List ℕ → Bool) → PassesWritten q → (new : New) → NewPasses q new → NodesPass q (new_value new)

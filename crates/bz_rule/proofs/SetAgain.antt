@@ -6,13 +6,15 @@ use Rattle.std.proofs.lemmas.Bool.{cases_Bool, or_parts, or_from, or_right}
 use Rattle.bz_tree.specs.declared.stmt.GroupKind.TheVariants.{RuleCall}
 use Rattle.bz_tree.specs.Tree.{Item, group, Segment, Statement, segs_of}
 use Rattle.bz_attribute.specs.Rules.{Rule, rule_of, call_at, dotted, kind_text, is_named, is_text, first_named, value}
-use Rattle.bz_attribute.specs.Effects.{argument, edit_first, nodes_of, string}
-use Rattle.bz_attribute.specs.Set.{New, NewStrings, is_list_attribute, is_number, is_constant, new_word, is_one_list, holds_list, new_of, new_value, is_value, set_in, set, sets, joined_by_dots, kind_items, kind_after, with_kind, sets_kind, sets_kind_of}
+use Rattle.bz_attribute.specs.Effects.{argument, edit_first, nodes_of, string, done}
+use Rattle.bz_attribute.specs.Set.{New, NewStrings, is_list_attribute, is_number, is_constant, new_word, new_of, new_value, is_value, set_in, set, sets, joined_by_dots, kind_items, kind_after, with_kind, sets_kind_of}
 use Rattle.bz_attribute.proofs.Calls.{rule_from_end}
 use Rattle.bz_command.proofs.Cuts.{some_part}
 use Rattle.bz_rule.proofs.Arguments.{attribute_named, first_after, is_first_named, name_put, same_bytes}
 use Rattle.bz_rule.proofs.Set.{in_stays, in_value, is_written, kind_read, set_absent, set_present}
 use Rattle.bz_rule.proofs.Found.{first_at_end}
+use Rattle.bz_attribute.specs.Lists.{is_list, is_only}
+use Rattle.bz_token.specs.Common.{map_or}
 
 in_named : (attr : List ℕ) (new : New) (a : Segment) → is_named attr a ≡ true → is_named attr (set_in new a) ≡ true
 in_named attr new a named = elim (cases_Bool (is_value new (value a))) [
@@ -26,7 +28,7 @@ first_set attr new args a h = first_after attr (set_in new) args (in_named attr 
 
 -- the words stand for the same again where the value is what they stood for
 
-word_is_no_list : (word : List ℕ) → is_one_list (new_value (new_word word)) ≡ false
+word_is_no_list : (word : List ℕ) → is_only is_list (new_value (new_word word)) ≡ false
 word_is_no_list word = elim (cases_Bool (is_number word)) [
   | inl is ↦ rw is refl
   | inr other ↦ elim (cases_Bool (is_constant word)) [
@@ -37,16 +39,16 @@ word_is_no_list word = elim (cases_Bool (is_number word)) [
 
 one_again : (attr word : List ℕ) (was : Option Segment) (a : Segment) → bytes_eq attr (codes "name") ≡ false → value a ≡ new_value (new_of attr (word ∷ []) was)
     → new_of attr (word ∷ []) (Some a) ≡ new_of attr (word ∷ []) was
-one_again attr word was a no_name is = elim (cases_Bool (is_list_attribute attr || holds_list was)) [
+one_again attr word was a no_name is = elim (cases_Bool (is_list_attribute attr || map_or false (λ a. is_only is_list (value a)) was)) [
   | inl list ↦
       let nodes : value a ≡ new_value (NewStrings (word ∷ [])) = rw (no_name, list) at is in
-      let one : is_one_list (value a) ≡ true = ap is_one_list nodes in
-      let either : is_list_attribute attr || is_one_list (value a) ≡ true = or_right (is_list_attribute attr) (is_one_list (value a)) one in
+      let one : is_only is_list (value a) ≡ true = ap (is_only is_list) nodes in
+      let either : is_list_attribute attr || is_only is_list (value a) ≡ true = or_right (is_list_attribute attr) (is_only is_list (value a)) one in
       rw (no_name, list, either) refl
   | inr other ↦
       let nodes : value a ≡ new_value (new_word word) = rw (no_name, other) at is in
-      let one : is_one_list (value a) ≡ false = ap is_one_list nodes ∙ word_is_no_list word in
-      let neither : is_list_attribute attr || is_one_list (value a) ≡ false = or_from (is_list_attribute attr) (is_one_list (value a)) (or_parts (is_list_attribute attr) (holds_list was) other).0 one in
+      let one : is_only is_list (value a) ≡ false = ap (is_only is_list) nodes ∙ word_is_no_list word in
+      let neither : is_list_attribute attr || is_only is_list (value a) ≡ false = or_from (is_list_attribute attr) (is_only is_list (value a)) (or_parts (is_list_attribute attr) (map_or false (λ a. is_only is_list (value a)) was) other).0 one in
       rw (no_name, other, neither) refl
 ]
 
@@ -89,7 +91,7 @@ kind_dotted kind = joined_dotted (slice_split (λ b. b == 46) kind) (some_part (
 rule_again : (kind : List ℕ) (r : Rule) → rule_of (nodes_of (record r { kind = kind_items kind })) ≡ call_at (kind_items kind) (group RuleCall (segs_of r.args) r.one_comma r.end)
 rule_again kind r = rule_from_end [] (kind_items kind) (group RuleCall (segs_of r.args) r.one_comma r.end)
 
-nodes_again : (kind : List ℕ) (nodes : List Item) (r : Option Rule) → rule_of nodes ≡ r → (sets_kind kind (rule_of (kind_after kind nodes r))).changed ≡ false
+nodes_again : (kind : List ℕ) (nodes : List Item) (r : Option Rule) → rule_of nodes ≡ r → (map_or (done None false) (λ r. done None (not (bytes_eq (kind_text r.kind) kind))) (rule_of (kind_after kind nodes r))).changed ≡ false
 nodes_again kind nodes None e = rw e refl
 nodes_again kind nodes (Some r) e = elim (cases_Bool (bytes_eq (kind_text r.kind) kind)) [
   | inl is ↦ rw (is, e, is) refl

@@ -15,7 +15,7 @@ use Rattle.bz_command.specs.declared.arguments.Moved.TheVariants.{Values}
 use Rattle.bz_command.specs.declared.arguments.Setting.TheVariants.{ToKind, ToValues}
 use Rattle.bz_attribute.specs.Rules.{Rule, is_named, is_text, name_of, rule_of, value, first_named}
 use Rattle.bz_attribute.specs.Lists.{edit_first_part, edit_parts, is_attribute, with_value, parts}
-use Rattle.bz_attribute.specs.Effects.{argument, edit_first, filtered, has, loses_all, no_parts, unchosen}
+use Rattle.bz_attribute.specs.Effects.{argument, edit_first, filtered, has, loses_all, unchosen}
 use Rattle.bz_attribute.specs.Add.{add, new_elements, with_added}
 use Rattle.bz_attribute.specs.Comment.{comment_args, comment_element, comment_note, comment_line, with_comment}
 use Rattle.bz_attribute.specs.Move.{move, move_note, moves, put_in}
@@ -28,6 +28,7 @@ use Rattle.bz_rule.specs.Commands.{Command, after, args_after}
 use Rattle.bz_rule_laws.specs.Unmentioned.{arguments_in, arguments_of, is_delete, is_unmentioned, may_change, may_change_named, unmentioned}
 use Rattle.bz_rule_laws.proofs.ArgumentNames.{attribute_named, either_way, name_renamed, name_with_value, same_bytes}
 use Rattle.bz_rule_laws.proofs.RuleArguments.{there, there_after}
+use Rattle.bz_token.specs.Common.{is_empty}
 
 -- the edit leaves all that stay
 abbrev Leaves : Command → (List Segment → List Segment) → Type 0
@@ -139,7 +140,7 @@ add_leaves home attr values args =
     either_leaves c (has attr args) args _ _ (one_edited c attr (same_bytes attr) (with_added home values) named args) (one_added c attr (same_bytes attr) _ args)
   where
     named : (a : Segment) → is_named attr a ≡ true → is_named attr (with_added home values a) ≡ true
-    named a h = either_way (λ (z : Segment). is_named attr z ≡ true) (no_parts (parts (value a))) h (named_with_value attr (edit_first_part (λ ss. ss ++ new_elements home (parts (value a)) values) (value a)) a h)
+    named a h = either_way (λ (z : Segment). is_named attr z ≡ true) (is_empty (parts (value a))) h (named_with_value attr (edit_first_part (λ ss. ss ++ new_elements home (parts (value a)) values) (value a)) a h)
 
 set_leaves : (attr : List ℕ) (words : List (List ℕ)) → Leaves (Set (ToValues attr words)) (set attr words)
 set_leaves attr words args =

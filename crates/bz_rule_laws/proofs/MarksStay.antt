@@ -1,16 +1,17 @@
 -- A target marks the same after a steady command that changes nothing it looks at.
-use Rattle.std.proofs.Common.{◌≡◌, ℕ, List, Bool, true, false, Option, Some, None, option_map, is_some, codes, refl, ap, sym, ◌∙◌}
+use Rattle.std.proofs.Common.{◌≡◌, ℕ, List, Bool, true, false, Option, Some, None, option_map, is_some, codes, refl, ap, sym, ◌∙◌, option_and_then}
 use Rattle.std.specs.Prelude.{bytes_eq}
 use Rattle.std.proofs.lemmas.Bool.{false≢true}
 use Rattle.bz_tree.specs.Tree.{Segment, Statement}
 use Rattle.bz_command.specs.Labels.{Package, Target, Name, Pkg, All, Kind as OfKind, Line}
-use Rattle.bz_attribute.specs.Marks.{marks, marks_if}
-use Rattle.bz_attribute.specs.Rules.{Rule, is_text, name_in, rule_of, string_in}
+use Rattle.bz_attribute.specs.Marks.{marks, marks_rule}
+use Rattle.bz_attribute.specs.Rules.{Rule, is_text, name_in, rule_of, string_value, value}
 use Rattle.bz_rule.specs.Commands.{Command, after, args_after}
 use Rattle.bz_rule_laws.specs.Again.{is_steady, looks_past, sets_a_kind}
 use Rattle.bz_rule_laws.specs.Unmentioned.{may_change}
 use Rattle.bz_rule_laws.proofs.OthersLeave.{named_left, not_true, same_first}
 use Rattle.bz_rule_laws.proofs.RuleArguments.{kind_kept, kind_there, there, there_after}
+use Rattle.bz_token.specs.Common.{map_or}
 
 -- what a target looks at: a name among arguments, a kind, or that there is a rule
 abbrev pub by_name : List ℕ → Option (List Segment) → Bool
@@ -21,26 +22,26 @@ abbrev pub by_kind : List ℕ → Option (List ℕ) → Bool
 by_kind kind None = false
 by_kind kind (Some text) = bytes_eq text kind
 
-pub name_seen : (name : List ℕ) (start : ℕ) (o : Option Rule) → marks_if (Name name) start o ≡ by_name name (there o)
+pub name_seen : (name : List ℕ) (start : ℕ) (o : Option Rule) → map_or false (marks_rule (Name name) start) o ≡ by_name name (there o)
 name_seen name start None = refl
 name_seen name start (Some r) = refl
 
-pub package_seen : (start : ℕ) (o : Option Rule) → marks_if Pkg start o ≡ by_kind (codes "package") (kind_there o)
+pub package_seen : (start : ℕ) (o : Option Rule) → map_or false (marks_rule Pkg start) o ≡ by_kind (codes "package") (kind_there o)
 package_seen start None = refl
 package_seen start (Some r) = refl
 
-pub kind_seen : (kind : List ℕ) (start : ℕ) (o : Option Rule) → marks_if (OfKind kind) start o ≡ by_kind kind (kind_there o)
+pub kind_seen : (kind : List ℕ) (start : ℕ) (o : Option Rule) → map_or false (marks_rule (OfKind kind) start) o ≡ by_kind kind (kind_there o)
 kind_seen kind start None = refl
 kind_seen kind start (Some r) = refl
 
-pub rule_seen : (start : ℕ) (o : Option Rule) → marks_if All start o ≡ is_some (there o)
+pub rule_seen : (start : ℕ) (o : Option Rule) → map_or false (marks_rule All start) o ≡ is_some (there o)
 rule_seen start None = refl
 rule_seen start (Some r) = refl
 
 name_stays : (name : List ℕ) (c : Command) (home : Package) → may_change c (codes "name") ≡ false → (o : Option (List Segment)) → by_name name (option_map (args_after c home) o) ≡ by_name name o
 name_stays name c home other None = refl
 name_stays name c home other (Some args) =
-    ap (λ o. is_text name (string_in o)) (same_first (codes "name") (args_after c home args) args (named_left c home (codes "name") other args))
+    ap (λ o. is_text name (option_and_then (λ a. string_value (value a)) o)) (same_first (codes "name") (args_after c home args) args (named_left c home (codes "name") other args))
 
 pub rule_stays : (f : List Segment → List Segment) (o : Option (List Segment)) → is_some (option_map f o) ≡ is_some o
 rule_stays f None = refl

@@ -10,10 +10,9 @@ use Rattle.bz_command.specs.declared.arguments.Attributes.TheVariants.{Every, Na
 use Rattle.bz_command.specs.declared.arguments.Moved.TheVariants.{Values}
 use Rattle.bz_command.specs.declared.arguments.Setting.TheVariants.{ToKind, ToValues}
 use Rattle.bz_attribute.specs.Rules.{Rule, first_named, is_named, is_text, kind_text, name_of, rule_of}
-use Rattle.bz_attribute.specs.Effects.{chooses_in, done, has, not_a_list, slot_done}
+use Rattle.bz_attribute.specs.Effects.{done, has, not_a_list, slot_done, chooses}
 use Rattle.bz_attribute.specs.Add.{adds}
-use Rattle.bz_attribute.specs.Replace.{replaces_first}
-use Rattle.bz_attribute.specs.Set.{sets, sets_kind, sets_kind_of}
+use Rattle.bz_attribute.specs.Set.{sets, sets_kind_of}
 use Rattle.bz_attribute.specs.declared.done.Done.{Done}
 use Rattle.bz_rule.specs.declared.command.Action.TheVariants.{Add, Remove, Set, SetIfAbsent, Delete, Rename, Move, Replace, Comment, Print}
 use Rattle.bz_rule.specs.Commands.{Command, after, args_after, args_done, done_of}
@@ -23,6 +22,8 @@ use Rattle.bz_rule_laws.proofs.FirstNamed.{first_of_named, has_first}
 use Rattle.bz_rule_laws.proofs.KeptArguments.{args_left, narrower}
 use Rattle.bz_rule_laws.proofs.RuleArguments.{kind_kept, kind_there, there, there_after}
 use Rattle.bz_rule_laws.proofs.SecondTime.{print_quiet, told, told_there}
+use Rattle.bz_attribute.specs.Replace.{replaces_in}
+use Rattle.bz_token.specs.Common.{map_or}
 
 -- Of two lists of arguments, those that some attributes are of: all, or those of a name.
 abbrev Alike : Option Attributes → List Segment → List Segment → Type 0
@@ -93,7 +94,7 @@ looks : (c : Command) (home : Package) (xs ys : List Segment) → is_steady c �
 looks (Add attr values) home xs ys steady h = ap (λ o. done (not_a_list attr o) (adds home values o)) (same_first attr xs ys h)
 looks (Remove Every values) home xs ys steady h = ap (args_done (Remove Every values) home) h
 looks (Remove (Named attr) []) home xs ys steady h = ap (done None) (same_has attr xs ys h)
-looks (Remove (Named attr) (v ∷ values)) home xs ys steady h = ap (λ o. done None (chooses_in home (Values (v ∷ values)) o)) (same_first attr xs ys h)
+looks (Remove (Named attr) (v ∷ values)) home xs ys steady h = ap (λ o. done None (map_or false (chooses home (Values (v ∷ values))) o)) (same_first attr xs ys h)
 looks (Set (ToKind kind)) home xs ys steady h = refl
 looks (Set (ToValues attr values)) home xs ys steady h = ap (λ o. done None (sets attr values o)) (same_first attr xs ys h)
 looks (SetIfAbsent attr values) home xs ys steady h = ap (λ b. done None (not b)) (same_has attr xs ys h)
@@ -101,7 +102,7 @@ looks Delete home xs ys steady h = absurd (false≢true steady)
 looks (Rename old new) home xs ys steady h = absurd (false≢true steady)
 looks (Move old new chosen) home xs ys steady h = absurd (false≢true steady)
 looks (Replace Every old new) home xs ys steady h = ap (args_done (Replace Every old new) home) h
-looks (Replace (Named attr) old new) home xs ys steady h = ap (λ o. done None (replaces_first home old new o)) (same_first attr xs ys h)
+looks (Replace (Named attr) old new) home xs ys steady h = ap (λ o. done None (map_or false (replaces_in home old new) o)) (same_first attr xs ys h)
 looks (Comment place text) home xs ys steady h = absurd (false≢true steady)
 looks (Print fields) home xs ys steady h = refl
 
@@ -123,7 +124,7 @@ abbrev pub kind_told : List ℕ → Option (List ℕ) → Done
 kind_told kind None = done None false
 kind_told kind (Some text) = done None (not (bytes_eq text kind))
 
-kind_seen : (kind : List ℕ) (o : Option Rule) → sets_kind kind o ≡ kind_told kind (option_map (λ (r : Rule). kind_text r.kind) o)
+kind_seen : (kind : List ℕ) (o : Option Rule) → (map_or (done None false) (λ r. done None (not (bytes_eq (kind_text r.kind) kind))) o) ≡ kind_told kind (option_map (λ (r : Rule). kind_text r.kind) o)
 kind_seen kind None = refl
 kind_seen kind (Some r) = refl
 

@@ -1,5 +1,5 @@
 -- A steady command finds nothing to do a second time.
-use Rattle.std.proofs.Common.{◌≡◌, ◌≤◌, ◌==◌, ℕ, List, [], ◌∷◌, ◌++◌, Bool, true, false, ◌&&◌, not, if◌then◌else◌, Option, Some, None, option_map, is_some, filter, length, map, refl, ap, sym, ◌∙◌, subst}
+use Rattle.std.proofs.Common.{◌≡◌, ◌≤◌, ◌==◌, ℕ, List, [], ◌∷◌, ◌++◌, Bool, true, false, ◌&&◌, not, if◌then◌else◌, Option, Some, None, option_map, is_some, filter, length, map, refl, ap, sym, ◌∙◌, subst, bytes_eq}
 use Rattle.std.specs.List.{list_all, list_any}
 use Rattle.std.proofs.lemmas.Bool.{and_parts, and_right, false≢true, or_left, or_right}
 use Rattle.std.proofs.lemmas.List.Folds.{list_any-append}
@@ -11,17 +11,17 @@ use Rattle.bz_command.specs.declared.arguments.Field.{Field}
 use Rattle.bz_command.specs.declared.arguments.Moved.TheVariants.{Values}
 use Rattle.bz_command.specs.declared.arguments.Setting.TheVariants.{ToKind, ToValues}
 use Rattle.bz_command.proofs.ReadBack.{quoted_value}
-use Rattle.bz_attribute.specs.Rules.{Rule, first_named, is_named, is_text, rule_of, string_value, value}
+use Rattle.bz_attribute.specs.Rules.{Rule, first_named, is_named, is_text, rule_of, string_value, value, kind_text}
 use Rattle.bz_attribute.specs.Lists.{equals, is_attribute, parts}
-use Rattle.bz_attribute.specs.Effects.{argument, chooses, chooses_in, done, done_in, fails, has, is_chosen, no_parts, not_a_list, slot_done, string, string_item}
+use Rattle.bz_attribute.specs.Effects.{argument, chooses, done, fails, has, is_chosen, not_a_list, slot_done, string, string_item}
 use Rattle.bz_attribute.specs.Add.{add, adds, fresh, new_elements}
-use Rattle.bz_attribute.specs.Remove.{chooses_anywhere, goes_with_all, remove, removes}
-use Rattle.bz_attribute.specs.Replace.{is_replaced, replace, replaced, replaced_in, replaces, replaces_first, replaces_in}
-use Rattle.bz_attribute.specs.Set.{new_of, new_value, set_if_absent, sets, sets_kind, sets_kind_of}
+use Rattle.bz_attribute.specs.Remove.{goes_with_all, remove, removes}
+use Rattle.bz_attribute.specs.Replace.{is_replaced, replace, replaced, replaced_in, replaces, replaces_in}
+use Rattle.bz_attribute.specs.Set.{new_of, new_value, set_if_absent, sets, sets_kind_of}
 use Rattle.bz_attribute.specs.declared.done.Done.{Done}
 use Rattle.bz_attribute.specs.declared.done.Note.TheVariants.{NotAList}
 use Rattle.bz_command.specs.Names.{is_identifier}
-use Rattle.bz_attribute_commands.specs.Print.{missing, field_text, fields_of, printed_of, prints}
+use Rattle.bz_attribute_commands.specs.Print.{missing, field_text, fields_of, prints, printed}
 use Rattle.bz_rule.specs.declared.command.Action.TheVariants.{Add, Remove, Set, SetIfAbsent, Delete, Rename, Move, Replace, Comment, Print}
 use Rattle.bz_rule.specs.Commands.{Command, after, args_after, args_done, done_of, is_command}
 use Rattle.bz_rule_laws.specs.Again.{IsOnce, IsQuiet, IsSettled, is_steady, subject}
@@ -29,18 +29,19 @@ use Rattle.bz_rule_laws.specs.Unmentioned.{arguments_in, arguments_of}
 use Rattle.bz_rule_laws.proofs.ArgumentNames.{attribute_named, either_way, name_with_value, same_bytes}
 use Rattle.bz_rule_laws.proofs.FirstNamed.{first_after, is_first_named}
 use Rattle.bz_rule_laws.proofs.RuleArguments.{there, there_after}
+use Rattle.bz_token.specs.Common.{is_empty, map_or}
 
 -- what the laws of bz_rule say of the effects of commands
 pub record Known : Type 0 where
   pub added : (home : Package) (attr : List ℕ) (values : List (List ℕ)) (args : List Segment) → not_a_list attr (first_named attr args) ≡ None
-      → list_all (λ v. chooses_in home (Values (v ∷ [])) (first_named attr (add home attr values args))) values ≡ true
+      → list_all (λ v. map_or false (chooses home (Values (v ∷ []))) (first_named attr (add home attr values args))) values ≡ true
   pub set : (home : Package) (attr : List ℕ) (values : List (List ℕ)) (slot : Option Statement) → (done_of (Set (ToValues attr values)) home (after (Set (ToValues attr values)) home slot)).changed ≡ false
   pub kind : (home : Package) (kind : List ℕ) (slot : Option Statement) → (done_of (Set (ToKind kind)) home (after (Set (ToKind kind)) home slot)).changed ≡ false
   pub attribute : (home : Package) (attr : List ℕ) (args : List Segment) → has attr (remove home (Named attr) [] args) ≡ false
   pub all : (home : Package) (args : List Segment) → list_any goes_with_all (remove home Every [] args) ≡ false
   pub values : (home : Package) (attr : List ℕ) (values : List (List ℕ)) (args : List Segment) → length (filter (is_named attr) args) ≤ 1
-      → chooses_in home (Values values) (first_named attr (remove home (Named attr) values args)) ≡ false
-  pub everywhere : (home : Package) (values : List (List ℕ)) (args : List Segment) → chooses_anywhere home (Values values) (remove home Every values args) ≡ false
+      → map_or false (chooses home (Values values)) (first_named attr (remove home (Named attr) values args)) ≡ false
+  pub everywhere : (home : Package) (values : List (List ℕ)) (args : List Segment) → list_any (λ a. is_attribute a && chooses home (Values values) a) (remove home Every values args) ≡ false
   pub replaced : (home : Package) (old new : List ℕ) (a : Segment) → is_attribute a ≡ true → parts (value (replaced_in home old new a)) ≡ map (map (replaced home old new)) (parts (value a))
 
 quiet : (b : Bool) → b ≡ false → IsQuiet (done None b)
@@ -54,11 +55,11 @@ none_fresh home lists earlier (v ∷ values) h =
     let both = and_parts (list_any (list_any (is_chosen home (Values (v ∷ [])))) lists) (list_all (λ w. list_any (list_any (is_chosen home (Values (w ∷ [])))) lists) values) h in
     rw both.0 (none_fresh home lists (earlier ++ v ∷ []) values both.1)
 
-some_parts : (p : Segment → Bool) (lists : List (List Segment)) → list_any (list_any p) lists ≡ true → no_parts lists ≡ false
+some_parts : (p : Segment → Bool) (lists : List (List Segment)) → list_any (list_any p) lists ≡ true → is_empty lists ≡ false
 some_parts p [] h = absurd (false≢true h)
 some_parts p (ss ∷ lists) h = refl
 
-added_quiet : (home : Package) (attr v : List ℕ) (values : List (List ℕ)) (o : Option Segment) → list_all (λ w. chooses_in home (Values (w ∷ [])) o) (v ∷ values) ≡ true → IsQuiet (done (not_a_list attr o) (adds home (v ∷ values) o))
+added_quiet : (home : Package) (attr v : List ℕ) (values : List (List ℕ)) (o : Option Segment) → list_all (λ w. map_or false (chooses home (Values (w ∷ []))) o) (v ∷ values) ≡ true → IsQuiet (done (not_a_list attr o) (adds home (v ∷ values) o))
 added_quiet home attr v values None h = absurd (false≢true h)
 added_quiet home attr v values (Some a) h =
     let lists = parts (value a) in
@@ -73,7 +74,7 @@ add_again known home attr (v ∷ values) args some calm = added_quiet home attr 
   where
     no_note : (o : Option Segment) → fails (done (not_a_list attr o) (adds home (v ∷ values) o)).note ≡ false → not_a_list attr o ≡ None
     no_note None h = refl
-    no_note (Some a) h = elim (no_parts (parts (value a))) as (λ b. fails (done (if b then Some (NotAList attr) else None) (adds home (v ∷ values) (Some a))).note ≡ false → (if b then Some (NotAList attr) else None) ≡ None) [ true ↦ λ k. absurd (false≢true (sym k)) | false ↦ λ k. refl ] h
+    no_note (Some a) h = elim (is_empty (parts (value a))) as (λ b. fails (done (if b then Some (NotAList attr) else None) (adds home (v ∷ values) (Some a))).note ≡ false → (if b then Some (NotAList attr) else None) ≡ None) [ true ↦ λ k. absurd (false≢true (sym k)) | false ↦ λ k. refl ] h
 
 -- `remove`
 
@@ -113,8 +114,8 @@ replaced_in_once known home old new a h = ap (list_any (list_any (is_replaced ho
 
 replace_again : Known → (home : Package) (attrs : Attributes) (old new : List ℕ) (args : List Segment) → replaces home attrs old new (replace home attrs old new args) ≡ false
 replace_again known home (Named attr) old new args =
-    ap (replaces_first home old new) (first_after attr (replaced_in home old new) args (λ a h. ap (is_text attr) (name_with_value _ a (attribute_named attr a h)) ∙ h))
-    ∙ elim (first_named attr args) as (λ o. first_named attr args ≡ o → replaces_first home old new (option_map (replaced_in home old new) o) ≡ false)
+    ap (map_or false (replaces_in home old new)) (first_after attr (replaced_in home old new) args (λ a h. ap (is_text attr) (name_with_value _ a (attribute_named attr a h)) ∙ h))
+    ∙ elim (first_named attr args) as (λ o. first_named attr args ≡ o → map_or false (replaces_in home old new) (option_map (replaced_in home old new) o) ≡ false)
     [ None ↦ λ e. refl | Some a ↦ λ e. replaced_in_once known home old new a (attribute_named attr a (is_first_named attr args a e)) ] refl
 replace_again known home Every old new [] = refl
 replace_again known home Every old new (a ∷ args) =
@@ -134,7 +135,7 @@ missing_calm home s r (field ∷ fields) = either_way (λ n. fails n ≡ false) 
 
 pub print_quiet : (home : Package) (fields : List Field) (s : Statement) → IsQuiet (prints home fields (Some s))
 print_quiet home fields s =
-    elim (rule_of s.nodes) as (λ o. IsQuiet (printed_of home s fields o)) [ None ↦ quiet false refl | Some r ↦ record { unchanged = refl; calm = missing_calm home s r (fields_of fields) } ]
+    elim (rule_of s.nodes) as (λ o. IsQuiet (map_or (done None false) (λ r. printed home s r (fields_of fields)) o)) [ None ↦ quiet false refl | Some r ↦ record { unchanged = refl; calm = missing_calm home s r (fields_of fields) } ]
 
 -- on a statement
 
@@ -143,7 +144,7 @@ abbrev pub told : (List Segment → Done) → Option (List Segment) → Done
 told f None = done None false
 told f (Some args) = f args
 
-pub told_there : (f : List Segment → Done) (o : Option Rule) → done_in f o ≡ told f (there o)
+pub told_there : (f : List Segment → Done) (o : Option Rule) → map_or (done None false) (λ r. f r.args) o ≡ told f (there o)
 told_there f None = refl
 told_there f (Some r) = refl
 
@@ -172,11 +173,11 @@ on_args c home s t tells again once calm h =
 -- no note at all
 no_note : (p : List Segment → Bool) (slot : Option Statement) → fails (slot_done (λ args. done None (p args)) slot).note ≡ false
 no_note p None = refl
-no_note p (Some s) = elim (rule_of s.nodes) as (λ o. fails (done_in (λ args. done None (p args)) o).note ≡ false) [ None ↦ refl | Some r ↦ refl ]
+no_note p (Some s) = elim (rule_of s.nodes) as (λ o. fails (map_or (done None false) (λ r. (λ args. done None (p args)) r.args) o).note ≡ false) [ None ↦ refl | Some r ↦ refl ]
 
 kind_calm : (kind : List ℕ) (slot : Option Statement) → fails (sets_kind_of kind slot).note ≡ false
 kind_calm kind None = refl
-kind_calm kind (Some s) = elim (rule_of s.nodes) as (λ o. fails (sets_kind kind o).note ≡ false) [ None ↦ refl | Some r ↦ refl ]
+kind_calm kind (Some s) = elim (rule_of s.nodes) as (λ o. fails (map_or (done None false) (λ r. done None (not (bytes_eq (kind_text r.kind) kind))) o).note ≡ false) [ None ↦ refl | Some r ↦ refl ]
 
 pub second_time : Known → (c : Command) (home : Package) (s t : Statement) → is_command c ≡ true → is_steady c ≡ true → IsOnce (subject c) (arguments_of s) → fails (done_of c home (Some s)).note ≡ false
     → after c home (Some s) ≡ Some t → IsSettled c home (Some t)

@@ -1,5 +1,5 @@
 -- What a steady command tells does not rest on how strings are spelled, and neither does what a target marks.
-use Rattle.std.proofs.Common.{◌≡◌, ℕ, List, [], ◌∷◌, ◌++◌, Bool, true, false, ◌||◌, ◌&&◌, not, if◌then◌else◌, Option, Some, None, option_map, is_some, map, codes, refl, ap, sym, ◌∙◌, subst}
+use Rattle.std.proofs.Common.{◌≡◌, ℕ, List, [], ◌∷◌, ◌++◌, Bool, true, false, ◌||◌, ◌&&◌, not, if◌then◌else◌, Option, Some, None, option_map, is_some, map, codes, refl, ap, sym, ◌∙◌, subst, option_and_then}
 use Rattle.std.specs.Prelude.{bytes_eq}
 use Rattle.std.specs.List.{list_any}
 use Rattle.std.proofs.lemmas.Bool.{false≢true}
@@ -11,14 +11,14 @@ use Rattle.bz_command.specs.declared.arguments.Attributes.TheVariants.{Every, Na
 use Rattle.bz_command.specs.declared.arguments.Moved.{Moved}
 use Rattle.bz_command.specs.declared.arguments.Moved.TheVariants.{All, Values}
 use Rattle.bz_command.specs.declared.arguments.Setting.TheVariants.{ToKind, ToValues}
-use Rattle.bz_attribute.specs.Rules.{elements, first_named, is_text, rule_of, string_in, string_value, value}
-use Rattle.bz_attribute.specs.Lists.{is_attribute, is_list, parts, same_value}
-use Rattle.bz_attribute.specs.Effects.{chooses, chooses_in, done, is_chosen, no_parts, not_a_list, slot_done}
+use Rattle.bz_attribute.specs.Rules.{elements, first_named, is_text, rule_of, string_value, value}
+use Rattle.bz_attribute.specs.Lists.{is_attribute, is_list, parts, is_only, same}
+use Rattle.bz_attribute.specs.Effects.{chooses, done, is_chosen, not_a_list, slot_done}
 use Rattle.bz_attribute.specs.Add.{adds, fresh}
 use Rattle.bz_attribute.specs.Marks.{marks}
 use Rattle.bz_attribute.specs.Remove.{goes_with_all}
-use Rattle.bz_attribute.specs.Replace.{is_replaced, replaces_first, replaces_in}
-use Rattle.bz_attribute.specs.Set.{New, NewConstant, NewNumber, NewString, NewStrings, are_strings, is_ident, is_int, is_list_attribute, is_one_list, is_only, is_value, new_of, new_word, sets}
+use Rattle.bz_attribute.specs.Replace.{is_replaced, replaces_in}
+use Rattle.bz_attribute.specs.Set.{New, NewConstant, NewNumber, NewString, NewStrings, are_strings, is_ident, is_int, is_list_attribute, is_value, new_of, new_word, sets}
 use Rattle.bz_rule.specs.declared.command.Action.TheVariants.{Add, Remove, Set, SetIfAbsent, Delete, Rename, Move, Replace, Comment, Print}
 use Rattle.bz_rule.specs.Commands.{Command, args_done, done_of}
 use Rattle.bz_rule_laws.specs.Again.{IsQuiet, IsSettled, is_line, is_steady}
@@ -27,6 +27,7 @@ use Rattle.bz_rule_laws.proofs.OthersLeave.{kind_told, kind_told_of}
 use Rattle.bz_rule_laws.proofs.RuleArguments.{kind_there, there}
 use Rattle.bz_rule_laws.proofs.SecondTime.{print_quiet, told, told_there}
 use Rattle.bz_rule_laws.proofs.SpelledNodes.{attribute_spelled, elements_spelled, first_spelled, has_spelled, kind_spelled, list_spelled, named_spelled, parts_spelled, respelled, string_spelled, there_spelled, value_spelled}
+use Rattle.bz_token.specs.Common.{is_empty, map_or}
 
 abbrev Blind : (Segment → Bool) → Type 0
 Blind p = (s : Segment) → p (respelled s) ≡ p s
@@ -41,14 +42,14 @@ any_in_lists p blind (ss ∷ lists) = rw (any_spelled p blind ss, any_in_lists p
 
 chosen_blind : (home : Package) (chosen : Moved) → Blind (is_chosen home chosen)
 chosen_blind home All s = refl
-chosen_blind home (Values values) s = ap (λ o. list_any (λ word. same_value home word o) values) (string_spelled s.nodes)
+chosen_blind home (Values values) s = ap (λ o. list_any (λ word. map_or false (λ value. same home value word) o) values) (string_spelled s.nodes)
 
 chooses_blind : (home : Package) (chosen : Moved) → Blind (chooses home chosen)
 chooses_blind home chosen a = ap (list_any (list_any (is_chosen home chosen))) (parts_spelled a) ∙ any_in_lists (is_chosen home chosen) (chosen_blind home chosen) (parts (value a))
 
 -- `add`
 
-no_parts_spelled : (lists : List (List Segment)) → no_parts (map (map respelled) lists) ≡ no_parts lists
+no_parts_spelled : (lists : List (List Segment)) → is_empty (map (map respelled) lists) ≡ is_empty lists
 no_parts_spelled [] = refl
 no_parts_spelled (ss ∷ lists) = refl
 
@@ -62,7 +63,7 @@ add_spelled home attr values (Some a) = rw (parts_spelled a, no_parts_spelled (p
 
 -- `set`
 
-one_list_spelled : (nodes : List Item) → is_one_list (map spelled nodes) ≡ is_one_list nodes
+one_list_spelled : (nodes : List Item) → is_only is_list (map spelled nodes) ≡ is_only is_list nodes
 one_list_spelled [] = refl
 one_list_spelled (x ∷ []) = list_spelled x
 one_list_spelled (x ∷ y ∷ xs) = refl
@@ -70,7 +71,7 @@ one_list_spelled (x ∷ y ∷ xs) = refl
 new_spelled : (attr : List ℕ) (words : List (List ℕ)) (a : Segment) → new_of attr words (Some (respelled a)) ≡ new_of attr words (Some a)
 new_spelled attr [] a = refl
 new_spelled attr (word ∷ []) a =
-    ap (λ b. if bytes_eq attr (codes "name") then NewString word else (if is_list_attribute attr || b then NewStrings (word ∷ []) else new_word word)) (ap is_one_list (value_spelled a) ∙ one_list_spelled (value a))
+    ap (λ b. if bytes_eq attr (codes "name") then NewString word else (if is_list_attribute attr || b then NewStrings (word ∷ []) else new_word word)) (ap (is_only is_list) (value_spelled a) ∙ one_list_spelled (value a))
 new_spelled attr (word ∷ other ∷ words) a = refl
 
 only_spelled : (p : Item → Bool) → ((x : Item) → p (spelled x) ≡ p x) → (nodes : List Item) → is_only p (map spelled nodes) ≡ is_only p nodes
@@ -107,7 +108,7 @@ set_spelled attr words (Some a) =
 
 -- `remove`
 
-chooses_in_spelled : (home : Package) (chosen : Moved) (o : Option Segment) → chooses_in home chosen (option_map respelled o) ≡ chooses_in home chosen o
+chooses_in_spelled : (home : Package) (chosen : Moved) (o : Option Segment) → map_or false (chooses home chosen) (option_map respelled o) ≡ map_or false (chooses home chosen) o
 chooses_in_spelled home chosen None = refl
 chooses_in_spelled home chosen (Some a) = chooses_blind home chosen a
 
@@ -120,12 +121,12 @@ anywhere_blind home chosen a = rw (attribute_spelled a, chooses_blind home chose
 -- `replace`
 
 replaced_blind : (home : Package) (old new : List ℕ) → Blind (is_replaced home old new)
-replaced_blind home old new s = ap (λ o. same_value home old o && not (is_text new o)) (string_spelled s.nodes)
+replaced_blind home old new s = ap (λ o. map_or false (λ value. same home value old) o && not (is_text new o)) (string_spelled s.nodes)
 
 replaces_blind : (home : Package) (old new : List ℕ) → Blind (replaces_in home old new)
 replaces_blind home old new a = ap (list_any (list_any (is_replaced home old new))) (parts_spelled a) ∙ any_in_lists (is_replaced home old new) (replaced_blind home old new) (parts (value a))
 
-replaces_spelled : (home : Package) (old new : List ℕ) (o : Option Segment) → replaces_first home old new (option_map respelled o) ≡ replaces_first home old new o
+replaces_spelled : (home : Package) (old new : List ℕ) (o : Option Segment) → map_or false (replaces_in home old new) (option_map respelled o) ≡ map_or false (replaces_in home old new) o
 replaces_spelled home old new None = refl
 replaces_spelled home old new (Some a) = replaces_blind home old new a
 
@@ -139,7 +140,7 @@ args_spelled (Add attr values) home args steady = ap (λ o. done (not_a_list att
 args_spelled (Remove Every []) home args steady = ap (done None) (any_spelled goes_with_all goes_blind args)
 args_spelled (Remove Every (v ∷ values)) home args steady = ap (done None) (any_spelled (λ a. is_attribute a && chooses home (Values (v ∷ values)) a) (anywhere_blind home (Values (v ∷ values))) args)
 args_spelled (Remove (Named attr) []) home args steady = ap (done None) (has_spelled attr args)
-args_spelled (Remove (Named attr) (v ∷ values)) home args steady = ap (λ o. done None (chooses_in home (Values (v ∷ values)) o)) (first_spelled attr args) ∙ ap (done None) (chooses_in_spelled home (Values (v ∷ values)) (first_named attr args))
+args_spelled (Remove (Named attr) (v ∷ values)) home args steady = ap (λ o. done None (map_or false (chooses home (Values (v ∷ values))) o)) (first_spelled attr args) ∙ ap (done None) (chooses_in_spelled home (Values (v ∷ values)) (first_named attr args))
 args_spelled (Set (ToKind kind)) home args steady = refl
 args_spelled (Set (ToValues attr values)) home args steady = ap (λ o. done None (sets attr values o)) (first_spelled attr args) ∙ ap (done None) (set_spelled attr values (first_named attr args))
 args_spelled (SetIfAbsent attr values) home args steady = ap (λ b. done None (not b)) (has_spelled attr args)
@@ -147,7 +148,7 @@ args_spelled Delete home args steady = absurd (false≢true steady)
 args_spelled (Rename old new) home args steady = absurd (false≢true steady)
 args_spelled (Move old new chosen) home args steady = absurd (false≢true steady)
 args_spelled (Replace Every old new) home args steady = ap (done None) (any_spelled (λ a. is_attribute a && replaces_in home old new a) (each_blind home old new) args)
-args_spelled (Replace (Named attr) old new) home args steady = ap (λ o. done None (replaces_first home old new o)) (first_spelled attr args) ∙ ap (done None) (replaces_spelled home old new (first_named attr args))
+args_spelled (Replace (Named attr) old new) home args steady = ap (λ o. done None (map_or false (replaces_in home old new) o)) (first_spelled attr args) ∙ ap (done None) (replaces_spelled home old new (first_named attr args))
 args_spelled (Comment place text) home args steady = absurd (false≢true steady)
 args_spelled (Print fields) home args steady = refl
 
@@ -176,9 +177,9 @@ settled_spelled _ home s t steady is q = absurd (false≢true steady)
 
 name_alike : (name : List ℕ) (o : Option (List Segment)) → by_name name (option_map (map respelled) o) ≡ by_name name o
 name_alike name None = refl
-name_alike name (Some args) = ap (λ o. is_text name (string_in o)) (first_spelled (codes "name") args) ∙ ap (is_text name) (in_spelled (first_named (codes "name") args))
+name_alike name (Some args) = ap (λ o. is_text name (option_and_then (λ a. string_value (value a)) o)) (first_spelled (codes "name") args) ∙ ap (is_text name) (in_spelled (first_named (codes "name") args))
   where
-    in_spelled : (o : Option Segment) → string_in (option_map respelled o) ≡ string_in o
+    in_spelled : (o : Option Segment) → option_and_then (λ a. string_value (value a)) (option_map respelled o) ≡ option_and_then (λ a. string_value (value a)) o
     in_spelled None = refl
     in_spelled (Some a) = ap string_value (value_spelled a) ∙ string_spelled (value a)
 

@@ -1,5 +1,5 @@
 -- Strings that are spelled otherwise: the same rule, the same names and lists.
-use Rattle.std.proofs.Common.{◌≡◌, ℕ, List, [], ◌∷◌, ◌++◌, Bool, true, false, ◌&&◌, if◌then◌else◌, Some, None, option_map, is_some, drop, map, codes, refl, ap, sym, ◌∙◌}
+use Rattle.std.proofs.Common.{◌≡◌, ℕ, List, [], ◌∷◌, ◌++◌, Bool, true, false, ◌&&◌, if◌then◌else◌, Some, None, option_map, is_some, drop, map, codes, refl, ap, sym, ◌∙◌, option_and_then}
 use Rattle.std.specs.List.{list_all}
 use Rattle.std.proofs.lemmas.Bool.{and_parts, false≢true}
 use Rattle.std.proofs.lemmas.List.{map-append}
@@ -8,10 +8,11 @@ use Rattle.bz_tree.specs.declared.stmt.GroupKind.TheVariants.{RuleCall, List as 
 use Rattle.bz_tree.specs.Tree.{Item, leaf, group, Items, no_items, item, Segs, no_segs, seg, Segment, list_of, segments}
 use Rattle.bz_layout_laws.specs.Spelled.{spelled, spelled_items, spelled_segs}
 use Rattle.bz_layout_laws.proofs.SpelledValues.{respelled_value}
-use Rattle.bz_attribute.specs.Rules.{call_at, comma_of, dotted, elements, end_of, first_named, ident_of, is_call, is_named, is_operator_item, is_text, kind_text, name_of, rule_from, rule_of, string_value, text_of, value, value_in}
+use Rattle.bz_attribute.specs.Rules.{call_at, comma_of, dotted, elements, end_of, first_named, ident_of, is_call, is_named, is_operator_item, is_text, kind_text, name_of, rule_from, rule_of, string_value, text_of, value}
 use Rattle.bz_attribute.specs.Lists.{ends, is_attribute, is_joint, is_list, is_part, is_plus, parts, parts_from}
 use Rattle.bz_attribute.specs.Effects.{has}
 use Rattle.bz_rule_laws.proofs.RuleArguments.{kind_there, there}
+use Rattle.bz_command.specs.Values.{value_of}
 
 abbrev pub respelled : Segment → Segment
 respelled a = record a { nodes = map spelled a.nodes }
@@ -139,7 +140,7 @@ value_nodes (x ∷ y ∷ xs) = refl
 pub value_spelled : (a : Segment) → value (respelled a) ≡ map spelled (value a)
 value_spelled a = value_nodes a.nodes
 
-text_spelled : (x : Item) → value_in (text_of (spelled x)) ≡ value_in (text_of x)
+text_spelled : (x : Item) → option_and_then value_of (text_of (spelled x)) ≡ option_and_then value_of (text_of x)
 text_spelled (leaf String text) = respelled_value String text
 text_spelled (leaf _ text) = refl
 text_spelled (group kind segs one_comma end) = refl

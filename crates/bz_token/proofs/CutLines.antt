@@ -9,8 +9,8 @@ use Rattle.bz_token.specs.declared.cutter.scan.CutState.{CutState}
 use Rattle.bz_token.specs.declared.cutter.scan.CutState.TheVariants.{Plain, Ended, BrokenOff}
 use Rattle.bz_token.specs.declared.cutter.scan.Scan.{Scan}
 use Rattle.bz_token.specs.Groups.{grouped, grouped_from}
-use Rattle.bz_token.specs.Munch.{IsLongest, AreMunched}
-use Rattle.bz_token.specs.Pieces.{is_byte, is_comment, is_broken_off, is_piece, pieces}
+use Rattle.bz_token.specs.Munch.{IsLongest, AreMunched, munched}
+use Rattle.bz_token.specs.Pieces.{is_byte, is_comment, is_broken_off, is_piece}
 use Rattle.bz_token.specs.LogicalLines.{Line, count, ends_line, breaks_off, line_goes_on, is_gap, kind_of, line_of, lines}
 use Rattle.bz_token.specs.private.CutSteps.{is_broken, line_at, at, with_comment, outside}
 use Rattle.bz_token.proofs.CutMunch.{munched_are}
@@ -139,4 +139,4 @@ lines_of bytes ((c ∷ p) ∷ ps) m =
 
 -- the first law: the logical lines of a text
 pub lines_are : (bytes : List ℕ) → lines bytes ≡ lines_seen bytes
-lines_are bytes = sym (lines_of bytes (pieces bytes) (munched_are is_piece (λ b. refl) bytes))
+lines_are bytes = sym (lines_of bytes (munched is_piece bytes) (munched_are is_piece (λ b. refl) bytes))

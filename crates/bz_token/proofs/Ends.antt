@@ -14,12 +14,13 @@ use Rattle.bz_token.specs.declared.scan_string.Escape.TheVariants.{Unescaped}
 use Rattle.bz_token.specs.declared.token.Kind.{Kind}
 use Rattle.bz_token.specs.declared.token.Kind.TheVariants.{Identifier, Keyword, Integer, String, Operator, Newline, Comment, Kept}
 use Rattle.bz_token.specs.Pieces.{is_quote}
-use Rattle.bz_token.specs.Lexical.{is_word_byte, is_blank, is_newline, operators, is_operator_text, is_keyword, is_name, is_empty, ends_blank, are_based, is_octal_digit, is_number, is_string, is_comment, closing_row, are_two, opening, opening_length, is_closed, is_long, is_text, begins, counts, is_number_kind, is_string_kind, IsToken, HasNoToken}
+use Rattle.bz_token.specs.Lexical.{is_word_byte, is_blank, is_newline, operators, is_operator_text, is_keyword, is_name, ends_blank, are_based, is_octal_digit, is_number, is_string, is_comment, closing_row, are_two, opening, opening_length, is_closed, is_text, begins, counts, is_number_kind, is_string_kind, IsToken, HasNoToken}
 use Rattle.bz_token.specs.private.Closing.{closes}
 use Rattle.bz_token.specs.Ends.{is_prefix, is_empty_string, stops, stops_at}
 use Rattle.bz_token.proofs.Classes.{Class, letter, digit, quote, newline, hash, mark, unknown, class_of, can_start, text_class, letter_class, digit_class, name_parts, keyword_name, number_starts, one_of, empty_no_text}
 use Rattle.bz_token.proofs.StringUnits.{closes_units}
 use Rattle.bz_token.proofs.Openings.{opening_more, name_opening, opening_facts, same_opening, opening_same, third_quote, no_opening, ends_name, closes_once}
+use Rattle.bz_token.specs.Common.{is_empty, map_or}
 
 -- what rules a longer token out
 abbrev pub NoLonger : List ℕ → List ℕ → Type 0
@@ -326,8 +327,8 @@ comment_token b bs after whole stop = free Comment b bs after whole (ap (can_sta
     longer Newline m more rest split is counted = false≢true (started Newline m more is)
     longer Kept m more rest split is counted = false≢true is
 
-some_long : (text : List ℕ) (a : Opening) → opening text ≡ Some a → (long : Bool) → (is_long (opening text) || not long) ≡ true → long ≡ true → a.quotes.long ≡ true
-some_long text a opens true h is = sym (ap is_long opens) ∙ or_false (is_long (opening text)) h
+some_long : (text : List ℕ) (a : Opening) → opening text ≡ Some a → (long : Bool) → (map_or false (λ o. o.quotes.long) (opening text) || not long) ≡ true → long ≡ true → a.quotes.long ≡ true
+some_long text a opens true h is = sym (ap (map_or false (λ o. o.quotes.long)) opens) ∙ or_false (map_or false (λ o. o.quotes.long) (opening text)) h
   where
     or_false : (x : Bool) → (x || false) ≡ true → x ≡ true
     or_false true h = refl
@@ -335,15 +336,15 @@ some_long text a opens true h is = sym (ap is_long opens) ∙ or_false (is_long 
 some_long text a opens false h is = absurd (false≢true is)
 
 -- a string that counts at a place opens as the place does
-counted_string : (place text rest : List ℕ) (o : Opening) → opening place ≡ Some o → place ≡ text ++ rest → is_string text ≡ true → (is_long (opening text) || not o.quotes.long) ≡ true → closes o.quotes 0 Unescaped (drop (opening_length o) text) ≡ true
+counted_string : (place text rest : List ℕ) (o : Opening) → opening place ≡ Some o → place ≡ text ++ rest → is_string text ≡ true → (map_or false (λ o. o.quotes.long) (opening text) || not o.quotes.long) ≡ true → closes o.quotes 0 Unescaped (drop (opening_length o) text) ≡ true
 counted_string place text rest o opens split is counted =
     let s = string_opens text is in
     let same : s.0 ≡ o = same_opening text rest s.0 o s.1 (ap opening (sym split) ∙ opens) (some_long text s.0 s.1 o.quotes.long counted) in
     subst (λ x. closes x.quotes 0 Unescaped (drop (opening_length x) text) ≡ true) same s.2
 
 -- where a string opens, strings alone count
-counts_string : (place text : List ℕ) (kind : Kind) (o : Opening) → opening place ≡ Some o → counts place kind text ≡ true → (is_string_kind kind ≡ true) × ((is_long (opening text) || not o.quotes.long) ≡ true)
-counts_string place text kind o opens counted = and_parts (is_string_kind kind) (is_long (opening text) || not o.quotes.long) (rw (opens, counts) at counted)
+counts_string : (place text : List ℕ) (kind : Kind) (o : Opening) → opening place ≡ Some o → counts place kind text ≡ true → (is_string_kind kind ≡ true) × ((map_or false (λ o. o.quotes.long) (opening text) || not o.quotes.long) ≡ true)
+counts_string place text kind o opens counted = and_parts (is_string_kind kind) (map_or false (λ o. o.quotes.long) (opening text) || not o.quotes.long) (rw (opens, counts) at counted)
 
 only_strings : (kind : Kind) (text : List ℕ) → is_string_kind kind ≡ true → is_text kind text ≡ true → is_string text ≡ true
 only_strings String text h is = is
@@ -417,7 +418,7 @@ string_token_at text after o opens place closed = token_from String text after w
     long_or_not false = refl
 
     counted : counts (text ++ after) String text ≡ true
-    counted = rw (place, counts) (ap (λ x. is_long x || not o.quotes.long) opens ∙ long_or_not o.quotes.long)
+    counted = rw (place, counts) (ap (λ x. map_or false (λ o. o.quotes.long) x || not o.quotes.long) opens ∙ long_or_not o.quotes.long)
 
     longer : NoLonger text after
     longer k m more rest split is counts_too =

@@ -9,7 +9,7 @@ use Rattle.bz_token.specs.declared.token.Kind.{Kind}
 use Rattle.bz_token.specs.declared.token.Kind.TheVariants.{Identifier, Keyword, Integer, String, Operator, Newline, Comment, Kept}
 use Rattle.bz_token.specs.declared.scan_string.Opening.{Opening}
 use Rattle.bz_token.specs.Pieces.{is_quote}
-use Rattle.bz_token.specs.Lexical.{is_word_byte, is_newline, begins, opens_after, opening, is_name, is_keyword, is_string, is_text, is_long, is_string_kind, is_number_kind, counts, HasNoToken}
+use Rattle.bz_token.specs.Lexical.{is_word_byte, is_newline, begins, opens_after, opening, is_name, is_keyword, is_string, is_text, is_string_kind, is_number_kind, counts, HasNoToken}
 use Rattle.bz_token.specs.Reading.{continues}
 use Rattle.bz_token.proofs.Classes.{keyword_name, same_bytes}
 use Rattle.bz_token.proofs.Openings.{opens_r, opens_rb, opens_b, opens_br, opens_plain}
@@ -17,6 +17,7 @@ use Rattle.bz_token.proofs.Ends.{number_words, comment_parts}
 use Rattle.bz_token.proofs.Agree.{is_operator_plain, operator_plain}
 use Rattle.bz_token.proofs.Unique.{longer_front}
 use Rattle.bz_token.proofs.Joins.{any_left}
+use Rattle.bz_token.specs.Common.{map_or}
 
 abbrev pub has_newline : List ℕ → Bool
 has_newline xs = list_any is_newline xs
@@ -109,7 +110,7 @@ opening_same_more (a ∷ bs) r h = elim (cases_Bool (a == 114)) [
 -- what counts, by what opens at the place, whether a digit stands there, and how many letters, digits and underscores
 abbrev counts_by : Option Opening → Bool → ℕ → Kind → List ℕ → Bool
 counts_by opens digit words kind text = elim opens [
-  | Some o ↦ is_string_kind kind && (is_long (opening text) || not o.quotes.long)
+  | Some o ↦ is_string_kind kind && (map_or false (λ o. o.quotes.long) (opening text) || not o.quotes.long)
   | None ↦ elim digit [
     | true ↦ is_number_kind kind && (length text == words)
     | false ↦ true

@@ -4,7 +4,7 @@ use Rattle.std.proofs.lemmas.Bool.{cases_Bool, or_cases, false≢true, eqb-true}
 use Rattle.bz_token.specs.declared.token.Kind.{Kind}
 use Rattle.bz_token.specs.declared.token.Kind.TheVariants.{Identifier, Keyword, Integer, String, Operator, Newline, Comment, Kept}
 use Rattle.bz_token.specs.Lexical.{operators, is_operator_text, is_text}
-use Rattle.bz_token.specs.Brackets.{is_inside, is_opening_bracket, is_closing_bracket, is_line, bracket_fits, fits, open_after_byte, open_after_token}
+use Rattle.bz_token.specs.Brackets.{is_inside, is_opening_bracket, is_closing_bracket, is_line, bracket_fits, fits, open_after_token}
 use Rattle.bz_token.specs.Reading.{begins_gap, is_white, continues}
 use Rattle.bz_token.proofs.Classes.{mark, class_of, can_start, text_class, one_of, same_bytes}
 use Rattle.bz_token.proofs.Scanning.{marks}
@@ -62,13 +62,13 @@ or_none true y h = absurd (false≢true (sym h))
 or_none false y h = (refl, h)
 
 -- the open brackets after a token are those after its first byte
-pub open_after_first_byte : (kind : Kind) (opened : List ℕ) (b : ℕ) (bs : List ℕ) → is_text kind (b ∷ bs) ≡ true → open_after_byte opened b ≡ open_after_token opened (b ∷ bs)
+pub open_after_first_byte : (kind : Kind) (opened : List ℕ) (b : ℕ) (bs : List ℕ) → is_text kind (b ∷ bs) ≡ true → open_after_token opened (b ∷ []) ≡ open_after_token opened (b ∷ bs)
 open_after_first_byte kind opened b [] is = refl
 open_after_first_byte kind opened b (c ∷ bs) is =
     let none = or_none (is_opening_bracket b) (is_closing_bracket b) (no_bracket kind b c bs is) in
     plain none.0 none.1
   where
-    plain : is_opening_bracket b ≡ false → is_closing_bracket b ≡ false → open_after_byte opened b ≡ opened
+    plain : is_opening_bracket b ≡ false → is_closing_bracket b ≡ false → open_after_token opened (b ∷ []) ≡ opened
     plain o c = rw (o, c) refl
 
 -- no newline is a token within brackets, since it is white space there
@@ -98,7 +98,7 @@ fits_first depth kind opened b [] following is gap fit = both _ _ (outside kind 
 
 -- the same of the front of some bytes
 pub token_fits : (depth : ℕ) (kind : Kind) (opened after text following : List ℕ) (n : ℕ) → 0 < n → n ≤ length after → text ≡ take n after → after ≡ text ++ following → is_text kind text ≡ true → begins_gap (is_inside opened) after ≡ false
-    → bracket_fits depth opened (get_or after 0 0) ≡ true → (fits depth opened kind text ≡ true) × (open_after_byte opened (get_or after 0 0) ≡ open_after_token opened text)
+    → bracket_fits depth opened (get_or after 0 0) ≡ true → (fits depth opened kind text ≡ true) × (open_after_token opened (get_or after 0 0 ∷ []) ≡ open_after_token opened text)
 token_fits depth kind opened after [] following n some within front split is gap fit = absurd (nothing after n some within front)
   where
     nothing : (after : List ℕ) (n : ℕ) → 0 < n → n ≤ length after → [] ≡ take n after → ⊥
@@ -108,5 +108,5 @@ token_fits depth kind opened after [] following n some within front split is gap
 token_fits depth kind opened after (b ∷ bs) following n some within front split is gap fit =
     let first : get_or after 0 0 ≡ b = ap (λ xs. get_or xs 0 0) split in (
       fits_first depth kind opened b bs following is (ap (begins_gap (is_inside opened)) (sym split) ∙ gap) (ap (bracket_fits depth opened) (sym first) ∙ fit),
-      ap (open_after_byte opened) first ∙ open_after_first_byte kind opened b bs is,
+      ap (λ x0. open_after_token opened (x0 ∷ [])) first ∙ open_after_first_byte kind opened b bs is,
     )

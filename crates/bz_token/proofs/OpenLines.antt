@@ -14,7 +14,6 @@ use Rattle.bz_token.specs.declared.lexer.Lexer.{Lexer}
 use Rattle.bz_token.specs.declared.lexer.Cursor.{Cursor}
 use Rattle.bz_token.specs.Brackets.{is_inside, is_line, open_after_token}
 use Rattle.bz_token.specs.Groups.{grouped, grouped_from}
-use Rattle.bz_token.specs.Lexical.{is_empty}
 use Rattle.bz_token.specs.LogicalLines.{Line, lines}
 use Rattle.bz_token.specs.Reading.{is_gap, Piece, IsReading, open_after, bytes_of}
 use Rattle.bz_token.specs.Chunks.{is_comment_line, is_followed, chunk_goes_on, text_of, chunks}
@@ -39,6 +38,7 @@ use Rattle.bz_token.proofs.Progress.{newlines, reading_bytes, bytes_of-push, pla
 use Rattle.bz_token.proofs.Quiet.{is_quiet, not_true, quiet_append, quiet_end, plain_quiet}
 use Rattle.bz_token.proofs.Stands.{Stands, After, stands_plain, kind_with, gap_after, token_after}
 use Rattle.bz_token.proofs.TokenLines.{some_open, lines_before}
+use Rattle.bz_token.specs.Common.{is_empty}
 
 -- over the tokens of a line
 tokens_quiet : (depth : ℕ) (opened : List ℕ) (ps : List Piece) (rest bytes : List ℕ) (s : Scan) (k : LineKind) → IsReading depth opened ps rest bytes → list_any is_newline_piece ps ≡ false → Stands s (length opened) k bytes → is_ended s.inside ≡ false

@@ -11,12 +11,13 @@ use Rattle.bz_token.specs.declared.cutter.scan.LineKind.{LineKind}
 use Rattle.bz_token.specs.declared.cutter.scan.CutState.TheVariants.{Opened, OpenedTwice, Short, ShortEscape, ShortEscapeReturn, Long, LongQuote, LongEscape}
 use Rattle.bz_token.specs.declared.cutter.scan.Scan.{Scan}
 use Rattle.bz_token.specs.private.CutSteps.{is_ended, byte_of, at, outside, in_short, next_in, next, run}
-use Rattle.bz_token.specs.Lexical.{closing_row, are_two, is_empty, is_string, opening, opening_length}
+use Rattle.bz_token.specs.Lexical.{closing_row, are_two, is_string, opening, opening_length}
 use Rattle.bz_token.specs.private.Closing.{closes}
 use Rattle.bz_token.proofs.CutMachine.{run_append}
 use Rattle.bz_token.proofs.Openings.{opening_facts}
 use Rattle.bz_token.proofs.Ends.{string_opens}
 use Rattle.bz_token.proofs.Agree.{IsAt, step_from, long_state, long_quotes, row_target, quote_plain, no_newline, long_next, in_long_quote, in_long_escape, in_long_plain, moves, unescaped, done, escape, goes, short_step, quote_of, not_ended, string_parts, letters_run}
+use Rattle.bz_token.specs.Common.{is_empty}
 
 not_empty : (xs : List ℕ) (m : ℕ) (more : List ℕ) → is_empty (xs ++ m ∷ more) ≡ true → ⊥
 not_empty [] m more e = false≢true e

@@ -12,10 +12,11 @@ use Rattle.bz_token.specs.declared.scan_string.Escape.{Escape}
 use Rattle.bz_token.specs.declared.scan_string.Escape.TheVariants.{Unescaped}
 use Rattle.bz_token.specs.declared.token.Kind.TheVariants.{String}
 use Rattle.bz_token.specs.Pieces.{is_quote}
-use Rattle.bz_token.specs.Lexical.{is_word_byte, closing_row, are_two, opens_after, prefix_letters, opening, opening_length, is_empty, is_newline, begins}
+use Rattle.bz_token.specs.Lexical.{is_word_byte, closing_row, are_two, opens_after, prefix_letters, opening, opening_length, is_newline, begins}
 use Rattle.bz_token.specs.private.Closing.{is_escaped, escape_after, closes}
 use Rattle.bz_token.specs.Ends.{is_prefix}
 use Rattle.bz_token.proofs.Classes.{class_of, can_start, opening_starts}
+use Rattle.bz_token.specs.Common.{is_empty}
 
 -- a longer text opens the same string, or a long one where the shorter text opened a short one
 pub record OpensMore (o : Opening) (bytes : List ℕ) : Type 0 where

@@ -4,7 +4,7 @@ use Rattle.std.specs.Prelude.{nat_lt}
 use Rattle.std.proofs.lemmas.List.{drop-drop}
 use Rattle.std.proofs.Math.Seq.{drop-nil}
 use Rattle.std.proofs.lemmas.Bool.Decides.{nat_tests}
-use Rattle.bz_token.specs.Brackets.{is_inside, is_opening_bracket, is_closing_bracket, open_after_byte}
+use Rattle.bz_token.specs.Brackets.{is_inside, is_opening_bracket, is_closing_bracket, open_after_token}
 
 no_less : (n : ℕ) → nat_lt n 0 ≡ false
 no_less n = grind (arith, nat_tests)
@@ -20,5 +20,5 @@ inside_drop [] n = rw drop-nil (no_less n)
 inside_drop (x ∷ xs) zero = some_more (length xs)
 inside_drop (x ∷ xs) (suc n) = less_suc n (length xs) ∙ inside_drop xs n
 
-pub closed_bracket : (xs : List ℕ) (n b : ℕ) → is_opening_bracket b ≡ false → is_closing_bracket b ≡ true → drop (n + 1) xs ≡ open_after_byte (drop n xs) b
+pub closed_bracket : (xs : List ℕ) (n b : ℕ) → is_opening_bracket b ≡ false → is_closing_bracket b ≡ true → drop (n + 1) xs ≡ open_after_token (drop n xs) (b ∷ [])
 closed_bracket xs n b none closing = simp (none, closing) (sym (drop-drop 1 n xs))

@@ -7,7 +7,7 @@ use Rattle.std.proofs.lemmas.List.Sums.{prefix_len-le-length}
 use Rattle.std.proofs.lemmas.Bool.{false≢true}
 use Rattle.std.proofs.lemmas.Bool.Decides.{nat_tests}
 use Rattle.bz_token.specs.declared.gap.TokenGap.{TokenGap}
-use Rattle.bz_token.specs.Brackets.{is_opening_bracket, is_closing_bracket, is_inside, bracket_fits, open_after_byte}
+use Rattle.bz_token.specs.Brackets.{is_opening_bracket, is_closing_bracket, is_inside, bracket_fits, open_after_token}
 use Rattle.bz_token.specs.Lexical.{begins, is_blank}
 use Rattle.bz_token.specs.Reading.{is_gap, begins_gap}
 use Rattle.bz_token.specs.private.Scans.{IsBadPlace, bad_fault, IsMisfit, misfit_fault}
@@ -145,7 +145,7 @@ step_taken depth opened bytes (step.Token s) none is =
     let opens = parts.0 in
     let closes = parts.1 in
     let fits : bracket_fits depth opened (get_or bytes 0 0) ≡ true = rw (opens, closes) refl in
-    let same : opened ≡ open_after_byte opened (get_or bytes 0 0) = rw (opens, closes) refl in
+    let same : opened ≡ open_after_token opened (get_or bytes 0 0 ∷ []) = rw (opens, closes) refl in
     (is.0, is.1, fits, same)
   where
     neither : (x y : Bool) → (x || y) ≡ false → (x ≡ false) × (y ≡ false)

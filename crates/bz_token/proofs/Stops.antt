@@ -11,13 +11,14 @@ use Rattle.bz_token.specs.declared.scan_string.Escape.TheVariants.{Unescaped}
 use Rattle.bz_token.specs.declared.token.Kind.{Kind}
 use Rattle.bz_token.specs.declared.token.Kind.TheVariants.{Identifier, Keyword, Integer, String, Operator, Newline, Comment, Kept}
 use Rattle.bz_token.specs.Pieces.{is_quote}
-use Rattle.bz_token.specs.Lexical.{is_word_byte, is_blank, is_newline, is_one_of, operators, is_operator_text, keywords, is_keyword, is_name, is_comment, ends_blank, closing_row, are_two, opens_after, opening, opening_length, is_long, is_text, counts, is_string_kind, IsToken}
+use Rattle.bz_token.specs.Lexical.{is_word_byte, is_blank, is_newline, is_one_of, operators, is_operator_text, keywords, is_keyword, is_name, is_comment, ends_blank, closing_row, are_two, opens_after, opening, opening_length, is_text, counts, is_string_kind, IsToken}
 use Rattle.bz_token.specs.private.Closing.{closes}
 use Rattle.bz_token.specs.Ends.{is_prefix, is_empty_string, stops, stops_at, is_comment_kind, ends}
 use Rattle.bz_token.proofs.Classes.{hash as hash_class}
 use Rattle.bz_token.proofs.Classes.{mark, class_of, can_start, text_class, digit_class, name_parts, keyword_name, number_starts, one_of, same_bytes, empty_no_text}
 use Rattle.bz_token.proofs.Openings.{opens_r, opens_b, opens_rb, opens_br, opening_more, opening_facts, no_opening, ends_name}
 use Rattle.bz_token.proofs.Ends.{name_token, number_token, operator_token, line_token, comment_token, string_token, string_opens, stops_run, number_words, counts_free, no_digit, mark_of, comment_parts}
+use Rattle.bz_token.specs.Common.{map_or}
 
 keyword_no_prefix : (text : List ℕ) → is_keyword text ≡ true → not (is_prefix text) ≡ true
 unfolding keywords
@@ -175,7 +176,7 @@ no_string_opens place text kind no_text counted = by (opening place) refl
   where
     by : (o : Option Opening) → opening place ≡ o → opening place ≡ None
     by None e = e
-    by (Some o) e = absurd (false≢true (sym no_text ∙ (and_parts (is_string_kind kind) (is_long (opening text) || not o.quotes.long) (rw (e, counts) at counted)).0))
+    by (Some o) e = absurd (false≢true (sym no_text ∙ (and_parts (is_string_kind kind) (map_or false (λ o. o.quotes.long) (opening text) || not o.quotes.long) (rw (e, counts) at counted)).0))
 
 not_nil : (b : ℕ) (bs : List ℕ) → b ∷ bs ≡ [] → ⊥
 not_nil b bs e = cc
@@ -289,8 +290,8 @@ string_ends text (b ∷ bs) token =
           let two = last (drop (o.prefix + 1) text) (omega (arith, size, length-drop (o.prefix + 1) text)) closed' parts.1 in
           let long : more.more.quotes.long ≡ true =
           facts.long ∙ ap (λ n. are_two more.more.quotes.byte (drop (n + 1) (text ++ b ∷ bs))) more.prefix ∙ ap (λ q. are_two q (drop (o.prefix + 1) (text ++ b ∷ bs))) more.byte ∙ ap (are_two o.quotes.byte) tail ∙ two in
-          let both = and_parts true (is_long (opening text) || not more.more.quotes.long) (rw (more.opens, counts) at token.counted) in
-          absurd (false≢true (sym (none (is_long (opening text)) more.more.quotes.long (ap is_long opens ∙ short) long) ∙ both.1))
+          let both = and_parts true (map_or false (λ o. o.quotes.long) (opening text) || not more.more.quotes.long) (rw (more.opens, counts) at token.counted) in
+          absurd (false≢true (sym (none (map_or false (λ o. o.quotes.long) (opening text)) more.more.quotes.long (ap (map_or false (λ o. o.quotes.long)) opens ∙ short) long) ∙ both.1))
     ]
       where
         none : (x y : Bool) → x ≡ false → y ≡ true → (x || not y) ≡ false

@@ -8,9 +8,10 @@ use Rattle.bz_token.specs.declared.scan_string.Escape.TheVariants.{Unescaped, Af
 use Rattle.bz_token.specs.declared.scan_string.Quotes.{Quotes}
 use Rattle.bz_token.specs.Groups.{grouped_from}
 use Rattle.bz_token.specs.Pieces.{is_byte, escape_takes, units, but_last, stops_short, three_in_a_row, is_quote}
-use Rattle.bz_token.specs.Lexical.{is_empty, is_closed_inside}
+use Rattle.bz_token.specs.Lexical.{is_closed_inside}
 use Rattle.bz_token.specs.private.Closing.{is_escaped, starts_escape, escape_after, closes}
 use Rattle.bz_token.proofs.CutStrings.{grouped_joins, grouped_apart, but_last_cons, takes_cases, three_step, three_now, third, row}
+use Rattle.bz_token.specs.Common.{is_empty}
 
 abbrev short : ℕ → Quotes
 short q = record { byte = q; long = false }

@@ -12,7 +12,7 @@ use Rattle.bz_token.specs.declared.cutter.scan.CutState.{CutState}
 use Rattle.bz_token.specs.declared.cutter.scan.CutState.TheVariants.{Plain, Ended, BrokenOff, Backslash, BackslashReturn, Comment, Opened, OpenedTwice, Short, ShortEscape, ShortEscapeReturn, Long, LongQuote, LongTwoQuotes, LongEscape}
 use Rattle.bz_token.specs.declared.cutter.scan.Scan.{Scan}
 use Rattle.bz_token.specs.private.CutSteps.{is_ended, is_broken, line_at, at, next, start, run}
-use Rattle.bz_token.specs.Lexical.{is_empty, is_text}
+use Rattle.bz_token.specs.Lexical.{is_text}
 use Rattle.bz_token.specs.Ends.{is_comment_kind}
 use Rattle.bz_token.specs.Brackets.{is_inside, is_line, fits, open_after_token}
 use Rattle.bz_token.specs.LogicalLines.{Line, lines}
@@ -28,6 +28,7 @@ use Rattle.bz_token.proofs.Progress.{reading_bytes, bytes_of-push}
 use Rattle.bz_token.specs.TokenLines.{is_newline_piece, is_comment_piece, kind_of, line_of, lines_from, lines_of}
 use Rattle.bz_token.proofs.Quiet.{quiet_end, seen_quiet}
 use Rattle.bz_token.proofs.Stands.{Stands, stands_plain, stands_final, stands_first, kind_with, gap_after, token_after}
+use Rattle.bz_token.specs.Common.{is_empty}
 
 -- the kind of a line with one token more
 kinds : (a b : Bool) (kind : Kind) → (a ≡ true → b ≡ true) → (if a && (is_line kind && true) then Blank else (if b && ((is_line kind || is_comment_kind kind) && true) then CommentLine else Statement)) ≡ kind_with (if a then Blank else (if b then CommentLine else Statement)) kind

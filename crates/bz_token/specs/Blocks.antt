@@ -16,10 +16,8 @@ continues b after = b == 92 && (bytes_eq (take 1 after) (10 ∷ []) || bytes_eq 
 -- what stands after white space and continued lines, if it stands in column 1; `first`: this is column 1
 abbrev pub head_from : Bool → List ℕ → List ℕ
 head_from first [] = []
-head_from first (b ∷ bs) = elim (is_white b || continues b bs) [
-  | true ↦ head_from (b == 10) bs
-  | false ↦ cond first (b ∷ bs) []
-]
+head_from first (b ∷ bs) =
+    elim (is_white b || continues b bs) [ true ↦ head_from (b == 10) bs | false ↦ cond first (b ∷ bs) [] ]
 
 abbrev pub word_at : List ℕ → List ℕ
 word_at bytes = take_while is_word_byte bytes
@@ -33,9 +31,8 @@ opener line = opener_of (word_at (head_from true line))
 
 -- whether text that follows a block goes on with it: its first byte is white space, or an `if` meets one of its branches
 abbrev pub has_branch : Opener → List ℕ → Bool
-has_branch Def text = false
-has_branch For text = false
 has_branch If text = bytes_eq (word_at text) (codes "elif") || bytes_eq (word_at text) (codes "else")
+has_branch _ text = false
 
 abbrev pub goes_on : Opener → List ℕ → Bool
 goes_on word [] = false

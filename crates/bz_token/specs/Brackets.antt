@@ -35,23 +35,17 @@ is_line _ = false
 
 -- a token fits where these brackets are open; newlines are tokens outside brackets alone
 abbrev pub fits : ℕ → List ℕ → Kind → List ℕ → Bool
-fits depth opened kind [] = true
 fits depth opened kind (b ∷ []) = not (is_line kind && is_inside opened) && bracket_fits depth opened b
-fits depth opened kind (b ∷ c ∷ bs) = true
-
-abbrev pub open_after_byte : List ℕ → ℕ → List ℕ
-open_after_byte opened b = if is_opening_bracket b then b ∷ opened else (if is_closing_bracket b then drop 1 opened else opened)
+fits depth opened kind _ = true
 
 -- the brackets that are open after a token
 abbrev pub open_after_token : List ℕ → List ℕ → List ℕ
-open_after_token opened [] = opened
-open_after_token opened (b ∷ []) = open_after_byte opened b
-open_after_token opened (b ∷ c ∷ bs) = opened
+open_after_token opened (b ∷ []) = if is_opening_bracket b then b ∷ opened else (if is_closing_bracket b then drop 1 opened else opened)
+open_after_token opened _ = opened
 
 abbrev pub is_bracket : (ℕ → Bool) → List ℕ → Bool
-is_bracket test [] = false
 is_bracket test (b ∷ []) = test b
-is_bracket test (b ∷ c ∷ bs) = false
+is_bracket test _ = false
 
 -- the tokens of the brackets that are open after a list of tokens
 abbrev pub open_tokens : List Placed → List Placed → List Placed

@@ -10,9 +10,8 @@ use Rattle.bz_token.specs.LogicalLines.{Line, lines}
 use Rattle.bz_token.specs.Blocks.{opener, goes_on}
 
 abbrev pub is_comment_line : LineKind → Bool
-is_comment_line Blank = false
 is_comment_line CommentLine = true
-is_comment_line Statement = false
+is_comment_line _ = false
 
 -- the lines of a chunk from the first that is no comment
 abbrev pub after_comments : List Line → List Line
@@ -21,9 +20,8 @@ after_comments (l ∷ ls) = elim (is_comment_line l.kind) [ true ↦ after_comme
 
 -- the word of a block that a statement line begins with
 abbrev pub block_word : LineKind → List ℕ → Option Opener
-block_word Blank text = None
-block_word CommentLine text = None
 block_word Statement text = opener text
+block_word _ text = None
 
 -- whether lines that begin with such a word go on with a text: it goes on with the block, and no string broke off before
 abbrev pub takes_on : Option Opener → List Line → List ℕ → Bool

@@ -8,6 +8,7 @@ use Rattle.bz_token.specs.declared.scan_string.Quotes.{Quotes}
 use Rattle.bz_token.specs.declared.scan_string.Opening.{Opening}
 use Rattle.bz_token.specs.declared.token.Kind.TheVariants.{Identifier, Keyword, Integer, String, Operator, Newline, Comment, Kept}
 use Rattle.bz_token.specs.Pieces.{is_byte, is_quote, units, but_last, stops_short, three_in_a_row}
+use Rattle.bz_token.specs.Common.{is_empty, map_or}
 
 -- ASCII letters, digits and underscores
 abbrev pub is_word_byte : ℕ → Bool
@@ -24,10 +25,6 @@ is_newline b = b == 10
 abbrev pub begins : (ℕ → Bool) → List ℕ → Bool
 begins test [] = false
 begins test (b ∷ bs) = test b
-
-abbrev pub is_empty : List ℕ → Bool
-is_empty [] = true
-is_empty (b ∷ bs) = false
 
 abbrev pub is_one_of : List (List ℕ) → List ℕ → Bool
 is_one_of texts text = list_any (bytes_eq text) texts
@@ -131,11 +128,6 @@ is_text Newline text = bytes_eq text (10 ∷ [])
 is_text Comment text = is_comment text
 is_text Kept text = false
 
--- whether three quotes open a string
-abbrev pub is_long : Option Opening → Bool
-is_long None = false
-is_long (Some o) = o.quotes.long
-
 abbrev pub is_number_kind : Kind → Bool
 is_number_kind Integer = true
 is_number_kind _ = false
@@ -148,7 +140,7 @@ is_string_kind _ = false
 -- underscores that stand there; anywhere else every text counts.
 abbrev pub counts : List ℕ → Kind → List ℕ → Bool
 counts place kind text = elim (opening place) [
-  | Some o ↦ is_string_kind kind && (is_long (opening text) || not o.quotes.long)
+  | Some o ↦ is_string_kind kind && (map_or false (λ o. o.quotes.long) (opening text) || not o.quotes.long)
   | None ↦ elim (begins is_ascii_digit place) [
     | true ↦ is_number_kind kind && (length text == prefix_len is_word_byte place)
     | false ↦ true

@@ -5,7 +5,8 @@ use Rattle.std.specs.List.{list_all, list_any, concat}
 use Rattle.bz_token.specs.declared.cutter.scan.LineKind.{LineKind}
 use Rattle.bz_token.specs.declared.cutter.scan.LineKind.TheVariants.{Blank, CommentLine, Statement}
 use Rattle.bz_token.specs.Groups.{grouped}
-use Rattle.bz_token.specs.Pieces.{is_byte, is_comment, is_continued, is_broken_off, pieces}
+use Rattle.bz_token.specs.Pieces.{is_byte, is_comment, is_continued, is_broken_off, is_piece}
+use Rattle.bz_token.specs.Munch.{munched}
 
 abbrev pub is_one_of : List ℕ → List ℕ → Bool
 is_one_of bytes text = list_any (λ b. is_byte b text) bytes
@@ -45,4 +46,4 @@ abbrev pub line_of : List (List ℕ) → Line
 line_of ps = record { text = concat ps; kind = kind_of ps; broken = breaks_off ps }
 
 abbrev pub lines : List ℕ → List Line
-lines bytes = map line_of (grouped line_goes_on (pieces bytes))
+lines bytes = map line_of (grouped line_goes_on (munched is_piece bytes))

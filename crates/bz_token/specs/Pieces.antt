@@ -2,7 +2,6 @@
 use Rattle.std.specs.Prelude.{ℕ, ◌+◌, List, [], ◌∷◌, Bool, true, false, not, ◌&&◌, ◌||◌, ◌==◌, bytes_eq}
 use Rattle.std.specs.List.{list_any}
 use Rattle.bz_token.specs.Groups.{grouped}
-use Rattle.bz_token.specs.Munch.{munched}
 
 abbrev pub is_byte : ℕ → List ℕ → Bool
 is_byte b text = bytes_eq text (b ∷ [])
@@ -15,9 +14,8 @@ abbrev pub units : List ℕ → List (List ℕ)
 units bytes = grouped escape_takes bytes
 
 abbrev pub but_last : List (List ℕ) → List (List ℕ)
-but_last [] = []
-but_last (u ∷ []) = []
 but_last (u ∷ v ∷ us) = u ∷ but_last (v ∷ us)
+but_last _ = []
 
 abbrev pub is_quote : ℕ → Bool
 is_quote b = b == 34 || b == 39
@@ -37,17 +35,13 @@ is_broken_off (quote ∷ inside) = is_short_string (quote ∷ inside) && list_an
 -- whether three quotes stand in a row, where so many stand directly before
 abbrev pub three_in_a_row : ℕ → ℕ → List (List ℕ) → Bool
 three_in_a_row quote before [] = false
-three_in_a_row quote before (u ∷ us) = elim (is_byte quote u) [
-  | true ↦ before == 2 || three_in_a_row quote (before + 1) us
-  | false ↦ three_in_a_row quote 0 us
-]
+three_in_a_row quote before (u ∷ us) =
+    elim (is_byte quote u) [ true ↦ before == 2 || three_in_a_row quote (before + 1) us | false ↦ three_in_a_row quote 0 us ]
 
 -- a long string ends with the first three quotes in a row; without them it is open
 abbrev pub is_long_string : List ℕ → Bool
-is_long_string [] = false
-is_long_string (a ∷ []) = false
-is_long_string (a ∷ b ∷ []) = false
 is_long_string (a ∷ b ∷ c ∷ inside) = is_quote a && b == a && c == a && not (three_in_a_row a 0 (but_last (units inside)))
+is_long_string _ = false
 
 abbrev pub is_comment : List ℕ → Bool
 is_comment [] = false
@@ -57,12 +51,8 @@ abbrev pub is_continued : List ℕ → Bool
 is_continued text = bytes_eq text (92 ∷ 10 ∷ []) || bytes_eq text (92 ∷ 13 ∷ 10 ∷ [])
 
 abbrev pub is_one : List ℕ → Bool
-is_one [] = false
 is_one (b ∷ []) = true
-is_one (b ∷ c ∷ bs) = false
+is_one _ = false
 
 abbrev pub is_piece : List ℕ → Bool
 is_piece text = is_one text || is_comment text || is_continued text || is_short_string text || is_long_string text
-
-abbrev pub pieces : List ℕ → List (List ℕ)
-pieces bytes = munched is_piece bytes

@@ -3,11 +3,11 @@ use Rattle.std.specs.Prelude.{List, [], ◌∷◌, ◌++◌, ℕ, Bool, true, fa
 use Rattle.std.specs.List.{list_all}
 use Rattle.bz_token.specs.declared.cutter.scan.LineKind.{LineKind}
 use Rattle.bz_token.specs.declared.cutter.scan.LineKind.TheVariants.{Blank, CommentLine, Statement}
-use Rattle.bz_token.specs.Lexical.{is_empty}
 use Rattle.bz_token.specs.Ends.{is_comment_kind}
 use Rattle.bz_token.specs.Brackets.{is_line}
 use Rattle.bz_token.specs.Reading.{Piece, bytes_of}
 use Rattle.bz_token.specs.LogicalLines.{Line}
+use Rattle.bz_token.specs.Common.{is_empty}
 
 abbrev pub is_newline_piece : Piece → Bool
 is_newline_piece p = is_line p.kind

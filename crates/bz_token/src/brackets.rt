@@ -3,7 +3,7 @@
 ghost use Rattle.std.specs.Prelude.{◌≡◌, ◌≤◌, ◌<◌, ◌+◌, ◌-◌, ◌||◌, true, false, length, drop, map, IfSome, IfNone, OnOk, IfErr, [], ◌∷◌, Err, List};
 ghost use Rattle.bz_token.specs.Places.{Placed, placed};
 ghost use Rattle.bz_token.specs.declared.brackets.Bracket.TheVariants.{Opening, Closing, Neither};
-ghost use Rattle.bz_token.specs.Brackets.{is_opening_bracket, is_closing_bracket, is_pair, is_inside, is_bracket, bracket_fits, closes_innermost, open_after_byte, open_tokens};
+ghost use Rattle.bz_token.specs.Brackets.{is_opening_bracket, is_closing_bracket, is_pair, is_inside, is_bracket, bracket_fits, closes_innermost, open_tokens, open_after_token};
 
 use crate::gap::Position;
 use crate::table::{ByteClass, class_at};
@@ -83,7 +83,7 @@ impl Brackets {
     #[inline(always)]
     pub fn take(&mut self, b: u8, max_depth: u8) -> Result<(), Misfit>
         ensures fits { OnOk result (bracket_fits max_depth (opened self.old) b ≡ true) }
-        ensures opened { OnOk result (opened self.new ≡ open_after_byte (opened self.old) b) }
+        ensures opened { OnOk result (opened self.new ≡ open_after_token (opened self.old) (b ∷ [])) }
         ensures misfit { IfErr result (IsMisfit max_depth (opened self.old) b) }
     {
         if is_opening_bracket(b) {

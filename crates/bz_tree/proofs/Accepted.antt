@@ -5,8 +5,8 @@ use Rattle.bz_tree.specs.declared.stmt.GroupKind.{GroupKind}
 use Rattle.bz_tree.specs.declared.stmt.GroupKind.TheVariants.{Call, RuleCall, Paren, List as ListKind, Dict, ListComp, DictComp}
 use Rattle.bz_tree.specs.declared.role.Role.{Role}
 use Rattle.bz_tree.specs.declared.role.Role.TheVariants.{Name, Number, Value, Suffix, Dot, Comma, Colon, Equals, If, Else, For, In, Not, Tilde, Sum, Star, Stars, Operator, Stray}
-use Rattle.bz_tree.specs.declared.stage.Part.{Part}
-use Rattle.bz_tree.specs.declared.stage.Part.TheVariants.{Left, Right, Alone, Key, Element, EntryKey, From, To, Step, Target, Clause}
+use Rattle.bz_tree.specs.declared.stage.Goal.{Goal}
+use Rattle.bz_tree.specs.declared.stage.Goal.TheVariants.{Left, Right, Alone, Key, Element, EntryKey, From, To, Step, Target, Clause}
 use Rattle.bz_tree.specs.declared.stage.Stage.{Stage}
 use Rattle.bz_tree.specs.declared.stage.Stage.TheVariants.{Refused, Wants, Has, HasNumber, Names, Excludes, Begins, Argument, Keyword}
 use Rattle.bz_tree.specs.Tree.{Item, leaf, group, Items, no_items, item, Segs, no_segs, seg}
@@ -43,28 +43,28 @@ refused no_items h = absurd (false≢true h)
 refused (item x xs) h = refused xs h
 
 -- after a primary, a number too
-abbrev pub Accepts : Part → Bool → Items → Type 0
+abbrev pub Accepts : Goal → Bool → Items → Type 0
 Accepts p c xs = (accepts (Has p c) xs ≡ true) × (accepts (HasNumber p c) xs ≡ true)
 
-pub leave : (p : Part) (c : Bool) (x : Item) (xs : Items) (r : Role) (s : Stage) → role_of x ≡ r → next_after p c r ≡ s → next_after_number p c r ≡ s → accepts s xs ≡ true → Accepts p c (item x xs)
+pub leave : (p : Goal) (c : Bool) (x : Item) (xs : Items) (r : Role) (s : Stage) → role_of x ≡ r → next_after p c r ≡ s → next_after_number p c r ≡ s → accepts s xs ≡ true → Accepts p c (item x xs)
 leave p c x xs r s e here beside h = (step (Has p c) x xs r e (ap (λ q. accepts q xs) here ∙ h), step (HasNumber p c) x xs r e (ap (λ q. accepts q xs) beside ∙ h))
 
-chained : (p : Part) (s : Stage) → is_target p ≡ false → in_chain p s ≡ s
+chained : (p : Goal) (s : Stage) → is_target p ≡ false → in_chain p s ≡ s
 chained p s e = ap (λ b. cond b Refused s) e
 
-chained_in : (p : Part) (c : Bool) → is_target p ≡ false → next_after p c In ≡ Wants p c
+chained_in : (p : Goal) (c : Bool) → is_target p ≡ false → next_after p c In ≡ Wants p c
 chained_in p c e = rw e refl
 
-abbrev pub is_test_part : Part → Bool
+abbrev pub is_test_part : Goal → Bool
 is_test_part Target = false
 is_test_part Clause = false
 is_test_part _ = true
 
-test_is_no_target : (p : Part) → is_test_part p ≡ true → is_target p ≡ false
+test_is_no_target : (p : Goal) → is_test_part p ≡ true → is_target p ≡ false
 test_is_no_target Target h = absurd (false≢true h)
 test_is_no_target _ h = refl
 
-after_if : (p : Part) → is_test_part p ≡ true → after_part p If ≡ Wants p true
+after_if : (p : Goal) → is_test_part p ≡ true → after_part p If ≡ Wants p true
 after_if Left h = refl
 after_if Right h = refl
 after_if Alone h = refl
@@ -77,20 +77,20 @@ after_if Step h = refl
 after_if Target h = absurd (false≢true h)
 after_if Clause h = absurd (false≢true h)
 
-prefix_step : (q : Item) (r : Role) → token_role q ≡ r → is_prefix r ≡ true → (p : Part) (c : Bool) (xs : Items) → is_target p ≡ false → accepts (Wants p c) xs ≡ true → accepts (Wants p c) (item q xs) ≡ true
+prefix_step : (q : Item) (r : Role) → token_role q ≡ r → is_prefix r ≡ true → (p : Goal) (c : Bool) (xs : Items) → is_target p ≡ false → accepts (Wants p c) xs ≡ true → accepts (Wants p c) (item q xs) ≡ true
 prefix_step q Sum e is p c xs free h = step (Wants p c) q xs Sum (role_known q Sum e refl) (ap (λ s. accepts s xs) (chained p (Wants p c) free) ∙ h)
 prefix_step q Tilde e is p c xs free h = step (Wants p c) q xs Tilde (role_known q Tilde e refl) (ap (λ s. accepts s xs) (chained p (Wants p c) free) ∙ h)
 prefix_step q Not e is p c xs free h = step (Wants p c) q xs Not (role_known q Not e refl) (ap (λ s. accepts s xs) (chained p (Wants p c) free) ∙ h)
 prefix_step q _ e is p c xs free h = absurd (false≢true is)
 
-operator_step : (o : Item) (r : Role) → token_role o ≡ r → is_operator r ≡ true → (p : Part) (c : Bool) (xs : Items) → is_target p ≡ false → accepts (Wants p c) xs ≡ true → Accepts p c (item o xs)
+operator_step : (o : Item) (r : Role) → token_role o ≡ r → is_operator r ≡ true → (p : Goal) (c : Bool) (xs : Items) → is_target p ≡ false → accepts (Wants p c) xs ≡ true → Accepts p c (item o xs)
 operator_step o Sum e is p c xs free h = leave p c o xs Sum (Wants p c) (role_known o Sum e refl) (chained p (Wants p c) free) (chained p (Wants p c) free) h
 operator_step o Star e is p c xs free h = leave p c o xs Star (Wants p c) (role_known o Star e refl) (chained p (Wants p c) free) (chained p (Wants p c) free) h
 operator_step o Operator e is p c xs free h = leave p c o xs Operator (Wants p c) (role_known o Operator e refl) (chained p (Wants p c) free) (chained p (Wants p c) free) h
 operator_step o In e is p c xs free h = leave p c o xs In (Wants p c) (role_known o In e refl) (chained_in p c free) (chained_in p c free) h
 operator_step o _ e is p c xs free h = absurd (false≢true is)
 
-binop_run : {o : Items} → IsBinOp o → (p : Part) (c : Bool) (xs : Items) → is_target p ≡ false → accepts (Wants p c) xs ≡ true → Accepts p c (join o xs)
+binop_run : {o : Items} → IsBinOp o → (p : Goal) (c : Bool) (xs : Items) → is_target p ≡ false → accepts (Wants p c) xs ≡ true → Accepts p c (join o xs)
 binop_run (operator {o} is) p c xs free h = operator_step o (token_role o) refl is p c xs free h
 binop_run (not_in {n} {i} en ei) p c xs free h =
     leave p c n (item i xs) Not (Excludes p c) (role_known n Not en refl) (chained p (Excludes p c) free) (chained p (Excludes p c) free) (step (Excludes p c) i xs In (role_known i In ei refl) h)
@@ -104,11 +104,11 @@ pub whole : (s : Stage) (xs : Items) → accepts s (join xs no_items) ≡ true �
 whole s xs h = ap (accepts s) (sym (join_empty xs)) ∙ h
 
 -- where a part may be empty
-begun_step : (p : Part) (r : Role) (xs : Items) → accepts (next_wanted p false r) xs ≡ true → accepts (next_begun p r) xs ≡ true
+begun_step : (p : Goal) (r : Role) (xs : Items) → accepts (next_wanted p false r) xs ≡ true → accepts (next_begun p r) xs ≡ true
 begun_step p Colon xs h = absurd (refused xs h)
 begun_step p _ xs h = h
 
-begun : (p : Part) (xs : Items) → accepts (Wants p false) xs ≡ true → accepts (Begins p) xs ≡ true
+begun : (p : Goal) (xs : Items) → accepts (Wants p false) xs ≡ true → accepts (Begins p) xs ≡ true
 begun p no_items h = absurd (false≢true h)
 begun p (item x xs) h = begun_step p (role_of x) xs h
 
@@ -137,7 +137,7 @@ call_role RuleCall segs one end is h = ap (λ b. cond b Suffix Stray) h
 call_role _ segs one end is h = absurd (false≢true is)
 
 mutual
-  pub test_run : {xs : Items} → IsTest xs → (p : Part) (r : Items) → is_test_part p ≡ true → Accepts p false r → accepts (Wants p false) (join xs r) ≡ true
+  pub test_run : {xs : Items} → IsTest xs → (p : Goal) (r : Items) → is_test_part p ≡ true → Accepts p false r → accepts (Wants p false) (join xs r) ≡ true
   test_run (plain t) p r of_test acc = chain_run t p false r (test_is_no_target p of_test) acc
   test_run (conditional {xs} {a} {b} {c} i e is first ri second re third) p r of_test acc =
       let free = test_is_no_target p of_test in
@@ -148,25 +148,25 @@ mutual
       let all = chain_run first p false (item i (join b (item e (join c r)))) free at_if in
       rw (is, join_assoc a (item i (join b (item e c))) r, join_assoc b (item e c) r) all
 
-  pub chain_run : {xs : Items} → IsChain xs → (p : Part) (c : Bool) (r : Items) → is_target p ≡ false → Accepts p c r → accepts (Wants p c) (join xs r) ≡ true
+  pub chain_run : {xs : Items} → IsChain xs → (p : Goal) (c : Bool) (r : Items) → is_target p ≡ false → Accepts p c r → accepts (Wants p c) (join xs r) ≡ true
   chain_run (single t) p c r free acc = term_run t p c r free acc
   chain_run (binary {xs} {a} {b} o is t op more) p c r free acc =
       rw (is, join_assoc a (join o b) r, join_assoc o b r) (term_run t p c (join o (join b r)) free (binop_run op p c (join b r) free (chain_run more p c r free acc)))
 
-  pub term_run : {xs : Items} → IsTerm xs → (p : Part) (c : Bool) (r : Items) → is_target p ≡ false → Accepts p c r → accepts (Wants p c) (join xs r) ≡ true
+  pub term_run : {xs : Items} → IsTerm xs → (p : Goal) (c : Bool) (r : Items) → is_target p ≡ false → Accepts p c r → accepts (Wants p c) (join xs r) ≡ true
   term_run (primary t) p c r free acc = primary_run t p c r acc
   term_run (unary {p = q} {xs} is t) p c r free acc = prefix_step q (token_role q) refl is p c (join xs r) free (term_run t p c r free acc)
 
-  pub primary_run : {xs : Items} → IsPrimary xs → (p : Part) (c : Bool) (r : Items) → Accepts p c r → accepts (Wants p c) (join xs r) ≡ true
+  pub primary_run : {xs : Items} → IsPrimary xs → (p : Goal) (c : Bool) (r : Items) → Accepts p c r → accepts (Wants p c) (join xs r) ≡ true
   primary_run (number {x} {xs} e more bare) p c r acc = step (Wants p c) x (join xs r) Number (role_known x Number e refl) (number_run more bare p c r acc)
   primary_run (operand {x} {xs} o more) p c r acc = operand_run o p c (join xs r) (suffixes_run more p c r acc)
 
-  pub number_run : {xs : Items} → AreSuffixes xs → begins_dot xs ≡ false → (p : Part) (c : Bool) (r : Items) → Accepts p c r → accepts (HasNumber p c) (join xs r) ≡ true
+  pub number_run : {xs : Items} → AreSuffixes xs → begins_dot xs ≡ false → (p : Goal) (c : Bool) (r : Items) → Accepts p c r → accepts (HasNumber p c) (join xs r) ≡ true
   number_run no_suffix bare p c r acc = acc.1
   number_run (member {d} {n} {xs} ed en more) bare p c r acc = absurd (false≢true (sym bare ∙ ap is_dot_role ed))
   number_run (suffix {x} {xs} s more) bare p c r acc = step (HasNumber p c) x (join xs r) Suffix (suffix_run s) (suffixes_run more p c r acc)
 
-  pub suffixes_run : {xs : Items} → AreSuffixes xs → (p : Part) (c : Bool) (r : Items) → Accepts p c r → accepts (Has p c) (join xs r) ≡ true
+  pub suffixes_run : {xs : Items} → AreSuffixes xs → (p : Goal) (c : Bool) (r : Items) → Accepts p c r → accepts (Has p c) (join xs r) ≡ true
   suffixes_run no_suffix p c r acc = acc.0
   suffixes_run (member {d} {n} {xs} ed en more) p c r acc =
       step (Has p c) d (item n (join xs r)) Dot (role_known d Dot ed refl) (step (Names p c) n (join xs r) Name (role_known n Name en refl) (suffixes_run more p c r acc))
@@ -176,7 +176,7 @@ mutual
   suffix_run (call {kind} {segs} {one_comma = one} {end} is args) = call_role kind segs one end is (args_run args)
   suffix_run (index i) = ap (λ b. cond b Suffix Stray) (both _ true (index_run i) refl)
 
-  pub operand_run : {x : Item} → IsOperand x → (p : Part) (c : Bool) (xs : Items) → accepts (Has p c) xs ≡ true → accepts (Wants p c) (item x xs) ≡ true
+  pub operand_run : {x : Item} → IsOperand x → (p : Goal) (c : Bool) (xs : Items) → accepts (Has p c) xs ≡ true → accepts (Wants p c) (item x xs) ≡ true
   operand_run (ident {x} e) p c xs h = step (Wants p c) x xs Name (role_known x Name e refl) h
   operand_run (text {x} e) p c xs h = step (Wants p c) x xs Value (role_known x Value e refl) h
   operand_run (paren {segs} {one_comma} {end} ts) p c xs h = step (Wants p c) (group Paren segs one_comma end) xs Value (ap (λ b. cond b Value Stray) (tests_run ts)) h
@@ -212,7 +212,7 @@ mutual
   entry_element_run (entry_element {xs} {a} {b} c is t rc e) =
       rw is (test_run t EntryKey (item c b) refl (leave EntryKey false c b Colon (Wants Element false) (role_known c Colon rc refl) refl refl (element_run e)))
 
-  pub for_run : {xs : Items} → IsFor xs → (p : Part) → after_part p For ≡ Wants Target false → Accepts p false xs
+  pub for_run : {xs : Items} → IsFor xs → (p : Goal) → after_part p For ≡ Wants Target false → Accepts p false xs
   for_run (for {xs} {t} {c} {m} f i is rf ts ri sequence ms) p e =
       let more = chain_run sequence Clause false m refl (clauses_run ms) in
       let at_in : Accepts Target false (item i (join c m)) = leave Target false i (join c m) In (Wants Clause false) (role_known i In ri refl) refl refl more in
@@ -237,11 +237,11 @@ mutual
   range_run (stepped {xs} {a} {b} c is o rc last) = rw is (optional_run o To c b (Begins Step) refl refl rc (end_run last Step refl refl refl))
 
   -- before a colon
-  pub optional_run : {xs : Items} → IsOptional xs → (p : Part) (c : Item) (r : Items) (s : Stage) → is_test_part p ≡ true → after_part p Colon ≡ s → token_role c ≡ Colon → accepts s r ≡ true → accepts (Begins p) (join xs (item c r)) ≡ true
+  pub optional_run : {xs : Items} → IsOptional xs → (p : Goal) (c : Item) (r : Items) (s : Stage) → is_test_part p ≡ true → after_part p Colon ≡ s → token_role c ≡ Colon → accepts s r ≡ true → accepts (Begins p) (join xs (item c r)) ≡ true
   optional_run nothing p c r s of_test e rc h = step (Begins p) c r Colon (role_known c Colon rc refl) (ap (λ q. accepts q r) e ∙ h)
   optional_run (some {xs} t) p c r s of_test e rc h = begun p (join xs (item c r)) (test_run t p (item c r) of_test (leave p false c r Colon s (role_known c Colon rc refl) e e h))
 
   -- at the end
-  pub end_run : {xs : Items} → IsOptional xs → (p : Part) → is_test_part p ≡ true → ends p ≡ true → accepts (Begins p) no_items ≡ true → accepts (Begins p) xs ≡ true
+  pub end_run : {xs : Items} → IsOptional xs → (p : Goal) → is_test_part p ≡ true → ends p ≡ true → accepts (Begins p) no_items ≡ true → accepts (Begins p) xs ≡ true
   end_run nothing p of_test last empty = empty
   end_run (some {xs} t) p of_test last empty = begun p xs (whole (Wants p false) xs (test_run t p no_items of_test (last, last)))

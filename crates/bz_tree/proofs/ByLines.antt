@@ -1,8 +1,9 @@
 -- Whose each comment is, as a walk over lines from the right finds it; and that it is what the cells say.
-use Rattle.std.proofs.Common.{ℕ, ◌≡◌, ◌==◌, List, [], ◌∷◌, ◌++◌, map, Bool, true, false, not, cond, ◌&&◌, ◌||◌, if◌then◌else◌, Option, Some, None, refl, sym, ap, ◌∙◌}
+use Rattle.std.proofs.Common.{ℕ, ◌≡◌, ◌==◌, List, [], ◌∷◌, ◌++◌, map, Bool, true, false, not, cond, ◌&&◌, ◌||◌, if◌then◌else◌, Option, Some, None, refl, sym, ap, ◌∙◌, drop}
 use Rattle.std.proofs.lemmas.Bool.{false≢true}
 use Rattle.bz_tree.specs.Tree.{Item, Segment}
-use Rattle.bz_tree.specs.Owners.{Own, node, comma, comment, Last, no_token, end_of_node, end_of_comma, is_on, Inside, inside, Entry, a_node, a_comma, a_comment, first_cell, other_cells, same_line, later_lines, nodes_in, has_node, comments_in, above_last, beside_last, below_last, first, others, with_segment, segments_from, end_from, has_trailing_comma, entries_of}
+use Rattle.bz_tree.specs.Owners.{Own, node, comma, comment, Last, no_token, end_of_node, end_of_comma, is_on, Inside, inside, Entry, a_node, a_comma, a_comment, first_cell, other_cells, same_line, later_lines, nodes_in, has_node, comments_in, above_last, beside_last, below_last, with_segment, segments_from, end_from, has_trailing_comma, entries_of}
+use Rattle.bz_token.specs.Common.{first_of}
 
 abbrev pub is_after_comma : Last → ℕ → Bool
 is_after_comma (end_of_comma end) line = end == line
@@ -164,7 +165,7 @@ flag_below (a_comment on text ∷ es) = cond (not on && not (has_node es)) (text
 flag_below (e ∷ es) = flag_below es
 
 abbrev flag_segment_of : List Entry → List (List ℕ) → List (List ℕ) → Segment
-flag_segment_of cell under on_comma = record { before = above_last cell ++ (under ++ others (flag_beside cell ++ on_comma)); nodes = nodes_in cell; suffix = first (flag_beside cell ++ on_comma) }
+flag_segment_of cell under on_comma = record { before = above_last cell ++ (under ++ drop 1 (flag_beside cell ++ on_comma)); nodes = nodes_in cell; suffix = first_of (flag_beside cell ++ on_comma) }
 
 abbrev flag_segments_from : List Entry → List (List Entry) → List Segment
 flag_segments_from cell [] = with_segment (flag_segment_of cell [] []) []
@@ -202,15 +203,15 @@ marked_none true (a_comment false text ∷ es) h s = rw h (marked_none true es h
 marked_none false (a_comment false text ∷ es) h s = rw h (ap (λ l. text ∷ l) (marked_none false es h s.1))
 
 -- the suffix
-suffix_is : (last : Bool) (es : List Entry) (more : List (List ℕ)) → suffix_of (marked last es ++ map beside_comma more) ≡ first (flag_beside es ++ more)
+suffix_is : (last : Bool) (es : List Entry) (more : List (List ℕ)) → suffix_of (marked last es ++ map beside_comma more) ≡ first_of (flag_beside es ++ more)
 suffix_is last [] [] = refl
 suffix_is last [] (t ∷ ts) = refl
 suffix_is last (a_node x ∷ es) more = suffix_is last es more
 suffix_is last (a_comma ∷ es) more = suffix_is last es more
 suffix_is last (a_comment on text ∷ es) more = at_place last on (has_node es) refl (suffix_is last es more)
   where
-    at_place : (last on h : Bool) → has_node es ≡ h → suffix_of (marked last es ++ map beside_comma more) ≡ first (flag_beside es ++ more)
-        → suffix_of (marked last (a_comment on text ∷ es) ++ map beside_comma more) ≡ first (flag_beside (a_comment on text ∷ es) ++ more)
+    at_place : (last on h : Bool) → has_node es ≡ h → suffix_of (marked last es ++ map beside_comma more) ≡ first_of (flag_beside es ++ more)
+        → suffix_of (marked last (a_comment on text ∷ es) ++ map beside_comma more) ≡ first_of (flag_beside (a_comment on text ∷ es) ++ more)
     at_place true true true e ih = rw e ih
     at_place true true false e ih = rw e refl
     at_place true false true e ih = rw e ih
@@ -222,7 +223,7 @@ suffix_is last (a_comment on text ∷ es) more = at_place last on (has_node es) 
 
 -- what stands before the segment
 before_is : (b last : Bool) (es : List Entry) (more : List (List ℕ)) → Settled b es
-    → before_of (marked last es ++ map beside_comma more) ≡ above_last es ++ (cond last [] (flag_below es) ++ others (flag_beside es ++ more))
+    → before_of (marked last es ++ map beside_comma more) ≡ above_last es ++ (cond last [] (flag_below es) ++ drop 1 (flag_beside es ++ more))
 before_is b true [] [] s = refl
 before_is b false [] [] s = refl
 before_is b true [] (t ∷ ts) s = texts_of_comma ts
@@ -231,8 +232,8 @@ before_is b last (a_node x ∷ es) more s = before_is true last es more s
 before_is b last (a_comma ∷ es) more s = elim s [ ]
 before_is b last (a_comment on text ∷ es) more s = at_place last on (has_node es) refl (before_is false last es more s.1)
   where
-    at_place : (last on h : Bool) → has_node es ≡ h → before_of (marked last es ++ map beside_comma more) ≡ above_last es ++ (cond last [] (flag_below es) ++ others (flag_beside es ++ more))
-        → before_of (marked last (a_comment on text ∷ es) ++ map beside_comma more) ≡ above_last (a_comment on text ∷ es) ++ (cond last [] (flag_below (a_comment on text ∷ es)) ++ others (flag_beside (a_comment on text ∷ es) ++ more))
+    at_place : (last on h : Bool) → has_node es ≡ h → before_of (marked last es ++ map beside_comma more) ≡ above_last es ++ (cond last [] (flag_below es) ++ drop 1 (flag_beside es ++ more))
+        → before_of (marked last (a_comment on text ∷ es) ++ map beside_comma more) ≡ above_last (a_comment on text ∷ es) ++ (cond last [] (flag_below (a_comment on text ∷ es)) ++ drop 1 (flag_beside (a_comment on text ∷ es) ++ more))
     at_place true true true e ih = rw e (ap (λ l. text ∷ l) ih)
     at_place true true false e ih = rw (e, texts_append (marked true es) (map beside_comma more), marked_none true es e s.1, texts_of_comma more, beside_none es e s.1) refl
     at_place true false true e ih = rw e (ap (λ l. text ∷ l) ih)

@@ -11,12 +11,13 @@ use Rattle.bz_tree.specs.declared.kinds.Preceding.TheVariants.{Operand, LoadWord
 use Rattle.bz_token.specs.Places.{Placed}
 use Rattle.bz_tree.specs.Tree.{Item, Segment}
 use Rattle.bz_tree.specs.Kinds.{mark_of, group_kind, is_one, same_shape}
-use Rattle.bz_tree.specs.Owners.{Own, node, comma, comment, Last, no_token, end_of_node, end_of_comma, is_on, is_filled}
+use Rattle.bz_tree.specs.Owners.{Own, node, comma, comment, Last, no_token, end_of_node, end_of_comma, is_on}
 use Rattle.bz_tree.specs.Brackets.{own_item, own_items, own_of, preceding, has_for, is_for_item, group_with}
 use Rattle.bz_tree.specs.Statement.{segment_with}
 use Rattle.bz_tree.specs.private.Steps.{Walked, at_start, after_own, after_node, after_comma, after_comment, commented, to_last, done, Level, Levels, is_for, is_in_first, has_one, as_comprehension, shape_of, with_own, new_level, closed, next_at, finish, run}
 use Rattle.bz_tree.proofs.ByOwns.{after, walk, content}
 use Rattle.bz_tree.proofs.ByOwns as by_owns
+use Rattle.bz_token.specs.Common.{is_filled}
 
 -- the steps of a walk, without its end
 abbrev steps : Walked → List Own → Option Walked

@@ -7,8 +7,8 @@ use Rattle.bz_tree.specs.declared.stmt.GroupKind.{GroupKind}
 use Rattle.bz_tree.specs.declared.stmt.GroupKind.TheVariants.{Call, RuleCall, Load, Paren, List as ListKind, Index, Dict, ListComp, DictComp}
 use Rattle.bz_tree.specs.declared.role.Role.{Role}
 use Rattle.bz_tree.specs.declared.role.Role.TheVariants.{Name, Number, Value, Suffix, Dot, Comma, Colon, Equals, Augmented, If, Else, For, In, Not, Tilde, Sum, Star, Stars, Operator, Stray}
-use Rattle.bz_tree.specs.declared.stage.Part.{Part}
-use Rattle.bz_tree.specs.declared.stage.Part.TheVariants.{Left, Right, Alone, Key, Element, EntryKey, From, To, Step, Target, Clause}
+use Rattle.bz_tree.specs.declared.stage.Goal.{Goal}
+use Rattle.bz_tree.specs.declared.stage.Goal.TheVariants.{Left, Right, Alone, Key, Element, EntryKey, From, To, Step, Target, Clause}
 use Rattle.bz_tree.specs.declared.stage.Stage.{Stage}
 use Rattle.bz_tree.specs.declared.stage.Stage.TheVariants.{Refused, Wants, Has, HasNumber, Names, Excludes, Begins, Argument, Keyword}
 use Rattle.bz_tree.specs.Tree.{Item, leaf, group, Items, no_items, item, Segs, no_segs, seg}
@@ -16,9 +16,10 @@ use Rattle.bz_tree.specs.Grammar.{token_role, is_prefix, is_operator, is_star, i
 use Rattle.bz_tree.specs.private.Machine.{ends, is_target, in_chain, after_part, next_wanted, next_after, next_after_number, next_begun, next_argument, next_keyword, next, accepts, role_of, each, is_whole, group_role, begin}
 use Rattle.std.specs.Prelude.{codes, [], ◌∷◌}
 use Rattle.std.specs.Str.{bytes_eq}
-use Rattle.bz_tree.specs.Grammar.{leaf_role, is_among, word_role, operator_role, IsExpr, last_test, test}
+use Rattle.bz_tree.specs.Grammar.{leaf_role, word_role, operator_role, IsExpr, last_test, test}
 use Rattle.bz_tree.specs.private.Machine.{may_end, may_be_empty, is_single, leaves, after_left, after_right, after_element, after_target, after_clause, at_colon, at_end, after_condition, next_name, next_excluded}
 use Rattle.bz_tree.proofs.Accepted.{join_empty, join_assoc}
+use Rattle.bz_token.specs.Lexical.{is_one_of}
 
 -- the operators and operands after the first of a chain
 data ChainRest : Items → Type 0 where
@@ -83,7 +84,7 @@ data FollowTarget : Items → Type 0 where
   target_in : {xs b : Items} (i : Item) → xs ≡ item i b → token_role i ≡ In → InClause b → FollowTarget xs
 
 -- what follows the Test, Primary (Target) or Chain (Clause) of a part
-abbrev Follow : Part → Items → Type 0
+abbrev Follow : Goal → Items → Type 0
 Follow Left xs = FollowLeft xs
 Follow Right xs = FollowRight xs
 Follow Alone xs = xs ≡ no_items
@@ -96,20 +97,20 @@ Follow Step xs = xs ≡ no_items
 Follow Target xs = FollowTarget xs
 Follow Clause xs = AreClauses xs
 
-abbrev Head : Part → Items → Type 0
+abbrev Head : Goal → Items → Type 0
 Head Target xs = IsPrimary xs
 Head Clause xs = IsChain xs
 Head _ xs = IsTest xs
 
 -- from the start of a part on
-record Whole (p : Part) (xs : Items) : Type 0 where
+record Whole (p : Goal) (xs : Items) : Type 0 where
   head : Items
   rest : Items
   is : xs ≡ join head rest
   is_head : Head p head
   follow : Follow p rest
 
-record TestTail (p : Part) (xs : Items) : Type 0 where
+record TestTail (p : Goal) (xs : Items) : Type 0 where
   tail : Items
   rest : Items
   is : xs ≡ join tail rest
@@ -117,31 +118,31 @@ record TestTail (p : Part) (xs : Items) : Type 0 where
   follow : Follow p rest
 
 -- after a chain (in a Target, after a primary)
-abbrev Tail : Part → Items → Type 0
+abbrev Tail : Goal → Items → Type 0
 Tail Target xs = FollowTarget xs
 Tail Clause xs = AreClauses xs
 Tail p xs = TestTail p xs
 
-record AtElse (p : Part) (xs : Items) : Type 0 where
+record AtElse (p : Goal) (xs : Items) : Type 0 where
   operator_text : Item
   after : Items
   is : xs ≡ item operator_text after
   role : token_role operator_text ≡ Else
   whole : Whole p after
 
-abbrev Preceding : Part → Bool → Items → Type 0
+abbrev Preceding : Goal → Bool → Items → Type 0
 Preceding p false xs = Tail p xs
 Preceding p true xs = AtElse p xs
 
-abbrev ChainIn : Part → Items → Type 0
+abbrev ChainIn : Goal → Items → Type 0
 ChainIn Target xs = IsPrimary xs
 ChainIn _ xs = IsChain xs
 
-abbrev RestIn : Part → Items → Type 0
+abbrev RestIn : Goal → Items → Type 0
 RestIn Target xs = xs ≡ no_items
 RestIn _ xs = ChainRest xs
 
-record Wanted (p : Part) (c : Bool) (xs : Items) : Type 0 where
+record Wanted (p : Goal) (c : Bool) (xs : Items) : Type 0 where
   chain : Items
   rest : Items
   is : xs ≡ join chain rest
@@ -149,7 +150,7 @@ record Wanted (p : Part) (c : Bool) (xs : Items) : Type 0 where
   after : Preceding p c rest
 
 -- after an operand; a dot may come first
-record Had (p : Part) (c : Bool) (dot : Bool) (xs : Items) : Type 0 where
+record Had (p : Goal) (c : Bool) (dot : Bool) (xs : Items) : Type 0 where
   suffixes : Items
   ops : Items
   rest : Items
@@ -159,21 +160,21 @@ record Had (p : Part) (c : Bool) (dot : Bool) (xs : Items) : Type 0 where
   is_rest : RestIn p ops
   after : Preceding p c rest
 
-record Named (p : Part) (c : Bool) (xs : Items) : Type 0 where
+record Named (p : Goal) (c : Bool) (xs : Items) : Type 0 where
   name : Item
   after : Items
   is : xs ≡ item name after
   role : token_role name ≡ Name
   had : Had p c true after
 
-record Excluded (p : Part) (c : Bool) (xs : Items) : Type 0 where
+record Excluded (p : Goal) (c : Bool) (xs : Items) : Type 0 where
   operator_text : Item
   after : Items
   is : xs ≡ item operator_text after
   role : token_role operator_text ≡ In
   wanted : Wanted p c after
 
-abbrev Begun : Part → Items → Type 0
+abbrev Begun : Goal → Items → Type 0
 Begun From xs = IsIndex xs
 Begun To xs = IsRange xs
 Begun Step xs = IsOptional xs
@@ -202,7 +203,7 @@ RoleMeans Suffix x = IsSuffix x
 RoleMeans r x = token_role x ≡ r
 
 -- a part without its stages
-wanted_whole : (p : Part) (xs : Items) → Wanted p false xs → Whole p xs
+wanted_whole : (p : Goal) (xs : Items) → Wanted p false xs → Whole p xs
 wanted_whole Target xs w = record { head = w.chain; rest = w.rest; is = w.is; is_head = w.is_chain; follow = w.after }
 wanted_whole Clause xs w = record { head = w.chain; rest = w.rest; is = w.is; is_head = w.is_chain; follow = w.after }
 wanted_whole Left xs w = record { head = join w.chain w.after.tail; rest = w.after.rest; is = w.is ∙ ap (join w.chain) w.after.is ∙ sym (join_assoc w.chain w.after.tail w.after.rest); is_head = test_from w.chain w.after.tail w.is_chain w.after.is_tail; follow = w.after.follow }
@@ -258,7 +259,7 @@ range_with : (xs t r : Items) → xs ≡ join t r → IsTest t → (r ≡ no_ite
 range_with xs t r is first (inl empty) = upper (some (subst IsTest (at_empty xs t r is empty) first))
 range_with xs t r is first (inr b) = stepped b.colon (is ∙ ap (join t) b.is) (some first) b.role b.means
 
-begun_of : (p : Part) (xs : Items) → Whole p xs → Begun p xs
+begun_of : (p : Goal) (xs : Items) → Whole p xs → Begun p xs
 begun_of From xs w = index_with xs w.head w.rest w.is w.is_head w.follow
 begun_of To xs w = range_with xs w.head w.rest w.is w.is_head w.follow
 begun_of Step xs w = some (step_of xs w)
@@ -286,11 +287,11 @@ for_of : (f : Item) (xs : Items) → token_role f ≡ For → TargetsIn xs → I
 for_of f xs role m = for f m.operator_text (ap (item f) (m.is ∙ ap (λ ys. join m.targets (item m.operator_text ys)) m.clause.is)) role m.are m.role m.clause.is_chain m.clause.clauses
 
 -- after a Test: nothing more of it
-tail : (p : Part) (xs : Items) → Follow p xs → TestTail p xs
+tail : (p : Goal) (xs : Items) → Follow p xs → TestTail p xs
 tail p xs follow = record { tail = no_items; rest = xs; is = refl; is_tail = no_condition; follow = follow }
 
 -- the parts of a Test's condition
-condition_tail : (p : Part) (i : Item) (xs b r : Items) → xs ≡ join b r → IsChain b → (e : AtElse p r) → token_role i ≡ If → IsTest e.whole.head → TestTail p (item i xs)
+condition_tail : (p : Goal) (i : Item) (xs b r : Items) → xs ≡ join b r → IsChain b → (e : AtElse p r) → token_role i ≡ If → IsTest e.whole.head → TestTail p (item i xs)
 condition_tail p i xs b r is second e ri third = record {
   tail = item i (join b (item e.operator_text e.whole.head));
   rest = e.whole.rest;
@@ -354,11 +355,11 @@ clause_tail x xs For k m = for_clause (for_of x xs k (targets_of xs (wanted_whol
 clause_tail x xs If k m = let w = clause_of xs (wanted_whole Clause xs m) in if_clause x (ap (item x) w.is) k w.is_chain w.clauses
 clause_tail x xs _ k m = absurd m
 
-else_tail : (p : Part) (x : Item) (xs : Items) (r : Role) → RoleMeans r x → Means (after_condition p r) xs → AtElse p (item x xs)
+else_tail : (p : Goal) (x : Item) (xs : Items) (r : Role) → RoleMeans r x → Means (after_condition p r) xs → AtElse p (item x xs)
 else_tail p x xs Else k m = record { operator_text = x; after = xs; is = refl; role = k; whole = wanted_whole p xs m }
 else_tail p x xs _ k m = absurd m
 
-leaves_means : (p : Part) (c : Bool) (x : Item) (xs : Items) (r : Role) → RoleMeans r x → Means (leaves p c r) xs → Preceding p c (item x xs)
+leaves_means : (p : Goal) (c : Bool) (x : Item) (xs : Items) (r : Role) → RoleMeans r x → Means (leaves p c r) xs → Preceding p c (item x xs)
 leaves_means p true x xs r k m = else_tail p x xs r k m
 leaves_means Left false x xs r k m = left_tail x xs r k m
 leaves_means Right false x xs r k m = right_tail x xs r k m
@@ -373,7 +374,7 @@ leaves_means Target false x xs r k m = target_tail x xs r k m
 leaves_means Clause false x xs r k m = clause_tail x xs r k m
 
 -- chains
-unchained : (p : Part) (s : Stage) (xs : Items) → Means (in_chain p s) xs → (is_target p ≡ false) × Means s xs
+unchained : (p : Goal) (s : Stage) (xs : Items) → Means (in_chain p s) xs → (is_target p ≡ false) × Means s xs
 unchained Target s xs m = absurd m
 unchained _ s xs m = (refl, m)
 
@@ -381,18 +382,18 @@ chain_prefix : (q : Item) (xs : Items) → is_prefix (token_role q) ≡ true →
 chain_prefix q xs is (single t) = single (unary is t)
 chain_prefix q xs is (binary {xs = ys} {a} {b} o e t op more) = binary {a = item q a} o (ap (item q) e) (unary is t) op more
 
-prefix_in : (p : Part) (q : Item) (xs : Items) → is_target p ≡ false → is_prefix (token_role q) ≡ true → ChainIn p xs → ChainIn p (item q xs)
+prefix_in : (p : Goal) (q : Item) (xs : Items) → is_target p ≡ false → is_prefix (token_role q) ≡ true → ChainIn p xs → ChainIn p (item q xs)
 prefix_in Target q xs free is h = absurd (false≢true (sym free))
 prefix_in _ q xs free is h = chain_prefix q xs is h
 
-prefixed : (p : Part) (c : Bool) (q : Item) (xs : Items) → is_prefix (token_role q) ≡ true → (is_target p ≡ false) × Wanted p c xs → Wanted p c (item q xs)
+prefixed : (p : Goal) (c : Bool) (q : Item) (xs : Items) → is_prefix (token_role q) ≡ true → (is_target p ≡ false) × Wanted p c xs → Wanted p c (item q xs)
 prefixed p c q xs is m = record { chain = item q m.1.chain; rest = m.1.rest; is = ap (item q) m.1.is; is_chain = prefix_in p q m.1.chain m.0 is m.1.is_chain; after = m.1.after }
 
-chain_in : (p : Part) (t q : Items) → IsPrimary t → RestIn p q → ChainIn p (join t q)
+chain_in : (p : Goal) (t q : Items) → IsPrimary t → RestIn p q → ChainIn p (join t q)
 chain_in Target t q first rest = subst IsPrimary (sym (ap (join t) rest ∙ join_empty t)) first
 chain_in _ t q first rest = chain_from t q (primary first) rest
 
-operand_means : (p : Part) (c d : Bool) (x : Item) (xs : Items) → (m : Had p c d xs) → IsPrimary (item x m.suffixes) → Wanted p c (item x xs)
+operand_means : (p : Goal) (c d : Bool) (x : Item) (xs : Items) → (m : Had p c d xs) → IsPrimary (item x m.suffixes) → Wanted p c (item x xs)
 operand_means p c d x xs m first = record {
   chain = join (item x m.suffixes) m.ops;
   rest = m.rest;
@@ -401,7 +402,7 @@ operand_means p c d x xs m first = record {
   after = m.after;
 }
 
-wanted_means : (p : Part) (c : Bool) (x : Item) (xs : Items) (r : Role) → RoleMeans r x → Means (next_wanted p c r) xs → Wanted p c (item x xs)
+wanted_means : (p : Goal) (c : Bool) (x : Item) (xs : Items) (r : Role) → RoleMeans r x → Means (next_wanted p c r) xs → Wanted p c (item x xs)
 wanted_means p c x xs Name k m = operand_means p c true x xs m (operand (ident k) m.are_suffixes)
 wanted_means p c x xs Value k m = operand_means p c true x xs m (operand k m.are_suffixes)
 wanted_means p c x xs Number k m = operand_means p c false x xs m (number k m.are_suffixes (m.bare refl))
@@ -410,16 +411,16 @@ wanted_means p c x xs Tilde k m = prefixed p c x xs (ap is_prefix k) (unchained 
 wanted_means p c x xs Not k m = prefixed p c x xs (ap is_prefix k) (unchained p (Wants p c) xs m)
 wanted_means p c x xs _ k m = absurd m
 
-rest_in : (p : Part) (o b : Items) → is_target p ≡ false → IsBinOp o → ChainIn p b → RestIn p (join o b)
+rest_in : (p : Goal) (o b : Items) → is_target p ≡ false → IsBinOp o → ChainIn p b → RestIn p (join o b)
 rest_in Target o b free op more = absurd (false≢true (sym free))
 rest_in _ o b free op more = operated o refl op more
 
-no_rest_in : (p : Part) → RestIn p no_items
+no_rest_in : (p : Goal) → RestIn p no_items
 no_rest_in Target = refl
 no_rest_in _ = no_rest
 
 -- an operator, and what stands after it
-operator_had : (p : Part) (c d : Bool) (o : Items) (xs : Items) → IsBinOp o → (is_target p ≡ false) × Wanted p c xs → Had p c d (join o xs)
+operator_had : (p : Goal) (c d : Bool) (o : Items) (xs : Items) → IsBinOp o → (is_target p ≡ false) × Wanted p c xs → Had p c d (join o xs)
 operator_had p c d o xs op m = record {
   suffixes = no_items;
   ops = join o m.1.chain;
@@ -431,15 +432,15 @@ operator_had p c d o xs op m = record {
   after = m.1.after;
 }
 
-excluded_had : (p : Part) (c d : Bool) (x : Item) (xs : Items) → token_role x ≡ Not → (is_target p ≡ false) × Excluded p c xs → Had p c d (item x xs)
+excluded_had : (p : Goal) (c d : Bool) (x : Item) (xs : Items) → token_role x ≡ Not → (is_target p ≡ false) × Excluded p c xs → Had p c d (item x xs)
 excluded_had p c d x xs k m =
     let h = operator_had p c d (item x (item m.1.operator_text no_items)) m.1.after (not_in k m.1.role) (m.0, m.1.wanted) in
     subst (Had p c d) (ap (item x) (sym m.1.is)) h
 
-after_had : (p : Part) (c d : Bool) (xs : Items) → Preceding p c xs → Had p c d xs
+after_had : (p : Goal) (c d : Bool) (xs : Items) → Preceding p c xs → Had p c d xs
 after_had p c d xs m = record { suffixes = no_items; ops = no_items; rest = xs; is = refl; are_suffixes = no_suffix; bare = λ e. refl; is_rest = no_rest_in p; after = m }
 
-in_means : (p : Part) (c d : Bool) (x : Item) (xs : Items) → token_role x ≡ In → Means (next_after p c In) xs → Had p c d (item x xs)
+in_means : (p : Goal) (c d : Bool) (x : Item) (xs : Items) → token_role x ≡ In → Means (next_after p c In) xs → Had p c d (item x xs)
 in_means Target c d x xs k m = after_had Target c d (item x xs) (leaves_means Target c x xs In k m)
 in_means p c d x xs k m = operator_had p c d (item x no_items) xs (operator (ap is_operator k)) (refl, m)
 
@@ -447,7 +448,7 @@ suffix_bare : (x : Item) (xs : Items) → IsSuffix x → begins_dot (item x xs) 
 suffix_bare x xs (call is args) = refl
 suffix_bare x xs (index i) = refl
 
-had_means : (p : Part) (c d : Bool) (x : Item) (xs : Items) (r : Role) → (is_dot_role r ≡ true → d ≡ true) → RoleMeans r x → Means (next_after p c r) xs → Had p c d (item x xs)
+had_means : (p : Goal) (c d : Bool) (x : Item) (xs : Items) (r : Role) → (is_dot_role r ≡ true → d ≡ true) → RoleMeans r x → Means (next_after p c r) xs → Had p c d (item x xs)
 had_means p c d x xs Dot fits k m = record {
   suffixes = item x (item m.name m.had.suffixes);
   ops = m.had.ops;
@@ -475,25 +476,25 @@ had_means p c d x xs In fits k m = in_means p c d x xs k m
 had_means p c d x xs Not fits k m = excluded_had p c d x xs k (unchained p (Excludes p c) xs m)
 had_means p c d x xs r fits k m = after_had p c d (item x xs) (leaves_means p c x xs r k m)
 
-number_means : (p : Part) (c : Bool) (x : Item) (xs : Items) (r : Role) → RoleMeans r x → Means (next_after_number p c r) xs → Had p c false (item x xs)
+number_means : (p : Goal) (c : Bool) (x : Item) (xs : Items) (r : Role) → RoleMeans r x → Means (next_after_number p c r) xs → Had p c false (item x xs)
 number_means p c x xs Dot k m = absurd m
 number_means p c x xs r k m = had_means p c false x xs r (λ e. absurd (false≢true e)) k m
 
-name_means : (p : Part) (c : Bool) (x : Item) (xs : Items) (r : Role) → RoleMeans r x → Means (next_name p c r) xs → Named p c (item x xs)
+name_means : (p : Goal) (c : Bool) (x : Item) (xs : Items) (r : Role) → RoleMeans r x → Means (next_name p c r) xs → Named p c (item x xs)
 name_means p c x xs Name k m = record { name = x; after = xs; is = refl; role = k; had = m }
 name_means p c x xs _ k m = absurd m
 
-excluded_means : (p : Part) (c : Bool) (x : Item) (xs : Items) (r : Role) → RoleMeans r x → Means (next_excluded p c r) xs → Excluded p c (item x xs)
+excluded_means : (p : Goal) (c : Bool) (x : Item) (xs : Items) (r : Role) → RoleMeans r x → Means (next_excluded p c r) xs → Excluded p c (item x xs)
 excluded_means p c x xs In k m = record { operator_text = x; after = xs; is = refl; role = k; wanted = m }
 excluded_means p c x xs _ k m = absurd m
 
-colon_begun : (p : Part) (x : Item) (xs : Items) → token_role x ≡ Colon → Means (after_part p Colon) xs → Begun p (item x xs)
+colon_begun : (p : Goal) (x : Item) (xs : Items) → token_role x ≡ Colon → Means (after_part p Colon) xs → Begun p (item x xs)
 colon_begun From x xs k m = slice x refl nothing k m
 colon_begun To x xs k m = stepped x refl nothing k m
 colon_begun Step x xs k m = absurd m
 colon_begun _ x xs k m = tt
 
-begun_means : (p : Part) (x : Item) (xs : Items) (r : Role) → RoleMeans r x → Means (next_begun p r) xs → Begun p (item x xs)
+begun_means : (p : Goal) (x : Item) (xs : Items) (r : Role) → RoleMeans r x → Means (next_begun p r) xs → Begun p (item x xs)
 begun_means p x xs Colon k m = colon_begun p x xs k m
 begun_means p x xs r k m = begun_of p (item x xs) (wanted_whole p (item x xs) (wanted_means p false x xs r k m))
 
@@ -523,7 +524,7 @@ step_means Argument x xs r k m = argument_means x xs r k m
 step_means Keyword x xs r k m = keyword_means x xs r k m
 
 -- at the end
-part_end : (p : Part) → ends p ≡ true → Tail p no_items
+part_end : (p : Goal) → ends p ≡ true → Tail p no_items
 part_end Left h = tail Left no_items left_end
 part_end Right h = tail Right no_items right_end
 part_end Alone h = tail Alone no_items refl
@@ -536,11 +537,11 @@ part_end Element h = absurd (false≢true h)
 part_end EntryKey h = absurd (false≢true h)
 part_end Target h = absurd (false≢true h)
 
-had_end : (p : Part) (c d : Bool) → (not c && ends p) ≡ true → Had p c d no_items
+had_end : (p : Goal) (c d : Bool) → (not c && ends p) ≡ true → Had p c d no_items
 had_end p false d h = after_had p false d no_items (part_end p h)
 had_end p true d h = absurd (false≢true h)
 
-begun_end : (p : Part) → may_be_empty p ≡ true → Begun p no_items
+begun_end : (p : Goal) → may_be_empty p ≡ true → Begun p no_items
 begun_end To h = upper nothing
 begun_end Step h = nothing
 begun_end From h = absurd (false≢true h)
@@ -635,11 +636,11 @@ operator_chain false false false false false false false false false true = refl
 operator_chain false false false false false false false false false false = refl
 
 word_plain : (word : List ℕ) → is_suffix_role (word_role word) ≡ false
-word_plain word = word_chain (bytes_eq word (codes "if")) (bytes_eq word (codes "else")) (bytes_eq word (codes "for")) (bytes_eq word (codes "in")) (bytes_eq word (codes "not")) (is_among word (codes "and" ∷ codes "or" ∷ []))
+word_plain word = word_chain (bytes_eq word (codes "if")) (bytes_eq word (codes "else")) (bytes_eq word (codes "for")) (bytes_eq word (codes "in")) (bytes_eq word (codes "not")) (is_one_of (codes "and" ∷ codes "or" ∷ []) word)
 
 operator_plain : (word : List ℕ) → is_suffix_role (operator_role word) ≡ false
 operator_plain word =
-    operator_chain (bytes_eq word (codes ".")) (bytes_eq word (codes ",")) (bytes_eq word (codes ":")) (bytes_eq word (codes "=")) (bytes_eq word (codes "~")) (bytes_eq word (codes "*")) (bytes_eq word (codes "**")) (is_among word (codes "+" ∷ codes "-" ∷ [])) (is_among word (codes "+=" ∷ codes "-=" ∷ codes "*=" ∷ codes "/=" ∷ codes "//=" ∷ codes "%=" ∷ codes "&=" ∷ codes "|=" ∷ codes "^=" ∷ codes "<<=" ∷ codes ">>=" ∷ [])) (is_among word (codes "==" ∷ codes "!=" ∷ codes "<" ∷ codes ">" ∷ codes "<=" ∷ codes ">=" ∷ codes "|" ∷ codes "^" ∷ codes "&" ∷ codes "<<" ∷ codes ">>" ∷ codes "/" ∷ codes "//" ∷ codes "%" ∷ []))
+    operator_chain (bytes_eq word (codes ".")) (bytes_eq word (codes ",")) (bytes_eq word (codes ":")) (bytes_eq word (codes "=")) (bytes_eq word (codes "~")) (bytes_eq word (codes "*")) (bytes_eq word (codes "**")) (is_one_of (codes "+" ∷ codes "-" ∷ []) word) (is_one_of (codes "+=" ∷ codes "-=" ∷ codes "*=" ∷ codes "/=" ∷ codes "//=" ∷ codes "%=" ∷ codes "&=" ∷ codes "|=" ∷ codes "^=" ∷ codes "<<=" ∷ codes ">>=" ∷ []) word) (is_one_of (codes "==" ∷ codes "!=" ∷ codes "<" ∷ codes ">" ∷ codes "<=" ∷ codes ">=" ∷ codes "|" ∷ codes "^" ∷ codes "&" ∷ codes "<<" ∷ codes ">>" ∷ codes "/" ∷ codes "//" ∷ codes "%" ∷ []) word)
 
 leaf_plain : (kind : Kind) (word : List ℕ) → is_suffix_role (leaf_role kind word) ≡ false
 leaf_plain KeywordToken word = word_plain word

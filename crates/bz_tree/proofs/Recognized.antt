@@ -4,8 +4,8 @@ use Rattle.std.proofs.lemmas.Bool.{false≢true, and_parts}
 use Rattle.bz_tree.specs.declared.stmt.GroupKind.TheVariants.{Load}
 use Rattle.bz_tree.specs.declared.role.Role.{Role}
 use Rattle.bz_tree.specs.declared.role.Role.TheVariants.{Name, Value, Comma, Equals, Augmented}
-use Rattle.bz_tree.specs.declared.stage.Part.{Part}
-use Rattle.bz_tree.specs.declared.stage.Part.TheVariants.{Left, Right}
+use Rattle.bz_tree.specs.declared.stage.Goal.{Goal}
+use Rattle.bz_tree.specs.declared.stage.Goal.TheVariants.{Left, Right}
 use Rattle.bz_tree.specs.declared.stage.Stage.TheVariants.{Wants}
 use Rattle.bz_tree.specs.Tree.{Item, leaf, group, Items, no_items, item, Segs, no_segs, seg}
 use Rattle.bz_tree.specs.Statement.{is_load_word}
@@ -27,7 +27,7 @@ or_cases true b h = inl refl
 or_cases false b h = inr h
 
 -- expressions
-expr_run : {xs : Items} → IsExpr xs → (p : Part) (r : Items) → is_test_part p ≡ true → after_part p Comma ≡ Wants p false → Accepts p false r → accepts (Wants p false) (join xs r) ≡ true
+expr_run : {xs : Items} → IsExpr xs → (p : Goal) (r : Items) → is_test_part p ≡ true → after_part p Comma ≡ Wants p false → Accepts p false r → accepts (Wants p false) (join xs r) ≡ true
 expr_run (last_test t) p r of_test e acc = test_run t p r of_test acc
 expr_run (test {xs} {a} {b} c is t rc more) p r of_test e acc =
     rw (is, join_assoc a (item c b) r) (test_run t p (item c (join b r)) of_test (leave p false c (join b r) Comma (Wants p false) (role_known c Comma rc refl) e e (expr_run more p r of_test e acc)))

@@ -17,7 +17,7 @@ use Rattle.bz_tree.specs.Tree.{Statement}
 use Rattle.bz_tree.specs.Chunk.{IsStatementIn}
 use Rattle.bz_tree.specs.Kinds.{mark_of}
 use Rattle.bz_tree.specs.Brackets.{is_line, without_lines, end_line}
-use Rattle.bz_tree.specs.Statement.{is_aside, bare_tokens, first_of, last_of, first_token, first_seen, last_token, last_seen, either, line_of, end_line_of, start_of, end_of}
+use Rattle.bz_tree.specs.Statement.{is_aside, bare_tokens, last_of, first_token, first_seen, last_token, last_seen, start_of, end_of}
 use Rattle.bz_tree.specs.Rows.{IsRowOf}
 use Rattle.bz_tree.specs.RowReads.{has_row}
 use Rattle.bz_tree.specs.private.RowSteps.{row_state, row_run, row_start, row_view, is_upright}
@@ -26,6 +26,7 @@ use Rattle.bz_tree.proofs.Plain.{FitsLast, bare_fits}
 use Rattle.bz_tree.proofs.RowNone.{walk_stops}
 use Rattle.bz_tree.proofs.RowFound.{IsRowIn, upright_rows}
 use Rattle.bz_tree.proofs.Standing.{ends_fit}
+use Rattle.bz_token.specs.Common.{first_of, map_or}
 
 first_append : (xs ys : List Placed) → first_of (xs ++ ys) ≡ option_or (first_of xs) (first_of ys)
 first_append [] ys = refl
@@ -106,8 +107,8 @@ goes_on first depth text before reader walk passed begin end front back i read s
 pub last_fits : (first depth : ℕ) (text : List ℕ) (ts : List Placed) (end : Token) → AreTokensOf first depth text ts → first + count_by (λ b. b == 10) text < 2 ^ 64 → Some (placed end) ≡ last_token ts → end_line (placed end) < 2 ^ 64
 last_fits first depth text ts end are fits is = subst FitsLast (sym is) (bare_fits ts None (ends_fit first depth text ts are fits) tt)
 
-either_is : (o p : Option Placed) (t : Placed) → Some t ≡ o → either o p ≡ Some t
-either_is o p t e = subst (λ x. either x p ≡ Some t) e refl
+either_is : (o p : Option Placed) (t : Placed) → Some t ≡ o → option_or o p ≡ Some t
+either_is o p t e = subst (λ x. option_or x p ≡ Some t) e refl
 
 -- at the end
 pub row_of_batches : (first depth : ℕ) (text : List ℕ) (reader : TokenReader) (walk : RowWalk) (begins ends : Option Token) (begin end : Token) (o : Option Row) (line : ℕ)
@@ -118,8 +119,8 @@ row_of_batches first depth text reader walk begins ends begin end o line i begin
     let ts = i.given in
     let begin_is : Some (placed begin) ≡ first_token ts = sym (ap (option_map placed) begins_is) ∙ i.begin_is in
     let end_is : Some (placed end) ≡ last_token ts = sym (ap (option_map placed) ends_is) ∙ i.end_is in
-    let starts : begin.line ≡ start_of ts = ap line_of (sym (either_is (first_token ts) (first_seen ts) (placed begin) begin_is)) in
-    let finishes : line ≡ end_of ts = ends_on ∙ ap end_line_of (sym (either_is (last_token ts) (last_seen ts) (placed end) end_is)) in
+    let starts : begin.line ≡ start_of ts = ap (map_or 0 (λ t. t.line)) (sym (either_is (first_token ts) (first_seen ts) (placed begin) begin_is)) in
+    let finishes : line ≡ end_of ts = ends_on ∙ ap (map_or 0 end_line) (sym (either_is (last_token ts) (last_seen ts) (placed end) end_is)) in
     let some : IsSome (first_token ts) = subst IsSome begin_is refl in
     told o (upright_rows ts begin.line line o (same ∙ i.run [] ∙ ap (row_run row_start) (append-nil ts)) lines starts finishes (seen_some ts some) i.upright)
   where

@@ -10,26 +10,30 @@ use Rattle.bz_tree.specs.declared.stmt.GroupKind.{GroupKind}
 use Rattle.bz_tree.specs.declared.stmt.GroupKind.TheVariants.{Call, RuleCall}
 use Rattle.bz_tree.specs.declared.stmt.Class.TheVariants.{Assign, Rule, Other}
 use Rattle.bz_tree.specs.declared.role.Role.TheVariants.{Dot, Comma, Colon, Equals, Augmented, If, Else, For, In, Not, Tilde, Sum, Star, Stars, Operator, Stray}
-use Rattle.bz_tree.specs.declared.stage.Part.TheVariants.{Left}
+use Rattle.bz_tree.specs.declared.stage.Goal.TheVariants.{Left}
 use Rattle.bz_tree.specs.declared.stage.Stage.{Stage}
 use Rattle.bz_tree.specs.declared.stage.Stage.TheVariants.{Wants}
 use Rattle.bz_tree.specs.declared.spot.Naming.{Naming}
 use Rattle.bz_tree.specs.declared.spot.Naming.TheVariants.{Name, Join, End, Never, Lost}
 use Rattle.bz_tree.specs.declared.spot.Read.{Read}
 use Rattle.bz_tree.specs.Tree.{Item, leaf, group, Segs, items_of}
-use Rattle.bz_tree.specs.Grammar.{leaf_role, word_role, operator_role, is_among, is_augmented, is_infix, is_assignment}
-use Rattle.bz_tree.specs.Statement.{is_ident, is_dot, is_call, is_nothing, is_rule, is_rule_after, as_rule_call, rule_call, is_assign_operator, is_assign, has_assign, is_load_word, is_kept, class_of}
+use Rattle.bz_tree.specs.Grammar.{leaf_role, word_role, operator_role, is_infix, is_assignment}
+use Rattle.bz_tree.specs.Statement.{is_ident, is_call, is_rule, is_rule_after, as_rule_call, rule_call, is_assign_operator, is_assign, is_load_word, is_kept, class_of, is_augmented}
 use Rattle.bz_tree.specs.private.Machine.{next, accepts}
 use Rattle.bz_tree.specs.private.RowSteps.{named, called, is_rule_read, is_lost, read_class}
 use Rattle.bz_tree.proofs.Accepted.{refused}
 use Rattle.bz_tree.proofs.RowParts.{read_item, read_items, shown_item, shown}
+use Rattle.bz_token.specs.Common.{is_empty}
+use Rattle.bz_token.specs.Lexical.{is_one_of}
+use Rattle.bz_tree.specs.Kinds.{is_operator_at}
+use Rattle.std.specs.List.{list_any}
 
 -- a rule, from some node on
 abbrev from : Naming → List Item → Bool
 from Name xs = is_rule xs
 from Join xs = is_rule_after xs
 from Never xs = false
-from End xs = is_nothing xs
+from End xs = is_empty xs
 from Lost xs = false
 
 abbrev naming_item : Naming → Item → Naming
@@ -48,14 +52,14 @@ after_dot : (b : Bool) (xs : List Item) → (b && is_rule xs) ≡ from (cond b N
 after_dot true xs = refl
 after_dot false xs = refl
 
-after_call : (b : Bool) (xs : List Item) → (b && is_nothing xs) ≡ from (cond b End Never) xs
+after_call : (b : Bool) (xs : List Item) → (b && is_empty xs) ≡ from (cond b End Never) xs
 after_call true xs = refl
 after_call false xs = refl
 
 from_step : (n : Naming) (x : Item) (xs : List Item) → from n (x ∷ xs) ≡ from (naming_item n x) xs
 from_step Name (leaf kind text) xs = after_name (is_ident kind) xs
 from_step Name (group kind segs one_comma end) xs = refl
-from_step Join (leaf kind text) xs = after_dot (is_dot kind text) xs
+from_step Join (leaf kind text) xs = after_dot (is_operator_at (codes ".") kind text) xs
 from_step Join (group kind segs one_comma end) xs = after_call (is_call kind) xs
 from_step Never (leaf kind text) xs = refl
 from_step Never (group kind segs one_comma end) xs = refl
@@ -173,7 +177,7 @@ operator_chain false false false false false false false false false false v na 
 
 operator_assigns : (text : List ℕ) → is_assignment (operator_role text) ≡ is_assign_operator text
 operator_assigns text =
-    operator_chain (bytes_eq text (codes ".")) (bytes_eq text (codes ",")) (bytes_eq text (codes ":")) (bytes_eq text (codes "=")) (bytes_eq text (codes "~")) (bytes_eq text (codes "*")) (bytes_eq text (codes "**")) (is_among text (codes "+" ∷ codes "-" ∷ [])) (is_augmented text) (is_infix text) (is_assign_operator text)
+    operator_chain (bytes_eq text (codes ".")) (bytes_eq text (codes ",")) (bytes_eq text (codes ":")) (bytes_eq text (codes "=")) (bytes_eq text (codes "~")) (bytes_eq text (codes "*")) (bytes_eq text (codes "**")) (is_one_of (codes "+" ∷ codes "-" ∷ []) text) (is_augmented text) (is_infix text) (is_assign_operator text)
     (λ e. no_assign text (codes ".") e refl) (λ e. no_assign text (codes ",") e refl) (λ e. no_assign text (codes ":") e refl) (λ e. no_assign text (codes "~") e refl) (λ e. no_assign text (codes "*") e refl) (λ e. no_assign text (codes "**") e refl)
     (λ e. no_assign_among text (codes "+") (codes "-") (bytes_eq text (codes "+")) refl e refl refl) refl
 
@@ -187,7 +191,7 @@ word_chain false false false false false true = refl
 word_chain false false false false false false = refl
 
 word_assigns : (text : List ℕ) → is_assignment (word_role text) ≡ false
-word_assigns text = word_chain (bytes_eq text (codes "if")) (bytes_eq text (codes "else")) (bytes_eq text (codes "for")) (bytes_eq text (codes "in")) (bytes_eq text (codes "not")) (is_among text (codes "and" ∷ codes "or" ∷ []))
+word_assigns text = word_chain (bytes_eq text (codes "if")) (bytes_eq text (codes "else")) (bytes_eq text (codes "for")) (bytes_eq text (codes "in")) (bytes_eq text (codes "not")) (is_one_of (codes "and" ∷ codes "or" ∷ []) text)
 
 leaf_assigns : (kind : Kind) (text : List ℕ) → is_assignment (leaf_role kind text) ≡ is_assign (leaf kind text)
 leaf_assigns OperatorToken text = operator_assigns text
@@ -206,14 +210,14 @@ item_assigns : (x : Item) (r : Read) → (read_item x r).assigns ≡ (r.assigns 
 item_assigns (leaf kind text) r = ap (λ b. r.assigns || b) (leaf_assigns kind text)
 item_assigns (group kind segs one_comma end) r = or_none r.assigns
 
-read_assigns : (xs : List Item) (r : Read) → (read_items r xs).assigns ≡ (r.assigns || has_assign xs)
+read_assigns : (xs : List Item) (r : Read) → (read_items r xs).assigns ≡ (r.assigns || list_any is_assign xs)
 read_assigns [] r = or_none r.assigns
-read_assigns (x ∷ xs) r = read_assigns xs (read_item x r) ∙ (ap (λ b. b || has_assign xs) (item_assigns x r) ∙ or_assoc r.assigns (is_assign x) (has_assign xs))
+read_assigns (x ∷ xs) r = read_assigns xs (read_item x r) ∙ (ap (λ b. b || list_any is_assign xs) (item_assigns x r) ∙ or_assoc r.assigns (is_assign x) (list_any is_assign xs))
 
 -- a rule whose call is shown
 record Same (n : Naming) (s : Stage) (xs : List Item) : Type 0 where
   accepts_same : accepts s (items_of (rule_call xs)) ≡ accepts s (items_of xs)
-  assigns_same : has_assign (rule_call xs) ≡ has_assign xs
+  assigns_same : list_any is_assign (rule_call xs) ≡ list_any is_assign xs
   rule_same : from n (rule_call xs) ≡ from n xs
 
 after_leaf : (n : Naming) (kind : Kind) (text : List ℕ) (s : Stage) (y : Item) (ys : List Item) → Same (named n kind text) (next s (leaf_role kind text)) (y ∷ ys) → Same n s (leaf kind text ∷ y ∷ ys)
@@ -247,7 +251,7 @@ same_from (group kind segs one_comma end ∷ y ∷ ys) Never s h = absurd (false
 same_from (group kind segs one_comma end ∷ y ∷ ys) End s h = absurd (false≢true h)
 same_from (group kind segs one_comma end ∷ y ∷ ys) Lost s h = absurd (false≢true h)
 
-with_same : (xs : List Item) (s : Stage) (b : Bool) → is_rule xs ≡ b → (accepts s (items_of (cond b (rule_call xs) xs)) ≡ accepts s (items_of xs)) × (has_assign (cond b (rule_call xs) xs) ≡ has_assign xs) × (is_rule (cond b (rule_call xs) xs) ≡ is_rule xs)
+with_same : (xs : List Item) (s : Stage) (b : Bool) → is_rule xs ≡ b → (accepts s (items_of (cond b (rule_call xs) xs)) ≡ accepts s (items_of xs)) × (list_any is_assign (cond b (rule_call xs) xs) ≡ list_any is_assign xs) × (is_rule (cond b (rule_call xs) xs) ≡ is_rule xs)
 with_same xs s true e = let same = same_from xs Name s e in (same.accepts_same, same.assigns_same, same.rule_same)
 with_same xs s false e = (refl, refl, refl)
 
@@ -265,14 +269,14 @@ first_is (leaf Keyword text) xs h = (refl, load_role text (bytes_eq text (codes 
 first_is (leaf _ text) xs h = (refl, refl)
 first_is (group kind segs one_comma end) xs h = (refl, refl)
 
-accepted_class : (xs : List Item) → accepts (Wants Left false) (items_of xs) ≡ true → class_of xs ≡ cond (has_assign xs) Assign (cond (is_rule xs) Rule Other)
+accepted_class : (xs : List Item) → accepts (Wants Left false) (items_of xs) ≡ true → class_of xs ≡ cond (list_any is_assign xs) Assign (cond (is_rule xs) Rule Other)
 accepted_class [] h = absurd (false≢true h)
 accepted_class (x ∷ xs) h = let p = first_is x xs h in rw (p.0, p.1) refl
 
 pub class_is : (xs : List Item) (r : Read) → r.naming ≡ Name → r.assigns ≡ false → accepts (Wants Left false) (items_of xs) ≡ true → read_class (read_items r xs) ≡ class_of (with_rule xs)
 class_is xs r name none h =
     let same = with_same xs (Wants Left false) (is_rule xs) refl in
-    let read : read_class (read_items r xs) ≡ cond (has_assign xs) Assign (cond (is_rule xs) Rule Other) =
-    ap (λ b. cond b Assign (cond (is_rule_read (read_items r xs).naming) Rule Other)) (read_assigns xs r ∙ ap (λ b. b || has_assign xs) none)
-    ∙ ap (λ b. cond (has_assign xs) Assign (cond b Rule Other)) (rule_read xs r ∙ ap (λ n. from n xs) name) in
-    read ∙ (ap (λ b. cond b Assign (cond (is_rule xs) Rule Other)) (sym same.1) ∙ (ap (λ b. cond (has_assign (with_rule xs)) Assign (cond b Rule Other)) (sym same.2) ∙ sym (accepted_class (with_rule xs) (same.0 ∙ h))))
+    let read : read_class (read_items r xs) ≡ cond (list_any is_assign xs) Assign (cond (is_rule xs) Rule Other) =
+    ap (λ b. cond b Assign (cond (is_rule_read (read_items r xs).naming) Rule Other)) (read_assigns xs r ∙ ap (λ b. b || list_any is_assign xs) none)
+    ∙ ap (λ b. cond (list_any is_assign xs) Assign (cond b Rule Other)) (rule_read xs r ∙ ap (λ n. from n xs) name) in
+    read ∙ (ap (λ b. cond b Assign (cond (is_rule xs) Rule Other)) (sym same.1) ∙ (ap (λ b. cond (list_any is_assign (with_rule xs)) Assign (cond b Rule Other)) (sym same.2) ∙ sym (accepted_class (with_rule xs) (same.0 ∙ h))))

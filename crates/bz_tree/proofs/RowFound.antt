@@ -7,7 +7,7 @@ use Rattle.bz_token.specs.Reading.{AreTokensOf}
 use Rattle.bz_tree.specs.declared.stmt.GroupKind.{GroupKind}
 use Rattle.bz_tree.specs.declared.stmt.Class.{Class}
 use Rattle.bz_tree.specs.declared.stmt.Class.TheVariants.{Load, Comment}
-use Rattle.bz_tree.specs.declared.stage.Part.TheVariants.{Left}
+use Rattle.bz_tree.specs.declared.stage.Goal.TheVariants.{Left}
 use Rattle.bz_tree.specs.declared.stage.Stage.TheVariants.{Wants}
 use Rattle.bz_tree.specs.declared.row.Row.{Row}
 use Rattle.bz_tree.specs.declared.spot.Read.{Read}
@@ -15,7 +15,7 @@ use Rattle.bz_tree.specs.Tree.{Item, Segment, Statement, items_of}
 use Rattle.bz_tree.specs.Kinds.{mark_of}
 use Rattle.bz_tree.specs.Statement.{class_of, first_token, first_seen, start_of, end_of, statement_with}
 use Rattle.bz_tree.specs.Blocks.{is_block_word}
-use Rattle.bz_tree.specs.Chunk.{begins_block, indent_at, IsOneOf, IsStatementIn}
+use Rattle.bz_tree.specs.Chunk.{indent_at, IsOneOf, IsStatementIn}
 use Rattle.bz_tree.specs.Rows.{RowPart, above, beside_part, IsRowOf}
 use Rattle.bz_tree.specs.private.Machine.{accepts, may_end, is_load, is_nothing, is_statement}
 use Rattle.bz_tree.specs.private.Steps.{new_level, run}
@@ -27,6 +27,7 @@ use Rattle.bz_tree.proofs.RowParts.{Place, none, fresh, some, over, Bracket, bra
 use Rattle.bz_tree.proofs.RowClass.{with_rule, shown_rule, with_rule_accepts, class_is}
 use Rattle.bz_tree.proofs.RowLoad.{load_parts, load_class}
 use Rattle.bz_tree.proofs.RowWalk.{level_of, image, IsGoodAt, IsGood, AreGood, next_leads}
+use Rattle.bz_token.specs.Common.{map_or}
 
 -- the statement's segment that the walk for the tree finds, and the row
 pub record Found (answer : Option Segment) (r : RowView) : Type 0 where
@@ -141,7 +142,7 @@ not_false : (b : Bool) → not b ≡ true → b ≡ false
 not_false false h = refl
 not_false true h = absurd (false≢true h)
 
-upright : (o : Option Placed) (ts : List Placed) → is_upright o ≡ true → (indent_at o ts ≡ None) × (begins_block o ≡ false)
+upright : (o : Option Placed) (ts : List Placed) → is_upright o ≡ true → (indent_at o ts ≡ None) × (map_or false is_block_word o ≡ false)
 upright None ts h = (refl, refl)
 upright (Some t) ts h =
     let p = and_parts (t.col == 1) (not (is_block_word t)) h in

@@ -6,8 +6,8 @@ use Rattle.bz_tree.specs.declared.kinds.Preceding.TheVariants.{Operand}
 use Rattle.bz_tree.specs.declared.stage.Stage.{Stage}
 use Rattle.bz_tree.specs.declared.spot.Naming.{Naming}
 use Rattle.bz_tree.specs.declared.spot.Naming.TheVariants.{Never}
-use Rattle.bz_tree.specs.declared.spot.Done.{Done}
-use Rattle.bz_tree.specs.declared.spot.Done.TheVariants.{Zero, One, More}
+use Rattle.bz_tree.specs.declared.spot.SegmentCount.{SegmentCount}
+use Rattle.bz_tree.specs.declared.spot.SegmentCount.TheVariants.{Zero, One, More}
 use Rattle.bz_tree.specs.declared.spot.Read.{Read}
 use Rattle.bz_tree.specs.Tree.{Item, leaf, group, Segment, items_of, segs_of}
 use Rattle.bz_tree.specs.Brackets.{after_item}
@@ -57,7 +57,7 @@ at_place (fresh line) = a_comma line
 at_place (some before x xs line) = a_node line
 at_place (over before x xs suffix after) = an_end
 
-abbrev pub done_of : List Segment → Done
+abbrev pub done_of : List Segment → SegmentCount
 done_of [] = Zero
 done_of (s ∷ []) = One
 done_of (s ∷ r ∷ ss) = More

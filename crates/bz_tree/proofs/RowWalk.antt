@@ -15,7 +15,7 @@ use Rattle.bz_tree.specs.declared.kinds.Preceding.TheVariants.{Operand, Other}
 use Rattle.bz_tree.specs.declared.spot.Read.{Read}
 use Rattle.bz_tree.specs.Tree.{Item, Segment, segs_of}
 use Rattle.bz_tree.specs.Kinds.{kind_mark, mark_of, kind_after, is_for_at, group_kind, is_one, same_shape}
-use Rattle.bz_tree.specs.Owners.{node, comma, comment, no_token, end_of_node, end_of_comma, is_filled, Inside}
+use Rattle.bz_tree.specs.Owners.{node, comma, comment, no_token, end_of_node, end_of_comma, Inside}
 use Rattle.bz_tree.specs.Brackets.{leaf_of, is_for_item, is_paren, group_with, end_line}
 use Rattle.bz_tree.specs.Rows.{RowPart, opening, closing, segment_end, above, beside, beside_part, item_parts}
 use Rattle.bz_tree.specs.private.Machine.{next, may_end, begin, each, role_of, group_role}
@@ -25,6 +25,7 @@ use Rattle.bz_tree.proofs.Complete.{same_itself}
 use Rattle.bz_tree.proofs.InPlace.{filled_push, filled_last}
 use Rattle.bz_tree.proofs.Sound.{none_is_some, some_injective, same_shape_is}
 use Rattle.bz_tree.proofs.RowParts.{Place, none, fresh, some, over, Bracket, bracket, nodes_of, read_item, read_items, read_of, at_place, done_of, stand_of, shown_item, shown, nodes_parts, all_segs_parts, place_parts, bracket_parts, all_parts, all_push, read_push, shown_push, nodes_more, item_at, accepts_read, never_shown, segs_push, each_push, done_push, is_open, open_push, beside_last, each_last, done_last}
+use Rattle.bz_token.specs.Common.{is_filled}
 
 -- the same bracket in the walk that builds the tree
 abbrev walked_of : List Segment → Place → Walked

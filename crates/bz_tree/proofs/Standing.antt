@@ -15,11 +15,12 @@ use Rattle.bz_tree.specs.declared.kinds.Shape.TheVariants.{Round, Square, Curly}
 use Rattle.bz_tree.specs.declared.kinds.Mark.TheVariants.{Open, Close, Comma, Plain}
 use Rattle.bz_tree.specs.Kinds.{operator_mark, kind_mark, mark_of}
 use Rattle.bz_tree.specs.Brackets.{is_line, without_lines}
-use Rattle.bz_tree.specs.Statement.{is_aside, bare_tokens, first_of, last_of, EndsFit}
+use Rattle.bz_tree.specs.Statement.{is_aside, bare_tokens, last_of, EndsFit}
 use Rattle.bz_tree.specs.Blocks.{IsAt, is_block_word_at}
 use Rattle.bz_tree.specs.private.BlockSteps.{IsAsciiFront, AreStanding}
 use Rattle.bz_tree.proofs.KeptText.{newlines, newlines_are}
 use Rattle.bz_tree.proofs.Sound.{none_is_some, some_injective}
+use Rattle.bz_token.specs.Common.{first_of}
 
 newlines_append : (xs ys : List ℕ) → newlines (xs ++ ys) ≡ newlines xs + newlines ys
 newlines_append [] ys = omega arith

@@ -8,9 +8,10 @@ use Rattle.bz_tree.specs.declared.stmt.Class.TheVariants.{Block}
 use Rattle.bz_tree.specs.declared.kinds.Mark.{Mark}
 use Rattle.bz_tree.specs.declared.kinds.Mark.TheVariants.{Open, Close, Comment, Newline}
 use Rattle.bz_tree.specs.Tree.{leaf, Statement}
-use Rattle.bz_tree.specs.Kinds.{mark_of}
+use Rattle.bz_tree.specs.Kinds.{mark_of, is_operator_at}
 use Rattle.bz_tree.specs.Brackets.{end_line}
 use Rattle.bz_tree.specs.Statement.{first_token, last_token, last_seen}
+use Rattle.bz_token.specs.Common.{map_or}
 
 -- the words that begin a block
 abbrev pub is_block_word_at : Kind → List ℕ → Bool
@@ -20,12 +21,8 @@ is_block_word_at _ text = false
 abbrev pub is_block_word : Placed → Bool
 is_block_word t = is_block_word_at t.kind t.text
 
-abbrev pub is_colon_at : Kind → List ℕ → Bool
-is_colon_at Operator text = bytes_eq text (codes ":")
-is_colon_at _ text = false
-
 abbrev pub is_colon : Placed → Bool
-is_colon t = is_colon_at t.kind t.text
+is_colon t = is_operator_at (codes ":") t.kind t.text
 
 -- The tokens of each logical line, without comments. A line without tokens is an empty list.
 abbrev pub in_front : Placed → List (List Placed) → List (List Placed)
@@ -66,10 +63,8 @@ ends_open opens (t ∷ ts) = ends_open (is_colon t) ts
 abbrev pub bad_line : List ℕ → Bool → List (List Placed) → Option ℕ
 bad_line columns opens [] = None
 bad_line columns opens ([] ∷ lines) = bad_line columns opens lines
-bad_line columns opens ((t ∷ ts) ∷ lines) = elim (indented opens t.col columns) [
-  | None ↦ Some t.line
-  | Some inner ↦ bad_line inner (ends_open (is_colon t) ts) lines
-]
+bad_line columns opens ((t ∷ ts) ∷ lines) =
+    elim (indented opens t.col columns) [ None ↦ Some t.line | Some inner ↦ bad_line inner (ends_open (is_colon t) ts) lines ]
 
 -- the line of the first logical line of a block, whose header stands in column 1, that is indented wrongly
 abbrev pub block_indent : List Placed → Option ℕ
@@ -91,13 +86,9 @@ abbrev pub has_colon : ℕ → List Placed → Bool
 has_colon depth [] = false
 has_colon depth (t ∷ ts) = (depth == 0 && is_colon t) || has_colon (depth_after (mark_of t) depth) ts
 
-abbrev pub is_open_end : Option Placed → Bool
-is_open_end None = false
-is_open_end (Some t) = is_colon t
-
 -- A block of the grammar: `:` stands outside brackets in its header line, and its last line does not end with `:`.
 abbrev pub is_block : List Placed → Bool
-is_block tokens = has_colon 0 (header_line (logical_lines tokens)) && not (is_open_end (last_token tokens))
+is_block tokens = has_colon 0 (header_line (logical_lines tokens)) && not (map_or false is_colon (last_token tokens))
 
 -- the comments above the first token
 abbrev pub above_at : Mark → List ℕ → List (List ℕ) → List (List ℕ)

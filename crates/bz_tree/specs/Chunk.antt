@@ -11,15 +11,12 @@ use Rattle.bz_tree.specs.Tree.{Statement, items_of}
 use Rattle.bz_tree.specs.Statement.{IsStatementOf, first_token, first_seen, start_of}
 use Rattle.bz_tree.specs.Grammar.{IsStatement}
 use Rattle.bz_tree.specs.Blocks.{is_block_word, block_indent, IsBlockOf}
+use Rattle.bz_token.specs.Common.{map_or}
 
 -- a statement of the grammar, that is no block
 pub record IsPlain (tokens : List Placed) (s : Statement) : Type 0 where
   pub tree : IsStatementOf tokens s
   pub grammar : IsStatement (items_of s.nodes)
-
-abbrev pub begins_block : Option Placed → Bool
-begins_block None = false
-begins_block (Some t) = is_block_word t
 
 abbrev pub indent_at : Option Placed → List Placed → Option ℕ
 indent_at None tokens = None
@@ -36,7 +33,7 @@ IsOneOf false first bytes tokens s = IsPlain tokens s
 
 -- The statement of a chunk of these bytes with these tokens.
 abbrev pub IsChunkOf : ℕ → List ℕ → List Placed → Statement → Type 0
-IsChunkOf first bytes tokens s = IsOneOf (begins_block (first_token tokens)) first bytes tokens s
+IsChunkOf first bytes tokens s = IsOneOf (map_or false is_block_word (first_token tokens)) first bytes tokens s
 
 -- These tokens are read as the statement: it begins on its column, and is no blank chunk.
 pub record IsReadAs (first : ℕ) (bytes : List ℕ) (tokens : List Placed) (s : Statement) : Type 0 where

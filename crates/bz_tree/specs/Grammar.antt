@@ -9,11 +9,8 @@ use Rattle.bz_tree.specs.declared.stmt.GroupKind.TheVariants.{Load, Paren, List 
 use Rattle.bz_tree.specs.declared.role.Role.{Role}
 use Rattle.bz_tree.specs.declared.role.Role.TheVariants.{Name, Number, Value, Dot, Comma, Colon, Equals, Augmented, If, Else, For, In, Not, Tilde, Sum, Star, Stars, Operator, Stray}
 use Rattle.bz_tree.specs.Tree.{Item, leaf, group, Items, no_items, item, Segs, no_segs, seg}
-use Rattle.bz_tree.specs.Statement.{is_call, is_load_word}
-
-abbrev pub is_among : List ℕ → List (List ℕ) → Bool
-is_among text [] = false
-is_among text (word ∷ words) = bytes_eq text word || is_among text words
+use Rattle.bz_tree.specs.Statement.{is_augmented, is_call, is_load_word}
+use Rattle.bz_token.specs.Lexical.{is_one_of}
 
 abbrev pub word_role : List ℕ → Role
 word_role text =
@@ -22,14 +19,11 @@ word_role text =
     else (if bytes_eq text (codes "for") then For
     else (if bytes_eq text (codes "in") then In
     else (if bytes_eq text (codes "not") then Not
-    else (if is_among text (codes "and" ∷ codes "or" ∷ []) then Operator
+    else (if is_one_of (codes "and" ∷ codes "or" ∷ []) text then Operator
     else Stray)))))
 
-abbrev pub is_augmented : List ℕ → Bool
-is_augmented text = is_among text (codes "+=" ∷ codes "-=" ∷ codes "*=" ∷ codes "/=" ∷ codes "//=" ∷ codes "%=" ∷ codes "&=" ∷ codes "|=" ∷ codes "^=" ∷ codes "<<=" ∷ codes ">>=" ∷ [])
-
 abbrev pub is_infix : List ℕ → Bool
-is_infix text = is_among text (codes "==" ∷ codes "!=" ∷ codes "<" ∷ codes ">" ∷ codes "<=" ∷ codes ">=" ∷ codes "|" ∷ codes "^" ∷ codes "&" ∷ codes "<<" ∷ codes ">>" ∷ codes "/" ∷ codes "//" ∷ codes "%" ∷ [])
+is_infix text = is_one_of (codes "==" ∷ codes "!=" ∷ codes "<" ∷ codes ">" ∷ codes "<=" ∷ codes ">=" ∷ codes "|" ∷ codes "^" ∷ codes "&" ∷ codes "<<" ∷ codes ">>" ∷ codes "/" ∷ codes "//" ∷ codes "%" ∷ []) text
 
 abbrev pub operator_role : List ℕ → Role
 operator_role text =
@@ -40,7 +34,7 @@ operator_role text =
     else (if bytes_eq text (codes "~") then Tilde
     else (if bytes_eq text (codes "*") then Star
     else (if bytes_eq text (codes "**") then Stars
-    else (if is_among text (codes "+" ∷ codes "-" ∷ []) then Sum
+    else (if is_one_of (codes "+" ∷ codes "-" ∷ []) text then Sum
     else (if is_augmented text then Augmented
     else (if is_infix text then Operator
     else Stray)))))))))

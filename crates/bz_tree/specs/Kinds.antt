@@ -48,6 +48,11 @@ kind_after String text = Operand
 kind_after Keyword text = if bytes_eq text (codes "load") then LoadWord else Other
 kind_after _ text = Other
 
+-- this operator
+abbrev pub is_operator_at : List ℕ → Kind → List ℕ → Bool
+is_operator_at operator Operator text = bytes_eq text operator
+is_operator_at operator _ text = false
+
 -- the keyword `for`
 abbrev pub is_for_at : Kind → List ℕ → Bool
 is_for_at Keyword text = bytes_eq text (codes "for")

@@ -1,7 +1,8 @@
 -- The segments of one bracket, and whose each of its comments is. Only what stands in the bracket itself counts: an inner bracket is one node.
-use Rattle.std.specs.Prelude.{ℕ, List, [], ◌∷◌, ◌++◌, Bool, true, false, not, if◌then◌else◌, ◌==◌, ◌&&◌, Option, Some, None}
+use Rattle.std.specs.Prelude.{ℕ, List, [], ◌∷◌, ◌++◌, Bool, true, false, not, if◌then◌else◌, ◌==◌, ◌&&◌, Option, Some, None, drop}
 use Rattle.bz_token.specs.Places.{Placed}
 use Rattle.bz_tree.specs.Tree.{Item, Segment}
+use Rattle.bz_token.specs.Common.{first_of, is_filled}
 
 -- what stands in a bracket, in order
 pub data Own : Type 0 where
@@ -63,10 +64,6 @@ nodes_in [] = []
 nodes_in (a_node x ∷ es) = x ∷ nodes_in es
 nodes_in (e ∷ es) = nodes_in es
 
-abbrev pub is_filled {ℓ} : {A : Type ℓ} → List A → Bool
-is_filled [] = false
-is_filled (x ∷ xs) = true
-
 abbrev pub has_node : List Entry → Bool
 has_node es = is_filled (nodes_in es)
 
@@ -94,21 +91,13 @@ below_last (a_node x ∷ es) = if has_node es then below_last es else comments_i
 below_last (a_comment on text ∷ es) = if has_node es then below_last es else text ∷ comments_in es
 below_last (a_comma ∷ es) = below_last es
 
-abbrev pub first : List (List ℕ) → Option (List ℕ)
-first [] = None
-first (text ∷ texts) = Some text
-
-abbrev pub others : List (List ℕ) → List (List ℕ)
-others [] = []
-others (text ∷ texts) = texts
-
 -- The segment of a cell, of those comments below its last node that are the segment's, and of the comment on the line of the comma
 -- after it. Of the comment beside the last node and this one the first is the suffix. All others stand before the segment, in
 -- their order.
 abbrev pub cell_segment : List Entry → List (List ℕ) → List (List ℕ) → Segment
 cell_segment cell below_it on_comma =
     let shown = beside_last cell ++ on_comma in
-    record { before = above_last cell ++ (below_it ++ others shown); nodes = nodes_in cell; suffix = first shown }
+    record { before = above_last cell ++ (below_it ++ drop 1 shown); nodes = nodes_in cell; suffix = first_of shown }
 
 -- a segment, if it has a node
 abbrev pub with_segment : Segment → List Segment → List Segment

@@ -12,6 +12,11 @@ use Rattle.bz_tree.specs.declared.kinds.Preceding.TheVariants.{Other as Elsewher
 use Rattle.bz_tree.specs.Tree.{Item, leaf, group, Segment, Statement}
 use Rattle.bz_tree.specs.Owners.{Own, Inside, inside}
 use Rattle.bz_tree.specs.Brackets.{Elems, elems_tokens, elems_own, own_items, AreWell, end_line, without_lines}
+use Rattle.bz_token.specs.Common.{first_of, is_empty, map_or}
+use Rattle.bz_token.specs.Lexical.{is_one_of}
+use Rattle.bz_tree.specs.Kinds.{is_operator_at}
+use Rattle.std.specs.List.{list_any}
+use Rattle.std.specs.Option.{option_or}
 
 -- At depth 0 a statement is one segment, and every comment but the suffix stands before it.
 abbrev pub one_segment : List Segment → List (List ℕ) → Segment
@@ -22,31 +27,22 @@ abbrev pub is_ident : Kind → Bool
 is_ident Identifier = true
 is_ident _ = false
 
-abbrev pub is_dot : Kind → List ℕ → Bool
-is_dot Operator text = bytes_eq text (codes ".")
-is_dot _ text = false
-
 abbrev pub is_call : GroupKind → Bool
 is_call Call = true
 is_call RuleCall = true
 is_call _ = false
 
-abbrev pub is_nothing : List Item → Bool
-is_nothing [] = true
-is_nothing (x ∷ xs) = false
-
 -- a rule: Ident {`.` Ident} and a call
 abbrev mutual
   pub is_rule : List Item → Bool
-  is_rule [] = false
   is_rule (leaf kind text ∷ xs) = is_ident kind && is_rule_after xs
-  is_rule (group kind segs one_comma end ∷ xs) = false
+  is_rule _ = false
 
   -- after an identifier
   pub is_rule_after : List Item → Bool
   is_rule_after [] = false
-  is_rule_after (leaf kind text ∷ xs) = is_dot kind text && is_rule xs
-  is_rule_after (group kind segs one_comma end ∷ xs) = is_call kind && is_nothing xs
+  is_rule_after (leaf kind text ∷ xs) = is_operator_at (codes ".") kind text && is_rule xs
+  is_rule_after (group kind segs one_comma end ∷ xs) = is_call kind && is_empty xs
 
 abbrev pub as_rule_call : Item → Item
 as_rule_call (leaf kind text) = leaf kind text
@@ -68,21 +64,16 @@ segment_with i = with_rule_call (one_segment i.segs i.end)
 abbrev pub segment_of : List Own → Segment
 segment_of owns = segment_with (inside (own_items true owns))
 
-abbrev pub is_one_of : List ℕ → List (List ℕ) → Bool
-is_one_of text [] = false
-is_one_of text (word ∷ words) = bytes_eq text word || is_one_of text words
+-- the augmented assignments (Starlark specification, "Assignments")
+abbrev pub is_augmented : List ℕ → Bool
+is_augmented text = is_one_of (codes "+=" ∷ codes "-=" ∷ codes "*=" ∷ codes "/=" ∷ codes "//=" ∷ codes "%=" ∷ codes "&=" ∷ codes "|=" ∷ codes "^=" ∷ codes "<<=" ∷ codes ">>=" ∷ []) text
 
--- `=` and the augmented assignments (Starlark specification, "Assignments")
 abbrev pub is_assign_operator : List ℕ → Bool
-is_assign_operator text = is_one_of text (codes "=" ∷ codes "+=" ∷ codes "-=" ∷ codes "*=" ∷ codes "/=" ∷ codes "//=" ∷ codes "%=" ∷ codes "&=" ∷ codes "|=" ∷ codes "^=" ∷ codes "<<=" ∷ codes ">>=" ∷ [])
+is_assign_operator text = bytes_eq text (codes "=") || is_augmented text
 
 abbrev pub is_assign : Item → Bool
 is_assign (leaf Operator text) = is_assign_operator text
 is_assign _ = false
-
-abbrev pub has_assign : List Item → Bool
-has_assign [] = false
-has_assign (x ∷ xs) = is_assign x || has_assign xs
 
 abbrev pub is_load_word : Item → Bool
 is_load_word (leaf Keyword text) = bytes_eq text (codes "load")
@@ -98,7 +89,7 @@ class_of [] = Comment
 class_of (x ∷ xs) =
     if is_kept x then Block
     else (if is_load_word x then Load
-    else (if has_assign (x ∷ xs) then Assign
+    else (if list_any is_assign (x ∷ xs) then Assign
     else (if is_rule (x ∷ xs) then Rule
     else Other)))
 
@@ -112,10 +103,6 @@ is_aside _ = false
 abbrev pub bare_tokens : List Placed → List Placed
 bare_tokens [] = []
 bare_tokens (t ∷ ts) = if is_aside t.kind then bare_tokens ts else t ∷ bare_tokens ts
-
-abbrev pub first_of : List Placed → Option Placed
-first_of [] = None
-first_of (t ∷ ts) = Some t
 
 -- the last of these, or what stood before
 abbrev pub last_of : Option Placed → List Placed → Option Placed
@@ -136,26 +123,13 @@ first_seen tokens = first_of (without_lines tokens)
 abbrev pub last_seen : List Placed → Option Placed
 last_seen tokens = last_of None (without_lines tokens)
 
--- comments count only where nothing else is there
-abbrev pub either : Option Placed → Option Placed → Option Placed
-either None other = other
-either (Some t) other = Some t
-
-abbrev pub line_of : Option Placed → ℕ
-line_of None = 0
-line_of (Some t) = t.line
-
-abbrev pub end_line_of : Option Placed → ℕ
-end_line_of None = 0
-end_line_of (Some t) = end_line t
-
--- the line of the first token
+-- the line of the first token; comments count only where nothing else is there
 abbrev pub start_of : List Placed → ℕ
-start_of tokens = line_of (either (first_token tokens) (first_seen tokens))
+start_of tokens = map_or 0 (λ t. t.line) (option_or (first_token tokens) (first_seen tokens))
 
 -- the line on which the last token ends
 abbrev pub end_of : List Placed → ℕ
-end_of tokens = end_line_of (either (last_token tokens) (last_seen tokens))
+end_of tokens = map_or 0 end_line (option_or (last_token tokens) (last_seen tokens))
 
 abbrev pub statement_with : List Placed → Segment → Statement
 statement_with tokens s = record { before = s.before; nodes = s.nodes; suffix = s.suffix; class = class_of s.nodes; start = start_of tokens; end = end_of tokens }

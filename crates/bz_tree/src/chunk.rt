@@ -6,10 +6,11 @@ ghost use Rattle.bz_token.specs.Reading.{AreTokensOf};
 ghost use Rattle.bz_tree.specs.Tree.{Statement};
 ghost use Rattle.bz_tree.specs.View.{texts, view, seg_view};
 ghost use Rattle.bz_tree.specs.Statement.{EndsFit, statement_with, first_token, first_seen, last_seen};
-ghost use Rattle.bz_tree.specs.Blocks.{IsBlockOf, kept_statement};
-ghost use Rattle.bz_tree.specs.Chunk.{IsPlain, begins_block, indent_fault, IsChunkOf, IsReadAs, IsTokenFault, IsStatementIn, IsBlank, IsFaultIn};
+ghost use Rattle.bz_tree.specs.Blocks.{IsBlockOf, kept_statement, is_block_word};
+ghost use Rattle.bz_tree.specs.Chunk.{IsPlain, indent_fault, IsChunkOf, IsReadAs, IsTokenFault, IsStatementIn, IsBlank, IsFaultIn};
 ghost use Rattle.bz_tree.specs.private.BlockSteps.{AreStanding};
 ghost use Rattle.bz_tree.specs.Borrowed.{owned_in, owned_texts, seg_owned};
+ghost use Rattle.bz_token.specs.Common.{map_or};
 
 use crate::block::{block_indent, comments_above, is_block, is_block_word};
 use crate::build::run;
@@ -100,7 +101,7 @@ fn block_statement<'a>(
     requires lines { first_line + count_by (λ b. b == 10) text.now < 2 ^ 64 }
     requires ends { EndsFit (map placed tokens.now) }
     requires standing { AreStanding first_line text.now (map placed tokens.now) }
-    requires block { begins_block (first_token (map placed tokens.now)) ≡ true }
+    requires block { map_or false is_block_word (first_token (map placed tokens.now)) ≡ true }
     ensures statement { IfOk result
         (λ o. IfSome o (λ s. IsBlockOf first_line text.now (map placed tokens.now) (view s))) }
     ensures none { IfOk result
@@ -122,7 +123,7 @@ fn block_statement<'a>(
 }
 
 fn begins_block(tokens: &[Token<'_>]) -> bool
-    ensures { result ≡ begins_block (first_token (map placed tokens.now)) }
+    ensures { result ≡ map_or false is_block_word (first_token (map placed tokens.now)) }
 {
     match first_token(tokens) {
         Some(token) => is_block_word(&token),

@@ -1,12 +1,14 @@
 //! What a statement is to the layout and to the commands.
 
-ghost use Rattle.std.specs.Prelude.{◌≡◌, map, ◌≤◌, ◌+◌};
+ghost use Rattle.std.specs.Prelude.{◌≡◌, map, ◌≤◌, ◌+◌, codes};
 ghost use Rattle.bz_tree.specs.Tree.{leaf};
 ghost use Rattle.bz_tree.specs.View.{text_of, node_view, nodes_view, seg_view};
-ghost use Rattle.bz_tree.specs.Statement.{is_rule, is_dot, is_call, as_rule_call, rule_call, with_rule_call, is_assign_operator, is_assign, has_assign, is_kept, is_load_word, class_of};
+ghost use Rattle.bz_tree.specs.Statement.{is_rule, is_call, as_rule_call, rule_call, with_rule_call, is_assign_operator, is_assign, is_kept, is_load_word, class_of};
 ghost use Rattle.bz_tree.specs.private.Steps.{rule_from};
 ghost use Rattle.bz_tree.specs.Borrowed.{node_owned, seg_owned};
 ghost use Rattle.bz_tree.specs.private.BorrowedSteps.{nodes_owned};
+ghost use Rattle.bz_tree.specs.Kinds.{is_operator_at};
+ghost use Rattle.std.specs.List.{list_any};
 
 use crate::role::is_augmented;
 use crate::stmt::{Class, Group, GroupKind, Leaf, Node, Seg};
@@ -38,13 +40,13 @@ fn is_rule(nodes: &[Node<'_>]) -> bool
 /// The token between two names.
 #[inline(always)]
 pub(crate) fn is_dot_at(kind: Kind, text: &str) -> bool
-    ensures { result ≡ is_dot kind text.now }
+    ensures { result ≡ is_operator_at (codes ".") kind text.now }
 {
     kind == Kind::Operator && text == "."
 }
 
 fn is_dot(leaf: &Leaf<'_>) -> bool
-    ensures { result ≡ is_dot leaf.now.kind (text_of leaf.now.text) }
+    ensures { result ≡ is_operator_at (codes ".") leaf.now.kind (text_of leaf.now.text) }
 {
     is_dot_at(leaf.kind, leaf.text.as_str())
 }
@@ -112,7 +114,7 @@ fn is_assign(node: &Node<'_>) -> bool
 }
 
 fn has_assign(nodes: &[Node<'_>]) -> bool
-    ensures { result ≡ has_assign (nodes_view nodes.now) }
+    ensures { result ≡ list_any is_assign (nodes_view nodes.now) }
 {
     for node in nodes {
         if is_assign(node) {

@@ -31,7 +31,7 @@ pub(crate) struct Inside<'a> {
 
 // A bracket that is open, and what stands before it in the one around it.
 #[derive(Drop)]
-pub(crate) struct Around<'a> {
+pub(crate) struct OpenGroup<'a> {
     pub(crate) kind: GroupKind,
     pub(crate) inside: Inside<'a>,
 }
@@ -40,7 +40,7 @@ pub(crate) struct Around<'a> {
 pub(crate) struct Nesting<'a> {
     pub(crate) here: Inside<'a>,
     // The innermost is the last.
-    pub(crate) outer: Vec<Around<'a>>,
+    pub(crate) outer: Vec<OpenGroup<'a>>,
 }
 
 // No node of its segment follows, or no segment of its bracket.
@@ -152,7 +152,7 @@ impl<'a> Nesting<'a> {
         let mut inner = Inside::new(alloc);
         reserve_arguments(&mut inner.segs, kind)?;
         let inside = mem::replace(&mut self.here, inner);
-        push(&mut self.outer, Around { kind, inside })?;
+        push(&mut self.outer, OpenGroup { kind, inside })?;
         Ok(())
     }
 
@@ -160,7 +160,7 @@ impl<'a> Nesting<'a> {
         ensures { OnOk result (nest self.new
             ≡ closed one_comma (content self.old.here) (outers self.old.outer.items)) }
     {
-        let Some(Around { kind, inside }) = self.outer.pop() else {
+        let Some(OpenGroup { kind, inside }) = self.outer.pop() else {
             return Ok(());
         };
         let Inside { segs, comments, .. } = mem::replace(&mut self.here, inside);

@@ -8,7 +8,7 @@ ghost use Rattle.bz_tree.specs.private.Machine.{accepts, role_of, each, is_whole
 use crate::class::is_load_word;
 use crate::kinds::is_one;
 use crate::role::{Role, leaf_role};
-use crate::stage::{Part, Stage, begin, group_role, may_end, next};
+use crate::stage::{Goal, Stage, begin, group_role, may_end, next};
 use crate::stmt::{Group, GroupKind, Node, Seg};
 
 #[cycle(grammar)]
@@ -157,5 +157,5 @@ fn is_nothing(nodes: &[Node<'_>]) -> bool
 pub(crate) fn is_statement(nodes: &[Node<'_>]) -> bool
     ensures { result ≡ is_statement (items_of (nodes_view nodes.now)) }
 {
-    is_nothing(nodes) || is_load(nodes) || accepts(Stage::Wants(Part::Left, false), nodes)
+    is_nothing(nodes) || is_load(nodes) || accepts(Stage::Wants(Goal::Left, false), nodes)
 }

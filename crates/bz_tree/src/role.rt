@@ -2,7 +2,8 @@
 
 ghost use Rattle.std.specs.Prelude.{◌≡◌, ◌<◌, ◌∷◌, [], length};
 ghost use Rattle.bz_tree.specs.View.{text_of};
-ghost use Rattle.bz_tree.specs.Grammar.{word_role, operator_role, is_augmented, is_infix, leaf_role};
+ghost use Rattle.bz_tree.specs.Grammar.{word_role, operator_role, is_infix, leaf_role};
+ghost use Rattle.bz_tree.specs.Statement.{is_augmented};
 
 use crate::stmt::Leaf;
 use bz_token::Kind;

@@ -12,7 +12,7 @@ use crate::kinds::{Preceding, kind_after};
 use crate::load::is_load_row;
 use crate::role::Role;
 use crate::row::Part as RowPart;
-use crate::stage::{Part, Stage, advance, begin, group_role, may_end};
+use crate::stage::{Goal, Stage, advance, begin, group_role, may_end};
 use crate::stmt::{Class, GroupKind};
 use bz_token::Kind;
 
@@ -33,7 +33,7 @@ pub(crate) enum Naming {
 
 // How many segments are done.
 #[derive(Clone, Copy)]
-pub(crate) enum Done {
+pub(crate) enum SegmentCount {
     Zero,
     One,
     More,
@@ -64,7 +64,7 @@ pub(crate) struct Read {
 pub(crate) struct Spot<'a> {
     // None at the top.
     pub(crate) kind: Option<GroupKind>,
-    pub(crate) done: Done,
+    pub(crate) done: SegmentCount,
     pub(crate) here: Here<'a>,
     pub(crate) read: Read,
 }
@@ -73,7 +73,7 @@ pub(crate) struct Spot<'a> {
 #[derive(Clone, Copy)]
 pub(crate) struct Around {
     pub(crate) kind: Option<GroupKind>,
-    pub(crate) done: Done,
+    pub(crate) done: SegmentCount,
     pub(crate) ended: bool,
     pub(crate) read: Read,
 }
@@ -119,7 +119,7 @@ fn start(kind: Option<GroupKind>) -> Read
 {
     match kind {
         None => Read {
-            stage: Stage::Wants(Part::Left, false),
+            stage: Stage::Wants(Goal::Left, false),
             at: Preceding::Other,
             naming: Naming::Name,
             assigns: false,
@@ -134,12 +134,12 @@ fn start(kind: Option<GroupKind>) -> Read
 }
 
 #[inline(always)]
-fn one_more(done: Done) -> Done
+fn one_more(done: SegmentCount) -> SegmentCount
     ensures { result ≡ one_more done }
 {
     match done {
-        Done::Zero => Done::One,
-        _ => Done::More,
+        SegmentCount::Zero => SegmentCount::One,
+        _ => SegmentCount::More,
     }
 }
 
@@ -200,7 +200,7 @@ impl<'a> Spot<'a> {
     {
         Spot {
             kind,
-            done: Done::Zero,
+            done: SegmentCount::Zero,
             here: Here::Nothing,
             read: start(kind),
         }
@@ -240,7 +240,7 @@ impl<'a> Spot<'a> {
     {
         match self.here {
             Here::Node(_, _) | Here::Ended => false,
-            _ => matches!(kind, GroupKind::Paren) && matches!(self.done, Done::One),
+            _ => matches!(kind, GroupKind::Paren) && matches!(self.done, SegmentCount::One),
         }
     }
 }

@@ -8,7 +8,7 @@ use crate::stmt::GroupKind;
 
 /// What is being read: a Test with what may follow it, or (Target) a Primary, or (Clause) a Chain.
 #[derive(Clone, Copy)]
-pub(crate) enum Part {
+pub(crate) enum Goal {
     /// The tests of a statement, before an assignment operator too.
     Left,
     /// The tests after an assignment operator.
@@ -39,36 +39,36 @@ pub(crate) enum Stage {
     /// Nothing: this is no part of the grammar.
     Refused,
     /// An operand, or a prefix.
-    Wants(Part, bool),
+    Wants(Goal, bool),
     /// What may stand after an operand.
-    Has(Part, bool),
+    Has(Goal, bool),
     /// The same, directly after a number.
-    HasNumber(Part, bool),
+    HasNumber(Goal, bool),
     /// The name after a dot.
-    Names(Part, bool),
+    Names(Goal, bool),
     /// The `in` of `not in`.
-    Excludes(Part, bool),
+    Excludes(Goal, bool),
     /// The start of a part that may be empty.
-    Begins(Part),
+    Begins(Goal),
     /// The start of an argument.
     Argument,
     /// What may stand after the name that begins an argument.
     Keyword,
 }
 
-fn ends(part: Part) -> bool
+fn ends(part: Goal) -> bool
     ensures { result ≡ ends part }
 {
     !matches!(
         part,
-        Part::Key | Part::Element | Part::EntryKey | Part::Target
+        Goal::Key | Goal::Element | Goal::EntryKey | Goal::Target
     )
 }
 
-fn may_be_empty(part: Part) -> bool
+fn may_be_empty(part: Goal) -> bool
     ensures { result ≡ may_be_empty part }
 {
-    matches!(part, Part::To | Part::Step)
+    matches!(part, Goal::To | Goal::Step)
 }
 
 /// Whether a segment may end here.
@@ -88,9 +88,9 @@ fn after_left(role: Role) -> Stage
     ensures { result ≡ after_left role }
 {
     match role {
-        Role::Comma => Stage::Wants(Part::Left, false),
-        Role::Equals | Role::Augmented => Stage::Wants(Part::Right, false),
-        Role::If => Stage::Wants(Part::Left, true),
+        Role::Comma => Stage::Wants(Goal::Left, false),
+        Role::Equals | Role::Augmented => Stage::Wants(Goal::Right, false),
+        Role::If => Stage::Wants(Goal::Left, true),
         _ => Stage::Refused,
     }
 }
@@ -99,8 +99,8 @@ fn after_right(role: Role) -> Stage
     ensures { result ≡ after_right role }
 {
     match role {
-        Role::Comma => Stage::Wants(Part::Right, false),
-        Role::If => Stage::Wants(Part::Right, true),
+        Role::Comma => Stage::Wants(Goal::Right, false),
+        Role::If => Stage::Wants(Goal::Right, true),
         _ => Stage::Refused,
     }
 }
@@ -109,8 +109,8 @@ fn after_element(role: Role) -> Stage
     ensures { result ≡ after_element role }
 {
     match role {
-        Role::For => Stage::Wants(Part::Target, false),
-        Role::If => Stage::Wants(Part::Element, true),
+        Role::For => Stage::Wants(Goal::Target, false),
+        Role::If => Stage::Wants(Goal::Element, true),
         _ => Stage::Refused,
     }
 }
@@ -119,8 +119,8 @@ fn after_target(role: Role) -> Stage
     ensures { result ≡ after_target role }
 {
     match role {
-        Role::Comma => Stage::Wants(Part::Target, false),
-        Role::In => Stage::Wants(Part::Clause, false),
+        Role::Comma => Stage::Wants(Goal::Target, false),
+        Role::In => Stage::Wants(Goal::Clause, false),
         _ => Stage::Refused,
     }
 }
@@ -129,14 +129,14 @@ fn after_clause(role: Role) -> Stage
     ensures { result ≡ after_clause role }
 {
     match role {
-        Role::For => Stage::Wants(Part::Target, false),
-        Role::If => Stage::Wants(Part::Clause, false),
+        Role::For => Stage::Wants(Goal::Target, false),
+        Role::If => Stage::Wants(Goal::Clause, false),
         _ => Stage::Refused,
     }
 }
 
 // A part that ends at a colon.
-fn at_colon(part: Part, next: Stage, role: Role) -> Stage
+fn at_colon(part: Goal, next: Stage, role: Role) -> Stage
     ensures { result ≡ at_colon part next role }
 {
     match role {
@@ -147,7 +147,7 @@ fn at_colon(part: Part, next: Stage, role: Role) -> Stage
 }
 
 // Nothing but a condition may follow.
-fn at_end(part: Part, role: Role) -> Stage
+fn at_end(part: Goal, role: Role) -> Stage
     ensures { result ≡ at_end part role }
 {
     match role {
@@ -157,26 +157,26 @@ fn at_end(part: Part, role: Role) -> Stage
 }
 
 #[inline(always)]
-fn after_part(part: Part, role: Role) -> Stage
+fn after_part(part: Goal, role: Role) -> Stage
     ensures { result ≡ after_part part role }
 {
     match part {
-        Part::Left => after_left(role),
-        Part::Right => after_right(role),
-        Part::Alone => at_end(Part::Alone, role),
-        Part::Key => at_colon(Part::Key, Stage::Wants(Part::Alone, false), role),
-        Part::Element => after_element(role),
-        Part::EntryKey => at_colon(Part::EntryKey, Stage::Wants(Part::Element, false), role),
-        Part::From => at_colon(Part::From, Stage::Begins(Part::To), role),
-        Part::To => at_colon(Part::To, Stage::Begins(Part::Step), role),
-        Part::Step => at_end(Part::Step, role),
-        Part::Target => after_target(role),
-        Part::Clause => after_clause(role),
+        Goal::Left => after_left(role),
+        Goal::Right => after_right(role),
+        Goal::Alone => at_end(Goal::Alone, role),
+        Goal::Key => at_colon(Goal::Key, Stage::Wants(Goal::Alone, false), role),
+        Goal::Element => after_element(role),
+        Goal::EntryKey => at_colon(Goal::EntryKey, Stage::Wants(Goal::Element, false), role),
+        Goal::From => at_colon(Goal::From, Stage::Begins(Goal::To), role),
+        Goal::To => at_colon(Goal::To, Stage::Begins(Goal::Step), role),
+        Goal::Step => at_end(Goal::Step, role),
+        Goal::Target => after_target(role),
+        Goal::Clause => after_clause(role),
     }
 }
 
 #[inline(always)]
-fn leaves(part: Part, asked: bool, role: Role) -> Stage
+fn leaves(part: Goal, asked: bool, role: Role) -> Stage
     ensures { result ≡ leaves part asked role }
 {
     match role {
@@ -187,17 +187,17 @@ fn leaves(part: Part, asked: bool, role: Role) -> Stage
 }
 
 // A stage of chains: a Target has none.
-fn in_chain(part: Part, next: Stage) -> Stage
+fn in_chain(part: Goal, next: Stage) -> Stage
     ensures { result ≡ in_chain part next }
 {
     match part {
-        Part::Target => Stage::Refused,
+        Goal::Target => Stage::Refused,
         _ => next,
     }
 }
 
 #[inline(always)]
-fn next_wanted(part: Part, asked: bool, role: Role) -> Stage
+fn next_wanted(part: Goal, asked: bool, role: Role) -> Stage
     ensures { result ≡ next_wanted part asked role }
 {
     match role {
@@ -209,21 +209,21 @@ fn next_wanted(part: Part, asked: bool, role: Role) -> Stage
 }
 
 #[inline(always)]
-fn next_after(part: Part, asked: bool, role: Role) -> Stage
+fn next_after(part: Goal, asked: bool, role: Role) -> Stage
     ensures { result ≡ next_after part asked role }
 {
     match role {
         Role::Dot => Stage::Names(part, asked),
         Role::Suffix => Stage::Has(part, asked),
         Role::Sum | Role::Star | Role::Operator => in_chain(part, Stage::Wants(part, asked)),
-        Role::In if matches!(part, Part::Target) => leaves(part, asked, role),
+        Role::In if matches!(part, Goal::Target) => leaves(part, asked, role),
         Role::In => Stage::Wants(part, asked),
         Role::Not => in_chain(part, Stage::Excludes(part, asked)),
         _ => leaves(part, asked, role),
     }
 }
 
-fn next_after_number(part: Part, asked: bool, role: Role) -> Stage
+fn next_after_number(part: Goal, asked: bool, role: Role) -> Stage
     ensures { result ≡ next_after_number part asked role }
 {
     match role {
@@ -232,7 +232,7 @@ fn next_after_number(part: Part, asked: bool, role: Role) -> Stage
     }
 }
 
-fn next_begun(part: Part, role: Role) -> Stage
+fn next_begun(part: Goal, role: Role) -> Stage
     ensures { result ≡ next_begun part role }
 {
     match role {
@@ -245,9 +245,9 @@ fn next_argument(role: Role) -> Stage
     ensures { result ≡ next_argument role }
 {
     match role {
-        Role::Star | Role::Stars => Stage::Wants(Part::Alone, false),
+        Role::Star | Role::Stars => Stage::Wants(Goal::Alone, false),
         Role::Name => Stage::Keyword,
-        _ => next_wanted(Part::Alone, false, role),
+        _ => next_wanted(Goal::Alone, false, role),
     }
 }
 
@@ -255,8 +255,8 @@ fn next_keyword(role: Role) -> Stage
     ensures { result ≡ next_keyword role }
 {
     match role {
-        Role::Equals => Stage::Wants(Part::Alone, false),
-        _ => next_after(Part::Alone, false, role),
+        Role::Equals => Stage::Wants(Goal::Alone, false),
+        _ => next_after(Goal::Alone, false, role),
     }
 }
 
@@ -293,7 +293,7 @@ pub(crate) fn advance(stage: &mut Stage, role: Role)
     match (*stage, role) {
         (Stage::Wants(part, asked), Role::Name | Role::Value) => *stage = Stage::Has(part, asked),
         (Stage::Argument, Role::Name) => *stage = Stage::Keyword,
-        (Stage::Keyword, Role::Equals) => *stage = Stage::Wants(Part::Alone, false),
+        (Stage::Keyword, Role::Equals) => *stage = Stage::Wants(Goal::Alone, false),
         (Stage::Has(_, _), Role::Suffix) => {}
         _ => advance_rarely(stage, role),
     }
@@ -305,11 +305,11 @@ pub(crate) fn begin(kind: GroupKind) -> Stage
 {
     match kind {
         GroupKind::Call | GroupKind::RuleCall | GroupKind::Load => Stage::Argument,
-        GroupKind::Paren | GroupKind::List => Stage::Wants(Part::Alone, false),
-        GroupKind::Index => Stage::Begins(Part::From),
-        GroupKind::Dict => Stage::Wants(Part::Key, false),
-        GroupKind::ListComp => Stage::Wants(Part::Element, false),
-        GroupKind::DictComp => Stage::Wants(Part::EntryKey, false),
+        GroupKind::Paren | GroupKind::List => Stage::Wants(Goal::Alone, false),
+        GroupKind::Index => Stage::Begins(Goal::From),
+        GroupKind::Dict => Stage::Wants(Goal::Key, false),
+        GroupKind::ListComp => Stage::Wants(Goal::Element, false),
+        GroupKind::DictComp => Stage::Wants(Goal::EntryKey, false),
     }
 }
 

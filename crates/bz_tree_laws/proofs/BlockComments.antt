@@ -14,13 +14,14 @@ use Rattle.bz_tree.specs.declared.kinds.Mark.TheVariants.{Open, Close, Comma, Pl
 use Rattle.bz_tree.specs.Tree.{Statement}
 use Rattle.bz_tree.specs.Kinds.{operator_mark, kind_mark, mark_of}
 use Rattle.bz_tree.specs.Brackets.{is_line, without_lines}
-use Rattle.bz_tree.specs.Statement.{is_aside, bare_tokens, first_of, last_of}
+use Rattle.bz_tree.specs.Statement.{is_aside, bare_tokens, last_of}
 use Rattle.bz_tree.specs.Blocks.{IsAt, IsKeptText, above_at, above, IsBlockOf}
 use Rattle.bz_tree.specs.Comments.{comment_of, comments_among}
 use Rattle.bz_tree_laws.specs.BlockComments.{AreWritten, AreKept}
 use Rattle.bz_tree_laws.proofs.KeptSame.{kept_same}
 use Rattle.bz_tree.proofs.Sound.{none_is_some, some_injective}
 use Rattle.bz_tree.proofs.Standing.{or_else, last_or, none_empty, later_last}
+use Rattle.bz_token.specs.Common.{first_of}
 
 -- a gap outside brackets is one inside
 white_inside : (inside : Bool) (b : ℕ) → is_white inside b ≡ true → is_white true b ≡ true

@@ -1,8 +1,9 @@
 -- Whose the comments are does not hang on what the nodes are.
-use Rattle.std.proofs.Common.{◌≡◌, ℕ, List, [], ◌∷◌, ◌++◌, map, true, false, not, cond, refl, ap, ◌∙◌}
+use Rattle.std.proofs.Common.{◌≡◌, ℕ, List, [], ◌∷◌, ◌++◌, map, true, false, not, cond, refl, ap, ◌∙◌, drop}
 use Rattle.bz_tree.specs.Tree.{Item, Segment}
-use Rattle.bz_tree.specs.Owners.{Entry, a_node, a_comma, a_comment, first_cell, other_cells, same_line, later_lines, nodes_in, is_filled, has_node, comments_in, above_last, beside_last, below_last, first, others, cell_segment, with_segment, segments_from, end_from, has_trailing_comma, inside_by_cells}
+use Rattle.bz_tree.specs.Owners.{Entry, a_node, a_comma, a_comment, first_cell, other_cells, same_line, later_lines, nodes_in, has_node, comments_in, above_last, beside_last, below_last, cell_segment, with_segment, segments_from, end_from, has_trailing_comma, inside_by_cells}
 use Rattle.bz_tree_laws.specs.Nodes.{entry_mapped, segment_mapped, inside_mapped}
+use Rattle.bz_token.specs.Common.{first_of, is_filled}
 
 abbrev over : (Item → Item) → List Entry → List Entry
 over f es = map (entry_mapped f) es
@@ -74,7 +75,7 @@ below_over f (a_comment on text ∷ es) = λ i. cond (has_over f es i) (below_ov
 
 segment_over : (f : Item → Item) (cell : List Entry) (under comment : List (List ℕ)) → cell_segment (over f cell) under comment ≡ segment_mapped f (cell_segment cell under comment)
 segment_over f cell under comment =
-    λ i. record { before = above_over f cell i ++ (under ++ others (beside_over f cell i ++ comment)); nodes = nodes_over f cell i; suffix = first (beside_over f cell i ++ comment) }
+    λ i. record { before = above_over f cell i ++ (under ++ drop 1 (beside_over f cell i ++ comment)); nodes = nodes_over f cell i; suffix = first_of (beside_over f cell i ++ comment) }
 
 with_over : (f : Item → Item) (s : Segment) (ss : List Segment) → with_segment (segment_mapped f s) (map (segment_mapped f) ss) ≡ map (segment_mapped f) (with_segment s ss)
 with_over f s ss = at_nodes s.nodes

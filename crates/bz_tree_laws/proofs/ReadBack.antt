@@ -1,10 +1,11 @@
 -- What is written is read back.
-use Rattle.std.proofs.Common.{◌≡◌, ℕ, List, [], ◌∷◌, ◌++◌, map, Bool, true, false, cond, ◌&&◌, ◌||◌, Option, Some, None, refl, sym, ap, ◌∙◌, append-nil}
+use Rattle.std.proofs.Common.{◌≡◌, ℕ, List, [], ◌∷◌, ◌++◌, map, Bool, true, false, cond, ◌&&◌, ◌||◌, Option, Some, None, refl, sym, ap, ◌∙◌, append-nil, drop}
 use Rattle.std.proofs.lemmas.Bool.{false≢true}
 use Rattle.bz_tree.specs.Tree.{Item, Segment}
-use Rattle.bz_tree.specs.Owners.{Own, node, comma, comment, Last, no_token, end_of_node, end_of_comma, is_on, no_empty, Inside, inside, Entry, a_node, a_comma, a_comment, first_cell, other_cells, same_line, later_lines, nodes_in, is_filled, has_node, comments_in, above_last, beside_last, below_last, first, others, cell_segment, with_segment, segments_from, end_from, has_trailing_comma, inside_by_cells, entries_of}
+use Rattle.bz_tree.specs.Owners.{Own, node, comma, comment, Last, no_token, end_of_node, end_of_comma, is_on, no_empty, Inside, inside, Entry, a_node, a_comma, a_comment, first_cell, other_cells, same_line, later_lines, nodes_in, has_node, comments_in, above_last, beside_last, below_last, cell_segment, with_segment, segments_from, end_from, has_trailing_comma, inside_by_cells, entries_of}
 use Rattle.bz_tree_laws.specs.Written.{own_lines, suffix_entry, written_entries, HaveNodes}
 use Rattle.bz_tree.proofs.ByLines.{trails, trails_comma, trails_comment, trailed_is}
+use Rattle.bz_token.specs.Common.{first_of, is_filled}
 
 -- each cell but the last has a node
 abbrev are_filled : List Entry → List (List Entry) → Bool
@@ -170,7 +171,7 @@ abbrev texts_of : Option (List ℕ) → List (List ℕ)
 texts_of None = []
 texts_of (Some text) = text ∷ []
 
-whole : (before : List (List ℕ)) (nodes : List Item) (suffix : Option (List ℕ)) → (s : Segment) → s ≡ record { before = before ++ others (texts_of suffix); nodes = nodes; suffix = first (texts_of suffix) } → s ≡ record { before = before; nodes = nodes; suffix = suffix }
+whole : (before : List (List ℕ)) (nodes : List Item) (suffix : Option (List ℕ)) → (s : Segment) → s ≡ record { before = before ++ drop 1 (texts_of suffix); nodes = nodes; suffix = first_of (texts_of suffix) } → s ≡ record { before = before; nodes = nodes; suffix = suffix }
 whole before nodes None s e = e ∙ rw (append-nil before) refl
 whole before nodes (Some text) s e = e ∙ rw (append-nil before) refl
 

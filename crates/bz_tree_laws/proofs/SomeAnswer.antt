@@ -12,8 +12,8 @@ use Rattle.bz_tree.specs.declared.fault.ParseFault.TheVariants.{OutOfMemory, Lex
 use Rattle.bz_tree.specs.Tree.{Segment, Statement, items_of}
 use Rattle.bz_tree.specs.Statement.{first_token, first_seen, last_seen, start_of, statement_with}
 use Rattle.bz_tree.specs.Brackets.{end_line}
-use Rattle.bz_tree.specs.Blocks.{is_block, above, kept_statement, IsBlockOf}
-use Rattle.bz_tree.specs.Chunk.{IsPlain, IsOneOf, begins_block, indent_fault, IsChunkOf, IsLexical}
+use Rattle.bz_tree.specs.Blocks.{is_block, above, kept_statement, IsBlockOf, is_block_word}
+use Rattle.bz_tree.specs.Chunk.{IsPlain, IsOneOf, indent_fault, IsChunkOf, IsLexical}
 use Rattle.bz_tree.specs.private.Steps.{new_level, run}
 use Rattle.bz_tree.specs.private.Machine.{is_statement}
 use Rattle.bz_tree.specs.private.BlockSteps.{AreStanding}
@@ -22,6 +22,7 @@ use Rattle.bz_tree.proofs.KeptText.{kept_is}
 use Rattle.bz_tree.proofs.Standing.{standing}
 use Rattle.bz_tree.proofs.Sound.{none_is_some}
 use Rattle.bz_tree_laws.specs.Answers.{HasAnswer}
+use Rattle.bz_token.specs.Common.{map_or}
 
 -- something is such a statement, or nothing is
 abbrev Either : (Statement → Type 0) → Type 0
@@ -38,15 +39,15 @@ plain_or_none ts = at_run (run (new_level None) [] ts) refl
     at_run None found = inr (no_plain_tree ts found)
     at_run (Some s) found = at_grammar s found (is_statement (items_of s.nodes)) refl
 
-block_or_none : (first : ℕ) (bytes : List ℕ) (ts : List Placed) → AreStanding first bytes ts → begins_block (first_token ts) ≡ true → Either (IsBlockOf first bytes ts)
+block_or_none : (first : ℕ) (bytes : List ℕ) (ts : List Placed) → AreStanding first bytes ts → map_or false is_block_word (first_token ts) ≡ true → Either (IsBlockOf first bytes ts)
 block_or_none first bytes ts stand begins = at_header (first_token ts) refl (last_seen ts) refl (is_block ts) refl
   where
     at_header : (h : Option Placed) → first_token ts ≡ h → (l : Option Placed) → last_seen ts ≡ l → (b : Bool) → is_block ts ≡ b → Either (IsBlockOf first bytes ts)
-    at_header None none l is_last b is = absurd (false≢true (sym (ap begins_block none) ∙ begins))
+    at_header None none l is_last b is = absurd (false≢true (sym (ap (map_or false is_block_word) none) ∙ begins))
     at_header (Some h) is_header None none b is = inr (λ s block. none_is_some block.last (sym none ∙ block.is_last))
     at_header (Some h) is_header (Some l) is_last false is = inr (λ s block. false≢true (sym is ∙ block.is_block))
     at_header (Some h) is_header (Some l) is_last true is =
-        let a = stand h l is_header is_last (sym (ap begins_block is_header) ∙ begins) in
+        let a = stand h l is_header is_last (sym (ap (map_or false is_block_word) is_header) ∙ begins) in
         inl (
           kept_statement (above ts) (a.front ++ l.text) h (end_line l),
           record {
@@ -62,9 +63,9 @@ block_or_none first bytes ts stand begins = at_header (first_token ts) refl (las
         )
 
 chunk_or_none : (first : ℕ) (bytes : List ℕ) (ts : List Placed) → AreStanding first bytes ts → Either (IsChunkOf first bytes ts)
-chunk_or_none first bytes ts stand = at_word (begins_block (first_token ts)) refl
+chunk_or_none first bytes ts stand = at_word (map_or false is_block_word (first_token ts)) refl
   where
-    at_word : (b : Bool) → begins_block (first_token ts) ≡ b → Either (IsChunkOf first bytes ts)
+    at_word : (b : Bool) → map_or false is_block_word (first_token ts) ≡ b → Either (IsChunkOf first bytes ts)
     at_word true begins = subst (λ b. Either (IsOneOf b first bytes ts)) (sym begins) (block_or_none first bytes ts stand begins)
     at_word false begins = subst (λ b. Either (IsOneOf b first bytes ts)) (sym begins) (plain_or_none ts)
 

@@ -16,10 +16,10 @@ use Rattle.bz_tree.specs.declared.kinds.Mark.TheVariants.{Open, Close, Comma, Co
 use Rattle.bz_tree.specs.declared.kinds.Preceding.{Preceding}
 use Rattle.bz_tree.specs.declared.kinds.Preceding.TheVariants.{Operand, LoadWord, Other}
 use Rattle.bz_tree.specs.Tree.{Item, leaf, group, Segs, Segment, Statement, items_of, segs_of}
-use Rattle.bz_tree.specs.Kinds.{mark_of, kind_mark, operator_mark, group_kind, is_one}
+use Rattle.bz_tree.specs.Kinds.{mark_of, kind_mark, operator_mark, group_kind, is_one, is_operator_at}
 use Rattle.bz_tree.specs.Owners.{Own, node, comma, comment, Last, no_token, end_of_node, end_of_comma, is_on, Inside, inside, Entry, a_node, a_comma, a_comment, first_cell, other_cells, later_lines, nodes_in, with_segment, cell_segment, below_last, same_line, segments_from, entries_of}
 use Rattle.bz_tree.specs.Brackets.{leaf_of, own_item, own_items, has_for, group_of, Elem, single, bracket, Elems, no_elems, elem, elem_tokens, elems_tokens, elem_own, elems_own, preceding, own_of, is_single, IsWell, AreWell, is_line, without_lines, end_line}
-use Rattle.bz_tree.specs.Statement.{one_segment, rule_call, is_ident, is_dot, is_call, is_rule, is_rule_after, segment_of, statement_with, IsStatementOf}
+use Rattle.bz_tree.specs.Statement.{one_segment, rule_call, is_ident, is_call, is_rule, is_rule_after, segment_of, statement_with, IsStatementOf}
 use Rattle.bz_tree_laws.specs.Words.{Word, word_of, words_among, opening, closing, bracket_word, item_words, items_words, segs_words, words_of}
 
 -- the words of a list of nodes, and of segments
@@ -281,7 +281,7 @@ mutual
   rule_after_words [] is = refl
   rule_after_words (leaf kind text ∷ []) is = refl
   rule_after_words (leaf kind text ∷ y ∷ ys) is =
-      ap (λ words. item_words (leaf kind text) ++ words) (rule_words (y ∷ ys) (and_parts (is_dot kind text) (is_rule (y ∷ ys)) is).1)
+      ap (λ words. item_words (leaf kind text) ++ words) (rule_words (y ∷ ys) (and_parts (is_operator_at (codes ".") kind text) (is_rule (y ∷ ys)) is).1)
   rule_after_words (group kind segs one_comma end ∷ []) is = ap (λ words. words ++ []) (called_words kind segs one_comma end (and_parts (is_call kind) true is).0)
   rule_after_words (group kind segs one_comma end ∷ y ∷ ys) is = absurd (false≢true (and_parts (is_call kind) false is).1)
 

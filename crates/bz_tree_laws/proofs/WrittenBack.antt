@@ -4,10 +4,11 @@ use Rattle.bz_tree.specs.declared.stmt.GroupKind.{GroupKind}
 use Rattle.bz_tree.specs.Tree.{Segment, group, segs_of}
 use Rattle.bz_tree.specs.Kinds.{is_one}
 use Rattle.bz_tree.specs.Brackets.{own_items, is_paren, group_with, group_of}
-use Rattle.bz_tree.specs.Owners.{Own, no_token, no_empty, inside, is_filled, entries_of}
+use Rattle.bz_tree.specs.Owners.{Own, no_token, no_empty, inside, entries_of}
 use Rattle.bz_tree.specs.Statement.{one_segment, with_rule_call, segment_with, segment_of}
 use Rattle.bz_tree_laws.specs.Written.{written_entries, HaveNodes}
 use Rattle.bz_tree_laws.proofs.ReadBack.{lines_back}
+use Rattle.bz_token.specs.Common.{is_filled}
 
 -- a bracket that is written so
 pub group_back : (kind : GroupKind) (owns : List Own) (trailing : Bool) (segs : List Segment) (end : List (List ℕ)) → HaveNodes segs → entries_of no_token (own_items (is_one kind) owns) ≡ written_entries trailing segs end

@@ -5,9 +5,10 @@ use Rattle.bz_token.specs.Places.{Placed}
 use Rattle.bz_token.specs.Reading.{is_gap}
 use Rattle.bz_tree.specs.Tree.{leaf, Statement}
 use Rattle.bz_tree.specs.Brackets.{without_lines}
-use Rattle.bz_tree.specs.Statement.{bare_tokens, first_of, first_token}
+use Rattle.bz_tree.specs.Statement.{bare_tokens, first_token}
 use Rattle.bz_tree.specs.Blocks.{IsAt}
 use Rattle.bz_tree.specs.Comments.{comments_among}
+use Rattle.bz_token.specs.Common.{first_of}
 
 -- The bytes are these tokens in order, each at its place, with white space and continued lines alone before each. `before` are the
 -- bytes in front of them.

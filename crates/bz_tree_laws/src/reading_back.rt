@@ -4,10 +4,11 @@ ghost use Rattle.std.specs.Prelude.{◌≡◌, ℕ, List, ◌∷◌, Bool, true,
 ghost use Rattle.bz_tree.specs.declared.stmt.GroupKind.{GroupKind};
 ghost use Rattle.bz_tree.specs.Kinds.{is_one};
 ghost use Rattle.bz_tree.specs.Tree.{Segment, group, segs_of};
-ghost use Rattle.bz_tree.specs.Owners.{Own, no_token, no_empty, inside, inside_by_cells, is_filled, entries_of};
+ghost use Rattle.bz_tree.specs.Owners.{Own, no_token, no_empty, inside, inside_by_cells, entries_of};
 ghost use Rattle.bz_tree_laws.specs.Written.{written_entries, HaveNodes};
 ghost use Rattle.bz_tree.specs.Brackets.{own_items, is_paren, group_of};
 ghost use Rattle.bz_tree.specs.Statement.{with_rule_call, segment_of};
+ghost use Rattle.bz_token.specs.Common.{is_filled};
 
 /// Segments, each with a node, and end comments that stand in a bracket as `written_entries` has them are read
 /// back: as entries, and where lines make such entries. Then no segment is empty.

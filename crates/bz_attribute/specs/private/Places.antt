@@ -8,7 +8,8 @@ use Rattle.bz_tree.specs.View.{seg_view, segs_view, node_view, nodes_view}
 use Rattle.bz_attribute.specs.Rules.{is_named, first_named, rule_of, elements, value}
 use Rattle.bz_attribute.specs.Lists.{edit_list, edit_first_part, parts}
 use Rattle.bz_attribute.specs.declared.done.Done.{Done}
-use Rattle.bz_attribute.specs.Effects.{edit_first, has, no_parts, nodes_after, done_in}
+use Rattle.bz_attribute.specs.Effects.{edit_first, has, nodes_after, done}
+use Rattle.bz_token.specs.Common.{is_empty, map_or}
 
 pub record IsFirst (name : List ℕ) (args : List Seg) (i : ℕ) : Type 0 where
   pub within : i < length args
@@ -30,7 +31,7 @@ pub record IsCallAt (nodes : List Node) (i : ℕ) : Type 0 where
   pub rule : is_some (rule_of (nodes_view nodes)) ≡ true
   pub put : (f : List Segment → List Segment) (m d : Node) → node_view m ≡ edit_list f (node_view (get_or nodes i d)) → nodes_view (set nodes i m) ≡ nodes_after f (nodes_view nodes) (rule_of (nodes_view nodes))
   pub same : (m d : Node) → node_view m ≡ node_view (get_or nodes i d) → nodes_view (set nodes i m) ≡ nodes_view nodes
-  pub read : (g : List Segment → Done) (d : Node) → done_in g (rule_of (nodes_view nodes)) ≡ g (elements (node_view (get_or nodes i d)))
+  pub read : (g : List Segment → Done) (d : Node) → map_or (done None false) (λ r. g r.args) (rule_of (nodes_view nodes)) ≡ g (elements (node_view (get_or nodes i d)))
 
 -- the elements of the first list part
 abbrev pub first_list : List (List Segment) → List Segment
@@ -45,7 +46,7 @@ first_length (Some a) = length (first_list (parts (value a)))
 -- the first list part of a value
 pub record IsFirstPart (value : List Node) (i : ℕ) : Type 0 where
   pub within : i < length value
-  pub some : no_parts (parts (nodes_view value)) ≡ false
+  pub some : is_empty (parts (nodes_view value)) ≡ false
   pub list : (d : Node) → first_list (parts (nodes_view value)) ≡ elements (node_view (get_or value i d))
   pub put : (f : List Segment → List Segment) (m d : Node) → node_view m ≡ edit_list f (node_view (get_or value i d)) → nodes_view (set value i m) ≡ edit_first_part f (nodes_view value)
   pub same : (m d : Node) → node_view m ≡ node_view (get_or value i d) → nodes_view (set value i m) ≡ nodes_view value

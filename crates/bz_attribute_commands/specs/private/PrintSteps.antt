@@ -10,7 +10,8 @@ use Rattle.bz_attribute.specs.declared.done.Note.{Note}
 use Rattle.bz_attribute.specs.Heads.{IsHeadOf}
 use Rattle.bz_attribute.specs.RowPlaces.{IsRuleRow}
 use Rattle.bz_attribute.specs.Rules.{Rule, name_in, string_value}
-use Rattle.bz_attribute_commands.specs.Print.{field_text, line_of, missing, word_of}
+use Rattle.bz_attribute_commands.specs.Print.{field_text, line_of, missing, word_form}
+use Rattle.bz_token.specs.Common.{map_or}
 
 -- a rule of this head and these parts
 pub record IsRuleOf (known : Head) (ps : List RowPart) (s : Statement) (r : Rule) : Type 0 where
@@ -34,7 +35,7 @@ pub record IsFieldOfName (home : Package) (field : Field) (name old new : List �
   pub line : new ≡ old ++ text
 
 abbrev pub element_word : Segment → List ℕ
-element_word s = word_of (string_value s.nodes)
+element_word s = map_or [] word_form (string_value s.nodes)
 
 -- words one after another, with this before the first and a space before each other
 abbrev pub spaced_from : List ℕ → List (List ℕ) → List ℕ

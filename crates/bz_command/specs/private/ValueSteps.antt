@@ -1,7 +1,7 @@
 -- For private clauses alone: a literal read unit by unit.
-use Rattle.std.specs.Prelude.{ℕ, ◌==◌, List, [], ◌∷◌, Bool, false, ◌&&◌, ◌||◌, if◌then◌else◌, Option, Some, None, bytes_eq, drop, take, option_map}
+use Rattle.std.specs.Prelude.{ℕ, ◌==◌, List, [], ◌∷◌, Bool, false, not, ◌&&◌, ◌||◌, if◌then◌else◌, Option, Some, None, bytes_eq, drop, take, option_map, option_and_then}
 use Rattle.bz_token.specs.Pieces.{is_quote}
-use Rattle.bz_command.specs.Values.{is_plain, units, content, values_in, unit_value, is_newline, inner_of}
+use Rattle.bz_command.specs.Values.{is_plain, units, content, unit_value, is_newline, inner_of, values}
 
 -- one byte more, and all are such
 abbrev pub plain_too : ℕ → Bool → ℕ → Bool
@@ -21,7 +21,7 @@ is_value value (Some other) = bytes_eq value other
 
 -- the value of what stands after the opening quotes
 abbrev pub inner_value : Bool → List ℕ → List ℕ → Option (List ℕ)
-inner_value raw quotes inner = values_in raw (content quotes (units inner))
+inner_value raw quotes inner = option_and_then (values raw) (content quotes (units inner))
 
 -- the value of a unit that may stand in a literal with one quote, or with three
 abbrev pub value_in : Bool → Bool → List ℕ → Option ℕ
@@ -34,4 +34,4 @@ taken raw short bytes = option_map (λ b. (b, drop (first_len bytes) bytes)) (va
 -- the value of a literal without its prefix
 abbrev pub opened_value : Bool → List ℕ → Option (List ℕ)
 opened_value raw [] = None
-opened_value raw (q ∷ bs) = if is_quote q then values_in raw (inner_of (q ∷ bs)) else None
+opened_value raw (q ∷ bs) = if is_quote q then option_and_then (values raw) (inner_of (q ∷ bs)) else None

@@ -1,7 +1,7 @@
 -- What the script on one chunk answers, for private clauses.
-use Rattle.std.specs.Prelude.{◌≡◌, ℕ, true, false, if◌then◌else◌, List, [], ◌∷◌, ◌++◌, Option, Some, Ok, Err, option_to_list}
+use Rattle.std.specs.Prelude.{◌≡◌, ℕ, true, false, if◌then◌else◌, List, [], ◌∷◌, ◌++◌, Option, Some, Ok, Err, option_to_list, flat_map, take}
 use Rattle.bz_tree.specs.Tree.{Statement}
-use Rattle.bz_engine.specs.declared.edit.Script.{Script}
+use Rattle.bz_engine.specs.declared.edit.ScriptRun.{ScriptRun}
 use Rattle.bz_engine.specs.declared.edit.Edited.{Edited}
 use Rattle.bz_engine.specs.declared.edit.Edited.TheVariants.{Done, Faulty, Failed}
 use Rattle.bz_engine.specs.declared.edit.Scripted.{Scripted}
@@ -11,11 +11,11 @@ use Rattle.bz_engine.specs.File.{Gives}
 use Rattle.bz_command.specs.Passes.{Slot}
 use Rattle.bz_passes.specs.Exchange.{IsLeftBy, slot_after}
 use Rattle.bz_engine.specs.Meaning.{meaning, changes, fails_on}
-use Rattle.bz_engine.specs.Outcome.{Run, is_query, text_after, fails_at, failures_at}
-use Rattle.bz_passes.specs.Entries.{first_of}
+use Rattle.bz_engine.specs.Outcome.{Run, is_query, text_after, said, slots_of, some_failure}
 use Rattle.bz_engine.specs.Progress.{Progress, IsKeptOf, last_class, text_following}
+use Rattle.bz_passes.specs.Entries.{failure_text}
 
-abbrev pub run_of : Script → Run
+abbrev pub run_of : ScriptRun → Run
 run_of script = record { home = script.home.now; passes = script.passes.now; keep_going = script.keep_going; max_depth = script.max_depth }
 
 -- The chunk is done: what is kept is that of the chunks with it, and its text stands after the text that was there.
@@ -38,8 +38,8 @@ pub record IsFailed (run : Run) (chunk : List ℕ) (message : Option (List ℕ))
   pub ends : run.keep_going ≡ false
   pub statement : Statement
   pub read : Gives run.max_depth old.line chunk (Ok (Some statement))
-  pub fails : old.failed ≡ false → fails_at run.home run.passes statement ≡ true
-  pub message_is : old.failed ≡ false → option_to_list message ≡ first_of (failures_at run.home run.passes statement)
+  pub fails : old.failed ≡ false → some_failure run.home run.passes (statement ∷ []) ≡ true
+  pub message_is : old.failed ≡ false → option_to_list message ≡ take 1 (flat_map failure_text (said (meaning run.home) run.passes (slots_of (statement ∷ []))))
   pub changed : new.changed ≡ old.changed
   pub nothing : text_following ≡ text_before
 
@@ -65,10 +65,10 @@ pub record IsLaidOut (run : Run) (s : Statement) (old new : Progress) (before af
 -- or the run ends at it.
 pub record IsEnded (run : Run) (s : Statement) (message : Option (List ℕ)) (old new : Progress) (before after : List ℕ) : Type 0 where
   pub ends : run.keep_going ≡ false
-  pub fails : old.failed ≡ false → fails_at run.home run.passes s ≡ true
+  pub fails : old.failed ≡ false → some_failure run.home run.passes (s ∷ []) ≡ true
   pub message_is : old.failed ≡ false → (slots : List (Slot Statement))
       → IsLeftBy (meaning run.home) (changes run.home) (fails_on run.home) run.passes slots old.kept old.changed old.failed
-      → option_to_list message ≡ first_of (failures_at run.home run.passes s)
+      → option_to_list message ≡ take 1 (flat_map failure_text (said (meaning run.home) run.passes (slots_of (s ∷ []))))
   pub changed : new.changed ≡ old.changed
   pub line : new.line ≡ old.line
   pub nothing : after ≡ before

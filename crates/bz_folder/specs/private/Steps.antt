@@ -4,14 +4,14 @@ use Rattle.bz_folder.specs.Files.{Content, Files, Event, Remove, SameBut, HasByt
 use Rattle.bz_folder.specs.Paths.{temporary_path}
 use Rattle.bz_folder.specs.Replace.{IsSafe, IsEnd}
 use Rattle.bz_folder.specs.DraftValue.{DraftValue, HasSent, IsText}
-use Rattle.bz_folder.specs.declared.draft.Stage.{Stage}
-use Rattle.bz_folder.specs.declared.draft.Stage.TheVariants.{Unmade, Made, Broken}
+use Rattle.bz_folder.specs.declared.draft.DraftState.{DraftState}
+use Rattle.bz_folder.specs.declared.draft.DraftState.TheVariants.{Unmade, Made, Broken}
 use Rattle.bz_devices.specs.declared.device.Failed.{Failed}
 use Rattle.bz_folder.specs.declared.trouble.Trouble.{Trouble}
 use Rattle.bz_folder.specs.declared.trouble.Trouble.TheVariants.{OutOfMemory, Clean, LeftBehind}
 
 -- these calls make the temporary file where it is not made, and write these bytes at its end
-pub record IsSent (stage : Stage) (path bytes : List ℕ) (result : Result ⊤ Failed) (events : List Event) : Type 0 where
+pub record IsSent (stage : DraftState) (path bytes : List ℕ) (result : Result ⊤ Failed) (events : List Event) : Type 0 where
   pub written : (sent : List ℕ) (start : Files) → HasSent stage path sent start
       → Along (SameBut path start) (λ now. OnOk result (HasBytes path (sent ++ bytes) now)) events start
   pub whole : OnOk result (stage ≢ Broken)
@@ -30,13 +30,13 @@ pub record IsPut (Before : List ℕ → Files → Type 0) (CannotBe : Type 0)
   pub cause : OnErr result (CannotBe ⊎ AnyFails events)
 
 -- the calls that remove what is not to be kept
-abbrev pub abandon_calls : Stage → List ℕ → Bool → List Event
+abbrev pub abandon_calls : DraftState → List ℕ → Bool → List Event
 abandon_calls Unmade temporary ok = []
 abandon_calls Made temporary ok = (Remove temporary, ok) ∷ []
 abandon_calls Broken temporary ok = (Remove temporary, ok) ∷ []
 
 -- what is answered then
-abbrev pub abandon_answer : Stage → Bool → Result Bool Trouble → Result Bool Trouble
+abbrev pub abandon_answer : DraftState → Bool → Result Bool Trouble → Result Bool Trouble
 abandon_answer Unmade ok answer = answer
 abandon_answer Made true answer = answer
 abandon_answer Made false answer = Err LeftBehind

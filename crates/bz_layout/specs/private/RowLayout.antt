@@ -10,11 +10,11 @@ use Rattle.bz_layout.specs.declared.spacing.Edge.{Edge}
 use Rattle.bz_layout.specs.declared.spacing.Edge.TheVariants.{Start, Operand}
 use Rattle.bz_layout.specs.declared.spacing.Gap.{Gap}
 use Rattle.bz_layout.specs.declared.spacing.Gap.TheVariants.{Closed, Space, Apart, Line}
-use Rattle.bz_layout.specs.declared.marks.Mark.{Mark}
-use Rattle.bz_layout.specs.declared.marks.Inside.{Inside}
+use Rattle.bz_layout.specs.declared.marks.BracketForm.{BracketForm}
+use Rattle.bz_layout.specs.declared.marks.Contents.{Contents}
 use Rattle.bz_layout.specs.declared.marks.Marks.{Marks}
-use Rattle.bz_layout.specs.declared.walk.Frame.{Frame}
-use Rattle.bz_layout.specs.declared.walk.Walk.{Walk}
+use Rattle.bz_layout.specs.declared.walk.OpenBracket.{OpenBracket}
+use Rattle.bz_layout.specs.declared.walk.RowWriter.{RowWriter}
 use Rattle.bz_layout.specs.Respell.{respell}
 use Rattle.bz_layout.specs.Spacing.{closes_up, hugs, edge_after, holds_on}
 use Rattle.bz_layout.specs.Broken.{breaks_by_count}
@@ -32,33 +32,33 @@ breaks_with kind comments n inside = comments || breaks_by_count kind n || (nat_
 
 -- The walk backwards: marks of the brackets after it, the first one first, and what stands in the brackets that it is in, the innermost first.
 pub record Scan : Type 0 where
-  pub marks : List Mark
-  pub here : Inside
-  pub outer : List Inside
+  pub marks : List BracketForm
+  pub here : Contents
+  pub outer : List Contents
 
-abbrev pub closed : Bool → Inside
+abbrev pub closed : Bool → Contents
 closed one_comma = record { one_comma = one_comma; comments = false; holds = false; segs = 0 }
 
 abbrev pub one_more : ℕ → ℕ
 one_more n = if nat_lt n 2 then n + 1 else n
 
-abbrev pub mark_of : GroupKind → Inside → Mark
+abbrev pub mark_of : GroupKind → Contents → BracketForm
 mark_of kind i = record { broken = breaks_with kind i.comments i.segs i.holds; comma = has_commas kind i.one_comma i.segs }
 
-abbrev pub holding : Bool → Inside → Inside
+abbrev pub holding : Bool → Contents → Contents
 holding holds i = record { one_comma = i.one_comma; comments = i.comments; holds = holds || i.holds; segs = i.segs }
 
-abbrev pub commented : Inside → Inside
+abbrev pub commented : Contents → Contents
 commented i = record { one_comma = i.one_comma; comments = true; holds = i.holds; segs = i.segs }
 
-abbrev pub counted : Inside → Inside
+abbrev pub counted : Contents → Contents
 counted i = record { one_comma = i.one_comma; comments = i.comments; holds = i.holds; segs = one_more i.segs }
 
-abbrev pub here_as : Inside → Scan → Scan
+abbrev pub here_as : Contents → Scan → Scan
 here_as i s = record { marks = s.marks; here = i; outer = s.outer }
 
 -- before the bracket, below it
-abbrev pub below : Mark → Bool → List Mark → List Inside → Scan
+abbrev pub below : BracketForm → Bool → List BracketForm → List Contents → Scan
 below mark holds marks [] = record { marks = mark ∷ marks; here = holding holds (closed false); outer = [] }
 below mark holds marks (i ∷ outer) = record { marks = mark ∷ marks; here = holding holds i; outer = outer }
 
@@ -87,20 +87,20 @@ scanned m = record { marks = reverse m.marks.items; here = m.here; outer = rever
 -- The walk forwards: what is written, the marks of the brackets to come, and the brackets that it is in, the innermost first.
 pub record Laid : Type 0 where
   pub text : List ℕ
-  pub marks : List Mark
-  pub outer : List Frame
-  pub here : Frame
+  pub marks : List BracketForm
+  pub outer : List OpenBracket
+  pub here : OpenBracket
   pub left : Edge
   pub level : ℕ
 
-abbrev pub whole : Mark
+abbrev pub whole : BracketForm
 whole = record { broken = false; comma = false }
 
-abbrev pub top : Option GroupKind → Frame
+abbrev pub top : Option GroupKind → OpenBracket
 top within = record { within = within; mark = whole; later = false }
 
 -- the gap before the first node of a segment
-abbrev pub first_gap : Frame → ℕ → Gap
+abbrev pub first_gap : OpenBracket → ℕ → Gap
 first_gap f level = if f.mark.broken then Line level else (if f.later then Space else Closed)
 
 -- in place a comma stands before each segment but the first; it is written where the segment begins ..
@@ -111,17 +111,17 @@ abbrev pub is_start : Edge → Bool
 is_start Start = true
 is_start _ = false
 
-abbrev pub due : Frame → Edge → List ℕ
+abbrev pub due : OpenBracket → Edge → List ℕ
 due f left = if f.mark.broken then [] else (if f.later then comma_bytes (is_start left) else [])
 
 -- comments stand on lines of their own in broken brackets, and beside their segment there and at the top
-abbrev pub has_beside : Frame → Bool
+abbrev pub has_beside : OpenBracket → Bool
 has_beside f = f.mark.broken || not (is_some f.within)
 
-abbrev pub start : List ℕ → List Mark → Option GroupKind → Laid
+abbrev pub start : List ℕ → List BracketForm → Option GroupKind → Laid
 start text marks within = record { text = text; marks = marks; outer = []; here = top within; left = Start; level = 0 }
 
-abbrev pub laid : Walk → List ℕ → Laid
+abbrev pub laid : RowWriter → List ℕ → Laid
 laid w text = record { text = text; marks = reverse w.marks.items; outer = reverse w.outer.items; here = w.here; left = w.left; level = w.level }
 
 abbrev pub put_comment : Bool → Gap → List ℕ → Laid → Laid
@@ -137,10 +137,10 @@ with_token kind text s = record {
   level = s.level;
 }
 
-abbrev pub level_in : Mark → ℕ → ℕ
+abbrev pub level_in : BracketForm → ℕ → ℕ
 level_in mark level = if mark.broken then level + 1 else level
 
-abbrev pub opened_by : Mark → List Mark → GroupKind → Laid → Laid
+abbrev pub opened_by : BracketForm → List BracketForm → GroupKind → Laid → Laid
 opened_by mark marks kind s = record {
   text = s.text ++ (due s.here s.left ++ (gap_bytes (gap_for (first_gap s.here s.level) s.left (hugs kind)) ++ opening_text kind));
   marks = marks;
@@ -150,7 +150,7 @@ opened_by mark marks kind s = record {
   level = level_in mark s.level;
 }
 
-abbrev pub first_mark : List Mark → Mark
+abbrev pub first_mark : List BracketForm → BracketForm
 first_mark [] = whole
 first_mark (mark ∷ marks) = mark
 
@@ -161,14 +161,14 @@ tail (x ∷ xs) = xs
 abbrev pub opened : GroupKind → Laid → Laid
 opened kind s = opened_by (first_mark s.marks) (tail s.marks) kind s
 
-abbrev pub first_frame : List Frame → Frame
+abbrev pub first_frame : List OpenBracket → OpenBracket
 first_frame [] = top None
 first_frame (f ∷ fs) = f
 
-abbrev pub level_out : Mark → ℕ → ℕ
+abbrev pub level_out : BracketForm → ℕ → ℕ
 level_out mark level = if mark.broken then level - 1 else level
 
-abbrev pub before_closing : Mark → Bool → ℕ → List ℕ
+abbrev pub before_closing : BracketForm → Bool → ℕ → List ℕ
 before_closing mark one_comma level = if mark.broken then gap_bytes (Line (level - 1)) else comma_bytes one_comma
 
 abbrev pub closing_of : Option GroupKind → List ℕ
@@ -186,7 +186,7 @@ closed_by one_comma s = record {
 }
 
 -- .. and of one without nodes where it ends
-abbrev pub after_segment : Frame → Edge → List ℕ
+abbrev pub after_segment : OpenBracket → Edge → List ℕ
 after_segment f left = if f.mark.broken then comma_bytes f.mark.comma else due f left
 
 abbrev pub ended : Laid → Laid

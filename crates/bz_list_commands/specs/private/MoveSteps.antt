@@ -3,15 +3,16 @@ use Rattle.std.specs.Prelude.{ℕ, List, [], ◌∷◌, ◌++◌, Bool, true, fa
 use Rattle.bz_tree.specs.Tree.{Item, Segment}
 use Rattle.bz_command.specs.Labels.{Package}
 use Rattle.bz_attribute.specs.Effects.{argument, has, list_item}
-use Rattle.bz_attribute.specs.Lists.{edit_first_part, with_value}
+use Rattle.bz_attribute.specs.Lists.{edit_first_part, with_value, equals}
 use Rattle.bz_attribute.specs.Rules.{string_value, value}
-use Rattle.bz_attribute.specs.Move.{is_among}
+use Rattle.bz_token.specs.Common.{map_or}
+use Rattle.std.specs.List.{list_any}
 
 -- for each element whether it arrives, where `there` are the elements of the new list
 abbrev pub flags : Package → List Segment → List Segment → List Bool
 flags home there [] = []
 flags home there (s ∷ ss) =
-    if is_among home there (string_value s.nodes) then false ∷ flags home there ss
+    if map_or false (λ word. list_any (equals home word) there) (string_value s.nodes) then false ∷ flags home there ss
     else true ∷ flags home (there ++ s ∷ []) ss
 
 -- it is a text that passes

@@ -7,21 +7,22 @@ use Rattle.bz_tree.specs.Rows.{RowPart, a_token}
 use Rattle.bz_command.specs.Labels.{Package}
 use Rattle.bz_command.specs.Values.{quoted, value_of}
 use Rattle.bz_attribute.specs.Rules.{is_text, only_text, value}
-use Rattle.bz_attribute.specs.Lists.{is_attribute, parts, same_value}
-use Rattle.bz_attribute.specs.Remove.{filtered_everywhere}
+use Rattle.bz_attribute.specs.Lists.{is_attribute, parts, same}
 use Rattle.bz_list_commands.specs.declared.string_edit.Meant.{Meant}
 use Rattle.bz_list_commands.specs.declared.string_edit.Meant.TheVariants.{Word, Words, Unlike}
 use Rattle.bz_list_commands.specs.declared.string_edit.StringEdit.{StringEdit}
+use Rattle.bz_attribute.specs.Effects.{filtered}
+use Rattle.bz_token.specs.Common.{map_or}
 
 -- the text of a string token equals a word, one of some, or `old` and is not exactly `new`
 abbrev pub equals_word : Package → List ℕ → List ℕ → Bool
-equals_word home word text = same_value home word (value_of text)
+equals_word home word text = map_or false (λ value. same home value word) (value_of text)
 
 abbrev pub equals_one : Package → List (List ℕ) → List ℕ → Bool
-equals_one home words text = list_any (λ word. same_value home word (value_of text)) words
+equals_one home words text = list_any (λ word. map_or false (λ value. same home value word) (value_of text)) words
 
 abbrev pub is_unlike : Package → List ℕ → List ℕ → List ℕ → Bool
-is_unlike home old new text = same_value home old (value_of text) && not (is_text new (value_of text))
+is_unlike home old new text = map_or false (λ value. same home value old) (value_of text) && not (is_text new (value_of text))
 
 abbrev pub means_in : Package → Meant → List ℕ → Bool
 means_in home (Word word) text = equals_word home word.now text
@@ -63,7 +64,7 @@ abbrev pub changes : (List ℕ → Bool) → Segment → Bool
 changes p a = list_any (list_any (is_meant p)) (parts (value a))
 
 abbrev pub edited_all : (List ℕ → Bool) → Option (List ℕ) → List Segment → List Segment
-edited_all p literal args = filtered_everywhere (become_all p literal) args
+edited_all p literal args = flat_map (λ a. if is_attribute a then filtered (become_all p literal) a else a ∷ []) args
 
 abbrev pub changes_any : (List ℕ → Bool) → List Segment → Bool
 changes_any p args = list_any (λ a. is_attribute a && changes p a) args

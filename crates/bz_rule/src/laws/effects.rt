@@ -1,6 +1,6 @@
 //! Laws of what commands add, set and remove.
 
-ghost use Rattle.std.specs.Prelude.{◌≡◌, ◌≤◌, ◌++◌, ◌∷◌, ℕ, List, [], None, Option, filter, length, false, true};
+ghost use Rattle.std.specs.Prelude.{◌≡◌, ◌≤◌, ◌++◌, ◌∷◌, ℕ, List, [], None, Option, filter, length, false, true, ◌&&◌};
 ghost use Rattle.std.specs.List.{list_all, list_any};
 ghost use Rattle.bz_tree.specs.Tree.{Segment, Statement};
 ghost use Rattle.bz_rule.specs.Commands.{after, done_of};
@@ -14,13 +14,15 @@ ghost use Rattle.bz_attribute.specs.Remove as remove;
 ghost use Rattle.bz_command.specs.Labels.{Package};
 ghost use Rattle.bz_attribute.specs.Lists.{is_attribute};
 ghost use Rattle.bz_attribute.specs.Rules.{first_named, is_named};
+ghost use Rattle.bz_token.specs.Common.{map_or};
+ghost use Rattle.bz_attribute.specs.Effects.{edit_first};
 
 /// Where `add` does not fail, an element equals each of its values afterwards, so `remove` finds them.
 pub fn added_values_are_found()
     ensures { (home : Package) (attr : List ℕ) (values : List (List ℕ)) (args : List Segment)
         → effects.not_a_list attr (first_named attr args) ≡ None
         → list_all
-        (λ v. effects.chooses_in home (Values (v ∷ [])) (first_named attr (add.add home attr values args))) values
+        (λ v. map_or false (effects.chooses home (Values (v ∷ []))) (first_named attr (add.add home attr values args))) values
         ≡ true }
 {}
 
@@ -47,15 +49,15 @@ pub fn removed_is_gone()
         → list_any remove.goes_with_all (remove.remove home Every [] args) ≡ false }
     ensures values { (home : Package) (attr : List ℕ) (values : List (List ℕ)) (args : List Segment)
         → length (filter (is_named attr) args) ≤ 1
-        → effects.chooses_in home (Values values) (first_named attr (remove.remove home (Named attr) values args))
+        → map_or false (effects.chooses home (Values values)) (first_named attr (remove.remove home (Named attr) values args))
         ≡ false }
     ensures everywhere { (home : Package) (values : List (List ℕ)) (args : List Segment)
-        → remove.chooses_anywhere home (Values values) (remove.remove home Every values args) ≡ false }
+        → list_any (λ a. is_attribute a && effects.chooses home (Values values) a) (remove.remove home Every values args) ≡ false }
     ensures edited { (home : Package) (values : List (List ℕ)) (a : Segment) → is_attribute a ≡ true
         → list_any (effects.chooses home (Values values)) (effects.filtered (effects.unchosen home (Values values)) a)
         ≡ false }
     ensures rest { (home : Package) (attr : List ℕ) (values : List (List ℕ)) (front rest : List Segment) (a : Segment)
         → effects.has attr front ≡ false → is_named attr a ≡ true
-        → remove.remove_values home attr values (front ++ a ∷ rest)
+        → edit_first (is_named attr) (effects.filtered (effects.unchosen home (Values values))) (front ++ a ∷ rest)
         ≡ front ++ (effects.filtered (effects.unchosen home (Values values)) a ++ rest) }
 {}

@@ -3,7 +3,8 @@ use Rattle.std.specs.Prelude.{ℕ, ◌+◌, List, [], ◌∷◌, Bool, true, fal
 use Rattle.bz_token.specs.declared.scan_string.Escape.{Escape}
 use Rattle.bz_token.specs.declared.scan_string.Escape.TheVariants.{Unescaped, AfterBackslash, AfterReturn}
 use Rattle.bz_token.specs.declared.scan_string.Quotes.{Quotes}
-use Rattle.bz_token.specs.Lexical.{is_empty, closing_row}
+use Rattle.bz_token.specs.Lexical.{closing_row}
+use Rattle.bz_token.specs.Common.{is_empty}
 
 -- a backslash takes the byte after it along, and a newline after that where it is a carriage return
 abbrev pub is_escaped : Escape → ℕ → Bool

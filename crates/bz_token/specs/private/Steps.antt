@@ -1,12 +1,12 @@
 -- For private clauses: what stands at a place, a token or the white space before it.
-use Rattle.std.specs.Prelude.{◌≡◌, ◌⊎◌, ◌≤◌, ◌<◌, ◌+◌, ◌-◌, ◌++◌, ◌==◌, ℕ, List, Bool, true, false, length, take, slice_index, count_by, if◌then◌else◌}
+use Rattle.std.specs.Prelude.{◌≡◌, ◌⊎◌, ◌≤◌, ◌<◌, ◌+◌, ◌-◌, ◌++◌, ◌==◌, ℕ, List, Bool, true, false, length, take, slice_index, count_by, if◌then◌else◌, [], ◌∷◌}
 use Rattle.bz_token.specs.declared.gap.TokenGap.{TokenGap}
 use Rattle.bz_token.specs.declared.brackets.Misfit.{Misfit}
 use Rattle.bz_token.specs.declared.fault.LexFault.{LexFault}
 use Rattle.bz_token.specs.declared.scan_token.Bad.{Bad}
 use Rattle.bz_token.specs.declared.scan_token.GapOrToken.{GapOrToken}
 use Rattle.bz_token.specs.declared.scan_token.GapOrToken.TheVariants as step
-use Rattle.bz_token.specs.Brackets.{is_inside, bracket_fits, open_after_byte}
+use Rattle.bz_token.specs.Brackets.{is_inside, bracket_fits, open_after_token}
 use Rattle.bz_token.specs.Places.{column_from}
 use Rattle.bz_token.specs.Reading.{is_gap, begins_gap}
 use Rattle.bz_token.specs.private.Scans.{IsScanned, IsBadPlace, bad_fault, IsMisfit, misfit_fault}
@@ -39,7 +39,7 @@ abbrev pub IsTaken : ℕ → List ℕ → List ℕ → List ℕ → GapOrToken �
 IsTaken depth opened after bytes (step.Gap gap) = IsGapHere (is_inside opened) bytes gap × (after ≡ opened)
 IsTaken depth opened after bytes (step.Token s) =
     (begins_gap (is_inside opened) bytes ≡ false) × IsScanned bytes s × (bracket_fits depth opened (slice_index bytes 0) ≡ true)
-    × (after ≡ open_after_byte opened (slice_index bytes 0))
+    × (after ≡ open_after_token opened (slice_index bytes 0 ∷ []))
 
 -- the fault where no token stands here, or where its first byte is a bracket that does not fit
 abbrev pub IsRefused : ℕ → List ℕ → List ℕ → ℕ → ℕ → LexFault → Type 0

@@ -4,8 +4,8 @@ use Rattle.bz_tree.specs.declared.stmt.GroupKind.{GroupKind}
 use Rattle.bz_tree.specs.declared.stmt.GroupKind.TheVariants.{Call, RuleCall, Load, Paren, List as ListKind, Index, Dict, ListComp, DictComp}
 use Rattle.bz_tree.specs.declared.role.Role.{Role}
 use Rattle.bz_tree.specs.declared.role.Role.TheVariants.{Name, Number, Value, Suffix, Dot, Comma, Colon, Equals, Augmented, If, Else, For, In, Not, Tilde, Sum, Star, Stars, Operator, Stray}
-use Rattle.bz_tree.specs.declared.stage.Part.{Part}
-use Rattle.bz_tree.specs.declared.stage.Part.TheVariants.{Left, Right, Alone, Key, Element, EntryKey, From, To, Step, Target, Clause}
+use Rattle.bz_tree.specs.declared.stage.Goal.{Goal}
+use Rattle.bz_tree.specs.declared.stage.Goal.TheVariants.{Left, Right, Alone, Key, Element, EntryKey, From, To, Step, Target, Clause}
 use Rattle.bz_tree.specs.declared.stage.Stage.{Stage}
 use Rattle.bz_tree.specs.declared.stage.Stage.TheVariants.{Refused, Wants, Has, HasNumber, Names, Excludes, Begins, Argument, Keyword}
 use Rattle.bz_tree.specs.Kinds.{is_one}
@@ -14,7 +14,7 @@ use Rattle.bz_tree.specs.Statement.{is_load_word}
 use Rattle.bz_tree.specs.Grammar.{leaf_role}
 
 -- where a part may end
-abbrev pub ends : Part → Bool
+abbrev pub ends : Goal → Bool
 ends Key = false
 ends Element = false
 ends EntryKey = false
@@ -22,7 +22,7 @@ ends Target = false
 ends _ = true
 
 -- where a part may be empty
-abbrev pub may_be_empty : Part → Bool
+abbrev pub may_be_empty : Goal → Bool
 may_be_empty To = true
 may_be_empty Step = true
 may_be_empty _ = false
@@ -63,17 +63,17 @@ after_clause If = Wants Clause false
 after_clause _ = Refused
 
 -- a part that ends at a colon
-abbrev pub at_colon : Part → Stage → Role → Stage
+abbrev pub at_colon : Goal → Stage → Role → Stage
 at_colon part next Colon = next
 at_colon part next If = Wants part true
 at_colon part next _ = Refused
 
 -- nothing but a condition may follow
-abbrev pub at_end : Part → Role → Stage
+abbrev pub at_end : Goal → Role → Stage
 at_end part If = Wants part true
 at_end part _ = Refused
 
-abbrev pub after_part : Part → Role → Stage
+abbrev pub after_part : Goal → Role → Stage
 after_part Left r = after_left r
 after_part Right r = after_right r
 after_part Alone r = at_end Alone r
@@ -87,23 +87,23 @@ after_part Target r = after_target r
 after_part Clause r = after_clause r
 
 -- after the condition of a conditional
-abbrev pub after_condition : Part → Role → Stage
+abbrev pub after_condition : Goal → Role → Stage
 after_condition part Else = Wants part false
 after_condition part _ = Refused
 
-abbrev pub leaves : Part → Bool → Role → Stage
+abbrev pub leaves : Goal → Bool → Role → Stage
 leaves part false r = after_part part r
 leaves part true r = after_condition part r
 
-abbrev pub is_target : Part → Bool
+abbrev pub is_target : Goal → Bool
 is_target Target = true
 is_target _ = false
 
 -- a stage of chains: a Target has none
-abbrev pub in_chain : Part → Stage → Stage
+abbrev pub in_chain : Goal → Stage → Stage
 in_chain part next = if is_target part then Refused else next
 
-abbrev pub next_wanted : Part → Bool → Role → Stage
+abbrev pub next_wanted : Goal → Bool → Role → Stage
 next_wanted part asked Name = Has part asked
 next_wanted part asked Value = Has part asked
 next_wanted part asked Number = HasNumber part asked
@@ -112,7 +112,7 @@ next_wanted part asked Tilde = in_chain part (Wants part asked)
 next_wanted part asked Not = in_chain part (Wants part asked)
 next_wanted part asked _ = Refused
 
-abbrev pub next_after : Part → Bool → Role → Stage
+abbrev pub next_after : Goal → Bool → Role → Stage
 next_after part asked Dot = Names part asked
 next_after part asked Suffix = Has part asked
 next_after part asked Sum = in_chain part (Wants part asked)
@@ -122,19 +122,19 @@ next_after part asked In = if is_target part then leaves part asked In else Want
 next_after part asked Not = in_chain part (Excludes part asked)
 next_after part asked r = leaves part asked r
 
-abbrev pub next_after_number : Part → Bool → Role → Stage
+abbrev pub next_after_number : Goal → Bool → Role → Stage
 next_after_number part asked Dot = Refused
 next_after_number part asked r = next_after part asked r
 
-abbrev pub next_name : Part → Bool → Role → Stage
+abbrev pub next_name : Goal → Bool → Role → Stage
 next_name part asked Name = Has part asked
 next_name part asked _ = Refused
 
-abbrev pub next_excluded : Part → Bool → Role → Stage
+abbrev pub next_excluded : Goal → Bool → Role → Stage
 next_excluded part asked In = Wants part asked
 next_excluded part asked _ = Refused
 
-abbrev pub next_begun : Part → Role → Stage
+abbrev pub next_begun : Goal → Role → Stage
 next_begun part Colon = after_part part Colon
 next_begun part r = next_wanted part false r
 

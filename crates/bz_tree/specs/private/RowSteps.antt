@@ -1,5 +1,5 @@
 -- For private clauses: the walk over the tokens of a statement that pushes the parts of its row.
-use Rattle.std.specs.Prelude.{ℕ, ◌+◌, ◌==◌, count_by, List, [], ◌∷◌, ◌++◌, map, reverse, Bool, true, false, not, ◌||◌, ◌&&◌, if◌then◌else◌, Option, Some, None, option_map, option_and_then}
+use Rattle.std.specs.Prelude.{ℕ, ◌+◌, ◌==◌, count_by, List, [], ◌∷◌, ◌++◌, map, reverse, Bool, true, false, not, ◌||◌, ◌&&◌, if◌then◌else◌, Option, Some, None, option_map, option_and_then, codes}
 use Rattle.std.specs.Bool.{then_some}
 use Rattle.bz_token.specs.declared.token.Kind.{Kind}
 use Rattle.bz_token.specs.Places.{Placed}
@@ -13,12 +13,12 @@ use Rattle.bz_tree.specs.declared.kinds.Mark.TheVariants.{Open, Close, Comma, Co
 use Rattle.bz_tree.specs.declared.kinds.Preceding.TheVariants.{Operand, Other}
 use Rattle.bz_tree.specs.declared.role.Role.{Role}
 use Rattle.bz_tree.specs.declared.role.Role.TheVariants.{Stray}
-use Rattle.bz_tree.specs.declared.stage.Part.TheVariants.{Left}
+use Rattle.bz_tree.specs.declared.stage.Goal.TheVariants.{Left}
 use Rattle.bz_tree.specs.declared.stage.Stage.TheVariants.{Wants}
 use Rattle.bz_tree.specs.declared.spot.Naming.{Naming}
 use Rattle.bz_tree.specs.declared.spot.Naming.TheVariants.{Name, Join, End, Never, Lost}
-use Rattle.bz_tree.specs.declared.spot.Done.{Done}
-use Rattle.bz_tree.specs.declared.spot.Done.TheVariants.{Zero, One, More}
+use Rattle.bz_tree.specs.declared.spot.SegmentCount.{SegmentCount}
+use Rattle.bz_tree.specs.declared.spot.SegmentCount.TheVariants.{Zero, One, More}
 use Rattle.bz_tree.specs.declared.spot.Here.{Here}
 use Rattle.bz_tree.specs.declared.spot.Here.TheVariants.{Nothing, Comma as AfterComma, Node as AfterNode, Ended}
 use Rattle.bz_tree.specs.declared.spot.Read.{Read}
@@ -26,12 +26,12 @@ use Rattle.bz_tree.specs.declared.spot.Spot.{Spot}
 use Rattle.bz_tree.specs.declared.spot.Around.{Around}
 use Rattle.bz_tree.specs.declared.rows.RowWalk.{RowWalk}
 use Rattle.bz_tree.specs.declared.row.Row.{Row}
-use Rattle.bz_tree.specs.Kinds.{mark_of, kind_after, is_for_at, group_kind, is_one, same_shape}
+use Rattle.bz_tree.specs.Kinds.{mark_of, kind_after, is_for_at, group_kind, is_one, same_shape, is_operator_at}
 use Rattle.bz_tree.specs.Brackets.{is_paren, end_line}
 use Rattle.bz_tree.specs.Blocks.{is_block_word}
 use Rattle.bz_tree.specs.Tree.{leaf}
 use Rattle.bz_tree.specs.Grammar.{leaf_role, is_assignment}
-use Rattle.bz_tree.specs.Statement.{is_ident, is_dot, is_call, is_load_word}
+use Rattle.bz_tree.specs.Statement.{is_ident, is_call, is_load_word}
 use Rattle.bz_tree.specs.Rows.{RowPart, a_token, opening, closing, segment_end, above, beside, part_view}
 use Rattle.bz_tree.specs.private.Machine.{next, begin, may_end, group_role}
 use Rattle.bz_tree.specs.private.Steps.{shape_of}
@@ -58,7 +58,7 @@ is_ended _ = false
 -- the beginning of a rule, after one more token
 abbrev pub named : Naming → Kind → List ℕ → Naming
 named Name kind text = if is_ident kind then Join else Never
-named Join kind text = if is_dot kind text then Name else Never
+named Join kind text = if is_operator_at (codes ".") kind text then Name else Never
 named Never kind text = Never
 named End kind text = Lost
 named Lost kind text = Lost
@@ -92,14 +92,14 @@ read_leaf kind text r = record {
 abbrev pub read_group : GroupKind → Read → Read
 read_group kind r = record { stage = next r.stage (group_role kind); at = Operand; naming = called r.naming kind; assigns = r.assigns }
 
-abbrev pub one_more : Done → Done
+abbrev pub one_more : SegmentCount → SegmentCount
 one_more Zero = One
 one_more _ = More
 
 -- a bracket that is open, or the top
 pub record Stand : Type 0 where
   pub kind : Option GroupKind
-  pub done : Done
+  pub done : SegmentCount
   pub here : At
   pub read : Read
 
@@ -198,7 +198,7 @@ last_end (a_comma line) ends = Some []
 last_end (a_node line) ends = if ends then Some (segment_end ∷ []) else None
 last_end an_end ends = if ends then Some [] else None
 
-abbrev pub is_single : Done → Bool
+abbrev pub is_single : SegmentCount → Bool
 is_single One = true
 is_single _ = false
 

@@ -21,9 +21,10 @@ use Rattle.bz_tree.specs.declared.stmt.Leaf.{Leaf}
 use Rattle.bz_tree.specs.Tree.{Item, leaf, Segment}
 use Rattle.bz_tree.specs.View.{text_of, texts, node_view, seg_view}
 use Rattle.bz_tree.specs.Kinds.{mark_of, is_one, group_kind, same_shape}
-use Rattle.bz_tree.specs.Owners.{Own, node, comma, comment, Last, no_token, end_of_node, end_of_comma, is_on, Inside, is_filled}
+use Rattle.bz_tree.specs.Owners.{Own, node, comma, comment, Last, no_token, end_of_node, end_of_comma, is_on, Inside}
 use Rattle.bz_tree.specs.Brackets.{leaf_of, own_of, preceding, is_for_item, group_with}
-use Rattle.bz_tree.specs.Statement.{segment_with, is_rule, is_rule_after, is_nothing}
+use Rattle.bz_tree.specs.Statement.{segment_with, is_rule, is_rule_after}
+use Rattle.bz_token.specs.Common.{is_empty, is_filled}
 
 -- One bracket: the segments that are done, and of the segment here its nodes, the comments before its last node, its suffix so far, the comments after that.
 pub record Walked : Type 0 where
@@ -211,4 +212,4 @@ state s = (level s.top, levels s.outer.items)
 abbrev pub rule_from : Phase → List Item → Bool
 rule_from Name xs = is_rule xs
 rule_from Join xs = is_rule_after xs
-rule_from End xs = is_nothing xs
+rule_from End xs = is_empty xs

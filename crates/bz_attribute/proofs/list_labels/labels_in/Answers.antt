@@ -7,7 +7,7 @@ use Rattle.bz_command.specs.declared.label_set.LabelSet.{LabelSet}
 use Rattle.bz_command.specs.private.ByteSteps.{left}
 use Rattle.bz_command.specs.LabelSetViews.{has}
 use Rattle.bz_attribute.specs.Effects.{is_chosen}
-use Rattle.bz_attribute.specs.Lists.{same, same_value}
+use Rattle.bz_attribute.specs.Lists.{same}
 use Rattle.bz_attribute.specs.Rules.{string_value}
 use Rattle.bz_command.specs.declared.bytes.Bytes.{Bytes}
 use Rattle.bz_attribute.specs.private.ChosenViews.{chosen_view}
@@ -16,6 +16,7 @@ use Rattle.bz_attribute.specs.private.NextPart.{rest}
 use Rattle.bz_attribute.proofs.LabelSets.{element_step, or_false, same_back}
 use Rattle.bz_attribute.proofs.list_labels.labels_in.Goals as goal
 use Rattle.bz_attribute.proofs.list_labels.labels_in.Goals.{then-is_chosen+in-Some-string_of+in_ok-insert, else-is_chosen, else-is_chosen-via-else-is_chosen, else-is_chosen-via-then-is_chosen+in-None-1}
+use Rattle.bz_token.specs.Common.{map_or}
 
 pub loop-i-init : goal.loop-i-init
 loop-i-init c = record {
@@ -42,7 +43,7 @@ loop-element-preserved c =
                 (ap (λ (s : LabelSet). has s text) w.set-is
                 ∙ w.in_ok-insert.ensures.ok text
                 ∙ ap (λ (p : Package). same p text value || has c.loop-element.set text) c.loop-element.invariant.home
-                ∙ ap (λ (z : Bool). z || has c.loop-element.set text) (same_back home text value ∙ sym (or_false (same home value text)) ∙ ap (λ (z : Option (List ℕ)). same_value home text z || false) (sym w.in-Some-string_of.ensures.some))
+                ∙ ap (λ (z : Bool). z || has c.loop-element.set text) (same_back home text value ∙ sym (or_false (same home value text)) ∙ ap (λ (z : Option (List ℕ)). map_or false (λ value. same home value text) z || false) (sym w.in-Some-string_of.ensures.some))
                 ∙ ap (λ (b : Bool). (b && is_chosen home (Values (text ∷ [])) s) || has c.loop-element.set text) (sym (sym c.is_chosen.ensures ∙ w.if-is_chosen.true)));
           }
       | else-is_chosen w ↦ record {
@@ -58,7 +59,7 @@ loop-element-preserved c =
                   let none : string_value s.nodes ≡ None = subst (λ (o : Option Bytes). IfNone o (string_value s.nodes ≡ None)) is_none w'.string_of.ensures.none in
                   step text
                   (ap (λ (s : LabelSet). has s text) w.set-is
-                  ∙ ap (λ (z : Option (List ℕ)). (same_value home text z || false) || has c.loop-element.set text) (sym none)
+                  ∙ ap (λ (z : Option (List ℕ)). (map_or false (λ value. same home value text) z || false) || has c.loop-element.set text) (sym none)
                   ∙ ap (λ (b : Bool). (b && is_chosen home (Values (text ∷ [])) s) || has c.loop-element.set text) (sym (sym c.is_chosen.ensures ∙ w'.if-is_chosen.true)))
             ];
       }

@@ -8,12 +8,13 @@ use Rattle.bz_layout.specs.Layout.{flat_text}
 use Rattle.bz_attribute.specs.Lists.{is_list}
 use Rattle.bz_attribute.specs.Rules.{elements, string_value}
 use Rattle.bz_attribute.proofs.Mapped.{one_node}
-use Rattle.bz_attribute_commands.specs.Print.{has_string, is_words, value_text, word_of}
+use Rattle.bz_attribute_commands.specs.Print.{is_words, value_text, word_form}
 use Rattle.std.proofs.lemmas.Bool.{and_left, and_right}
 use Rattle.std.proofs.lemmas.Bool.Decides.{nat_tests}
 use Rattle.bz_attribute_commands.proofs.Written.{then_ok}
 use Rattle.bz_attribute_commands.proofs.print.push_value.Goals as goal
 use Rattle.bz_attribute_commands.proofs.print.push_value.Goals.{in_default-via-then-value-lt1, in_default-via-in-len1+then-is_list+else-are_strings, in_default-via-in-len1+else-is_list, in_default-via-else-value-lt1+else-value-lt2}
+use Rattle.bz_token.specs.Common.{map_or}
 
 none : (o : Option (List ℕ)) → is_some o ≡ false → o ≡ None
 none None h = refl
@@ -31,7 +32,7 @@ many [] h = refl
 many (n ∷ []) h = absurd (omega arith)
 many (n ∷ m ∷ ns) h = refl
 
-one : (ns : List Node) (n : Node) → 1 ≤ length ns → length ns < 2 → n ≡ get_or ns 0 n → (is_list (node_view n) && list_all has_string (elements (node_view n))) ≡ false → is_words (nodes_view ns) ≡ false
+one : (ns : List Node) (n : Node) → 1 ≤ length ns → length ns < 2 → n ≡ get_or ns 0 n → (is_list (node_view n) && list_all (λ x0. is_some (string_value x0.nodes)) (elements (node_view n))) ≡ false → is_words (nodes_view ns) ≡ false
 one ns n few more at not = ap (λ (xs : List Node). is_words (nodes_view xs)) (one_node ns n few more at) ∙ not
 
 written : {T E : Type 0} (r : Result T E) (new old line : List ℕ) → new ≡ (if is_ok r then old ++ line else old) → OnOk r (new ≡ old ++ line)
@@ -43,14 +44,14 @@ returns-in_ok-flat-in_default c =
     let words : is_words (nodes_view c.args.value.now) ≡ false = elim c.in_default.branch [
       | in_default-via-then-value-lt1 w ↦ no_words c.args.value.now (grind (arith, nat_tests, tests))
       | in_default-via-in-len1+then-is_list+else-are_strings w ↦
-          one c.args.value.now w.node-item.result (omega arith) (omega arith) w.node-item.is (and_right _ _ (ap (list_all has_string) (sym w.elements_at.ensures) ∙ sym w.are_strings.ensures ∙ w.if-are_strings.false))
+          one c.args.value.now w.node-item.result (omega arith) (omega arith) w.node-item.is (and_right _ _ (ap (list_all (λ x0. is_some (string_value x0.nodes))) (sym w.elements_at.ensures) ∙ sym w.are_strings.ensures ∙ w.if-are_strings.false))
       | in_default-via-in-len1+else-is_list w ↦ one c.args.value.now w.node-item.result (omega arith) (omega arith) w.node-item.is (and_left _ _ (sym w.is_list.ensures ∙ w.if-is_list.false))
       | in_default-via-else-value-lt1+else-value-lt2 w ↦ many c.args.value.now (grind (arith, nat_tests, tests))
     ] in
     let string : is_some (string_value (nodes_view c.args.value.now)) ≡ false = sym c.in_ok-push_string.ensures.is ∙ c.if-branch.false in
     let flat : c.as_str.result.now ≡ value_text (nodes_view c.args.value.now) = c.as_str.ensures.value ∙ c.in_ok-flat-in_default.ensures.text ∙ sym (flat_value (nodes_view c.args.value.now) string words) in
     let before : string_bytes c.push_string.new.text ≡ string_bytes c.args.text.now =
-    c.in_ok-push_string.ensures.word ∙ ap (λ (v : Option (List ℕ)). string_bytes c.args.text.now ++ word_of v) (none (string_value (nodes_view c.args.value.now)) string) ∙ append-nil (string_bytes c.args.text.now) in
+    c.in_ok-push_string.ensures.word ∙ ap (λ (v : Option (List ℕ)). string_bytes c.args.text.now ++ map_or [] word_form v) (none (string_value (nodes_view c.args.value.now)) string) ∙ append-nil (string_bytes c.args.text.now) in
     then_ok c.push_str.result
     (λ (is : string_bytes c.push_str.new.string ≡ string_bytes c.push_string.new.text ++ c.as_str.result.now). is ∙ (λ j. before j ++ flat j))
     (written c.push_str.result (string_bytes c.push_str.new.string) (string_bytes c.push_string.new.text) c.as_str.result.now c.push_str.ensures.bytes)

@@ -3,17 +3,18 @@ use Rattle.std.proofs.lemmas.Bool.{true≢false}
 use Rattle.bz_tree.specs.Tree.{Item, Segment}
 use Rattle.bz_tree.specs.View.{nodes_view, seg_view}
 use Rattle.bz_attribute.specs.Rules.{value}
-use Rattle.bz_attribute.specs.Lists.{with_value}
+use Rattle.bz_attribute.specs.Lists.{with_value, is_list, is_only}
 use Rattle.bz_attribute.specs.Effects.{done}
-use Rattle.bz_attribute.specs.Set.{New, holds_list, is_one_list, is_value, new_of, new_value}
+use Rattle.bz_attribute.specs.Set.{New, is_value, new_of, new_value}
 use Rattle.bz_attribute_commands.specs.private.SetViews.{new_view}
 use Rattle.bz_attribute_commands.proofs.set.set_in.Goals as goal
+use Rattle.bz_token.specs.Common.{map_or}
 
 -- what was tested of the value that is there
-tested : (attr : List ℕ) (words : List (List ℕ)) (a : Segment) (new : New) (read : List Item) (b : Bool) → ((was : Option Segment) → holds_list was ≡ is_one_list read → new ≡ new_of attr words was)
+tested : (attr : List ℕ) (words : List (List ℕ)) (a : Segment) (new : New) (read : List Item) (b : Bool) → ((was : Option Segment) → map_or false (λ a. is_only is_list (value a)) was ≡ is_only is_list read → new ≡ new_of attr words was)
     → read ≡ value a → b ≡ is_value new read → b ≡ is_value (new_of attr words (Some a)) (value a)
 tested attr words a new read b told same_value is =
-    let same : new ≡ new_of attr words (Some a) = told (Some a) (ap is_one_list (sym same_value)) in
+    let same : new ≡ new_of attr words (Some a) = told (Some a) (ap (is_only is_list) (sym same_value)) in
     is ∙ (λ j. is_value (same j) (same_value j))
 
 pub returns-then-is_value-clause-arg : goal.returns-then-is_value-clause-arg

@@ -1,5 +1,5 @@
 use Rattle.std.proofs.Common.{◌≡◌, ℕ, ◌+◌, ◌-◌, ◌*◌, List, length}
-use Rattle.bz_engine.specs.declared.session.Stage.TheVariants.{Going}
+use Rattle.bz_engine.specs.declared.session.SessionState.TheVariants.{Going}
 use Rattle.bz_engine.specs.SessionValue.{HasDone}
 use Rattle.bz_engine.proofs.runner.run.Given as goal
 

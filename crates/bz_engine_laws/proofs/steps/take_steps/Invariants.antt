@@ -1,5 +1,5 @@
 use Rattle.std.proofs.Common.{◌≡◌, ℕ, ◌≤◌, ◌-◌, List}
-use Rattle.bz_engine.specs.declared.session.Stage.TheVariants.{Going}
+use Rattle.bz_engine.specs.declared.session.SessionState.TheVariants.{Going}
 use Rattle.bz_engine.specs.SessionValue.{HasDone, IsSameRun}
 use Rattle.bz_engine_laws.specs.Steps.{HasManyMore}
 use Rattle.bz_engine_laws.proofs.steps.take_steps.Given as goal

@@ -1,7 +1,7 @@
 use Rattle.std.proofs.Common.{◌≡◌, subst, Ok, ◌∙◌, ap}
 use Rattle.bz_folder.specs.DraftValue.{IsText}
 use Rattle.bz_folder.specs.private.Steps.{IsPut}
-use Rattle.bz_folder.specs.declared.draft.Stage.TheVariants.{Broken}
+use Rattle.bz_folder.specs.declared.draft.DraftState.TheVariants.{Broken}
 use Rattle.bz_folder.proofs.Finishes.{finished_put, finished_unput, finished_no, finished_err}
 use Rattle.bz_folder.proofs.replace.finish.Goals as goal
 

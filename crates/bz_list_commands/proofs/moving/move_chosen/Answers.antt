@@ -12,7 +12,7 @@ use Rattle.bz_attribute.specs.Lists.{parts}
 use Rattle.bz_attribute.specs.private.ChosenViews.{chosen_view}
 use Rattle.bz_attribute.specs.private.Places.{first_length, first_list}
 use Rattle.bz_attribute.specs.Effects.{done, edit_first, filtered, is_chosen, unchosen}
-use Rattle.bz_attribute.specs.Move.{arrivals, chosen_of, elements_of, joined, moved, moves}
+use Rattle.bz_attribute.specs.Move.{arrivals, elements_of, joined, moved, moves}
 use Rattle.bz_list_commands.specs.private.MoveSteps.{value_of, with_list, with_more}
 use Rattle.bz_list_commands.proofs.Arriving.{chosen_counted, elements_there, first_among, first_given, moved_by, room_given}
 use Rattle.bz_list_commands.proofs.moving.move_chosen.Goals as goal
@@ -28,9 +28,9 @@ none_moved : (home : Package) (old new : List ℕ) (chosen : Moved) (args : List
 none_moved home old new chosen args b is = sym (ap (λ (b : Bool). if b then moved home old new chosen args else args) is)
 
 -- those that leave are as many in what was given
-given : (home : Package) (old new : List ℕ) (chosen : Moved) (args now : List Segment) → now ≡ with_list new args → bytes_eq old new ≡ false → chosen_of home chosen (first_named old now) ≡ filter (is_chosen home chosen) (joined (parts (value_of (first_named old args))))
+given : (home : Package) (old new : List ℕ) (chosen : Moved) (args now : List Segment) → now ≡ with_list new args → bytes_eq old new ≡ false → filter (is_chosen home chosen) (elements_of (first_named old now)) ≡ filter (is_chosen home chosen) (joined (parts (value_of (first_named old args))))
 given home old new chosen args now is other =
-    ap (chosen_of home chosen) (ap (first_named old) is ∙ first_given old new args other) ∙ ap (filter (is_chosen home chosen)) (sym (elements_there (first_named old args)))
+    ap (λ arg. filter (is_chosen home chosen) (elements_of arg)) (ap (first_named old) is ∙ first_given old new args other) ∙ ap (filter (is_chosen home chosen)) (sym (elements_there (first_named old args)))
 
 pub returns-then-count-eq0-clause-args : goal.returns-then-count-eq0-clause-args
 returns-then-count-eq0-clause-args c =
@@ -64,7 +64,7 @@ put_in-requires c =
     ∙ room_given c.args.old.now c.args.new.now f args c.requires in
     let among = first_among (parts (value_of (first_named c.args.new.now (segs_view c.args.args.now.items)))) in
     let taken : segs_view c.take_from.new.taken.items ≡ filter (is_chosen c.args.env.home.now (chosen_view c.args.chosen)) (joined (parts (value_of (first_named c.args.old.now (segs_view c.args.args.now.items))))) =
-    c.take_from.ensures.taken.items ∙ ap (λ (ss : List Seg). segs_view ss ++ chosen_of home (chosen_view c.args.chosen) (first_named c.args.old.now (segs_view c.give_list.new.args.items))) c.in_ok-elements.ensures.items ∙ leave in
+    c.take_from.ensures.taken.items ∙ ap (λ (ss : List Seg). segs_view ss ++ filter (is_chosen home (chosen_view c.args.chosen)) (elements_of (first_named c.args.old.now (segs_view c.give_list.new.args.items)))) c.in_ok-elements.ensures.items ∙ leave in
     omega (arith, first, among, there, count, ap length taken, length-map c.take_from.new.taken.items seg_view, c.take_from.new.taken.ok.0, (rw c.in_ok-room.ensures.ok_part at c.checked_add.ensures), c.in_ok-elements.ensures.capacity, c.take_from.ensures.taken.capacity, c.keep_arrivals.ensures.shorter, c.keep_arrivals.ensures.capacity)
 
 pub returns-clause-args : goal.returns-clause-args
@@ -85,7 +85,7 @@ returns-clause-args c =
     ap segs_view (with_items_is c.take_from.new.args c.put_in.new.args (omega (arith, c.put_in.auto.args, c.deref_mut.ensures.len)))
     ∙ moved_by home old new chosen args (segs_view c.give_list.new.args.items) left (segs_view c.put_in.new.args) ts
     c.requires c.in_ok-give_list.ensures.ok c.take_from.ensures.left
-    (c.take_from.ensures.taken.items ∙ ap (λ (ss : List Seg). segs_view ss ++ chosen_of home chosen (first_named old (segs_view c.give_list.new.args.items))) c.in_ok-elements.ensures.items)
+    (c.take_from.ensures.taken.items ∙ ap (λ (ss : List Seg). segs_view ss ++ filter (is_chosen home chosen) (elements_of (first_named old (segs_view c.give_list.new.args.items)))) c.in_ok-elements.ensures.items)
     (c.put_in.ensures ∙ (λ j. edit_first (is_named new) (λ a. with_more (kept j) a ∷ []) (segs_view (c.deref_mut.ensures.value j))))
     ∙ none_moved home old new chosen args true (chosen_counted home chosen (first_named old args) ∙ ap (nat_lt 0) (sym count) ∙ positive)
 

@@ -1,10 +1,10 @@
-use Rattle.std.proofs.Common.{◌≡◌, map, None, Some, option_map, sym, ap, ◌∙◌}
+use Rattle.std.proofs.Common.{◌≡◌, map, None, Some, option_map, sym, ap, ◌∙◌, false}
 use Rattle.std.proofs.lemmas.Bool.{false≢true}
 use Rattle.bz_token.specs.Places.{Placed, placed}
 use Rattle.bz_tree.specs.Statement.{first_token}
-use Rattle.bz_tree.specs.Blocks.{above, kept_statement}
-use Rattle.bz_tree.specs.Chunk.{begins_block}
+use Rattle.bz_tree.specs.Blocks.{above, kept_statement, is_block_word}
 use Rattle.bz_tree.proofs.chunk.block_statement.Goals as goal
+use Rattle.bz_token.specs.Common.{map_or}
 
 missing : (t : Placed) → None ≡ Some t → ⊥
 missing t e = cc
@@ -21,7 +21,7 @@ returns-in_default-last_seen-clause-none c = λ t b. missing b.last (sym (ap (op
 pub kept_text-kept-requires-clause-tokens : goal.kept_text-kept-requires-clause-tokens
 kept_text-kept-requires-clause-tokens c =
     let first : first_token (map placed c.args.tokens.now) ≡ Some (placed c.in-Some.header) = sym c.first_token.ensures ∙ ap (option_map placed) c.in-Some.is in
-    c.requires.standing _ _ first (sym c.last_seen.ensures ∙ ap (option_map placed) c.in-Some-last_seen.is) (ap begins_block (sym first) ∙ c.requires.block)
+    c.requires.standing _ _ first (sym c.last_seen.ensures ∙ ap (option_map placed) c.in-Some-last_seen.is) (ap (map_or false is_block_word) (sym first) ∙ c.requires.block)
 
 pub returns-clause-statement : goal.returns-clause-statement
 returns-clause-statement c = record {

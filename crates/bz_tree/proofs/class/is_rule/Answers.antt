@@ -1,4 +1,4 @@
-use Rattle.std.proofs.Common.{◌≡◌, ℕ, ◌+◌, ◌<◌, List, ◌∷◌, length, get_or, drop, drop-cons, add-one, suc, Bool, true, ◌&&◌, sym, ap, ◌∙◌, rules}
+use Rattle.std.proofs.Common.{◌≡◌, ℕ, ◌+◌, ◌<◌, List, ◌∷◌, length, get_or, drop, drop-cons, add-one, suc, Bool, true, ◌&&◌, sym, ap, ◌∙◌, rules, codes}
 use denote.Enum.Bare.{same_true}
 use Rattle.bz_token.specs.contracts.token.Kind.{the_type}
 use Rattle.bz_token.specs.declared.token.Kind.TheVariants.{Identifier}
@@ -8,11 +8,13 @@ use Rattle.bz_tree.specs.declared.stmt.Node.{Node, Token, Group}
 use Rattle.bz_tree.specs.declared.stmt.Group.{Group as GroupValue, out-Group}
 use Rattle.bz_tree.specs.Tree.{Item}
 use Rattle.bz_tree.specs.View.{text_of, node_view, nodes_view}
-use Rattle.bz_tree.specs.Statement.{is_ident, is_dot, is_call, is_rule, is_rule_after, is_nothing}
+use Rattle.bz_tree.specs.Statement.{is_ident, is_call, is_rule, is_rule_after}
 use Rattle.bz_tree.specs.private.Steps.{rule_from}
 use Rattle.bz_tree.proofs.Views.{view-Token, view-Group, view-group}
 use Rattle.bz_tree.proofs.class.is_rule.Goals.{in-Name-Token, in-Join-Token, in-Join-Group}
 use Rattle.bz_tree.proofs.class.is_rule.Goals as goal
+use Rattle.bz_token.specs.Common.{is_empty}
+use Rattle.bz_tree.specs.Kinds.{is_operator_at}
 
 -- one node, and the nodes after it
 begins : (nodes : List Node) (i : ℕ) (node : Node) → i < length nodes → node ≡ get_or nodes i node → node_view node ∷ nodes_view (drop (i + 1) nodes) ≡ nodes_view (drop i nodes)
@@ -25,13 +27,13 @@ name_goes : (node : Node) (t : Leaf) (xs : List Item) → node ≡ Token t → t
 name_goes node t xs is fits =
     ap (λ (b : Bool). b && is_rule_after xs) fits ∙ ap (λ (x : Item). is_rule (x ∷ xs)) (sym (view-Token t)) ∙ ap (λ (n : Node). is_rule (node_view n ∷ xs)) (sym is)
 
-dot_goes : (node : Node) (t : Leaf) (xs : List Item) → node ≡ Token t → true ≡ is_dot t.kind (text_of t.text) → is_rule xs ≡ is_rule_after (node_view node ∷ xs)
+dot_goes : (node : Node) (t : Leaf) (xs : List Item) → node ≡ Token t → true ≡ is_operator_at (codes ".") t.kind (text_of t.text) → is_rule xs ≡ is_rule_after (node_view node ∷ xs)
 dot_goes node t xs is fits =
     ap (λ (b : Bool). b && is_rule xs) fits ∙ ap (λ (x : Item). is_rule_after (x ∷ xs)) (sym (view-Token t)) ∙ ap (λ (n : Node). is_rule_after (node_view n ∷ xs)) (sym is)
 
-call_goes : (node : Node) (g : GroupValue) (xs : List Item) → node ≡ Group g → true ≡ is_call (out-Group g).kind → is_nothing xs ≡ is_rule_after (node_view node ∷ xs)
+call_goes : (node : Node) (g : GroupValue) (xs : List Item) → node ≡ Group g → true ≡ is_call (out-Group g).kind → is_empty xs ≡ is_rule_after (node_view node ∷ xs)
 call_goes node g xs is fits =
-    ap (λ (b : Bool). b && is_nothing xs) fits ∙ ap (λ (x : Item). is_rule_after (x ∷ xs)) (sym (view-Group g ∙ view-group g)) ∙ ap (λ (n : Node). is_rule_after (node_view n ∷ xs)) (sym is)
+    ap (λ (b : Bool). b && is_empty xs) fits ∙ ap (λ (x : Item). is_rule_after (x ∷ xs)) (sym (view-Group g ∙ view-group g)) ∙ ap (λ (n : Node). is_rule_after (node_view n ∷ xs)) (sym is)
 
 pub loop-node-preserved : goal.loop-node-preserved
 loop-node-preserved c =

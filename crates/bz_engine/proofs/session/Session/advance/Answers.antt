@@ -3,7 +3,7 @@ use Rattle.std.specs.Prelude.{IsTrue}
 use Rattle.std.proofs.lemmas.Result.{err_from_is_err_and}
 use Rattle.bz_devices.proofs.PassedOn.{err_is}
 use Rattle.bz_engine.specs.declared.run_fault.RunFault.TheVariants.{WriteFailed}
-use Rattle.bz_engine.specs.declared.session.Stage.TheVariants.{Going, Stopped}
+use Rattle.bz_engine.specs.declared.session.SessionState.TheVariants.{Going, Stopped}
 use Rattle.bz_engine.specs.declared.session.Step.TheVariants.{More}
 use Rattle.bz_engine.specs.private.Finds.{Finds}
 use Rattle.bz_engine.specs.private.NextChunks.{IsNextEdited}

@@ -1,20 +1,20 @@
 use Rattle.std.proofs.Common.{◌≡◌, refl, sym, ◌∙◌, ap}
 use Rattle.bz_engine.specs.declared.report.End.{End}
 use Rattle.bz_engine.specs.declared.report.End.TheVariants.{Whole, Syntax, FirstFailure}
-use Rattle.bz_engine.specs.declared.session.Stage.{Stage}
-use Rattle.bz_engine.specs.declared.session.Stage.TheVariants.{Ended, Stopped}
+use Rattle.bz_engine.specs.declared.session.SessionState.{SessionState}
+use Rattle.bz_engine.specs.declared.session.SessionState.TheVariants.{Ended, Stopped}
 use Rattle.bz_engine.specs.SessionValue.{SessionValue, told_at}
 use Rattle.bz_engine.specs.contracts.session.Session.{the_view}
 use Rattle.bz_engine.proofs.Runs.{where_ok}
 use Rattle.bz_engine.proofs.session.Session.take_report.Goals as goal
 
 -- what is told is the same at each stage
-staged : (v : SessionValue) (stage : Stage) (end : End) → (let after : SessionValue = record v { stage = stage } in told_at after end) ≡ told_at v end
+staged : (v : SessionValue) (stage : SessionState) (end : End) → (let after : SessionValue = record v { stage = stage } in told_at after end) ≡ told_at v end
 staged v stage Whole = refl
 staged v stage (Syntax fault) = refl
 staged v stage FirstFailure = refl
 
-ended_so : (e f : End) → (let stage : Stage = Ended e in stage) ≡ Ended f → e ≡ f
+ended_so : (e f : End) → (let stage : SessionState = Ended e in stage) ≡ Ended f → e ≡ f
 ended_so e f h = cc
 
 pub returns-clause-report : goal.returns-clause-report

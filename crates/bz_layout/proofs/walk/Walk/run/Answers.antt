@@ -37,13 +37,13 @@ pub loop-part-preserved : goal.loop-part-preserved
 loop-part-preserved g c =
     let rises : c.step.new.self.level ≤ c.loop-part.self.level + 1 = step_rises (part_view (get_or c.args.parts.now c.loop-part.part-index _)) (laid c.loop-part.self (g.T.Append.bytes c.loop-part.out)) (laid c.step.new.self (g.T.Append.bytes c.step.new.out)) c.in_ok-step.ensures.laid in
     record {
-  laid =
-      ap (run (map part_view (drop (c.loop-part.part-index + 1) c.args.parts.now))) c.in_ok-step.ensures.laid
-      ∙ next_part c.args.parts.now c.loop-part.part-index _ (laid c.loop-part.self (g.T.Append.bytes c.loop-part.out)) c.loop-part-test.true
-      ∙ c.loop-part.invariant.laid;
-  level = omega (arith, rises, c.loop-part.invariant.level);
-  begun = begun_further _ _ _ c.loop-part.invariant.begun c.step.ensures.begun;
-}
+      laid =
+          ap (run (map part_view (drop (c.loop-part.part-index + 1) c.args.parts.now))) c.in_ok-step.ensures.laid
+          ∙ next_part c.args.parts.now c.loop-part.part-index _ (laid c.loop-part.self (g.T.Append.bytes c.loop-part.out)) c.loop-part-test.true
+          ∙ c.loop-part.invariant.laid;
+      level = omega (arith, rises, c.loop-part.invariant.level);
+      begun = begun_further _ _ _ c.loop-part.invariant.begun c.step.ensures.begun;
+    }
 
 pub returns-in_err-step-clause-begun : goal.returns-in_err-step-clause-begun
 returns-in_err-step-clause-begun g c = begun_further _ _ _ c.loop-part.invariant.begun c.step.ensures.begun

@@ -1,0 +1,19 @@
+-- Words on lists and options that the definitions share.
+use Rattle.std.specs.Prelude.{List, [], ◌∷◌, Bool, true, false, Option, None, Some}
+
+abbrev pub is_empty {ℓ} : {A : Type ℓ} → List A → Bool
+is_empty [] = true
+is_empty (x ∷ xs) = false
+
+abbrev pub is_filled {ℓ} : {A : Type ℓ} → List A → Bool
+is_filled [] = false
+is_filled (x ∷ xs) = true
+
+abbrev pub first_of : {A : Type 0} → List A → Option A
+first_of [] = None
+first_of (x ∷ xs) = Some x
+
+-- f of the value, or what stands for none
+abbrev pub map_or : {A B : Type 0} → B → (A → B) → Option A → B
+map_or none f None = none
+map_or none f (Some x) = f x
