@@ -1,4 +1,4 @@
-use Rattle.std.proofs.Common.{◌≡◌, false, sym, ◌∙◌}
+use Rattle.std.proofs.Common.{◌≡◌, false}
 use Rattle.bz_command.proofs.Literals.{opened_plain}
 use Rattle.bz_command.proofs.literal.open_quotes.Goals as goal
 use Rattle.bz_command.proofs.literal.open_quotes.Goals.{then-starts_with, else-starts_with}

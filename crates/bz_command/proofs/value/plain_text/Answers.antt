@@ -1,4 +1,4 @@
-use Rattle.std.proofs.Common.{rules, ◌≡◌, ℕ, None}
+use Rattle.std.proofs.Common.{rules, ◌≡◌, None}
 use Rattle.bz_command.specs.private.ByteSteps.{IsOpened, StandsIn}
 use Rattle.bz_command.proofs.Opened.{if_none, read_whole}
 use Rattle.bz_command.proofs.value.plain_text.Goals as goal
