@@ -3,15 +3,12 @@
 ghost use Rattle.std.specs.Prelude.{◌≡◌, ℕ, List, IfOk, IsTrue};
 ghost use Rattle.std.specs.List.{list_any};
 ghost use Rattle.std.proofs.Props.{props};
-ghost use Rattle.bz_tree.specs.View.{seg_view};
-ghost use Rattle.bz_attribute.specs.Lists.{equals_any, same, same_value};
+ghost use Rattle.bz_attribute.specs.Lists.{same, same_value};
 ghost use Rattle.bz_command.specs.LabelSetViews.{holds};
 ghost use Rattle.bz_command.specs.Values as values;
 ghost use Rattle.bz_command.specs.private.ByteSteps.{left, is_good};
 
-use crate::equals::string_of;
 use bz_command::{Bytes, Package, SortedLabels, Text, same_label, value_of};
-use bz_tree::Seg;
 use std::alloc::{AllocError, Global};
 
 /// Words, and the labels that they are in a package: sorted once, so that an element is looked up.
@@ -35,17 +32,7 @@ impl<'a> WordSet<'a> {
         Ok(WordSet { words, labels })
     }
 
-    /// The element equals one of the words.
-    pub fn equals_any(&self, home: &Package, element: &Seg<'_>) -> bool
-        ensures { result ≡ equals_any home.now self.now.words.now (seg_view element.now) }
-    {
-        match string_of(element) {
-            None => false,
-            Some(value) => self.has(home, value),
-        }
-    }
-
-    /// The same of an element that is one string token of this text.
+    /// An element that is one string token of this text equals one of the words.
     pub fn has_text(&self, home: &Package, text: &str) -> bool
         ensures { result ≡ list_any (λ word. same_value home.now word (values.value_of text.now)) self.now.words.now }
     {

@@ -9,7 +9,6 @@ use bz_attribute::{Done, Env, Executed};
 use bz_attribute_commands::comment::comment;
 use bz_attribute_commands::set::set;
 use bz_command::{Attributes, Commented, Field, Moved, Package, Seq, Setting, Text};
-use bz_list_commands::moving::move_elements;
 use bz_tree::Seg;
 use std::alloc::{AllocError, Global};
 use std::marker::Model;
@@ -124,10 +123,6 @@ pub(crate) fn in_args(
     match &command.action {
         Action::Set(Setting::ToValues(attr, values)) => {
             set(alloc, attr.as_str(), values.as_slice(), args)
-        }
-        Action::Move(old, new, moved) => {
-            let env = Env { alloc, home };
-            move_elements(env, old.as_str(), new.as_str(), moved, args)
         }
         Action::Comment(commented, text) => {
             let env = Env { alloc, home };
