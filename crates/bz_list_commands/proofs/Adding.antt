@@ -1,5 +1,5 @@
 -- What `add` writes, value by value, and what it makes of a rule.
-use Rattle.std.proofs.Common.{◌≡◌, ℕ, ◌+◌, ◌-◌, ◌<◌, ◌≤◌, List, [], ◌∷◌, ◌++◌, Bool, true, false, ◌||◌, not, if◌then◌else◌, Option, Some, None, is_some, length, get_or, map, take, drop, refl, ap, sym, ◌∙◌, subst, arith, append_assoc, append-nil, length-append, take-add}
+use Rattle.std.proofs.Common.{◌≡◌, ℕ, ◌+◌, ◌-◌, ◌<◌, ◌≤◌, List, [], ◌∷◌, ◌++◌, Bool, true, false, not, if◌then◌else◌, Option, Some, None, length, get_or, map, take, drop, refl, ap, sym, ◌∙◌, arith, append_assoc, append-nil, length-append, take-add}
 use Rattle.std.specs.Prelude.{codes, option_to_list, Result, Ok, Err, OnOk}
 use Rattle.std.proofs.lemmas.List.{drop_all}
 use Rattle.bz_token.specs.declared.token.Kind.TheVariants.{Identifier, Operator}
@@ -11,7 +11,7 @@ use Rattle.bz_command.specs.LabelSetViews.{Gains, has as holds_label}
 use Rattle.bz_command.specs.declared.label_set.LabelSet.{LabelSet}
 use Rattle.bz_attribute.specs.Add.{add, adds, fresh, is_fresh, new_elements, with_added}
 use Rattle.bz_attribute.specs.Effects.{argument, done, edit_first, failed, has, is_nil, list_item, no_parts, not_a_list, string, with_args}
-use Rattle.bz_attribute.specs.Elements.{AreElementsTo, AreLists, IsListIn, IsValueAt, value_parts}
+use Rattle.bz_attribute.specs.Elements.{AreElementsTo, AreLists, IsListIn, IsValueAt}
 use Rattle.bz_attribute.specs.Lists.{edit_first_part, parts, same, with_value}
 use Rattle.bz_attribute.specs.RowEdits.{replaced_at}
 use Rattle.bz_attribute.specs.RowPlaces.{IsLocal, IsPlaceOf, IsRuleRow, alone}

@@ -25,7 +25,7 @@ use Rattle.bz_attribute.proofs.EditedAt.{segs_join}
 use Rattle.bz_attribute.proofs.LabelSets.{or_false}
 use Rattle.bz_attribute.proofs.Slices.{slice_seen}
 use Rattle.bz_list_commands.specs.declared.arrivals.Lists.{Lists}
-use Rattle.bz_list_commands.specs.private.MoveSteps.{AreArriving, HaveArrivals, IsArriving, arrivals_by, has_value, parts_at}
+use Rattle.bz_list_commands.specs.private.MoveSteps.{AreArriving, HaveArrivals, arrivals_by, has_value, parts_at}
 use Rattle.bz_list_commands.specs.private.StringEdits.{is_meant}
 
 -- whether a label is there
@@ -78,15 +78,15 @@ told home p known there (s ∷ ss) h =
       | inr other ↦
           (λ j. one_by home p known s ss (other j) (has_value known text)) ∙ told home p known there ss h ∙ ap (λ (b : Bool). arrivals home there (cond b (s ∷ filter (is_meant p) ss) (filter (is_meant p) ss))) (sym other)
       | inl is ↦ elim (cases_Bool (is_among home there text)) [
-          | inl among ↦
-              (λ j. one_by home p known s ss (is j) ((value ∙ among) j)) ∙ told home p (λ text. equals home text s || known text) there ss (told_again home known there text h among)
-              ∙ ap (λ (b : Bool). if b then arrivals home there (filter (is_meant p) ss) else s ∷ arrivals home (there ++ s ∷ []) (filter (is_meant p) ss)) (sym among)
-              ∙ ap (λ (b : Bool). arrivals home there (cond b (s ∷ filter (is_meant p) ss) (filter (is_meant p) ss))) (sym is)
-          | inr new ↦
-              (λ j. one_by home p known s ss (is j) ((value ∙ new) j)) ∙ ap (λ (zs : List Segment). s ∷ zs) (told home p (λ text. equals home text s || known text) (there ++ s ∷ []) ss (told_more home known there s h))
-              ∙ ap (λ (b : Bool). if b then arrivals home there (filter (is_meant p) ss) else s ∷ arrivals home (there ++ s ∷ []) (filter (is_meant p) ss)) (sym new)
-              ∙ ap (λ (b : Bool). arrivals home there (cond b (s ∷ filter (is_meant p) ss) (filter (is_meant p) ss))) (sym is)
-        ]
+        | inl among ↦
+            (λ j. one_by home p known s ss (is j) ((value ∙ among) j)) ∙ told home p (λ text. equals home text s || known text) there ss (told_again home known there text h among)
+            ∙ ap (λ (b : Bool). if b then arrivals home there (filter (is_meant p) ss) else s ∷ arrivals home (there ++ s ∷ []) (filter (is_meant p) ss)) (sym among)
+            ∙ ap (λ (b : Bool). arrivals home there (cond b (s ∷ filter (is_meant p) ss) (filter (is_meant p) ss))) (sym is)
+        | inr new ↦
+            (λ j. one_by home p known s ss (is j) ((value ∙ new) j)) ∙ ap (λ (zs : List Segment). s ∷ zs) (told home p (λ text. equals home text s || known text) (there ++ s ∷ []) ss (told_more home known there s h))
+            ∙ ap (λ (b : Bool). if b then arrivals home there (filter (is_meant p) ss) else s ∷ arrivals home (there ++ s ∷ []) (filter (is_meant p) ss)) (sym new)
+            ∙ ap (λ (b : Bool). arrivals home there (cond b (s ∷ filter (is_meant p) ss) (filter (is_meant p) ss))) (sym is)
+      ]
     ]
 
 -- all labels of the elements that are there

@@ -1,5 +1,5 @@
 -- What `move` makes of a rule: elements go, and then come to another list.
-use Rattle.std.proofs.Common.{◌≡◌, ℕ, List, [], ◌∷◌, ◌++◌, Bool, true, false, if◌then◌else◌, Option, Some, None, is_some, filter, length, take, drop, refl, ap, sym, ◌∙◌, arith, append-nil, take-append-drop}
+use Rattle.std.proofs.Common.{◌≡◌, ℕ, List, [], ◌∷◌, ◌++◌, Bool, true, false, if◌then◌else◌, Option, Some, None, is_some, filter, length, take, refl, ap, sym, ◌∙◌, arith, append-nil, take-append-drop}
 use Rattle.std.specs.List.{list_all}
 use Rattle.std.proofs.lemmas.List.{drop_all}
 use Rattle.bz_tree.specs.Rows.{RowPart, parts_of, segs_parts}

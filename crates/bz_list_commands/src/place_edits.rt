@@ -101,7 +101,12 @@ pub fn edit_strings<'a>(
 {
     match attributes {
         Attributes::Every => {
-            edit_in(ArgumentEdit::Strings(edit), parts, all_arguments(parts), new)
+            edit_in(
+                ArgumentEdit::Strings(edit),
+                parts,
+                all_arguments(parts),
+                new,
+            )
         }
         Attributes::Named(attr) => edit_named(edit, attr.as_str(), parts, new),
     }

@@ -24,7 +24,7 @@ returns-in_ok-not_a_list-in_default-NoList c =
     let ps : List RowPart = map part_view c.args.parts.now in
     let told = c.in_ok-not_a_list-in_default-NoList.ensures in
     unchanged _ _ ps _ _ _ c.none-in_default-NoList.ensures (ap (λ (d : Done). d.changed) told)
-    (λ s r h. told ∙ no_list_to_come old c.args.change.new.now s r ps c.in_default-NoList.field-0-0 (moves c.args.env.home.now old c.args.change.moved.now r.args) (c.in_default-NoList.ensures.place s r h) (c.in_default-NoList.ensures'.place s r h))
+    (λ s r h. told ∙ no_list_to_come old c.args.change.new.now s r ps _ (moves c.args.env.home.now old c.args.change.moved.now r.args) (c.in_default-NoList.ensures.place s r h) (c.in_default-NoList.ensures'.place s r h))
 
 pub returns-in-At-Absent : goal.returns-in-At-Absent
 returns-in-At-Absent c =

@@ -1,4 +1,4 @@
-use Rattle.std.proofs.Common.{◌≡◌, ℕ, List, Option, None, true, ◌∙◌, ap, length, map, subst, sym}
+use Rattle.std.proofs.Common.{ℕ, List, Option, None, true, ◌∙◌, ap, map, subst, sym}
 use Rattle.std.proofs.lemmas.List.{length-map}
 use Rattle.bz_tree.specs.Rows.{RowPart, part_view}
 use Rattle.bz_attribute.specs.Effects.{done, edit_first, filtered}
