@@ -104,7 +104,8 @@ fn move_meant<'a>(
         → IsListAt change.old.now s r (map part_view parts.now) lists.from }
     requires to { (s : Statement) (r : Rule) → IsRuleRow s r (map part_view parts.now)
         → IsTarget change.new.now s r (map part_view parts.now) lists.to }
-    ensures { IfOk result (λ e. (moved : Choice) → literal_of edit.entry ≡ Nothing → is_meant (means edit.entry) ≡ is_chosen edit.entry.env.home.now moved
+    ensures { IfOk result (λ e. (moved : Choice) → literal_of edit.entry ≡ Nothing
+        → is_meant (means edit.entry) ≡ is_chosen edit.entry.env.home.now moved
         → IsRowEdit (spec.moved_where edit.entry.env.home.now change.entry.old.now change.entry.new.now moved)
         (λ args. done Nothing (spec.moves edit.entry.env.home.now change.entry.old.now moved args))
         (map part_view parts.now) (map part_view written.new.items) e) }

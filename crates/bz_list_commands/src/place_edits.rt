@@ -80,7 +80,8 @@ pub fn edit_named<'a>(
     parts: &[Part<'a>],
     new: &mut Parts<'a>,
 ) -> Result<Edit, AllocError>
-    ensures { IfOk result (IsRowEdit (edit_first (is_named attr.now) (filtered (become_all (means edit.entry) (literal_of edit.entry))))
+    ensures { IfOk result (IsRowEdit
+        (edit_first (is_named attr.now) (filtered (become_all (means edit.entry) (literal_of edit.entry))))
         (λ args. done Nothing (spec.changes_first (means edit.entry) (first_named attr.now args)))
         (map part_view parts.now) (map part_view new.new.items)) }
 {
