@@ -1,6 +1,7 @@
 pub mod CallEdits
 pub mod Calls
 pub mod EditedAt
+pub mod EditedRules
 pub mod EndsBack
 pub mod FinderSteps
 pub mod First

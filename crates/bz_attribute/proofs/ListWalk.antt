@@ -171,6 +171,10 @@ pub some_as : {A : Type 0} (P Q : A → Type 0) (o : Option A) → ((n : A) → 
 some_as P Q None f h = h
 some_as P Q (Some n) f h = f n h
 
+pub some_both : {A : Type 0} (P Q R : A → Type 0) (o : Option A) → ((n : A) → P n → Q n → R n) → IfSome o P → IfSome o Q → IfSome o R
+some_both P Q R None f h k = h
+some_both P Q R (Some n) f h k = f n h k
+
 pub none_as : {A : Type 0} (P Q : Type 0) (o : Option A) → (P → Q) → IfNone o P → IfNone o Q
 none_as P Q None f h = f h
 none_as P Q (Some n) f h = h

@@ -1,5 +1,6 @@
 -- A walk over all elements of a value.
-use Rattle.std.proofs.Common.{◌≡◌, ℕ, ◌+◌, List, [], ◌∷◌, ◌++◌, false, Option, length, drop, refl, ap, sym, ◌∙◌, arith, append_assoc, append-nil, length-append}
+use Rattle.std.proofs.Common.{◌≡◌, ℕ, ◌+◌, ◌-◌, List, [], ◌∷◌, ◌++◌, false, Option, length, take, drop, refl, ap, sym, ◌∙◌, arith, append_assoc, append-nil, length-append}
+use Rattle.std.proofs.Math.Seq.{take-append_seam}
 use Rattle.bz_tree.specs.Tree.{Segment, segs_of}
 use Rattle.bz_tree.specs.Rows.{RowPart, segs_parts}
 use Rattle.bz_attribute.specs.Elements.{AreElementsTo, HasNoList, IsElementOf, IsListIn, IsNextElement, ListRest, elements_left, rest_parts}
@@ -62,11 +63,14 @@ none_in_value ps at end l after emptied last read =
     let m = emptied l after read in
     m.same ∙ (λ i. m.none i ++ joined ((last m.left after m.none m.read).none i))
 
-element_next : (l : ListRest) (after ps : List RowPart) (at token to : ℕ) (string : Option (List ℕ)) → IsElementOf l after ps at token to string → IsNextElement l after ps to string
-element_next l after ps at token to string e = record {
+element_next : (l : ListRest) (after ps : List RowPart) (at token from to : ℕ) (string : Option (List ℕ)) → from ≡ at → IsElementOf l after ps at token to string → IsNextElement l after ps from to string
+element_next l after ps at token from to string begins e = record {
   element = e.element;
   left = record l { elements = e.others };
   are = ap (λ (ss : List Segment). ss ++ joined (parts_from false l.items)) e.are;
+  own =
+      let size : to - from ≡ length (segs_parts (segs_of (e.element ∷ []))) = omega (arith, begins, e.ends) in
+      (λ i. take (size i) (drop (begins i) ps)) ∙ ap (take (length (segs_parts (segs_of (e.element ∷ []))))) e.own ∙ take-append_seam (segs_parts (segs_of (e.element ∷ []))) (drop to ps);
   read = e.read;
   text = e.text;
 }
@@ -74,13 +78,13 @@ element_next l after ps at token to string e = record {
 abbrev HasElement : List RowPart → ℕ → ℕ → ℕ → Option (List ℕ) → Type 0
 HasElement ps at token to string = (rest : ListRest) (after : List RowPart) → drop at ps ≡ rest_parts rest after → IsElementOf rest after ps at token to string
 
-pub next_here : (ps : List RowPart) (at token to : ℕ) (string : Option (List ℕ)) (l : ListRest) (after : List RowPart) → HasElement ps at token to string → drop at ps ≡ rest_parts l after → IsNextElement l after ps to string
-next_here ps at token to string l after next read = element_next l after ps at token to string (next l after read)
+pub next_here : (ps : List RowPart) (at token from to : ℕ) (string : Option (List ℕ)) (l : ListRest) (after : List RowPart) → from ≡ at → HasElement ps at token to string → drop at ps ≡ rest_parts l after → IsNextElement l after ps from to string
+next_here ps at token from to string l after begins next read = element_next l after ps at token from to string begins (next l after read)
 
-pub next_later : (ps : List RowPart) (at end from token to : ℕ) (string : Option (List ℕ)) (l : ListRest) (after : List RowPart) → HasEmptied ps at end → HasNext ps end from → HasElement ps from token to string → drop at ps ≡ rest_parts l after
-    → IsNextElement l after ps to string
-next_later ps at end from token to string l after emptied next element read =
+pub next_later : (ps : List RowPart) (at end from token begin to : ℕ) (string : Option (List ℕ)) (l : ListRest) (after : List RowPart) → begin ≡ from → HasEmptied ps at end → HasNext ps end from → HasElement ps from token to string → drop at ps ≡ rest_parts l after
+    → IsNextElement l after ps begin to string
+next_later ps at end from token begin to string l after begins emptied next element read =
     let m = emptied l after read in
     let n = next m.left after m.none m.read in
-    let e = element_next n.list after ps from token to string (element n.list after n.read) in
-    record { element = e.element; left = e.left; are = m.same ∙ next_left m.left n.list [] m.none n.lists ∙ e.are; read = e.read; text = e.text }
+    let e = element_next n.list after ps from token begin to string begins (element n.list after n.read) in
+    record { element = e.element; left = e.left; are = m.same ∙ next_left m.left n.list [] m.none n.lists ∙ e.are; own = e.own; read = e.read; text = e.text }

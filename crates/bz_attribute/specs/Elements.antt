@@ -1,5 +1,5 @@
 -- The list parts of a value and the elements of each, among the parts of its rule.
-use Rattle.std.specs.Prelude.{◌≡◌, ℕ, ◌+◌, List, [], ◌∷◌, ◌++◌, Bool, true, false, Option, None, Some, length, map, take, drop}
+use Rattle.std.specs.Prelude.{◌≡◌, ℕ, ◌+◌, ◌-◌, List, [], ◌∷◌, ◌++◌, Bool, true, false, Option, None, Some, length, map, take, drop}
 use Rattle.bz_tree.specs.declared.stmt.GroupKind.TheVariants.{List as ListKind}
 use Rattle.bz_tree.specs.Tree.{Item, group, Segment, Statement, items_of, segs_of}
 use Rattle.bz_tree.specs.Rows.{RowPart, above, closing, segment_end, items_parts, parts_of, segs_parts}
@@ -80,33 +80,16 @@ pub record IsElementOf (l : ListRest) (after ps : List RowPart) (at token to : �
   pub read : drop to ps ≡ rest_parts (record l { elements = others }) after
   pub text : string ≡ only_text element.nodes
 
--- an edit of elements one by one
-pub record IsByElement (f : List Segment → List Segment) : Type 0 where
-  pub nil : f [] ≡ []
-  pub cons : (s : Segment) (ss : List Segment) → f (s ∷ ss) ≡ f (s ∷ []) ++ f ss
-
--- the edit of what is left
-abbrev pub edited_rest : (List Segment → List Segment) → ListRest → ListRest
-edited_rest f l = record { elements = f l.elements; end = l.end; one_comma = l.one_comma; items = edit_from f false l.items }
-
--- The nodes of a value begin at `from`, and f edits each list part: `new` are the parts that come to stand before what
--- `at` begins, `seen` the elements before it.
-pub record IsEditedTo (f : List Segment → List Segment) (nodes : List Item) (after ps : List RowPart) (at : ℕ) (new : List RowPart) : Type 0 where
-  pub rest : ListRest
-  pub seen : List Segment
-  pub read : drop at ps ≡ rest_parts rest after
-  pub elements : joined (parts nodes) ≡ seen ++ (rest.elements ++ joined (parts_from false rest.items))
-  pub edited : value_parts (edit_parts f nodes) after ≡ new ++ rest_parts (edited_rest f rest) after
-
 -- all elements that are left of the value
 abbrev pub elements_left : ListRest → List Segment
 elements_left l = l.elements ++ joined (parts_from false l.items)
 
--- the next of them ends at `to`
-pub record IsNextElement (l : ListRest) (after ps : List RowPart) (to : ℕ) (string : Option (List ℕ)) : Type 0 where
+-- the next of them stands from `from` to `to`
+pub record IsNextElement (l : ListRest) (after ps : List RowPart) (from to : ℕ) (string : Option (List ℕ)) : Type 0 where
   pub element : Segment
   pub left : ListRest
   pub are : elements_left l ≡ element ∷ elements_left left
+  pub own : take (to - from) (drop from ps) ≡ segs_parts (segs_of (element ∷ []))
   pub read : drop to ps ≡ rest_parts left after
   pub text : string ≡ only_text element.nodes
 

@@ -17,9 +17,11 @@ use crate::place::{comments_len, segment_len};
 use bz_token::Kind;
 use bz_tree::{GroupKind, Part};
 
-/// An element of a list part, among the parts of a rule. It begins with the comments above it.
+/// An element of a list part, among the parts of a rule.
 #[derive(Clone, Copy)]
 pub struct Element<'a> {
+    /// Where it begins, with the comments above it.
+    pub from: usize,
     /// Where its nodes begin, after the comments above it.
     pub token: usize,
     /// After its last part.
@@ -211,6 +213,7 @@ pub fn next_element<'a>(parts: &[Part<'a>], at: usize) -> Option<Element<'a>>
         at e.token e.to (option_map (λ text. text.now) e.string)) }
     ensures none { IfNone result ((rest : ListRest) (after : List RowPart)
         → drop at (map part_view parts.now) ≡ rest_parts rest after → rest.elements ≡ []) }
+    ensures from { IfSome result (λ e. e.from ≡ at) }
     ensures within { IfSome result (λ e. (at ≤ e.token) × ((e.token < e.to) × (e.to ≤ length parts.now))) }
 {
     let token = at + comments_len(&parts[at..]);
@@ -219,6 +222,7 @@ pub fn next_element<'a>(parts: &[Part<'a>], at: usize) -> Option<Element<'a>>
         return None;
     }
     Some(Element {
+        from: at,
         token,
         to: token + segment_len(rest),
         string: string_in(rest),
@@ -245,10 +249,10 @@ pub fn next_of_value<'a>(parts: &[Part<'a>], at: usize) -> Option<Element<'a>>
     requires { at ≤ length parts.now }
     ensures some { IfSome result (λ e. (rest : ListRest) (after : List RowPart)
         → drop at (map part_view parts.now) ≡ rest_parts rest after → IsNextElement rest after
-        (map part_view parts.now) e.to (option_map (λ text. text.now) e.string)) }
+        (map part_view parts.now) e.from e.to (option_map (λ text. text.now) e.string)) }
     ensures none { IfNone result ((rest : ListRest) (after : List RowPart)
         → drop at (map part_view parts.now) ≡ rest_parts rest after → elements_left rest ≡ []) }
-    ensures within { IfSome result (λ e. (at < e.to) × (e.to ≤ length parts.now)) }
+    ensures within { IfSome result (λ e. (e.from ≤ e.to) × ((at < e.to) × (e.to ≤ length parts.now))) }
 {
     let element = next_element(parts, at);
     if element.is_some() {

@@ -3,7 +3,6 @@
 ghost use Rattle.std.specs.Prelude.{◌≡◌, IsTrue, IfSome, IfNone, None, Some, false};
 ghost use Rattle.bz_tree.specs.View.{seg_view};
 ghost use Rattle.bz_attribute.specs.Rules.{string_value};
-ghost use Rattle.bz_attribute.specs.private.ChosenViews.{words_of};
 ghost use Rattle.bz_attribute.specs.Lists as spec;
 ghost use Rattle.bz_command.specs.Values as values;
 ghost use Rattle.bz_command.specs.private.ByteSteps.{left, is_good};
@@ -44,16 +43,5 @@ pub fn equals(home: &Package, element: &Seg<'_>, word: &str) -> bool
     match string_of(element) {
         None => false,
         Some(value) => same_label(home, value, Bytes::Plain(word.as_bytes())),
-    }
-}
-
-/// Both elements are strings, and their values are the same label.
-pub(crate) fn equals_other(home: &Package, element: &Seg<'_>, other: &Seg<'_>) -> bool
-    ensures { result
-        ≡ list_any (λ word. spec.equals home.now word (seg_view element.now)) (words_of (string_value (seg_view other.now).nodes)) }
-{
-    match (string_of(element), string_of(other)) {
-        (Some(value), Some(word)) => same_label(home, value, word),
-        _ => false,
     }
 }

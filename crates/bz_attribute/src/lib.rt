@@ -3,7 +3,6 @@
 
 mod apart;
 mod arguments;
-mod chosen;
 mod done;
 mod edit;
 mod element_labels;
@@ -13,7 +12,6 @@ pub mod equals;
 mod finder;
 mod head;
 mod head_parts;
-mod list_labels;
 mod lists;
 mod make;
 mod next_argument;
@@ -25,7 +23,6 @@ mod texts;
 mod word_set;
 
 pub use arguments::{FirstArgument, first_argument};
-pub use chosen::{Chosen, any_chosen, drop_in, is_any_chosen, is_chosen, loses_all};
 pub use done::{Done, Executed, Note};
 pub use edit::Edit;
 pub use element_labels::labels_of;
@@ -35,7 +32,6 @@ pub use elements::{
 pub use env::Env;
 pub use finder::find_argument;
 pub use head::Head;
-pub use list_labels::labels_in;
 pub use lists::{elements_at, first_part, is_attribute, is_list, next_part};
 pub use make::{
     argument, list, literal, push_argument, push_string, segment, string, strings, token,

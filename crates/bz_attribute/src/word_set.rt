@@ -4,16 +4,16 @@ ghost use Rattle.std.specs.Prelude.{◌≡◌, ℕ, List, IfOk, IsTrue, false};
 ghost use Rattle.std.specs.List.{list_any};
 ghost use Rattle.std.proofs.Props.{props};
 ghost use Rattle.bz_tree.specs.View.{seg_view};
-ghost use Rattle.bz_attribute.specs.Lists.{same, equals};
+ghost use Rattle.bz_attribute.specs.Lists.{same, equals, same_value};
 ghost use Rattle.bz_command.specs.LabelSetViews.{holds};
 ghost use Rattle.bz_command.specs.Values as values;
 ghost use Rattle.bz_command.specs.private.ByteSteps.{left, is_good};
 ghost use Rattle.bz_token.specs.Common.{map_or};
 
-use crate::equals::string_of;
 use bz_command::{Bytes, Package, SortedLabels, Text, same_label, value_of};
 use bz_memory::NoMemory;
 use bz_tree::Seg;
+use std::alloc::Global;
 use std::alloc::Global;
 
 /// Words, and the labels that they are in a package: sorted once, so that an element is looked up.
@@ -33,17 +33,7 @@ impl<'a> WordSet<'a> {
         Ok(WordSet { words, labels })
     }
 
-    /// The element equals one of the words.
-    pub fn equals_any(&self, home: &Package, element: &Seg<'_>) -> bool
-        ensures { result ≡ list_any (λ word. equals home.now word (seg_view element.now)) self.now.words.now }
-    {
-        match string_of(element) {
-            None => false,
-            Some(value) => self.has(home, value),
-        }
-    }
-
-    /// The same of an element that is one string token of this text.
+    /// An element that is one string token of this text equals one of the words.
     pub fn has_text(&self, home: &Package, text: &str) -> bool
         ensures { result ≡ list_any (λ word. map_or false (λ value. same home.now value word) (values.value_of text.now)) self.now.words.now }
     {

@@ -1,5 +1,5 @@
 -- What `add` writes, value by value, and what it makes of a rule.
-use Rattle.std.proofs.Common.{◌≡◌, ℕ, ◌+◌, ◌-◌, ◌<◌, ◌≤◌, List, [], ◌∷◌, ◌++◌, Bool, true, false, ◌||◌, not, if◌then◌else◌, Option, Some, None, is_some, length, get_or, map, take, drop, refl, ap, sym, ◌∙◌, subst, arith, append_assoc, append-nil, length-append, take-add}
+use Rattle.std.proofs.Common.{◌≡◌, ℕ, ◌+◌, ◌-◌, ◌<◌, ◌≤◌, List, [], ◌∷◌, ◌++◌, Bool, true, false, not, if◌then◌else◌, Option, Some, None, length, get_or, map, take, drop, refl, ap, sym, ◌∙◌, arith, append_assoc, append-nil, length-append, take-add}
 use Rattle.std.specs.Prelude.{codes, option_to_list, Result, Ok, Err, OnOk}
 use Rattle.std.proofs.lemmas.List.{drop_all}
 use Rattle.bz_token.specs.declared.token.Kind.TheVariants.{Identifier, Operator}
@@ -10,7 +10,7 @@ use Rattle.bz_command.specs.Labels.{Package}
 use Rattle.bz_command.specs.LabelSetViews.{Gains, has as holds_label}
 use Rattle.bz_command.specs.declared.label_set.LabelSet.{LabelSet}
 use Rattle.bz_attribute.specs.Add.{add, adds, fresh, is_fresh, new_elements, with_added}
-use Rattle.bz_attribute.specs.Effects.{argument, done, edit_first, has, list_item, not_a_list, string, with_args}
+use Rattle.bz_attribute.specs.Effects.{argument, done, edit_first, has, list_item, not_a_list, string, with_args, failed, is_nil, no_parts}
 use Rattle.bz_attribute.specs.Elements.{AreElementsTo, AreLists, IsListIn, IsValueAt, value_parts}
 use Rattle.bz_attribute.specs.Lists.{edit_first_part, parts, same, with_value}
 use Rattle.bz_attribute.specs.RowEdits.{replaced_at}
@@ -24,7 +24,7 @@ use Rattle.bz_attribute.proofs.Fresh.{fresh_step}
 use Rattle.bz_attribute.proofs.ListEdits.{appended}
 use Rattle.bz_list_commands.specs.private.AddSteps.{IsAdding, Knows}
 use Rattle.bz_list_commands.proofs.Known.{knows_fresh, knows_more}
-use Rattle.bz_list_commands.proofs.Named.{add_local, is_there}
+use Rattle.bz_list_commands.proofs.Named.{add_local, is_there, put_local}
 use Rattle.bz_token.specs.Common.{is_empty}
 
 -- value by value
@@ -96,28 +96,37 @@ pub some_new : (ss : List Segment) (ps : List RowPart) → ps ≡ segs_parts (se
 some_new [] ps is h = absurd (omega (arith, ap length is, h))
 some_new (s ∷ ss) ps is h = refl
 
--- what it makes of the rule
-pub added_new : (home : Package) (attr : List ℕ) (values : List (List ℕ)) (s : Statement) (r : Rule) (ps new : List RowPart) (place : Place) → IsRuleRow s r ps → has attr r.args ≡ false → IsPlaceOf attr s r ps place.from place.to
+-- an argument that is new to a rule
+pub put_new : (name : List ℕ) (f : List Segment → List Segment) (s : Statement) (r : Rule) (ps new : List RowPart) (place : Place) → IsLocal name f → has name r.args ≡ false → IsPlaceOf name s r ps place.from place.to → new ≡ segs_parts (segs_of (f []))
+    → replaced_at place new ps ≡ parts_of (with_args f s)
+put_new name f s r ps new place local none at written =
+    let alone_is : alone name r ≡ [] = ap (λ (o : Option Segment). option_to_list o) (none_first name r.args none) in
+    ap (λ (qs : List RowPart). take place.from ps ++ (qs ++ drop place.to ps)) (written ∙ ap (λ (args : List Segment). segs_parts (segs_of (f args))) (sym alone_is)) ∙ at.put f local
+
+-- elements at the end of the first list part of an argument
+pub put_there : (name : List ℕ) (edit : Segment → List Segment) (f : List Segment → List Segment) (elements : List Segment) (s : Statement) (r : Rule) (ps new : List RowPart) (place list end : ℕ) → IsRuleRow s r ps → (v : IsValueAt name s r ps place)
+    → (l : IsListIn true (value v.arg) v.after ps place list) → AreElementsTo l.list ps list end → edit v.arg ≡ with_value (edit_first_part (λ ss. ss ++ elements) (value v.arg)) v.arg ∷ []
+    → (has name r.args ≡ true → f r.args ≡ edit_first (is_named name) edit r.args) → new ≡ segs_parts (segs_of elements) → replaced_at (record { from = end; to = end }) new ps ≡ parts_of (with_args f s)
+put_there name edit f elements s r ps new place list end h v l e made edits written =
+    let front : take end ps ≡ take place ps ++ take (end - place) (drop place ps) = ap (λ (n : ℕ). take n ps) (omega (arith, l.begins, e.size)) ∙ take-add place (end - place) ps in
+    (λ i. front i ++ (written i ++ drop end ps))
+    ∙ append_assoc (take place ps) (take (end - place) (drop place ps)) (segs_parts (segs_of elements) ++ drop end ps)
+    ∙ ap (λ (qs : List RowPart). take place ps ++ qs) (sym (appended elements (value v.arg) v.after ps place list end v.read l e.are e.size))
+    ∙ v.put edit (edit_first_part (λ ss. ss ++ elements) (value v.arg)) made
+    ∙ ap parts_of (sym (with_args_at f (edit_first (is_named name) edit) s r h.rule (edits (is_there name r.args v.arg v.first))))
+
+-- what `add` makes of the rule
+pub added_new : (home : Package) (attr : List ℕ) (values : List (List ℕ)) (s : Statement) (r : Rule) (ps new : List RowPart) (place : Place) → has attr r.args ≡ false → IsPlaceOf attr s r ps place.from place.to
     → new ≡ segs_parts (segs_of (argument attr (list_item (new_elements home [] values) ∷ []) ∷ [])) → replaced_at place new ps ≡ parts_of (with_args (add home attr values) s)
-added_new home attr values s r ps new place h none at written =
-    let alone_is : alone attr r ≡ [] = ap (λ (o : Option Segment). option_to_list o) (none_first attr r.args none) in
-    ap (λ (qs : List RowPart). take place.from ps ++ (qs ++ drop place.to ps)) (written ∙ ap (λ (args : List Segment). segs_parts (segs_of (add home attr values args))) (sym alone_is))
-    ∙ at.put (add home attr values) (add_local home attr values)
+added_new home attr values s r ps new place none at written =
+    put_new attr (add home attr values) s r ps new place (put_local attr (λ a. with_added home values a ∷ []) (argument attr (list_item (new_elements home [] values) ∷ []) ∷ [])) none at written
 
 pub added_there : (home : Package) (attr : List ℕ) (values : List (List ℕ)) (s : Statement) (r : Rule) (ps new : List RowPart) (place list end : ℕ) → IsRuleRow s r ps → (v : IsValueAt attr s r ps place) → (l : IsListIn true (value v.arg) v.after ps place list)
     → AreElementsTo l.list ps list end → new ≡ segs_parts (segs_of (new_elements home (parts (value v.arg)) values)) → replaced_at (record { from = end; to = end }) new ps ≡ parts_of (with_args (add home attr values) s)
 added_there home attr values s r ps new place list end h v l e written =
     let edit : Segment → List Segment = λ a. with_added home values a ∷ [] in
-    let elements : List Segment = new_elements home (parts (value v.arg)) values in
-    let some : is_empty (parts (value v.arg)) ≡ false = ap is_empty l.lists in
-    let made : edit v.arg ≡ with_value (edit_first_part (λ ss. ss ++ elements) (value v.arg)) v.arg ∷ [] = rw some refl in
-    let front : take end ps ≡ take place ps ++ take (end - place) (drop place ps) = ap (λ (n : ℕ). take n ps) (omega (arith, l.begins, e.size)) ∙ take-add place (end - place) ps in
-    let edits : add home attr values r.args ≡ edit_first (is_named attr) edit r.args = rw (is_there attr r.args v.arg v.first) refl in
-    (λ i. front i ++ (written i ++ drop end ps))
-    ∙ append_assoc (take place ps) (take (end - place) (drop place ps)) (segs_parts (segs_of elements) ++ drop end ps)
-    ∙ ap (λ (qs : List RowPart). take place ps ++ qs) (sym (appended elements (value v.arg) v.after ps place list end v.read l e.are e.size))
-    ∙ v.put edit (edit_first_part (λ ss. ss ++ elements) (value v.arg)) made
-    ∙ ap parts_of (sym (with_args_at (add home attr values) (edit_first (is_named attr) edit) s r h.rule edits))
+    let some : no_parts (parts (value v.arg)) ≡ false = ap no_parts l.lists in
+    put_there attr edit (add home attr values) (new_elements home (parts (value v.arg)) values) s r ps new place list end h v l e (rw some refl) (λ there. rw there refl) written
 
 pub lists_there : (ps : List RowPart) (nodes : List Item) (after : List RowPart) (place list : ℕ) → IsListIn true nodes after ps place list → AreLists ps (Some list) (parts nodes)
 lists_there ps nodes after place list l = record { rest = l.list; after = after; read = l.read; are = l.lists }

@@ -125,11 +125,11 @@ value_early a h nodes to name first =
 gone_value : (f : List Segment → List Segment) (a : Segment) → loses_all f (value a) ≡ true → filtered f a ≡ []
 gone_value f a is = ap (λ (b : Bool). if b then [] else with_value (edit_parts f (value a)) a ∷ []) is
 
-any_gone : (p : List ℕ → Bool) (ss : List Segment) → (not (is_empty ss) && is_empty (become_all p None ss)) ≡ true → list_any (is_meant p) ss ≡ true
+any_gone : (p : Option (List ℕ) → Bool) (ss : List Segment) → (not (is_nil ss) && is_nil (become_all p None ss)) ≡ true → list_any (is_meant p) ss ≡ true
 any_gone p [] h = absurd (false≢true h)
 any_gone p (s ∷ ss) h = elim (is_meant p s) as (λ b. is_empty ((if b then [] else s ∷ []) ++ become_all p None ss) ≡ true → (b || list_any (is_meant p) ss) ≡ true) [ true ↦ λ e. refl | false ↦ λ e. absurd (false≢true e) ] h
 
-pub lost_changes : (p : List ℕ → Bool) (nodes : List Item) → loses_all (become_all p None) nodes ≡ true → list_any (list_any (is_meant p)) (parts nodes) ≡ true
+pub lost_changes : (p : Option (List ℕ) → Bool) (nodes : List Item) → loses_all (become_all p None) nodes ≡ true → list_any (list_any (is_meant p)) (parts nodes) ≡ true
 lost_changes p [] h = absurd (false≢true h)
 lost_changes p (group ListKind segs one_comma end ∷ []) h = or_false (list_any (is_meant p) (segments segs)) ∙ any_gone p (segments segs) h
 lost_changes p (group _ segs one_comma end ∷ []) h = absurd (false≢true h)
@@ -137,17 +137,17 @@ lost_changes p (leaf k text ∷ []) h = absurd (false≢true h)
 lost_changes p (x ∷ y ∷ xs) h = absurd (false≢true h)
 
 -- what becomes another is never lost
-never_nil : (p : List ℕ → Bool) (literal : List ℕ) (ss : List Segment) → (not (is_empty ss) && is_empty (become_all p (Some literal) ss)) ≡ false
+never_nil : (p : Option (List ℕ) → Bool) (literal : List ℕ) (ss : List Segment) → (not (is_nil ss) && is_nil (become_all p (Some literal) ss)) ≡ false
 never_nil p literal [] = refl
 never_nil p literal (s ∷ ss) = elim (is_meant p s) as (λ b. is_empty ((if b then record s { nodes = leaf String literal ∷ [] } ∷ [] else s ∷ []) ++ become_all p (Some literal) ss) ≡ false) [ true ↦ refl | false ↦ refl ]
 
-pub never_lost : (p : List ℕ → Bool) (literal : List ℕ) (nodes : List Item) → loses_all (become_all p (Some literal)) nodes ≡ false
+pub never_lost : (p : Option (List ℕ) → Bool) (literal : List ℕ) (nodes : List Item) → loses_all (become_all p (Some literal)) nodes ≡ false
 never_lost p literal [] = refl
 never_lost p literal (x ∷ y ∷ xs) = refl
 never_lost p literal (x ∷ []) =
     elim (is_list x) as (λ b. (b && not (is_empty (elements x)) && is_empty (become_all p (Some literal) (elements x))) ≡ false) [ true ↦ never_nil p literal (elements x) | false ↦ refl ]
 
-pub lost : (p : List ℕ → Bool) (literal : Option (List ℕ)) (a : Segment) (others : List Segment) (w next : Written) (nodes to : ℕ) (name : Option (List ℕ)) (ps before out : List RowPart) → HasPut w next (w.at + to) None ps before out
+pub lost : (p : Option (List ℕ) → Bool) (literal : Option (List ℕ)) (a : Segment) (others : List Segment) (w next : Written) (nodes to : ℕ) (name : Option (List ℕ)) (ps before out : List RowPart) → HasPut w next (w.at + to) None ps before out
     → drop w.at ps ≡ argument_parts a others → IsFirstArgument a nodes to name → loses_all (become_all p literal) (value a) ≡ true → HasEdited (filtered (become_all p literal)) (changes p) a others w next ps before out
 lost p None a others w next nodes to name ps before out put are first all =
     goes_away (filtered (become_all p None)) (changes p) a others w next nodes to name ps before out put are first (gone_value (become_all p None) a all) (lost_changes p (value a) all)
@@ -157,7 +157,7 @@ lost p (Some literal) a others w next nodes to name ps before out put are first 
 all_together : (target comments done rest beside : List RowPart) (x y e : RowPart) → ((target ++ (comments ++ x ∷ y ∷ [])) ++ done) ++ (rest ++ e ∷ beside) ≡ target ++ (comments ++ ((x ∷ y ∷ (done ++ rest)) ++ (e ∷ beside)))
 all_together target comments done rest beside x y e = simp append_assoc
 
-pub left : (p : List ℕ → Bool) (literal : Option (List ℕ)) (a : Segment) (others : List Segment) (w next : Written) (v nodes to k n : ℕ) (name : Option (List ℕ)) (ps before out : List RowPart) → IsWithin w n → IsWithin next n → n ≡ length ps → (h : is_attribute a ≡ true)
+pub left : (p : Option (List ℕ) → Bool) (literal : Option (List ℕ)) (a : Segment) (others : List Segment) (w next : Written) (v nodes to k n : ℕ) (name : Option (List ℕ)) (ps before out : List RowPart) → IsWithin w n → IsWithin next n → n ≡ length ps → (h : is_attribute a ≡ true)
     → drop w.at ps ≡ argument_parts a others → IsFirstArgument a nodes to name → v ≡ w.at + nodes + 2 → w.at + to ≤ n → (next.at ≤ w.at + to → k ≡ w.at + to)
     → HasEditedValue p literal (value a) (after_value a others) (record w { at = v }) next ps before out → loses_all (become_all p literal) (value a) ≡ false
     → HasEdited (filtered (become_all p literal)) (changes p) a others w (record next { at = k }) ps before out
@@ -263,7 +263,7 @@ own_value a h others ps at v nodes to name are first is fits =
     ∙ ap (take (length own)) here ∙ take-append_seam own tail
 
 -- a keyword argument, and any
-pub of_keyword : (p : List ℕ → Bool) (literal : Option (List ℕ)) (a : Segment) (others : List Segment) (w next : Written) (ps before out : List RowPart) → is_attribute a ≡ true → HasEdited (filtered (become_all p literal)) (changes p) a others w next ps before out
+pub of_keyword : (p : Option (List ℕ) → Bool) (literal : Option (List ℕ)) (a : Segment) (others : List Segment) (w next : Written) (ps before out : List RowPart) → is_attribute a ≡ true → HasEdited (filtered (become_all p literal)) (changes p) a others w next ps before out
     → HasEdited (edited p literal) (is_changed p) a others w next ps before out
 of_keyword p literal a others w next ps before out is h = record {
   read = h.read;

@@ -1,275 +1,166 @@
--- Elements that arrive in a list one by one, and two arguments of different names that are edited.
-use Rattle.std.proofs.Common.{◌≡◌, ℕ, suc, nat_lt, cond, filter, ◌+◌, ◌<◌, ◌≤◌, List, [], ◌∷◌, ◌++◌, Bool, true, false, ◌||◌, Option, None, Some, length, get_or, set, take, drop, refl, ap, sym, ◌∙◌, arith, append_assoc, if◌then◌else◌, inl, inr, bytes_eq}
-use Rattle.std.specs.List.{SwappedAt, list_any, list_all}
+-- Elements that arrive, told by a set of labels.
+use Rattle.std.proofs.Common.{◌≡◌, ℕ, ◌+◌, ◌-◌, ◌<◌, length, get_or, List, [], ◌∷◌, ◌++◌, Bool, true, false, not, ◌||◌, ◌&&◌, Option, None, Some, map, take, drop, refl, ap, sym, ◌∙◌, append_assoc, append-nil, cond, if◌then◌else◌, inl, inr, bytes_eq}
+use Rattle.std.specs.Prelude.{filter}
+use Rattle.std.specs.List.{list_any}
 use Rattle.std.proofs.lemmas.Bool.{cases_Bool}
-use Rattle.std.proofs.lemmas.Bool.Decides.{nat_tests}
-use Rattle.std.proofs.lemmas.Slice.Eq.{bytes_eq-Decides}
-use Rattle.std.proofs.lemmas.List.{drop_more, drop_all, map-append, append-nil, length-append}
+use Rattle.std.proofs.lemmas.Grind.{flat_map-append}
+use Rattle.std.proofs.lemmas.List.{map-append, take_more}
 use Rattle.std.proofs.lemmas.List.Folds.{list_any-append}
 use Rattle.bz_token.proofs.Classes.{same_bytes}
-use Rattle.bz_tree.specs.declared.stmt.Seg.{Seg}
-use Rattle.bz_tree.specs.Tree.{Item, Segment}
-use Rattle.bz_tree.specs.View.{seg_view, segs_view}
+use Rattle.bz_tree.specs.declared.row.Part.{Part}
+use Rattle.bz_tree.specs.Rows.{RowPart, part_view, segs_parts}
+use Rattle.bz_tree.specs.Tree.{Segment, segs_of}
 use Rattle.bz_command.specs.Labels.{Package}
 use Rattle.bz_command.specs.declared.arguments.Moved.{Moved}
-use Rattle.bz_command.specs.declared.arguments.Moved.TheVariants.{Values}
-use Rattle.bz_attribute.specs.Rules.{elements, is_named, is_text, name_of, first_named, string_value, value}
-use Rattle.bz_attribute.specs.Lists.{with_value, parts, parts_from, is_part, is_plus, is_joint, edit_list, edit_one_from, edit_first_part, edit_parts, equals}
+use Rattle.bz_command.specs.declared.arguments.Moved.TheVariants.{Values, All}
+use Rattle.bz_attribute.specs.Rules.{elements, is_named, is_text, name_of, first_named, string_value, value, value_in}
+use Rattle.bz_attribute.specs.Lists.{with_value, parts, parts_from, is_part, is_plus, is_joint, edit_list, edit_one_from, edit_first_part, edit_parts, equals, same, same_value}
 use Rattle.bz_attribute.specs.Effects.{has, edit_first, filtered, unchosen, is_chosen, loses_all, argument, list_item, chooses}
 use Rattle.bz_attribute.specs.private.ChosenViews.{words_of}
 use Rattle.bz_attribute.specs.private.Places.{IsFirst, first_length, first_list}
-use Rattle.bz_attribute.specs.Move.{arrivals, elements_of, joined, moved}
+use Rattle.bz_attribute.specs.Move.{arrivals, elements_of, joined, moved, is_among}
 use Rattle.bz_attribute.proofs.LabelSets.{or_false}
-use Rattle.bz_list_commands.specs.private.MoveSteps.{value_of, with_list, with_more}
+use Rattle.bz_list_commands.specs.private.MoveSteps.{value_of, with_list, with_more, AreArriving, HaveArrivals, arrivals_by, has_value, parts_at}
 use Rattle.bz_list_commands.proofs.Leaving.{swapped_front, swapped_rest}
 use Rattle.bz_token.specs.Common.{map_or}
+use Rattle.bz_command.specs.LabelSetViews.{has}
+use Rattle.bz_command.specs.Same.{completed}
+use Rattle.bz_command.specs.declared.label_set.LabelSet.{LabelSet}
+use Rattle.bz_attribute.specs.Elements.{AreLists, IsNextElement, ListRest, elements_left, rest_parts}
+use Rattle.bz_attribute.specs.private.ElementSets.{is_in}
+use Rattle.bz_attribute.specs.declared.place.Place.{Place}
+use Rattle.bz_attribute.proofs.EditedAt.{segs_join}
+use Rattle.bz_attribute.proofs.Slices.{slice_seen}
+use Rattle.bz_list_commands.specs.declared.arrivals.Lists.{Lists}
+use Rattle.bz_list_commands.specs.private.StringEdits.{is_meant}
 
-pub any-joined : (p : Segment → Bool) (lists : List (List Segment)) → list_any p (joined lists) ≡ list_any (list_any p) lists
-any-joined p [] = refl
-any-joined p (ss ∷ lists) = list_any-append p ss (joined lists) ∙ ap (λ (b : Bool). list_any p ss || b) (any-joined p lists)
+-- whether a label is there
+abbrev Knows : Package → (List ℕ → Bool) → List Segment → Type 0
+Knows home known there = (text : List ℕ) → known text ≡ list_any (equals home text) there
 
--- `now` began as `old`. From i on it is as it was; of the first i those that arrive stand in the first k places.
-pub record Arrived (home : Package) (there : List Segment) (old now : List Seg) (k i : ℕ) : Type 0 where
-  pub after : k ≤ i
-  pub same : segs_view (take k now) ++ arrivals home (there ++ segs_view (take k now)) (segs_view (drop i now)) ≡ arrivals home there (segs_view old)
+told_value : (home : Package) (known : List ℕ → Bool) (there : List Segment) (o : Option (List ℕ)) → Knows home known there → has_value known o ≡ is_among home there o
+told_value home known there None h = refl
+told_value home known there (Some text) h = h text
 
-pub arrived_start : (home : Package) (there : List Segment) (old : List Seg) → Arrived home there old old 0 0
-arrived_start home there old = record { after = omega arith; same = ap (λ (zs : List Segment). arrivals home zs (segs_view old)) (append-nil there) }
+same_for : (home : Package) (text word : List ℕ) (o : Option (List ℕ)) → same home word text ≡ true → same_value home text o ≡ same_value home word o
+same_for home text word None is = refl
+same_for home text word (Some value) is = ap (λ (label : List ℕ). bytes_eq (completed home value) label) (sym (same_bytes (completed home word) (completed home text) is))
 
-pub arrived_more : (home : Package) (there : List Segment) (old now zs : List Seg) (k i : ℕ) (x : Seg) → Arrived home there old now k i → i < length now → x ≡ get_or now i x
-    → map_or false (λ word. list_any (equals home word) (there ++ segs_view (take k now))) (string_value (seg_view x).nodes) ≡ false → SwappedAt now zs k i → Arrived home there old zs (k + 1) (i + 1)
-arrived_more home there old now zs k i x h lt at among s =
-    let front : segs_view (take (k + 1) zs) ≡ segs_view (take k now) ++ seg_view x ∷ [] = ap segs_view (swapped_front now zs k i x h.after lt at s) ∙ map-append seg_view (take k now) (x ∷ []) in
-    let rest : drop (i + 1) zs ≡ drop (i + 1) now = swapped_rest now zs k i x h.after s in
-    let here : drop i now ≡ x ∷ drop (i + 1) now = drop_more now i x lt ∙ ap (λ (z : Seg). z ∷ drop (i + 1) now) (sym at) in
-    let first : List Segment = segs_view (take k now) in
-    let one : arrivals home (there ++ first) (seg_view x ∷ segs_view (drop (i + 1) now)) ≡ seg_view x ∷ arrivals home ((there ++ first) ++ seg_view x ∷ []) (segs_view (drop (i + 1) now)) = rw among refl in
-    record {
-      after = omega (arith, h.after);
-      same =
-          (λ j. front j ++ arrivals home (there ++ front j) (segs_view (rest j)))
-          ∙ append_assoc first (seg_view x ∷ []) (arrivals home (there ++ (first ++ seg_view x ∷ [])) (segs_view (drop (i + 1) now)))
-          ∙ ap (λ (ys : List Segment). first ++ seg_view x ∷ arrivals home ys (segs_view (drop (i + 1) now))) (sym (append_assoc there first (seg_view x ∷ [])))
-          ∙ ap (λ (ys : List Segment). first ++ ys) (sym one ∙ ap (λ (ys : List Seg). arrivals home (there ++ first) (segs_view ys)) (sym here))
-          ∙ h.same;
-    }
+any_same_for : (home : Package) (text word : List ℕ) (there : List Segment) → same home word text ≡ true → list_any (equals home text) there ≡ list_any (equals home word) there
+any_same_for home text word there is = λ j. list_any (λ (s : Segment). same_for home text word (string_value s.nodes) is j) there
 
-pub arrived_not : (home : Package) (there : List Segment) (old now : List Seg) (k i : ℕ) (x : Seg) → Arrived home there old now k i → i < length now → x ≡ get_or now i x
-    → map_or false (λ word. list_any (equals home word) (there ++ segs_view (take k now))) (string_value (seg_view x).nodes) ≡ true → Arrived home there old now k (i + 1)
-arrived_not home there old now k i x h lt at among =
-    let here : drop i now ≡ x ∷ drop (i + 1) now = drop_more now i x lt ∙ ap (λ (z : Seg). z ∷ drop (i + 1) now) (sym at) in
-    let first : List Segment = segs_view (take k now) in
-    let one : arrivals home (there ++ first) (seg_view x ∷ segs_view (drop (i + 1) now)) ≡ arrivals home (there ++ first) (segs_view (drop (i + 1) now)) = rw among refl in
-    record {
-      after = omega (arith, h.after);
-      same = ap (λ (ys : List Segment). first ++ ys) (sym one ∙ ap (λ (ys : List Seg). arrivals home (there ++ first) (segs_view ys)) (sym here)) ∙ h.same;
-    }
-
-pub arrived_all : (home : Package) (there : List Segment) (old now : List Seg) (k i : ℕ) → Arrived home there old now k i → length now ≤ i → segs_view (take k now) ≡ arrivals home there (segs_view old)
-arrived_all home there old now k i h end =
-    let first : List Segment = segs_view (take k now) in
-    sym (append-nil first) ∙ ap (λ (ys : List Seg). first ++ arrivals home (there ++ first) (segs_view ys)) (sym (drop_all i now end)) ∙ h.same
-
--- no list part: nothing is edited
-one_stays : (f : List Segment → List Segment) (start : Bool) (xs : List Item) → parts_from start xs ≡ [] → edit_one_from f start xs ≡ xs
-one_stays f start [] h = refl
-one_stays f start (x ∷ xs) h =
-    elim (is_part start x xs) as (λ b. (if b then elements x ∷ [] else []) ++ parts_from (is_plus x) xs ≡ [] → (if b then edit_list f x ∷ xs else x ∷ edit_one_from f (is_plus x) xs) ≡ x ∷ xs)
-    [ true ↦ λ k. absurd cc | false ↦ λ k. ap (λ (ys : List Item). x ∷ ys) (one_stays f (is_plus x) xs k) ] h
-
-pub no_part_stays : (f : List Segment → List Segment) (xs : List Item) → parts xs ≡ [] → edit_first_part f xs ≡ xs
-no_part_stays f xs h =
-    elim (list_all is_joint xs) as (λ b. (if b then parts_from true xs else []) ≡ [] → (if b then edit_one_from f true xs else xs) ≡ xs)
-    [ true ↦ λ k. one_stays f true xs k | false ↦ λ k. refl ] h
-
--- an argument has one name
-pub text_of_one : (old new : List ℕ) (name : Option (List ℕ)) → bytes_eq old new ≡ false → is_text old name ≡ true → is_text new name ≡ false
-text_of_one old new None other h = absurd cc
-text_of_one old new (Some text) other h = elim (cases_Bool (bytes_eq new text)) [
-  | inl is ↦
-      let clash : true ≡ false = sym h ∙ ap (bytes_eq old) (sym (same_bytes new text is)) ∙ other in
-      absurd cc
-  | inr differs ↦ differs
+-- a label that is there already
+told_again : (home : Package) (known : List ℕ → Bool) (there : List Segment) (o : Option (List ℕ)) → Knows home known there → is_among home there o ≡ true
+    → (text : List ℕ) → (same_value home text o || known text) ≡ list_any (equals home text) there
+told_again home known there None h among text = absurd cc
+told_again home known there (Some word) h among text = elim (cases_Bool (same home word text)) [
+  | inl is ↦ ap (λ (b : Bool). b || known text) is ∙ sym (any_same_for home text word there is ∙ among)
+  | inr differs ↦ ap (λ (b : Bool). b || known text) differs ∙ h text
 ]
 
-name_kept : (nodes v : List Item) (old : List ℕ) → is_text old (name_of nodes) ≡ true → name_of (take 2 nodes ++ v) ≡ name_of nodes
-name_kept [] v old h = absurd cc
-name_kept (x ∷ []) v old h = absurd cc
-name_kept (x ∷ y ∷ rest) v old h = refl
+or_turned : (a b : Bool) → (a || b) ≡ (b || (a || false))
+or_turned true true = refl
+or_turned true false = refl
+or_turned false true = refl
+or_turned false false = refl
 
--- the argument that an argument becomes has the same name
-kept_has : (old new : List ℕ) (f : List Segment → List Segment) (a : Segment) (rest : List Segment) → bytes_eq old new ≡ false → is_named old a ≡ true → has new (filtered f a ++ rest) ≡ has new rest
-kept_has old new f a rest other is =
-    let name : is_named new (with_value (edit_parts f (value a)) a) ≡ false = ap (is_text new) (name_kept a.nodes (edit_parts f (value a)) old is) ∙ text_of_one old new (name_of a.nodes) other is in
-    elim (loses_all f (value a)) as (λ b. has new ((if b then [] else with_value (edit_parts f (value a)) a ∷ []) ++ rest) ≡ has new rest)
-    [ true ↦ refl | false ↦ rw name refl ]
+-- one that is new
+told_more : (home : Package) (known : List ℕ → Bool) (there : List Segment) (s : Segment) → Knows home known there → Knows home (λ text. equals home text s || known text) (there ++ s ∷ [])
+told_more home known there s h text =
+    or_turned (equals home text s) (known text)
+    ∙ ap (λ (b : Bool). b || (equals home text s || false)) (h text)
+    ∙ sym (list_any-append (equals home text) there (s ∷ []))
 
-kept_first : (old new : List ℕ) (f : List Segment → List Segment) (a : Segment) (rest : List Segment) → bytes_eq old new ≡ false → is_named old a ≡ true → first_named new (filtered f a ++ rest) ≡ first_named new rest
-kept_first old new f a rest other is =
-    let name : is_named new (with_value (edit_parts f (value a)) a) ≡ false = ap (is_text new) (name_kept a.nodes (edit_parts f (value a)) old is) ∙ text_of_one old new (name_of a.nodes) other is in
-    elim (loses_all f (value a)) as (λ b. first_named new ((if b then [] else with_value (edit_parts f (value a)) a ∷ []) ++ rest) ≡ first_named new rest)
-    [ true ↦ refl | false ↦ rw name refl ]
+-- those that are meant arrive
+abbrev one_by : Package → (Option (List ℕ) → Bool) → (List ℕ → Bool) → Segment → List Segment → Bool → Bool → List Segment
+one_by home p known s ss meant there = (if meant && not there then s ∷ [] else []) ++ arrivals_by home p (λ text. (meant && equals home text s) || known text) ss
 
-has_still : (old new : List ℕ) (f : List Segment → List Segment) (args : List Segment) → bytes_eq old new ≡ false → has new (edit_first (is_named old) (filtered f) args) ≡ has new args
-has_still old new f [] other = refl
-has_still old new f (a ∷ args) other = elim (cases_Bool (is_named old a)) [
-  | inl is ↦ rw (is, text_of_one old new (name_of a.nodes) other is) (kept_has old new f a args other is)
-  | inr differs ↦ rw differs (ap (λ (b : Bool). is_named new a || b) (has_still old new f args other))
-]
-
-first_still : (old new : List ℕ) (f : List Segment → List Segment) (args : List Segment) → bytes_eq old new ≡ false → first_named new (edit_first (is_named old) (filtered f) args) ≡ first_named new args
-first_still old new f [] other = refl
-first_still old new f (a ∷ args) other = elim (cases_Bool (is_named old a)) [
-  | inl is ↦ rw (is, text_of_one old new (name_of a.nodes) other is) (kept_first old new f a args other is)
-  | inr differs ↦ rw differs (ap (λ (o : Option Segment). if is_named new a then Some a else o) (first_still old new f args other))
-]
-
-none_first : (name : List ℕ) (args : List Segment) → has name args ≡ false → first_named name args ≡ None
-none_first name [] h = refl
-none_first name (a ∷ args) h =
-    elim (is_named name a) as (λ b. b || has name args ≡ false → (if b then Some a else first_named name args) ≡ None)
-    [ true ↦ λ k. absurd cc | false ↦ λ k. none_first name args k ] h
-
--- the elements that left arrive in a list that is there
-moved_to_list : (home : Package) (old new : List ℕ) (chosen : Moved) (args left now ts : List Segment) → bytes_eq old new ≡ false → has new args ≡ true
-    → left ≡ edit_first (is_named old) (filtered (unchosen home chosen)) args → ts ≡ filter (is_chosen home chosen) (elements_of (first_named old args))
-    → now ≡ edit_first (is_named new) (λ a. with_value (edit_first_part (λ there. there ++ arrivals home (elements_of (first_named new left)) ts) (value a)) a ∷ []) left
-    → now ≡ moved home old new chosen args
-moved_to_list home old new chosen args left now ts other there is took made =
-    let has_new : has new (edit_first (is_named old) (filtered (unchosen home chosen)) args) ≡ true = has_still old new (unchosen home chosen) args other ∙ there in
-    let first : first_named new left ≡ first_named new args = ap (first_named new) is ∙ first_still old new (unchosen home chosen) args other in
-    made
-    ∙ (λ j. edit_first (is_named new) (λ a. with_value (edit_first_part (λ there. there ++ arrivals home (elements_of (first j)) (took j)) (value a)) a ∷ []) (is j))
-    ∙ rw has_new refl
-
--- or in a new attribute
-moved_to_new : (home : Package) (old new : List ℕ) (chosen : Moved) (args left now ts : List Segment) → bytes_eq old new ≡ false → has new args ≡ false
-    → left ≡ edit_first (is_named old) (filtered (unchosen home chosen)) args → ts ≡ filter (is_chosen home chosen) (elements_of (first_named old args))
-    → now ≡ left ++ argument new (list_item (arrivals home [] ts) ∷ []) ∷ []
-    → now ≡ moved home old new chosen args
-moved_to_new home old new chosen args left now ts other absent is took made =
-    let has_new : has new (edit_first (is_named old) (filtered (unchosen home chosen)) args) ≡ false = has_still old new (unchosen home chosen) args other ∙ absent in
-    made
-    ∙ (λ j. is j ++ argument new (list_item (arrivals home [] (took j)) ∷ []) ∷ [])
-    ∙ rw (has_new, none_first new args absent) refl
-
-pub any_there : (p : Segment → Bool) (lists : List (List Segment)) (ys : List Segment) → list_any p (joined lists ++ ys) ≡ list_any (list_any p) lists || list_any p ys
-any_there p lists ys = list_any-append p (joined lists) ys ∙ ap (λ (b : Bool). b || list_any p ys) (any-joined p lists)
-
-none_chosen : (home : Package) (ss : List Segment) → list_any (is_chosen home (Values [])) ss ≡ false
-none_chosen home [] = refl
-none_chosen home (s ∷ ss) = none_chosen home ss
-
-none_in : (home : Package) (lists : List (List Segment)) → list_any (list_any (is_chosen home (Values []))) lists ≡ false
-none_in home [] = refl
-none_in home (ss ∷ lists) = ap (λ (b : Bool). b || list_any (list_any (is_chosen home (Values []))) lists) (none_chosen home ss) ∙ none_in home lists
-
--- what may be a string is the same label as one of these or of those
-pub like_there : (home : Package) (lists : List (List Segment)) (ys : List Segment) (o : Option (List ℕ))
-    → (list_any (list_any (is_chosen home (Values (words_of o)))) lists || list_any (is_chosen home (Values (words_of o))) ys) ≡ map_or false (λ word. list_any (equals home word) (joined lists ++ ys)) o
-like_there home lists ys None = ap (λ (b : Bool). b || list_any (is_chosen home (Values [])) ys) (none_in home lists) ∙ none_chosen home ys
-like_there home lists ys (Some word) =
-    (λ j. list_any (list_any (λ (s : Segment). or_false (equals home word s) j)) lists || list_any (λ (s : Segment). or_false (equals home word s) j) ys) ∙ sym (any_there (equals home word) lists ys)
-
--- an argument that comes to the end, and whose name is another
-first_before : (name : List ℕ) (args : List Segment) (x : Segment) → is_named name x ≡ false → first_named name (args ++ x ∷ []) ≡ first_named name args
-first_before name [] x h = rw h refl
-first_before name (a ∷ args) x h = ap (λ (o : Option Segment). if is_named name a then Some a else o) (first_before name args x h)
-
-edit_before : (p : Segment → Bool) (f : Segment → List Segment) (args : List Segment) (x : Segment) → p x ≡ false → edit_first p f (args ++ x ∷ []) ≡ edit_first p f args ++ x ∷ []
-edit_before p f [] x h = rw h refl
-edit_before p f (a ∷ args) x h =
-    elim (p a) as (λ b. (if b then f a ++ (args ++ x ∷ []) else a ∷ edit_first p f (args ++ x ∷ [])) ≡ (if b then f a ++ args else a ∷ edit_first p f args) ++ x ∷ [])
-    [ true ↦ sym (append_assoc (f a) args (x ∷ [])) | false ↦ ap (λ (ys : List Segment). a ∷ ys) (edit_before p f args x h) ]
-
--- one that is the first of its name
-first_last : (name : List ℕ) (args : List Segment) (x : Segment) → has name args ≡ false → is_named name x ≡ true → first_named name (args ++ x ∷ []) ≡ Some x
-first_last name [] x h is = rw is refl
-first_last name (a ∷ args) x h is =
-    elim (is_named name a) as (λ b. b || has name args ≡ false → (if b then Some a else first_named name (args ++ x ∷ [])) ≡ Some x)
-    [ true ↦ λ k. absurd cc | false ↦ λ k. first_last name args x k is ] h
-
-edit_last : (p : Segment → Bool) (f : Segment → List Segment) (args : List Segment) (x : Segment) → list_any p args ≡ false → p x ≡ true → edit_first p f (args ++ x ∷ []) ≡ args ++ (f x ++ [])
-edit_last p f [] x h is = rw is refl
-edit_last p f (a ∷ args) x h is =
-    elim (p a) as (λ b. b || list_any p args ≡ false → (if b then f a ++ (args ++ x ∷ []) else a ∷ edit_first p f (args ++ x ∷ [])) ≡ a ∷ (args ++ (f x ++ [])))
-    [ true ↦ λ k. absurd cc | false ↦ λ k. ap (λ (ys : List Segment). a ∷ ys) (edit_last p f args x k is) ] h
-
-itself : (text : List ℕ) → bytes_eq text text ≡ true
-itself text = (bytes_eq-Decides text text).1 refl
-
-pub first_given : (old new : List ℕ) (args : List Segment) → bytes_eq old new ≡ false → first_named old (with_list new args) ≡ first_named old args
-first_given old new args other = elim (has new args) as (λ b. first_named old (if b then args else args ++ argument new (list_item [] ∷ []) ∷ []) ≡ first_named old args)
-    [ true ↦ refl | false ↦ first_before old args (argument new (list_item [] ∷ [])) other ]
-
-length_there : (o : Option Segment) → first_length o ≡ length (first_list (parts (value_of o)))
-length_there None = refl
-length_there (Some a) = refl
-
--- the list that is there or given has as many elements as were there
-pub room_given : (old new : List ℕ) (f : List Segment → List Segment) (args : List Segment) → bytes_eq old new ≡ false
-    → first_length (first_named new (edit_first (is_named old) (filtered f) (with_list new args))) ≡ length (first_list (parts (value_of (first_named new args))))
-room_given old new f args other =
-    ap first_length (first_still old new f (with_list new args) other)
-    ∙ elim (cases_Bool (has new args)) [
-      | inl there ↦ rw there (length_there (first_named new args))
-      | inr absent ↦ rw (absent, none_first new args absent, first_last new args (argument new (list_item [] ∷ [])) absent (itself new)) refl
+pub told : (home : Package) (p : Option (List ℕ) → Bool) (known : List ℕ → Bool) (there ss : List Segment) → Knows home known there → arrivals_by home p known ss ≡ arrivals home there (filter (is_meant p) ss)
+told home p known there [] h = refl
+told home p known there (s ∷ ss) h =
+    let text : Option (List ℕ) = string_value s.nodes in
+    let value : has_value known text ≡ is_among home there text = told_value home known there text h in
+    elim (cases_Bool (is_meant p s)) [
+      | inr other ↦
+          (λ j. one_by home p known s ss (other j) (has_value known text)) ∙ told home p known there ss h ∙ ap (λ (b : Bool). arrivals home there (cond b (s ∷ filter (is_meant p) ss) (filter (is_meant p) ss))) (sym other)
+      | inl is ↦ elim (cases_Bool (is_among home there text)) [
+        | inl among ↦
+            (λ j. one_by home p known s ss (is j) ((value ∙ among) j)) ∙ told home p (λ text. equals home text s || known text) there ss (told_again home known there text h among)
+            ∙ ap (λ (b : Bool). if b then arrivals home there (filter (is_meant p) ss) else s ∷ arrivals home (there ++ s ∷ []) (filter (is_meant p) ss)) (sym among)
+            ∙ ap (λ (b : Bool). arrivals home there (cond b (s ∷ filter (is_meant p) ss) (filter (is_meant p) ss))) (sym is)
+        | inr new ↦
+            (λ j. one_by home p known s ss (is j) ((value ∙ new) j)) ∙ ap (λ (zs : List Segment). s ∷ zs) (told home p (λ text. equals home text s || known text) (there ++ s ∷ []) ss (told_more home known there s h))
+            ∙ ap (λ (b : Bool). if b then arrivals home there (filter (is_meant p) ss) else s ∷ arrivals home (there ++ s ∷ []) (filter (is_meant p) ss)) (sym new)
+            ∙ ap (λ (b : Bool). arrivals home there (cond b (s ∷ filter (is_meant p) ss) (filter (is_meant p) ss))) (sym is)
+      ]
     ]
 
--- what leaves arrives in the list that is there or given
-pub moved_by : (home : Package) (old new : List ℕ) (chosen : Moved) (args given left now ts : List Segment) → bytes_eq old new ≡ false → given ≡ with_list new args
-    → left ≡ edit_first (is_named old) (filtered (unchosen home chosen)) given → ts ≡ filter (is_chosen home chosen) (elements_of (first_named old given))
-    → now ≡ edit_first (is_named new) (λ a. with_value (edit_first_part (λ there. there ++ arrivals home (elements_of (first_named new left)) ts) (value a)) a ∷ []) left
-    → now ≡ moved home old new chosen args
-moved_by home old new chosen args given left now ts other gives is took made = elim (cases_Bool (has new args)) [
-  | inl there ↦
-      let same : given ≡ args = gives ∙ rw there refl in
-      moved_to_list home old new chosen args left now ts other there (is ∙ ap (edit_first (is_named old) (filtered (unchosen home chosen))) same) (took ∙ ap (λ (ss : List Segment). filter (is_chosen home chosen) (elements_of (first_named old ss))) same) made
-  | inr absent ↦
-      let x : Segment = argument new (list_item [] ∷ []) in
-      let kept : List Segment = edit_first (is_named old) (filtered (unchosen home chosen)) args in
-      let more : given ≡ args ++ argument new (list_item [] ∷ []) ∷ [] = gives ∙ rw absent refl in
-      let left_is : left ≡ edit_first (is_named old) (filtered (unchosen home chosen)) args ++ argument new (list_item [] ∷ []) ∷ [] =
-      is ∙ ap (edit_first (is_named old) (filtered (unchosen home chosen))) more ∙ edit_before (is_named old) (filtered (unchosen home chosen)) args x other in
-      let took_of : ts ≡ filter (is_chosen home chosen) (elements_of (first_named old args)) =
-      took ∙ ap (λ (ss : List Segment). filter (is_chosen home chosen) (elements_of (first_named old ss))) more ∙ ap (λ arg. filter (is_chosen home chosen) (elements_of arg)) (first_before old args x other) in
-      let gone : has new (edit_first (is_named old) (filtered (unchosen home chosen)) args) ≡ false = has_still old new (unchosen home chosen) args other ∙ absent in
-      let first : first_named new left ≡ Some (argument new (list_item [] ∷ [])) = ap (first_named new) left_is ∙ first_last new kept x gone (itself new) in
-      moved_to_new home old new chosen args kept now ts other absent refl took_of
-      (made
-      ∙ (λ j. edit_first (is_named new) (λ a. with_value (edit_first_part (λ there. there ++ arrivals home (elements_of (first j)) ts) (value a)) a ∷ []) (left_is j))
-      ∙ edit_last (is_named new) (λ a. with_value (edit_first_part (λ there. there ++ arrivals home [] ts) (value a)) a ∷ []) kept x gone (itself new))
-]
+-- all labels of the elements that are there
+pub any_joined : (p : Segment → Bool) (lists : List (List Segment)) → list_any p (joined lists) ≡ list_any (list_any p) lists
+any_joined p [] = refl
+any_joined p (ss ∷ lists) = list_any-append p ss (joined lists) ∙ ap (λ (b : Bool). list_any p ss || b) (any_joined p lists)
 
--- elements are chosen exactly where there are some to count
-pub some_more : (n : ℕ) → nat_lt 0 (suc n) ≡ true
-some_more n = grind (arith, nat_tests)
+in_joined : (home : Package) (lists : List (List Segment)) (text : List ℕ) → is_in home All lists text ≡ list_any (equals home text) (joined lists)
+in_joined home lists text = (λ j. list_any (list_any (λ (s : Segment). or_false (equals home text s) j)) lists) ∙ sym (any_joined (equals home text) lists)
 
-any_filtered : (p : Segment → Bool) (ss : List Segment) → list_any p ss ≡ nat_lt 0 (length (filter p ss))
-any_filtered p [] = refl
-any_filtered p (s ∷ ss) = elim (p s) as (λ b. (b || list_any p ss) ≡ nat_lt 0 (length (cond b (s ∷ filter p ss) (filter p ss)))) [
-  | true ↦ sym (some_more (length (filter p ss)))
-  | false ↦ any_filtered p ss
-]
+-- element by element
+pub none_arrived : (home : Package) (p : Option (List ℕ) → Bool) (at : Lists) (ps : List RowPart) (set : LabelSet)
+    → ((lists : List (List Segment)) → AreLists ps at.to lists → (text : List ℕ) → has set text ≡ is_in home All lists text) → AreArriving home p at ps at.from set []
+none_arrived home p at ps set all = λ l after lists read are. record {
+  left = l;
+  made = [];
+  read = read;
+  parts = refl;
+  arrived = told home p (has set) (joined lists) (elements_left l) (λ text. all lists are text ∙ in_joined home lists text);
+}
 
-pub chosen_counted : (home : Package) (chosen : Moved) (o : Option Segment) → map_or false (chooses home chosen) o ≡ nat_lt 0 (length (filter (is_chosen home chosen) (joined (parts (value_of o)))))
-chosen_counted home chosen None = refl
-chosen_counted home chosen (Some a) = sym (any-joined (is_chosen home chosen) (parts (value a))) ∙ any_filtered (is_chosen home chosen) (joined (parts (value a)))
+abbrev HasNext : List RowPart → ℕ → ℕ → ℕ → Option (List ℕ) → Type 0
+HasNext ps at from to string = (l : ListRest) (after : List RowPart) → drop at ps ≡ rest_parts l after → IsNextElement l after ps from to string
 
-pub elements_there : (o : Option Segment) → joined (parts (value_of o)) ≡ elements_of o
-elements_there None = refl
-elements_there (Some a) = refl
+abbrev pub one_place : Bool → Place → List Place
+one_place b place = if b then place ∷ [] else []
 
--- later elements came to the first list part of the first argument of the name
-pub put_at : (attr : List ℕ) (args : List Seg) (i : ℕ) (d s : Seg) (later : List Segment) → IsFirst attr args i → seg_view s ≡ with_more later (seg_view (get_or args i d))
-    → segs_view (set args i s) ≡ edit_first (is_named attr) (λ a. with_more later a ∷ []) (segs_view args)
-put_at attr args i d s later first made = first.put (λ a. with_more later a ∷ []) s d (sym (ap (λ (z : Segment). z ∷ []) made))
+pub one_arrived : (home : Package) (p : Option (List ℕ) → Bool) (at : Lists) (ps : List RowPart) (k from to : ℕ) (string : Option (List ℕ)) (old new : LabelSet) (places more : List Place) (b : Bool) → AreArriving home p at ps k old places → HasNext ps k from to string
+    → b ≡ (p string && not (has_value (has old) (value_in string))) → old.home.now ≡ home → ((text : List ℕ) → has new text ≡ ((p string && same_value old.home.now text (value_in string)) || has old text))
+    → more ≡ places ++ one_place b (record { from = from; to = to }) → AreArriving home p at ps to new more
+one_arrived home p at ps k from to string old new places more b so_far next arrives of gains written = λ l rest lists read are.
+    let h = so_far l rest lists read are in
+    let n = next h.left rest h.read in
+    let s : Segment = n.element in
+    let arrives_s : b ≡ (is_meant p s && not (has_value (has old) (string_value s.nodes))) = arrives ∙ (λ i. p (n.text i) && not (has_value (has old) (value_in (n.text i)))) in
+    let one : List Segment = if b then s ∷ [] else [] in
+    let own : parts_at ps (one_place b (record { from = from; to = to })) ≡ segs_parts (segs_of (if b then s ∷ [] else [])) =
+    elim b as (λ c. parts_at ps (one_place c (record { from = from; to = to })) ≡ segs_parts (segs_of (if c then s ∷ [] else []))) [ true ↦ append-nil (take (to - from) (drop from ps)) ∙ n.own | false ↦ refl ] in
+    let later : arrivals_by home p (has new) (elements_left n.left) ≡ arrivals_by home p (λ text. (is_meant p s && equals home text s) || has old text) (elements_left n.left) =
+    (λ i. arrivals_by home p (λ text. (gains text ∙ (λ j. (p (n.text j) && same_value (of j) text (value_in (n.text j))) || has old text)) i) (elements_left n.left)) in
+    record {
+      left = n.left;
+      made = h.made ++ one;
+      read = n.read;
+      parts =
+          ap (parts_at ps) written ∙ flat_map-append (λ (place : Place). take (place.to - place.from) (drop place.from ps)) places (one_place b (record { from = from; to = to }))
+          ∙ (λ i. h.parts i ++ own i) ∙ sym (segs_join h.made one);
+      arrived =
+          append_assoc h.made one (arrivals_by home p (has new) (elements_left n.left))
+          ∙ ap (λ (zs : List Segment). h.made ++ zs) ((λ i. (if arrives_s i then s ∷ [] else []) ++ later i) ∙ ap (arrivals_by home p (has old)) (sym n.are))
+          ∙ h.arrived;
+    }
 
--- the first list has no more elements than all
-every_one : (ss : List Segment) → length (filter (λ s. true) ss) ≡ length ss
-every_one [] = refl
-every_one (s ∷ ss) = ap suc (every_one ss)
+pub all_arrived : (home : Package) (p : Option (List ℕ) → Bool) (at : Lists) (ps : List RowPart) (k : ℕ) (set : LabelSet) (places : List Place) → AreArriving home p at ps k set places
+    → ((l : ListRest) (after : List RowPart) → drop k ps ≡ rest_parts l after → elements_left l ≡ []) → HaveArrivals home p at ps places
+all_arrived home p at ps k set places so_far none = λ l after lists read are.
+    let h = so_far l after lists read are in
+    let whole : h.made ≡ arrivals home (joined lists) (filter (is_meant p) (elements_left l)) =
+    sym (append-nil h.made) ∙ ap (λ (ss : List Segment). h.made ++ arrivals_by home p (has set) ss) (sym (none h.left after h.read)) ∙ h.arrived in
+    h.parts ∙ ap (λ (ss : List Segment). segs_parts (segs_of ss)) whole
 
-pub first_among : (lists : List (List Segment)) → length (first_list lists) ≤ length (filter (λ s. true) (joined lists))
-first_among [] = omega arith
-first_among (ss ∷ lists) = omega (arith, every_one (ss ++ joined lists), length-append ss (joined lists))
+-- the parts in these places, written one after another
+pub places_more : (ps : List Part) (places : List Place) (i : ℕ) (place d : Place) (before now after : List Part) → i < length places → place ≡ get_or places i d → map part_view now ≡ map part_view before ++ parts_at (map part_view ps) (take i places)
+    → after ≡ now ++ take (place.to - place.from) (drop place.from ps) → map part_view after ≡ map part_view before ++ parts_at (map part_view ps) (take (i + 1) places)
+places_more ps places i place d before now after h at so_far written =
+    let one : List RowPart = take (place.to - place.from) (drop place.from (map part_view ps)) in
+    let more : take (i + 1) places ≡ take i places ++ place ∷ [] = take_more places i d h ∙ ap (λ (p : Place). take i places ++ p ∷ []) (sym at) in
+    let both : parts_at (map part_view ps) (take (i + 1) places) ≡ parts_at (map part_view ps) (take i places) ++ one =
+    ap (parts_at (map part_view ps)) more ∙ flat_map-append (λ (p : Place). take (p.to - p.from) (drop p.from (map part_view ps))) (take i places) (place ∷ []) ∙ ap (λ (qs : List RowPart). parts_at (map part_view ps) (take i places) ++ qs) (append-nil one) in
+    ap (map part_view) written ∙ map-append part_view now (take (place.to - place.from) (drop place.from ps)) ∙ (λ j. so_far j ++ slice_seen ps place.from (place.to - place.from) j)
+    ∙ append_assoc (map part_view before) (parts_at (map part_view ps) (take i places)) one ∙ ap (λ (qs : List RowPart). map part_view before ++ qs) (sym both)

@@ -16,7 +16,10 @@ use Rattle.bz_attribute.specs.Lists.{parts_from, edit_from}
 use Rattle.bz_attribute.proofs.EditedAt.{segs_join}
 use Rattle.bz_attribute.proofs.LabelSets.{or_false}
 use Rattle.bz_list_commands.specs.declared.rewriting.Written.{Written}
-use Rattle.bz_list_commands.specs.private.StringEdits.{become, become_all, in_place, is_meant, passes}
+use Rattle.bz_list_commands.specs.private.StringEdits.{become, become_all, in_place, is_meant, literal_in, means_in}
+use Rattle.bz_list_commands.specs.declared.string_edit.Meant.{Meant}
+use Rattle.bz_list_commands.specs.declared.string_edit.Meant.TheVariants.{Any, Unlike, Word, Words}
+use Rattle.bz_command.specs.Labels.{Package}
 use Rattle.bz_list_commands.specs.private.WrittenParts.{HasPut, IsWithin, IsWritten}
 use Rattle.bz_list_commands.specs.private.ElementEdits.{HasEditedElement, HasEditedFront, HasEditedList, HasEditedLists, HasEditedValue, HasPutElement}
 use Rattle.bz_list_commands.proofs.WrittenParts.{passed}
@@ -33,29 +36,36 @@ record IsString (nodes : List Item) : Type 0 where
   text : List ℕ
   are : nodes ≡ leaf String text ∷ []
 
-is_string : (nodes : List Item) (p : List ℕ → Bool) → passes p (only_text nodes) ≡ true → IsString nodes
-is_string [] p h = absurd (false≢true h)
-is_string (leaf String text ∷ []) p h = record { text = text; are = refl }
-is_string (leaf _ text ∷ []) p h = absurd (false≢true h)
-is_string (group k segs one_comma end ∷ []) p h = absurd (false≢true h)
-is_string (x ∷ y ∷ xs) p h = absurd (false≢true h)
+is_string : (nodes : List Item) (p : Option (List ℕ) → Bool) → p None ≡ false → p (only_text nodes) ≡ true → IsString nodes
+is_string [] p none h = absurd (false≢true (sym none ∙ h))
+is_string (leaf String text ∷ []) p none h = record { text = text; are = refl }
+is_string (leaf _ text ∷ []) p none h = absurd (false≢true (sym none ∙ h))
+is_string (group k segs one_comma end ∷ []) p none h = absurd (false≢true (sym none ∙ h))
+is_string (x ∷ y ∷ xs) p none h = absurd (false≢true (sym none ∙ h))
+
+-- what becomes another is a string
+pub strings_only : (home : Package) (meant : Meant) (literal : List ℕ) → literal_in meant ≡ Some literal → means_in home meant None ≡ false
+strings_only home Any literal h = absurd cc
+strings_only home (Word word) literal h = refl
+strings_only home (Words set) literal h = refl
+strings_only home (Unlike old new) literal h = refl
 
 -- an element goes
-pub element_gone : (p : List ℕ → Bool) (w next : Written) (token to : ℕ) (string : Option (List ℕ)) (ps before out : List RowPart) → HasPut w next to None ps before out → HasPutElement p None w next token to string ps before out
+pub element_gone : (p : Option (List ℕ) → Bool) (w next : Written) (token to : ℕ) (string : Option (List ℕ)) (ps before out : List RowPart) → HasPut w next to None ps before out → HasPutElement p None w next token to string ps before out
 element_gone p w next token to string ps before out put = record { at = put.at; changed = put.changed; are = λ list after e is target h. put.are target h }
 
 joined : (a b c d : List RowPart) → ((a ++ b) ++ c) ++ d ≡ a ++ (b ++ (c ++ d))
 joined a b c d = simp append_assoc
 
 -- its string becomes another
-pub element_put : (p : List ℕ → Bool) (literal : List ℕ) (w next : Written) (token to n : ℕ) (string : Option (List ℕ)) (ps before out : List RowPart) → IsWithin w n → w.at ≤ token → IsWithin next n
+pub element_put : (p : Option (List ℕ) → Bool) (literal : List ℕ) (w next : Written) (token to n : ℕ) (string : Option (List ℕ)) (ps before out : List RowPart) → p None ≡ false → IsWithin w n → w.at ≤ token → IsWithin next n
     → HasPut (record w { at = token }) next (token + 1) (Some literal) ps before out → HasPutElement p (Some literal) w (record next { at = to }) token to string ps before out
-element_put p literal w next token to n string ps before out within order within2 put = record {
+element_put p literal w next token to n string ps before out none within order within2 put = record {
   at = refl;
   changed = put.changed;
   are = λ list after e is target h.
       let s : Segment = e.element in
-      let one : IsString s.nodes = is_string s.nodes p (ap (passes p) (sym e.text) ∙ is) in
+      let one : IsString s.nodes = is_string s.nodes p none (ap p (sym e.text) ∙ is) in
       let comments : List RowPart = map above s.before in
       let last : List RowPart = segment_end ∷ (beside_part s.suffix ++ []) in
       let own : drop w.at ps ≡ comments ++ (a_token String one.text ∷ (last ++ drop to ps)) =
@@ -77,32 +87,32 @@ or_true true = refl
 or_true false = refl
 
 -- an element that is no such string stays
-pub element_passed : (p : List ℕ → Bool) (literal : Option (List ℕ)) (w : Written) (token to n : ℕ) (string : Option (List ℕ)) (ps out : List RowPart) → IsWithin w n → passes p string ≡ false
+pub element_passed : (p : Option (List ℕ) → Bool) (literal : Option (List ℕ)) (w : Written) (token to n : ℕ) (string : Option (List ℕ)) (ps out : List RowPart) → IsWithin w n → p string ≡ false
     → HasEditedElement p literal w (record w { at = to }) token to string ps out out
 element_passed p literal w token to n string ps out within none = record {
   at = refl;
   changed = sym (ap (λ (b : Bool). w.changed || b) none ∙ or_false w.changed);
   are = λ list after e target h.
       let s : Segment = e.element in
-      let stays : become p literal s ≡ s ∷ [] = ap (λ (o : Option (List ℕ)). if passes p o then in_place literal s else s ∷ []) (sym e.text) ∙ ap (λ (b : Bool). if b then in_place literal s else s ∷ []) none in
+      let stays : become p literal s ≡ s ∷ [] = ap (λ (o : Option (List ℕ)). if p o then in_place literal s else s ∷ []) (sym e.text) ∙ ap (λ (b : Bool). if b then in_place literal s else s ∷ []) none in
       subst (λ (ss : List Segment). IsWritten (record w { at = to }) ps out (target ++ segs_parts (segs_of ss))) (sym stays)
       (passed w ps out target (segs_parts (segs_of (s ∷ []))) to n within h e.own e.ends);
 }
 
 -- one that is such a string was written
-pub element_edited : (p : List ℕ → Bool) (literal : Option (List ℕ)) (w next : Written) (token to : ℕ) (string : Option (List ℕ)) (ps before out : List RowPart) → passes p string ≡ true → HasPutElement p literal w next token to string ps before out
+pub element_edited : (p : Option (List ℕ) → Bool) (literal : Option (List ℕ)) (w next : Written) (token to : ℕ) (string : Option (List ℕ)) (ps before out : List RowPart) → p string ≡ true → HasPutElement p literal w next token to string ps before out
     → HasEditedElement p literal w next token to string ps before out
 element_edited p literal w next token to string ps before out is put = record {
   at = put.at;
   changed = put.changed ∙ sym (ap (λ (b : Bool). w.changed || b) is ∙ or_true w.changed);
   are = λ list after e target h.
       let s : Segment = e.element in
-      let goes : become p literal s ≡ in_place literal s = ap (λ (o : Option (List ℕ)). if passes p o then in_place literal s else s ∷ []) (sym e.text) ∙ ap (λ (b : Bool). if b then in_place literal s else s ∷ []) is in
+      let goes : become p literal s ≡ in_place literal s = ap (λ (o : Option (List ℕ)). if p o then in_place literal s else s ∷ []) (sym e.text) ∙ ap (λ (b : Bool). if b then in_place literal s else s ∷ []) is in
       subst (λ (ss : List Segment). IsWritten next ps out (target ++ segs_parts (segs_of ss))) (sym goes) (put.are list after e is target h);
 }
 
 -- the walk over the elements of a list part
-pub none_edited : (p : List ℕ → Bool) (literal : Option (List ℕ)) (list : ListRest) (after : List RowPart) (w : Written) (ps out : List RowPart) → drop w.at ps ≡ rest_parts list after → HasEditedFront p literal list after w w ps out out
+pub none_edited : (p : Option (List ℕ) → Bool) (literal : Option (List ℕ)) (list : ListRest) (after : List RowPart) (w : Written) (ps out : List RowPart) → drop w.at ps ≡ rest_parts list after → HasEditedFront p literal list after w w ps out out
 none_edited p literal list after w ps out read = record {
   front = [];
   others = list.elements;
@@ -116,14 +126,14 @@ any_last : (p : Segment → Bool) (ss : List Segment) (s : Segment) (b : Bool) �
 any_last p ss s true = refl
 any_last p ss s false = sym (list_any-append p ss (s ∷ []) ∙ ap (λ (b : Bool). list_any p ss || b) (or_false (p s)))
 
-one_on : (p : List ℕ → Bool) (literal : Option (List ℕ)) (ss : List Segment) (s : Segment) (target : List RowPart)
+one_on : (p : Option (List ℕ) → Bool) (literal : Option (List ℕ)) (ss : List Segment) (s : Segment) (target : List RowPart)
     → (target ++ segs_parts (segs_of (become_all p literal ss))) ++ segs_parts (segs_of (become p literal s)) ≡ target ++ segs_parts (segs_of (become_all p literal (ss ++ s ∷ [])))
 one_on p literal ss s target =
     append_assoc target (segs_parts (segs_of (become_all p literal ss))) (segs_parts (segs_of (become p literal s)))
     ∙ ap (λ (qs : List RowPart). target ++ qs) (sym (segs_join (become_all p literal ss) (become p literal s))
     ∙ ap (λ (zs : List Segment). segs_parts (segs_of zs)) (sym (flat_map-append (become p literal) ss (s ∷ []) ∙ ap (λ (zs : List Segment). become_all p literal ss ++ zs) (append-nil (become p literal s)))))
 
-pub one_edited : (p : List ℕ → Bool) (literal : Option (List ℕ)) (list : ListRest) (after : List RowPart) (w mid next : Written) (token to : ℕ) (string : Option (List ℕ)) (ps before one two : List RowPart)
+pub one_edited : (p : Option (List ℕ) → Bool) (literal : Option (List ℕ)) (list : ListRest) (after : List RowPart) (w mid next : Written) (token to : ℕ) (string : Option (List ℕ)) (ps before one two : List RowPart)
     → (f : HasEditedFront p literal list after w mid ps before one) → IsElementOf (record list { elements = f.others }) after ps mid.at token to string → HasEditedElement p literal mid next token to string ps one two
     → HasEditedFront p literal list after w next ps before two
 one_edited p literal list after w mid next token to string ps before one two f e made =
@@ -133,11 +143,11 @@ one_edited p literal list after w mid next token to string ps before one two f e
       others = e.others;
       are = f.are ∙ ap (λ (zs : List Segment). f.front ++ zs) e.are ∙ sym (append_assoc f.front (s ∷ []) e.others);
       read = ap (λ (k : ℕ). drop k ps) made.at ∙ e.read;
-      changed = made.changed ∙ (λ i. f.changed i || passes p (e.text i)) ∙ any_last (is_meant p) f.front s w.changed;
+      changed = made.changed ∙ (λ i. f.changed i || p (e.text i)) ∙ any_last (is_meant p) f.front s w.changed;
       written = λ target h. subst (λ (t : List RowPart). IsWritten next ps two t) (one_on p literal f.front s target) (made.are (record list { elements = f.others }) after e (target ++ segs_parts (segs_of (become_all p literal f.front))) (f.written target h));
     }
 
-pub all_edited : (p : List ℕ → Bool) (literal : Option (List ℕ)) (list : ListRest) (after : List RowPart) (w next : Written) (ps before out : List RowPart) → (f : HasEditedFront p literal list after w next ps before out) → f.others ≡ []
+pub all_edited : (p : Option (List ℕ) → Bool) (literal : Option (List ℕ)) (list : ListRest) (after : List RowPart) (w next : Written) (ps before out : List RowPart) → (f : HasEditedFront p literal list after w next ps before out) → f.others ≡ []
     → HasEditedList p literal list after w next ps before out
 all_edited p literal list after w next ps before out f none =
     let all : list.elements ≡ f.front = f.are ∙ ap (λ (zs : List Segment). f.front ++ zs) none ∙ append-nil f.front in
@@ -148,7 +158,7 @@ all_edited p literal list after w next ps before out f none =
     }
 
 -- the walk over the list parts of a value
-pub no_list_yet : (p : List ℕ → Bool) (literal : Option (List ℕ)) (nodes : List Item) (after : List RowPart) (w : Written) (list : Option ℕ) (ps out : List RowPart) → drop w.at ps ≡ value_parts nodes after
+pub no_list_yet : (p : Option (List ℕ) → Bool) (literal : Option (List ℕ)) (nodes : List Item) (after : List RowPart) (w : Written) (list : Option ℕ) (ps out : List RowPart) → drop w.at ps ≡ value_parts nodes after
     → ((to : ℕ) → list ≡ Some to → IsListIn true nodes after ps w.at to) → (list ≡ None → HasNoList true nodes) → HasEditedLists p literal nodes after w w list ps out out
 no_list_yet p literal nodes after w list ps out read some none =
     let here : w.at + 0 ≡ w.at = omega arith in
@@ -196,7 +206,7 @@ or_or false b c = refl
 split_list : (done lag before els ends later : List RowPart) (x : RowPart) → (done ++ ((lag ++ (before ++ x ∷ [])) ++ els)) ++ (ends ++ later) ≡ done ++ (lag ++ (before ++ ((x ∷ (els ++ ends)) ++ later)))
 split_list done lag before els ends later x = simp append_assoc
 
-pub one_list : (p : List ℕ → Bool) (literal : Option (List ℕ)) (nodes : List Item) (after : List RowPart) (w mid next : Written) (from n : ℕ) (more : Option ℕ) (ps before one two : List RowPart)
+pub one_list : (p : Option (List ℕ) → Bool) (literal : Option (List ℕ)) (nodes : List Item) (after : List RowPart) (w mid next : Written) (from n : ℕ) (more : Option ℕ) (ps before one two : List RowPart)
     → (ls : HasEditedLists p literal nodes after w mid (Some from) ps before one) → IsWithin mid n
     → ((list : ListRest) (rest : List RowPart) → drop from ps ≡ rest_parts list rest → HasEditedList p literal list rest (record mid { at = from }) next ps one two)
     → ((to : ℕ) → more ≡ Some to → (list : ListRest) (rest : List RowPart) → list.elements ≡ [] → drop next.at ps ≡ rest_parts list rest → IsListIn false list.items rest ps (next.at + length list.end + 1) to)
@@ -233,7 +243,7 @@ one_list p literal nodes after w mid next from n more ps before one two ls withi
       none = λ is. none is (record list { elements = [] }) after refl made.read;
     }
 
-pub all_lists : (p : List ℕ → Bool) (literal : Option (List ℕ)) (nodes : List Item) (after : List RowPart) (w next : Written) (list : Option ℕ) (ps before out : List RowPart) → HasEditedLists p literal nodes after w next list ps before out → list ≡ None
+pub all_lists : (p : Option (List ℕ) → Bool) (literal : Option (List ℕ)) (nodes : List Item) (after : List RowPart) (w next : Written) (list : Option ℕ) (ps before out : List RowPart) → HasEditedLists p literal nodes after w next list ps before out → list ≡ None
     → HasEditedValue p literal nodes after w next ps before out
 all_lists p literal nodes after w next list ps before out ls is =
     let no = ls.none is in

@@ -12,13 +12,13 @@ use Rattle.bz_attribute.specs.Elements.{IsElementOf, ListRest, list_item, rest_p
 use Rattle.bz_attribute.specs.Effects.{loses_all}
 use Rattle.bz_attribute.proofs.RuleNodes.{segs_back}
 use Rattle.bz_attribute.proofs.Views.{segments_of}
-use Rattle.bz_list_commands.specs.private.StringEdits.{become, become_all, passes}
+use Rattle.bz_list_commands.specs.private.StringEdits.{become, become_all}
 use Rattle.bz_list_commands.specs.private.ElementEdits.{begins_list, is_node}
 use Rattle.bz_list_commands.proofs.ElementEdits.{after_them}
 use Rattle.bz_token.specs.Common.{is_empty}
 
 -- Some elements of a list were seen, and all are meant.
-pub record AreGone (p : List ℕ → Bool) (nodes : List Item) (after ps : List RowPart) (first at : ℕ) : Type 0 where
+pub record AreGone (p : Option (List ℕ) → Bool) (nodes : List Item) (after ps : List RowPart) (first at : ℕ) : Type 0 where
   pub list : ListRest
   pub are : nodes ≡ list_item list ∷ list.items
   pub front : List Segment
@@ -56,7 +56,7 @@ first_list (group _ segs one_comma end ∷ xs) after h = absurd (false≢true h)
 moved_list : (els end later after : List RowPart) (x y e : RowPart) → ((x ∷ (els ++ (end ++ y ∷ []))) ++ later) ++ e ∷ after ≡ x ∷ (els ++ (end ++ y ∷ (later ++ e ∷ after)))
 moved_list els end later after x y e = simp append_assoc
 
-pub none_gone : (p : List ℕ → Bool) (nodes : List Item) (after ps : List RowPart) (value : ℕ) → drop value ps ≡ value_parts nodes after → begins_list (drop value ps) ≡ true → AreGone p nodes after ps (value + 1) (value + 1)
+pub none_gone : (p : Option (List ℕ) → Bool) (nodes : List Item) (after ps : List RowPart) (value : ℕ) → drop value ps ≡ value_parts nodes after → begins_list (drop value ps) ≡ true → AreGone p nodes after ps (value + 1) (value + 1)
 none_gone p nodes after ps value are h =
     let l : IsList nodes = first_list nodes after (ap begins_list (sym are) ∙ h) in
     let list : ListRest = l.list in
@@ -78,11 +78,11 @@ some_last : (ss : List Segment) (s : Segment) → is_empty (ss ++ s ∷ []) ≡ 
 some_last [] s = refl
 some_last (x ∷ ss) s = refl
 
-pub one_gone : (p : List ℕ → Bool) (nodes : List Item) (after ps : List RowPart) (first at token to : ℕ) (string : Option (List ℕ)) → (g : AreGone p nodes after ps first at) → IsElementOf (record g.list { elements = g.others }) after ps at token to string → passes p string ≡ true
+pub one_gone : (p : Option (List ℕ) → Bool) (nodes : List Item) (after ps : List RowPart) (first at token to : ℕ) (string : Option (List ℕ)) → (g : AreGone p nodes after ps first at) → IsElementOf (record g.list { elements = g.others }) after ps at token to string → p string ≡ true
     → first < to → AreGone p nodes after ps first to
 one_gone p nodes after ps first at token to string g e is later =
     let s : Segment = e.element in
-    let goes : become p None s ≡ [] = ap (λ (b : Bool). if b then [] else s ∷ []) (ap (passes p) (sym e.text) ∙ is) in
+    let goes : become p None s ≡ [] = ap (λ (b : Bool). if b then [] else s ∷ []) (ap p (sym e.text) ∙ is) in
     record {
       list = g.list;
       are = g.are;
@@ -116,12 +116,12 @@ stays_in : (f : List Segment → List Segment) (list : ListRest) (items : List I
 stays_in f list [] h = alone f list ∙ nil_of (f list.elements) h (not (is_empty list.elements))
 stays_in f list (x ∷ xs) h = refl
 
-pub one_stays : (p : List ℕ → Bool) (nodes : List Item) (after ps : List RowPart) (first at token to : ℕ) (string : Option (List ℕ)) → (g : AreGone p nodes after ps first at) → IsElementOf (record g.list { elements = g.others }) after ps at token to string → passes p string ≡ false
+pub one_stays : (p : Option (List ℕ) → Bool) (nodes : List Item) (after ps : List RowPart) (first at token to : ℕ) (string : Option (List ℕ)) → (g : AreGone p nodes after ps first at) → IsElementOf (record g.list { elements = g.others }) after ps at token to string → p string ≡ false
     → loses_all (become_all p None) nodes ≡ false
 one_stays p nodes after ps first at token to string g e is =
     let s : Segment = e.element in
     let f : List Segment → List Segment = become_all p None in
-    let stays : become p None s ≡ s ∷ [] = ap (λ (b : Bool). if b then [] else s ∷ []) (ap (passes p) (sym e.text) ∙ is) in
+    let stays : become p None s ≡ s ∷ [] = ap (λ (b : Bool). if b then [] else s ∷ []) (ap p (sym e.text) ∙ is) in
     let left : f g.list.elements ≡ s ∷ f e.others =
     ap f (g.elements ∙ ap (λ (zs : List Segment). g.front ++ zs) e.are) ∙ flat_map-append (become p None) g.front (s ∷ e.others) ∙ (λ i. g.gone i ++ (stays i ++ f e.others)) in
     ap (loses_all f) g.are ∙ stays_in f g.list g.list.items (ap is_empty left)
@@ -145,7 +145,7 @@ by_items f list [] suffix b is = ap (λ (c : Bool). b && not c) (none_beside suf
 by_items f list (x ∷ xs) suffix b is =
     ap (λ (c : Bool). b && not c) (ap (list_any is_node) (append_assoc (item_parts x) (items_parts (items_of xs)) (segment_end ∷ beside_part suffix)) ∙ has_node x (items_parts (items_of xs) ++ segment_end ∷ beside_part suffix)) ∙ and_false b
 
-pub all_gone : (p : List ℕ → Bool) (nodes : List Item) (suffix : Option (List ℕ)) (ps : List RowPart) (first at : ℕ) → (g : AreGone p nodes (beside_part suffix) ps first at) → g.others ≡ []
+pub all_gone : (p : Option (List ℕ) → Bool) (nodes : List Item) (suffix : Option (List ℕ)) (ps : List RowPart) (first at : ℕ) → (g : AreGone p nodes (beside_part suffix) ps first at) → g.others ≡ []
     → (nat_lt first at && not (list_any is_node (drop at ps))) ≡ loses_all (become_all p None) nodes
 all_gone p nodes suffix ps first at g none =
     let f : List Segment → List Segment = become_all p None in

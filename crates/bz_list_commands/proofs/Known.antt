@@ -1,9 +1,9 @@
 -- A set that has the labels of elements and of values.
-use Rattle.std.proofs.Common.{◌≡◌, ℕ, List, [], ◌∷◌, ◌++◌, Bool, true, false, ◌&&◌, ◌||◌, Option, Some, None, take, length, get_or, nat_lt, not, ◌<◌, ◌+◌, map, if◌then◌else◌, refl, ap, sym, ◌∙◌, inl, inr, bytes_eq}
+use Rattle.std.proofs.Common.{◌≡◌, ℕ, List, [], ◌∷◌, ◌++◌, Bool, true, false, ◌&&◌, ◌||◌, Option, Some, None, take, length, get_or, not, ◌<◌, ◌+◌, refl, ap, sym, ◌∙◌, inl, inr, bytes_eq}
 use Rattle.std.specs.List.{list_any}
 use Rattle.std.proofs.lemmas.Bool.{cases_Bool, false≢true}
 use Rattle.std.proofs.lemmas.Cmp.{nat_list_eq_equiv}
-use Rattle.std.proofs.lemmas.List.{take_more, append-nil}
+use Rattle.std.proofs.lemmas.List.{take_more}
 use Rattle.std.proofs.lemmas.List.Folds.{list_any-append, list_any_at}
 use Rattle.bz_token.proofs.Classes.{same_bytes}
 use Rattle.bz_tree.specs.Tree.{Segment}

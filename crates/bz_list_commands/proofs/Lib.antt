@@ -3,13 +3,10 @@ pub mod ArgumentEdits
 pub mod Arriving
 pub mod ElementEdits
 pub mod EmptiedLists
-pub mod FirstFiltered
-pub mod Flags
 pub mod Known
-pub mod Leaving
 pub mod Meanings
+pub mod MovedRules
 pub mod Named
 pub mod OneValue
 pub mod PlaceEdits
-pub mod Written
 pub mod WrittenParts

@@ -1,10 +1,8 @@
 -- The first argument of a name, and edits that look at it alone.
-use Rattle.std.proofs.Common.{◌≡◌, ℕ, List, [], ◌∷◌, ◌++◌, Bool, true, false, ◌||◌, if◌then◌else◌, Option, Some, None, is_some, refl, ap, sym, ◌∙◌, append-nil}
+use Rattle.std.proofs.Common.{◌≡◌, ℕ, List, [], ◌∷◌, ◌++◌, Bool, true, false, ◌||◌, if◌then◌else◌, Some, None, is_some, refl, ap, sym, ◌∙◌, append-nil}
 use Rattle.bz_tree.specs.Tree.{Segment}
-use Rattle.bz_command.specs.Labels.{Package}
 use Rattle.bz_attribute.specs.Rules.{first_named, is_named}
-use Rattle.bz_attribute.specs.Effects.{argument, edit_first, has, list_item}
-use Rattle.bz_attribute.specs.Add.{add, new_elements, with_added}
+use Rattle.bz_attribute.specs.Effects.{edit_first, has}
 use Rattle.bz_attribute.specs.RowPlaces.{IsLocal}
 
 has_first : (name : List ℕ) (args : List Segment) → has name args ≡ is_some (first_named name args)
@@ -45,9 +43,8 @@ edits_one name f new edit none one = record {
       one args a h ∙ ap (λ (zs : List Segment). edit_first (is_named name) (λ x. zs) args) (sym alone_is);
 }
 
-pub add_local : (home : Package) (attr : List ℕ) (values : List (List ℕ)) → IsLocal attr (add home attr values)
-add_local home attr values =
-    edits_one attr (add home attr values) (argument attr (list_item (new_elements home [] values) ∷ []) ∷ []) (λ a. with_added home values a ∷ [])
-    (λ args h. rw h refl)
-    (λ args a h. ap (λ (b : Bool). if b then edit_first (is_named attr) (λ x. with_added home values x ∷ []) args else args ++ argument attr (list_item (new_elements home [] values) ∷ []) ∷ []) (is_there attr args a h)
-    ∙ edit_same attr (λ x. with_added home values x ∷ []) (with_added home values a ∷ []) args a h refl)
+-- the first is edited, and where there is none others come after all
+pub put_local : (name : List ℕ) (edit : Segment → List Segment) (new : List Segment) → IsLocal name (λ args. if has name args then edit_first (is_named name) edit args else args ++ new)
+put_local name edit new =
+    edits_one name (λ args. if has name args then edit_first (is_named name) edit args else args ++ new) new edit (λ args h. rw h refl)
+    (λ args a h. ap (λ (b : Bool). if b then edit_first (is_named name) edit args else args ++ new) (is_there name args a h) ∙ edit_same name edit (edit a) args a h refl)

@@ -20,25 +20,25 @@ pub sought_none : (home : Package) (word : List ℕ) (ps : List RowPart) (from :
 sought_none home word ps from = λ l after read. record { left = l; read = read; same = refl }
 
 -- whether the next element equals the word
-next_equals : (home : Package) (word : List ℕ) (ps : List RowPart) (at to : ℕ) (text : Option (List ℕ)) (l : ListRest) (after : List RowPart) (b : Bool) → (n : IsNextElement l after ps to text) → b ≡ map_or false (λ value. same home value word) (option_and_then value_of text)
+next_equals : (home : Package) (word : List ℕ) (ps : List RowPart) (at begin to : ℕ) (text : Option (List ℕ)) (l : ListRest) (after : List RowPart) (b : Bool) → (n : IsNextElement l after ps begin to text) → b ≡ same_value home word (value_in text)
     → list_any (equals home word) (elements_left l) ≡ (b || list_any (equals home word) (elements_left n.left))
-next_equals home word ps at to text l after b n is =
+next_equals home word ps at begin to text l after b n is =
     ap (list_any (equals home word)) n.are
     ∙ ap (λ (c : Bool). c || list_any (equals home word) (elements_left n.left)) (ap (λ (t : Option (List ℕ)). map_or false (λ value. same home value word) (option_and_then value_of t)) (sym n.text) ∙ sym is)
 
-pub sought_more : (home : Package) (word : List ℕ) (ps : List RowPart) (from at to : ℕ) (text : Option (List ℕ)) → HasSought home word ps from at
-    → ((l : ListRest) (after : List RowPart) → drop at ps ≡ rest_parts l after → IsNextElement l after ps to text) → false ≡ map_or false (λ value. same home value word) (option_and_then value_of text) → HasSought home word ps from to
-sought_more home word ps from at to text sought next is = λ l after read.
+pub sought_more : (home : Package) (word : List ℕ) (ps : List RowPart) (from at begin to : ℕ) (text : Option (List ℕ)) → HasSought home word ps from at
+    → ((l : ListRest) (after : List RowPart) → drop at ps ≡ rest_parts l after → IsNextElement l after ps begin to text) → false ≡ same_value home word (value_in text) → HasSought home word ps from to
+sought_more home word ps from at begin to text sought next is = λ l after read.
     let h = sought l after read in
     let n = next h.left after h.read in
-    record { left = n.left; read = n.read; same = sym (next_equals home word ps at to text h.left after false n is) ∙ h.same }
+    record { left = n.left; read = n.read; same = sym (next_equals home word ps at begin to text h.left after false n is) ∙ h.same }
 
-pub sought_found : (home : Package) (word : List ℕ) (ps : List RowPart) (from at to : ℕ) (text : Option (List ℕ)) → HasSought home word ps from at
-    → ((l : ListRest) (after : List RowPart) → drop at ps ≡ rest_parts l after → IsNextElement l after ps to text) → true ≡ map_or false (λ value. same home value word) (option_and_then value_of text)
+pub sought_found : (home : Package) (word : List ℕ) (ps : List RowPart) (from at begin to : ℕ) (text : Option (List ℕ)) → HasSought home word ps from at
+    → ((l : ListRest) (after : List RowPart) → drop at ps ≡ rest_parts l after → IsNextElement l after ps begin to text) → true ≡ same_value home word (value_in text)
     → (l : ListRest) (after : List RowPart) → drop from ps ≡ rest_parts l after → true ≡ list_any (equals home word) (elements_left l)
-sought_found home word ps from at to text sought next is l after read =
+sought_found home word ps from at begin to text sought next is l after read =
     let h = sought l after read in
-    sym (next_equals home word ps at to text h.left after true (next h.left after h.read) is) ∙ h.same
+    sym (next_equals home word ps at begin to text h.left after true (next h.left after h.read) is) ∙ h.same
 
 pub sought_all : (home : Package) (word : List ℕ) (ps : List RowPart) (from at : ℕ) → HasSought home word ps from at → ((l : ListRest) (after : List RowPart) → drop at ps ≡ rest_parts l after → elements_left l ≡ [])
     → (l : ListRest) (after : List RowPart) → drop from ps ≡ rest_parts l after → false ≡ list_any (equals home word) (elements_left l)

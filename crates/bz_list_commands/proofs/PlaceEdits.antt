@@ -18,7 +18,7 @@ use Rattle.bz_attribute.proofs.First.{edit_first_none}
 use Rattle.bz_attribute.proofs.LabelSets.{or_false}
 use Rattle.bz_list_commands.specs.private.ArgumentEdits.{HasEditedAll, edited, is_changed}
 use Rattle.bz_list_commands.specs.private.PlaceEdits.{AreThere, IsPlaceEdit, changes_first}
-use Rattle.bz_list_commands.specs.private.StringEdits.{become_all, changes, is_meant, means_part, passes}
+use Rattle.bz_list_commands.specs.private.StringEdits.{become_all, changes, is_meant, means_part}
 use Rattle.bz_list_commands.specs.private.WrittenParts.{IsWithin}
 use Rattle.bz_list_commands.specs.declared.rewriting.Written.{Written}
 use Rattle.bz_list_commands.proofs.WrittenParts.{placed}
@@ -79,7 +79,7 @@ has_name : (name : List ℕ) (o : Option (List ℕ)) → is_text name o ≡ true
 has_name name None h = absurd cc
 has_name name (Some other) h = refl
 
-edited_alone : (p : List ℕ → Bool) (literal : Option (List ℕ)) (name : List ℕ) (args : List Segment) (o : Option Segment) → first_named name args ≡ o
+edited_alone : (p : Option (List ℕ) → Bool) (literal : Option (List ℕ)) (name : List ℕ) (args : List Segment) (o : Option Segment) → first_named name args ≡ o
     → flat_map (edited p literal) (option_to_list o) ≡ edit_first (is_named name) (filtered (become_all p literal)) (option_to_list o)
 edited_alone p literal name args None h = refl
 edited_alone p literal name args (Some a) h =
@@ -87,11 +87,11 @@ edited_alone p literal name args (Some a) h =
     let is : is_named name a ≡ true = named_first name args a h in
     append-nil (edited p literal a) ∙ ap (λ (b : Bool). if b then f a else a ∷ []) (has_name name (name_of a.nodes) is) ∙ sym (edit_alone name f a is)
 
-told_alone : (p : List ℕ → Bool) (name : List ℕ) (args : List Segment) (o : Option Segment) → first_named name args ≡ o → list_any (is_changed p) (option_to_list o) ≡ changes_first p o
+told_alone : (p : Option (List ℕ) → Bool) (name : List ℕ) (args : List Segment) (o : Option Segment) → first_named name args ≡ o → list_any (is_changed p) (option_to_list o) ≡ changes_first p o
 told_alone p name args None h = refl
 told_alone p name args (Some a) h = or_false (is_changed p a) ∙ ap (λ (b : Bool). b && changes p a) (has_name name (name_of a.nodes) (named_first name args a h))
 
-pub named_row : (p : List ℕ → Bool) (literal : Option (List ℕ)) (name : List ℕ) (place : Place) (ps new : List RowPart) (e : Edit) → IsPlaceEdit (edited p literal) (is_changed p) place ps new e
+pub named_row : (p : Option (List ℕ) → Bool) (literal : Option (List ℕ)) (name : List ℕ) (place : Place) (ps new : List RowPart) (e : Edit) → IsPlaceEdit (edited p literal) (is_changed p) place ps new e
     → ((s : Statement) (r : Rule) → IsRuleRow s r ps → IsPlaceOf name s r ps place.from place.to)
     → IsRowEdit (edit_first (is_named name) (filtered (become_all p literal))) (λ args. done None (changes_first p (first_named name args))) ps new e
 named_row p literal name place ps new e edit at =
@@ -114,56 +114,59 @@ other : (a b : Bool) → (a || b) ≡ false → b ≡ false
 other true b h = absurd (false≢true (sym h))
 other false b h = h
 
-abbrev None_in : (List ℕ → Bool) → List RowPart → Type 0
+abbrev None_in : (Option (List ℕ) → Bool) → List RowPart → Type 0
 None_in p ps = list_any (means_part p) ps ≡ false
 
-front : (p : List ℕ → Bool) (xs ys : List RowPart) → None_in p (xs ++ ys) → None_in p xs
+front : (p : Option (List ℕ) → Bool) (xs ys : List RowPart) → None_in p (xs ++ ys) → None_in p xs
 front p xs ys h = either (list_any (means_part p) xs) (list_any (means_part p) ys) (sym (list_any-append (means_part p) xs ys) ∙ h)
 
-back : (p : List ℕ → Bool) (xs ys : List RowPart) → None_in p (xs ++ ys) → None_in p ys
+back : (p : Option (List ℕ) → Bool) (xs ys : List RowPart) → None_in p (xs ++ ys) → None_in p ys
 back p xs ys h = other (list_any (means_part p) xs) (list_any (means_part p) ys) (sym (list_any-append (means_part p) xs ys) ∙ h)
 
-no_text : (p : List ℕ → Bool) (xs : Items) → None_in p (items_parts xs) → passes p (only_text (list_of xs)) ≡ false
-no_text p no_items h = refl
-no_text p (item (leaf String text) no_items) h = either (p text) false h
-no_text p (item (leaf _ text) no_items) h = refl
-no_text p (item (group k segs one_comma end) no_items) h = refl
-no_text p (item x (item y xs)) h = refl
+no_text : (p : Option (List ℕ) → Bool) (xs : Items) → p None ≡ false → None_in p (items_parts xs) → p (only_text (list_of xs)) ≡ false
+no_text p no_items none h = none
+no_text p (item (leaf String text) no_items) none h = either (p (Some text)) false h
+no_text p (item (leaf _ text) no_items) none h = none
+no_text p (item (group k segs one_comma end) no_items) none h = none
+no_text p (item x (item y xs)) none h = none
 
-no_element : (p : List ℕ → Bool) (ss : Segs) → None_in p (segs_parts ss) → list_any (is_meant p) (segments ss) ≡ false
-no_element p no_segs h = refl
-no_element p (seg before nodes suffix ss) h =
+no_element : (p : Option (List ℕ) → Bool) (ss : Segs) → p None ≡ false → None_in p (segs_parts ss) → list_any (is_meant p) (segments ss) ≡ false
+no_element p no_segs none h = refl
+no_element p (seg before nodes suffix ss) none h =
     let rest : List RowPart = segment_end ∷ (beside_part suffix ++ segs_parts ss) in
     let own : None_in p (items_parts nodes ++ rest) = back p (map above before) (items_parts nodes ++ rest) h in
     let later : None_in p (segs_parts ss) = back p (beside_part suffix) (segs_parts ss) (back p (items_parts nodes) rest own) in
-    (λ i. no_text p nodes (front p (items_parts nodes) rest own) i || list_any (is_meant p) (segments ss)) ∙ no_element p ss later
+    (λ i. no_text p nodes none (front p (items_parts nodes) rest own) i || list_any (is_meant p) (segments ss)) ∙ no_element p ss none later
 
-no_list : (p : List ℕ → Bool) (x : Item) → None_in p (item_parts x) → list_any (is_meant p) (elements x) ≡ false
-no_list p (leaf k text) h = refl
-no_list p (group k segs one_comma end) h = no_element p segs (front p (segs_parts segs) (map above end ++ closing one_comma ∷ []) h)
+no_list : (p : Option (List ℕ) → Bool) (x : Item) → p None ≡ false → None_in p (item_parts x) → list_any (is_meant p) (elements x) ≡ false
+no_list p (leaf k text) none h = refl
+no_list p (group k segs one_comma end) none h = no_element p segs none (front p (segs_parts segs) (map above end ++ closing one_comma ∷ []) h)
 
-no_lists : (p : List ℕ → Bool) (start : Bool) (nodes : List Item) → None_in p (items_parts (items_of nodes)) → list_any (list_any (is_meant p)) (parts_from start nodes) ≡ false
-no_lists p start [] h = refl
-no_lists p start (x ∷ xs) h =
-    let rest : list_any (list_any (is_meant p)) (parts_from (is_plus x) xs) ≡ false = no_lists p (is_plus x) xs (back p (item_parts x) (items_parts (items_of xs)) h) in
+no_lists : (p : Option (List ℕ) → Bool) (start : Bool) (nodes : List Item) → p None ≡ false → None_in p (items_parts (items_of nodes)) → list_any (list_any (is_meant p)) (parts_from start nodes) ≡ false
+no_lists p start [] none h = refl
+no_lists p start (x ∷ xs) none h =
+    let rest : list_any (list_any (is_meant p)) (parts_from (is_plus x) xs) ≡ false = no_lists p (is_plus x) xs none (back p (item_parts x) (items_parts (items_of xs)) h) in
     elim (is_part start x xs) as (λ b. list_any (list_any (is_meant p)) ((if b then elements x ∷ [] else []) ++ parts_from (is_plus x) xs) ≡ false)
-    [ true ↦ (λ i. no_list p x (front p (item_parts x) (items_parts (items_of xs)) h) i || list_any (list_any (is_meant p)) (parts_from (is_plus x) xs)) ∙ rest | false ↦ rest ]
+    [ true ↦ (λ i. no_list p x none (front p (item_parts x) (items_parts (items_of xs)) h) i || list_any (list_any (is_meant p)) (parts_from (is_plus x) xs)) ∙ rest | false ↦ rest ]
 
-no_change : (p : List ℕ → Bool) (nodes : List Item) → None_in p (items_parts (items_of nodes)) → list_any (list_any (is_meant p)) (parts nodes) ≡ false
-no_change p nodes h = elim (list_all is_joint nodes) as (λ b. list_any (list_any (is_meant p)) (if b then parts_from true nodes else []) ≡ false) [ true ↦ no_lists p true nodes h | false ↦ refl ]
+no_change : (p : Option (List ℕ) → Bool) (nodes : List Item) → p None ≡ false → None_in p (items_parts (items_of nodes)) → list_any (list_any (is_meant p)) (parts nodes) ≡ false
+no_change p nodes none h = elim (list_all is_joint nodes) as (λ b. list_any (list_any (is_meant p)) (if b then parts_from true nodes else []) ≡ false) [ true ↦ no_lists p true nodes none h | false ↦ refl ]
 
-none_dropped : (p : List ℕ → Bool) (n : ℕ) (nodes : List Item) → None_in p (items_parts (items_of nodes)) → None_in p (items_parts (items_of (drop n nodes)))
+none_dropped : (p : Option (List ℕ) → Bool) (n : ℕ) (nodes : List Item) → None_in p (items_parts (items_of nodes)) → None_in p (items_parts (items_of (drop n nodes)))
 none_dropped p zero nodes h = h
 none_dropped p (suc n) [] h = h
 none_dropped p (suc n) (x ∷ nodes) h = none_dropped p n nodes (back p (item_parts x) (items_parts (items_of nodes)) h)
 
-pub none_changes : (p : List ℕ → Bool) (args : List Segment) → list_any (means_part p) (segs_parts (segs_of args)) ≡ false → list_any (is_changed p) args ≡ false
-none_changes p [] h = refl
-none_changes p (a ∷ args) h =
+no_changes : (p : Option (List ℕ) → Bool) (args : List Segment) → p None ≡ false → None_in p (segs_parts (segs_of args)) → list_any (is_changed p) args ≡ false
+no_changes p [] none h = refl
+no_changes p (a ∷ args) none h =
     let rest : List RowPart = segment_end ∷ (beside_part a.suffix ++ segs_parts (segs_of args)) in
     let nodes : List RowPart = items_parts (items_of a.nodes) in
     let own : None_in p (nodes ++ rest) = back p (map above a.before) (nodes ++ rest) h in
     let later : None_in p (segs_parts (segs_of args)) = back p (beside_part a.suffix) (segs_parts (segs_of args)) (back p nodes rest own) in
-    let here : changes p a ≡ false = no_change p (value a) (none_dropped p 2 a.nodes (front p nodes rest own)) in
+    let here : changes p a ≡ false = no_change p (value a) none (none_dropped p 2 a.nodes (front p nodes rest own)) in
     (λ i. (is_attribute a && here i) || list_any (is_changed p) args)
-    ∙ elim (is_attribute a) as (λ b. (b && false || list_any (is_changed p) args) ≡ false) [ true ↦ none_changes p args later | false ↦ none_changes p args later ]
+    ∙ elim (is_attribute a) as (λ b. (b && false || list_any (is_changed p) args) ≡ false) [ true ↦ no_changes p args none later | false ↦ no_changes p args none later ]
+
+pub none_changes : (p : Option (List ℕ) → Bool) (args : List Segment) → (p None || list_any (means_part p) (segs_parts (segs_of args))) ≡ false → list_any (is_changed p) args ≡ false
+none_changes p args h = no_changes p args (either (p None) (list_any (means_part p) (segs_parts (segs_of args))) h) (other (p None) (list_any (means_part p) (segs_parts (segs_of args))) h)

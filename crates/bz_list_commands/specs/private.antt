@@ -1,8 +1,8 @@
 pub mod AddSteps
 pub mod ArgumentEdits
 pub mod ElementEdits
+pub mod ListPlaces
 pub mod MoveSteps
 pub mod PlaceEdits
 pub mod StringEdits
-pub mod TakingSteps
 pub mod WrittenParts

@@ -23,8 +23,8 @@ use bz_tree::Part;
 pub enum ArgumentEdit<'h, 'c, 'w> {
     /// Those of a name go, or each keyword argument but `name`.
     Gone(&'c Attributes),
-    /// Strings among the elements of keyword arguments go, or become another. An argument that is a list goes where it
-    /// loses all its elements.
+    /// Elements of keyword arguments go, or become another. An argument that is a list goes where it loses all its
+    /// elements.
     Strings(StringEdit<'h, 'c, 'w>),
 }
 

@@ -1,92 +1,96 @@
 //! Of the elements that leave a list, those that arrive in another: no string arrives that is there already.
 
-ghost use Rattle.std.specs.Prelude.{◌≡◌, ◌≤◌, ◌++◌, take, not, IfOk, OnOk, false};
+ghost use Rattle.std.specs.Prelude.{◌≡◌, ◌≤◌, ◌++◌, take, not, IfOk, OnOk, false, ◌||◌, ◌&&◌, ℕ, List, map, length, option_map, IfSome};
 ghost use Rattle.std.specs.Vec.{vec_len, vec_capacity};
 ghost use Rattle.bz_tree.specs.View.{nodes_view, seg_view, segs_view};
 ghost use Rattle.bz_attribute.specs.Rules as rules;
-ghost use Rattle.bz_attribute.specs.Lists.{equals, parts};
+ghost use Rattle.bz_attribute.specs.Lists.{equals, parts, same_value};
 ghost use Rattle.bz_command.specs.LabelSetViews.{Gains, has};
 ghost use Rattle.bz_attribute.specs.Lists as lists;
 ghost use Rattle.bz_attribute.specs.Move as spec;
-ghost use Rattle.bz_list_commands.specs.private.MoveSteps.{flags, has_value};
+ghost use Rattle.bz_list_commands.specs.private.MoveSteps.{flags, has_value, AreWithin, HaveArrivals};
 ghost use Rattle.bz_token.specs.Common.{map_or};
 ghost use Rattle.std.specs.List.{list_any};
-
 use bz_attribute::equals::string_of;
-use bz_attribute::{Chosen, Env, any_chosen, is_any_chosen, labels_in};
-use bz_command::{LabelSet, Package};
-use bz_memory::{NoMemory, push, with_room_for};
+use bz_attribute::{Chosen, Env, any_chosen, is_any_chosen, labels_in, Element, Place, labels_of, next_of_value};
+use bz_command::{LabelSet, Package, value_of};
 use bz_tree::{Node, Seg};
+ghost use Rattle.bz_tree.specs.Rows.{part_view};
+ghost use Rattle.bz_attribute.specs.Rules.{value_in};
+ghost use Rattle.bz_list_commands.specs.private.StringEdits.{means};
+use crate::string_edit::StringEdit;
+use bz_memory::{NoMemory, push, with_room_for};
+use bz_tree::Part;
 
-/// Drops the strings that are in the list parts of a value, or stand earlier. It cannot fail: memory makes it faster
-/// alone.
-pub(crate) fn keep_arrivals(env: Env<'_>, value: &[Node<'_>], elements: &mut Vec<Seg<'_>>)
-    ensures items { segs_view elements.new.items
-        ≡ spec.arrivals env.entry.home.now (spec.joined (parts (nodes_view value.now))) (segs_view elements.old.items) }
-    ensures shorter { vec_len elements.new ≤ vec_len elements.old }
-    ensures capacity { vec_capacity elements.new ≡ vec_capacity elements.old }
-{
-    let kept = arrivals_first(env, value, elements);
-    elements.truncate(kept);
+/// Where the elements of two lists begin among the parts of a rule.
+#[derive(Clone, Copy)]
+pub struct Lists {
+    pub from: usize,
+    /// None: the rule does not have the list to which they come.
+    pub to: Option<usize>,
 }
 
-// Brings them to the front and answers how many they are. Flags tell of each, where there is memory for these; else
-// it is compared with those that are there and with those that arrived before it.
-fn arrivals_first(env: Env<'_>, value: &[Node<'_>], elements: &mut [Seg<'_>]) -> usize
-    ensures { take result (segs_view elements.new)
-        ≡ spec.arrivals env.entry.home.now (spec.joined (parts (nodes_view value.now))) (segs_view elements.old) }
-{
-    let told = arriving(env, value, elements).ok();
-    let mut kept = 0;
-    for i in 0..elements.len() {
-        let seen = &elements[..];
-        let arrives = match &told {
-            Some(flags) => flags[i],
-            None => !is_among(env.home, value, &seen[..kept], &seen[i]),
-        };
-        if arrives {
-            elements.swap(kept, i);
-            kept += 1;
-        }
-    }
-    kept
-}
-
-// Which of many elements arrive, each looked up in a set of the labels that are there or came before it.
-fn arriving(env: Env<'_>, value: &[Node<'_>], elements: &[Seg<'_>]) -> Result<Vec<bool>, NoMemory>
-    ensures { IfOk result
-        (λ arrive. arrive.items
-        ≡ flags env.entry.home.now (spec.joined (parts (nodes_view value.now))) (segs_view elements.now)) }
-{
-    let mut there = labels_in(env.alloc, env.home, Chosen::All, value)?;
-    let mut arrive = with_room_for(env.alloc, elements, 0)?;
-    for i in 0..elements.len() {
-        push(&mut arrive, is_new(&elements[i], &mut there)?)?;
-    }
-    Ok(arrive)
-}
-
-// It is no string that the set has. Its label goes into the set.
-fn is_new<'s>(element: &'s Seg<'_>, there: &mut LabelSet<'s>) -> Result<bool, NoMemory>
-    ensures new { IfOk result
-        (λ new. new ≡ not (has_value (has there.old) (rules.string_value (seg_view element.now).nodes))) }
-    ensures there { OnOk result
-        (Gains (λ text. equals there.old.home.now text (seg_view element.now)) there.old there.new) }
+// The element is no string that the set has. Its label goes into the set.
+fn is_new<'s>(string: Option<&'s str>, there: &mut LabelSet<'s>) -> Result<bool, NoMemory>
+    ensures new { IfOk result (λ new. new
+        ≡ not (has_value (has there.old) (value_in (option_map (λ text. text.now) string.entry)))) }
+    ensures there { OnOk result ((text : List ℕ) → has there.new text
+        ≡ (same_value there.old.home.now text (value_in (option_map (λ text. text.now) string.entry))
+        || has there.old text)) }
     ensures home { there.new.home.now ≡ there.old.home.now }
 {
-    match string_of(element) {
+    let Some(text) = string else {
+        return Ok(true);
+    };
+    match value_of(text) {
         None => Ok(true),
         Some(value) => there.insert(value),
     }
 }
 
-// It is a string that is the same label as an element of a value's list parts, or one that arrived before.
-fn is_among(home: &Package, value: &[Node<'_>], arrived: &[Seg<'_>], element: &Seg<'_>) -> bool
-    ensures { result ≡ map_or false
-        (λ word. list_any (lists.equals home.now word)
-        (spec.joined (parts (nodes_view value.now)) ++ segs_view arrived.now))
-        (rules.string_value (seg_view element.now).nodes) }
+// The element is meant, and is no string that the set has. Its label goes into the set.
+fn arrives<'s>(
+    edit: StringEdit<'_, '_, '_>,
+    string: Option<&'s str>,
+    there: &mut LabelSet<'s>,
+) -> Result<bool, NoMemory>
+    ensures arrives { IfOk result (λ arrives. arrives
+        ≡ (means edit.entry (option_map (λ text. text.now) string.entry)
+        && not (has_value (has there.old) (value_in (option_map (λ text. text.now) string.entry))))) }
+    ensures there { OnOk result ((text : List ℕ) → has there.new text
+        ≡ ((means edit.entry (option_map (λ text. text.now) string.entry)
+        && same_value there.old.home.now text (value_in (option_map (λ text. text.now) string.entry)))
+        || has there.old text)) }
+    ensures home { there.new.home.now ≡ there.old.home.now }
 {
-    is_any_chosen(home, Chosen::Like(element), value)
-        || any_chosen(home, Chosen::Like(element), arrived)
+    if !edit.means(string) {
+        return Ok(false);
+    }
+    is_new(string, there)
+}
+
+/// Where the elements stand that arrive, each with its comments.
+pub fn arrivals<'s>(
+    edit: StringEdit<'s, '_, '_>,
+    lists: Lists,
+    parts: &[Part<'s>],
+) -> Result<Vec<Place>, NoMemory>
+    requires from { lists.from ≤ length parts.now }
+    requires to { IfSome lists.to (λ to. to ≤ length parts.now) }
+    ensures within { IfOk result (λ places. AreWithin places.items (length parts.now)) }
+    ensures arrivals { IfOk result (λ places. HaveArrivals edit.entry.env.home.now (means edit.entry) lists
+        (map part_view parts.now) places.items) }
+{
+    let Env { alloc, home } = edit.env;
+    let mut there = labels_of(alloc, home, None, parts, lists.to)?;
+    let mut places = Vec::new(alloc);
+    let mut at = lists.from;
+    while let Some(element) = next_of_value(parts, at) {
+        if arrives(edit, element.string, &mut there)? {
+            let Element { from, to, .. } = element;
+            push(&mut places, Place { from, to })?;
+        }
+        at = element.to;
+    }
+    Ok(places)
 }

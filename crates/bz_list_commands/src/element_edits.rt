@@ -1,4 +1,4 @@
-//! Strings among the elements of an argument go or become another, by the parts of the argument.
+//! Elements of an argument go or become another, by the parts of the argument.
 
 ghost use Rattle.std.specs.Prelude.{◌≡◌, ◌≤◌, ◌+◌, List, true, map, length, drop, option_map, IfOk, IfSome};
 ghost use Rattle.std.specs.List.{list_any};
@@ -6,7 +6,7 @@ ghost use Rattle.bz_tree.specs.Tree.{Item, Segment};
 ghost use Rattle.bz_tree.specs.Rows.{RowPart, part_view};
 ghost use Rattle.bz_command.specs.Values.{quoted};
 ghost use Rattle.bz_attribute.specs.Elements.{ListRest, rest_parts, value_parts};
-ghost use Rattle.bz_list_commands.specs.private.StringEdits.{literal_of, means, passes};
+ghost use Rattle.bz_list_commands.specs.private.StringEdits.{literal_of, means};
 ghost use Rattle.bz_list_commands.specs.private.WrittenParts.{IsWithin};
 ghost use Rattle.bz_list_commands.specs.private.ElementEdits as spec;
 
@@ -18,16 +18,6 @@ use bz_command::quote;
 use bz_memory::{NoMemory, alloc_str};
 use bz_tree::Part;
 use std::alloc::Global;
-
-// The element is a string that is meant.
-pub fn is_meant(edit: StringEdit<'_, '_, '_>, element: Element<'_>) -> bool
-    ensures { result ≡ passes (means edit.entry) (option_map (λ text. text.now) element.entry.string) }
-{
-    match element.string {
-        Some(text) => edit.means(text),
-        None => false,
-    }
-}
 
 // The literal of a value, in an arena.
 fn literal_in<'a>(alloc: Global, bump: &'a Bump, value: &str) -> Result<&'a str, NoMemory>
@@ -52,7 +42,7 @@ fn put_element<'a>(
         element.entry.token element.entry.to (option_map (λ text. text.now) element.entry.string)
         (map part_view parts.now) (map part_view out.old.items) (map part_view out.new.items)) }
 {
-    match edit.new {
+    match edit.new() {
         None => put(parts, written, element.to, None, out),
         Some(value) => {
             let text = literal_in(edit.env.alloc, *out.allocator(), value)?;
@@ -85,7 +75,7 @@ fn edit_element<'a>(
         written next element.entry.token element.entry.to (option_map (λ text. text.now) element.entry.string)
         (map part_view parts.now) (map part_view out.old.items) (map part_view out.new.items)) }
 {
-    if !is_meant(edit, element) {
+    if !edit.means(element.string) {
         return Ok(Written {
             at: element.to,
             ..written

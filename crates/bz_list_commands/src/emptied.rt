@@ -9,7 +9,6 @@ ghost use Rattle.bz_attribute.specs.Effects.{loses_all};
 ghost use Rattle.bz_list_commands.specs.private.StringEdits.{become_all, literal_of, means};
 ghost use Rattle.bz_list_commands.specs.private.ElementEdits as spec;
 
-use crate::element_edits::is_meant;
 use crate::string_edit::StringEdit;
 use bz_attribute::next_element;
 use bz_tree::{GroupKind, Part};
@@ -45,7 +44,7 @@ fn all_go(edit: StringEdit<'_, '_, '_>, parts: &[Part<'_>], value: usize) -> boo
     let first = value + 1;
     let mut at = first;
     while let Some(element) = next_element(parts, at) {
-        if !is_meant(edit, element) {
+        if !edit.means(element.string) {
             return false;
         }
         at = element.to;
@@ -64,7 +63,7 @@ pub fn loses_all(edit: StringEdit<'_, '_, '_>, parts: &[Part<'_>], value: usize)
         → drop value (map part_view parts.now) ≡ value_parts nodes (beside_part suffix)
         → result ≡ loses_all (become_all (means edit.entry) (literal_of edit.entry)) nodes }
 {
-    match edit.new {
+    match edit.new() {
         None => all_go(edit, parts, value),
         Some(_) => false,
     }

@@ -1,150 +1,233 @@
 //! `move`: elements go from one attribute to another, each with its comments.
 
-ghost use Rattle.std.specs.Prelude.{◌≡◌, ◌≤◌, ◌+◌, ◌++◌, ◌∷◌, [], false, length, bytes_eq, is_some, None, IfOk, OnOk, OnErr, if◌then◌else◌};
+ghost use Rattle.std.specs.Prelude.{◌≡◌, ◌≤◌, ◌+◌, ◌++◌, ◌∷◌, [], false, length, bytes_eq, is_some, None, IfOk, OnOk, OnErr, if◌then◌else◌, List, None as Nothing, map, IfSome};
 ghost use Rattle.std.specs.Vec.{vec_len, vec_capacity};
 ghost use Rattle.bz_tree.specs.View.{node_view, seg_view, segs_view};
-ghost use Rattle.bz_attribute.specs.Rules.{elements, first_named, is_named};
+ghost use Rattle.bz_attribute.specs.Rules.{elements, first_named, is_named, Rule};
 ghost use Rattle.bz_attribute.specs.Lists.{edit_list};
 ghost use Rattle.bz_attribute.specs.private.ChosenViews.{chosen_view};
 ghost use Rattle.bz_attribute.specs.private.Places.{first_length};
 ghost use Rattle.bz_attribute.specs.Effects as effects;
+ghost use Rattle.bz_tree.specs.Tree.{Segment, Statement, segs_of};
+ghost use Rattle.bz_tree.specs.Rows.{part_view, parts_of, segs_parts};
+ghost use Rattle.bz_command.specs.declared.arguments.Moved.{Moved as Choice};
+ghost use Rattle.bz_attribute.specs.Effects.{done, has, is_chosen, with_args};
+ghost use Rattle.bz_attribute.specs.RowEdits.{IsRowEdit, replaced_at};
+ghost use Rattle.bz_attribute.specs.RowPlaces.{IsRuleRow};
 ghost use Rattle.bz_attribute.specs.Move as spec;
-ghost use Rattle.bz_list_commands.specs.private.MoveSteps.{with_list, with_more};
+ghost use Rattle.bz_list_commands.specs.private.ListPlaces.{IsListAt, IsTarget};
+ghost use Rattle.bz_list_commands.specs.private.MoveSteps.{AreWithin, parts_at};
+ghost use Rattle.bz_list_commands.specs.private.StringEdits.{is_meant, literal_of, means};
 
-use crate::arrivals::keep_arrivals;
-use crate::taking::{Choice, count_in, take_from, value_at};
-use bz_attribute::{
-    Chosen, Done, Env, Executed, WordSet, find, first_named, first_part, list, push_argument,
-    value_of,
-};
+use crate::arrivals::{Lists, arrivals};
+use crate::list_place::{ListPlace, list_place};
+use crate::new_attribute::{close_attribute, open_attribute};
+use crate::place_edits::edit_named;
+use crate::string_edit::{Meant, StringEdit};
+use bz_attribute::{Done, Edit, Env, Parts, Place, WordSet, elements_end, place_of};
 use bz_command::Moved;
-use bz_memory::{NoMemory, with_capacity};
+use bz_memory::{NoMemory, extend_from_slice, with_capacity};
 use bz_tree::{Node, Seg};
 use std::alloc::Global;
+use bz_tree::Part;
+use std::alloc::Global;
 
-/// Moves elements of the first argument named `old` to the first one named `new`, or to a new one. An `Err` leaves all
-/// as it was.
-pub fn move_elements(
+/// Which elements go from one attribute to another.
+#[derive(Clone, Copy)]
+pub struct Move<'c> {
+    pub old: &'c str,
+    pub new: &'c str,
+    pub moved: &'c Moved,
+}
+
+/// Moves elements of the first argument of one name to the first one of another, or to a new one, in the rule that has
+/// these parts. All parts of the rule go into `written`, where anything changes.
+pub fn move_elements<'a>(
     env: Env<'_>,
-    old: &str,
-    new: &str,
-    moved: &Moved,
-    args: &mut Vec<Seg<'_>>,
-) -> Executed
-    requires { bytes_eq old.now new.now ≡ false }
-    ensures args { OnOk result
-        (segs_view args.new.items
-        ≡ spec.move env.entry.home.now old.now new.now moved.now (segs_view args.old.items)) }
-    ensures done { IfOk result
-        (λ done. done ≡ effects.done (spec.move_note old.now new.now (segs_view args.old.items))
-        (spec.moves env.entry.home.now old.now moved.now (segs_view args.old.items))) }
-    ensures err { OnErr result (segs_view args.new.items ≡ segs_view args.old.items) }
+    change: Move<'_>,
+    parts: &[Part<'a>],
+    written: &mut Parts<'a>,
+) -> Result<Edit, NoMemory>
+    ensures { IfOk result (IsRowEdit
+        (spec.move env.entry.home.now change.entry.old.now change.entry.new.now change.entry.moved.now)
+        (λ args. done (spec.move_note change.entry.old.now change.entry.new.now args)
+        (spec.moves env.entry.home.now change.entry.old.now change.entry.moved.now args))
+        (map part_view parts.now) (map part_view written.new.items)) }
 {
-    if find(args, old).is_none() {
-        return Done::no_attribute(env.alloc, old);
-    }
-    if is_no_list(args, old) {
-        return Done::not_a_list(env.alloc, old);
-    }
-    if is_no_list(args, new) {
-        return Done::not_a_list(env.alloc, new);
-    }
-    match moved {
-        Moved::All => move_chosen(env, Chosen::All, old, new, args),
-        Moved::Values(values) => {
-            let words = WordSet::new(env.alloc, env.home, values.as_slice())?;
-            move_chosen(env, Chosen::Words(&words), old, new, args)
+    let Move { old, new, moved: _ } = change;
+    match (list_place(parts, old), list_place(parts, new)) {
+        (ListPlace::Absent, _) => Ok(Edit::none(Done::no_attribute(env.alloc, old)?)),
+        (ListPlace::NoList, _) => Ok(Edit::none(Done::not_a_list(env.alloc, old)?)),
+        (_, ListPlace::NoList) => Ok(Edit::none(Done::not_a_list(env.alloc, new)?)),
+        (ListPlace::At(from), ListPlace::Absent) => {
+            move_chosen(env, change, Lists { from, to: None }, parts, written)
+        }
+        (ListPlace::At(from), ListPlace::At(list)) => {
+            let to = Some(list);
+            move_chosen(env, change, Lists { from, to }, parts, written)
         }
     }
 }
 
-// There is such an attribute, without list part.
-fn is_no_list(args: &[Seg<'_>], attr: &str) -> bool
-    ensures { result ≡ is_some (effects.not_a_list attr.now (first_named attr.now (segs_view args.now))) }
-{
-    match first_named(args, attr) {
-        None => false,
-        Some(arg) => first_part(value_of(arg)).is_none(),
-    }
-}
-
-// All memory that is needed is there before the first element leaves: what follows cannot fail.
-fn move_chosen(
+// The same where both attributes have lists, or the new one is absent.
+fn move_chosen<'a>(
     env: Env<'_>,
-    chosen: Chosen<'_, '_>,
-    old: &str,
-    new: &str,
-    args: &mut Vec<Seg<'_>>,
-) -> Executed
-    requires { bytes_eq old.now new.now ≡ false }
-    ensures args { OnOk result
-        (segs_view args.new.items
-        ≡ (if spec.moves env.entry.home.now old.now (chosen_view chosen.entry) (segs_view args.old.items)
-        then spec.moved env.entry.home.now old.now new.now (chosen_view chosen.entry) (segs_view args.old.items)
-        else segs_view args.old.items)) }
-    ensures done { IfOk result
-        (λ done. done
-        ≡ effects.done None
-        (spec.moves env.entry.home.now old.now (chosen_view chosen.entry) (segs_view args.old.items))) }
-    ensures err { OnErr result (segs_view args.new.items ≡ segs_view args.old.items) }
+    change: Move<'_>,
+    lists: Lists,
+    parts: &[Part<'a>],
+    written: &mut Parts<'a>,
+) -> Result<Edit, NoMemory>
+    requires within { (lists.from ≤ length parts.now) × (IfSome lists.to (λ to. to ≤ length parts.now)) }
+    requires from { (s : Statement) (r : Rule) → IsRuleRow s r (map part_view parts.now)
+        → IsListAt change.old.now s r (map part_view parts.now) lists.from }
+    requires to { (s : Statement) (r : Rule) → IsRuleRow s r (map part_view parts.now)
+        → IsTarget change.new.now s r (map part_view parts.now) lists.to }
+    ensures { IfOk result (IsRowEdit
+        (spec.moved_where env.entry.home.now change.entry.old.now change.entry.new.now change.entry.moved.now)
+        (λ args. done Nothing (spec.moves env.entry.home.now change.entry.old.now change.entry.moved.now args))
+        (map part_view parts.now) (map part_view written.new.items)) }
 {
-    let home = env.home;
-    let choice = Choice { home, chosen };
-    let count = count_in(choice, value_at(args, old))?;
-    if count == 0 {
-        return Ok(Done::quiet(false));
-    }
-    let there = count_in(
-        Choice {
-            home,
-            chosen: Chosen::All,
-        },
-        value_at(args, new),
-    )?;
-    let room = count.saturating_add(there);
-    let mut elements = with_capacity(env.alloc, room)?;
-    give_list(env.alloc, new, args)?;
-    take_from(choice, old, args, &mut elements);
-    keep_arrivals(env, value_at(args, new), &mut elements);
-    put_in(new, elements, args);
-    Ok(Done::quiet(true))
-}
-
-// An empty list comes to the end, where there is no such attribute.
-fn give_list(alloc: Global, attr: &str, args: &mut Vec<Seg<'_>>) -> Result<(), NoMemory>
-    ensures ok { OnOk result (segs_view args.new.items ≡ with_list attr.now (segs_view args.old.items)) }
-    ensures err { OnErr result (segs_view args.new.items ≡ segs_view args.old.items) }
-{
-    if find(args, attr).is_some() {
-        return Ok(());
-    }
-    push_argument(alloc, attr, list(alloc, Vec::new(alloc)), args)
-}
-
-// Elements that have room for those that are there go to the end of the first list part of an attribute.
-fn put_in<'a>(attr: &str, later: Vec<Seg<'a>>, args: &mut [Seg<'a>])
-    requires { first_length (first_named attr.now (segs_view args.old)) + vec_len later ≤ vec_capacity later }
-    ensures { segs_view args.new
-        ≡ effects.edit_first (is_named attr.now) (λ a. with_more (segs_view later.entry.items) a ∷ []) (segs_view args.old) }
-{
-    let Some(i) = find(args, attr) else {
-        return;
-    };
-    if let Some(part) = first_part(&args[i].nodes[2..]) {
-        put_in_list(&mut args[i].nodes[2 + part], later);
+    match change.moved {
+        Moved::All => {
+            let meant = Meant::Any;
+            move_meant(StringEdit { env, meant }, change, lists, parts, written)
+        }
+        Moved::Values(values) => {
+            let words = WordSet::new(env.alloc, env.home, values.as_slice())?;
+            let meant = Meant::Words(&words);
+            move_meant(StringEdit { env, meant }, change, lists, parts, written)
+        }
     }
 }
 
-// The later elements have room for all: so nothing can fail.
-fn put_in_list<'a>(node: &mut Node<'a>, mut later: Vec<Seg<'a>>)
-    requires { length (elements (node_view node.old)) + vec_len later ≤ vec_capacity later }
-    ensures { node_view node.new ≡ edit_list (λ there. there ++ segs_view later.entry.items) (node_view node.old) }
+// The same of the elements that are meant: they go, and then those that arrive are put into the rule that is left.
+fn move_meant<'a>(
+    edit: StringEdit<'_, '_, '_>,
+    change: Move<'_>,
+    lists: Lists,
+    parts: &[Part<'a>],
+    written: &mut Parts<'a>,
+) -> Result<Edit, NoMemory>
+    requires within { (lists.from ≤ length parts.now) × (IfSome lists.to (λ to. to ≤ length parts.now)) }
+    requires from { (s : Statement) (r : Rule) → IsRuleRow s r (map part_view parts.now)
+        → IsListAt change.old.now s r (map part_view parts.now) lists.from }
+    requires to { (s : Statement) (r : Rule) → IsRuleRow s r (map part_view parts.now)
+        → IsTarget change.new.now s r (map part_view parts.now) lists.to }
+    ensures { IfOk result (λ e. (moved : Choice) → literal_of edit.entry ≡ Nothing
+        → is_meant (means edit.entry) ≡ is_chosen edit.entry.env.home.now moved
+        → IsRowEdit (spec.moved_where edit.entry.env.home.now change.entry.old.now change.entry.new.now moved)
+        (λ args. done Nothing (spec.moves edit.entry.env.home.now change.entry.old.now moved args))
+        (map part_view parts.now) (map part_view written.new.items) e) }
 {
-    if let Node::Group(group) = node {
-        let elements = &mut group.segs;
-        let count = later.len();
-        let _ = later.append(elements);
-        later.rotate_left(count);
-        *elements = later;
+    let gone = edit_named(edit, change.old, parts, written)?;
+    if !gone.done.changed {
+        return Ok(Edit::none(Done::quiet(false)));
+    }
+    let left = replaced(edit.env.alloc, parts, gone.place, written)?;
+    let arriving = arrivals(edit, lists, &*parts)?;
+    write_with(change.new, parts, &arriving, &left, written)?;
+    Ok(Edit::at(Place {
+        from: 0,
+        to: parts.len(),
+    }))
+}
+
+// The parts with others in a place.
+fn replaced<'a>(
+    alloc: Global,
+    parts: &[Part<'a>],
+    place: Place,
+    new: &[Part<'a>],
+) -> Result<Vec<Part<'a>>, NoMemory>
+    requires { (place.from ≤ place.to) × (place.to ≤ length parts.now) }
+    ensures { IfOk result (λ left. map part_view left.items
+        ≡ replaced_at place (map part_view new.now) (map part_view parts.now)) }
+{
+    let mut left = Vec::new(alloc);
+    extend_from_slice(&mut left, &parts[..place.from])?;
+    extend_from_slice(&mut left, new)?;
+    extend_from_slice(&mut left, &parts[place.to..])?;
+    Ok(left)
+}
+
+// Appends the parts that stand in some places.
+fn push_places<'a>(
+    parts: &[Part<'a>],
+    places: &[Place],
+    written: &mut Parts<'a>,
+) -> Result<(), NoMemory>
+    requires { AreWithin places.now (length parts.now) }
+    ensures { OnOk result (map part_view written.new.items
+        ≡ map part_view written.old.items ++ parts_at (map part_view parts.now) places.now) }
+{
+    for place in places {
+        extend_from_slice(written, &parts[place.from..place.to])?;
+    }
+    Ok(())
+}
+
+// Writes the parts `left` of a rule with elements, which stand in places of `parts`, in a new attribute.
+fn write_new<'a>(
+    attr: &str,
+    parts: &[Part<'a>],
+    elements: &[Place],
+    left: &[Part<'a>],
+    written: &mut Parts<'a>,
+) -> Result<(), NoMemory>
+    requires { AreWithin elements.now (length parts.now) }
+    ensures { OnOk result ((ss : List Segment) (s : Statement) (r : Rule)
+        → parts_at (map part_view parts.now) elements.now ≡ segs_parts (segs_of ss)
+        → IsRuleRow s r (map part_view left.now) → has attr.now r.args ≡ false
+        → map part_view written.new.items ≡ parts_of (with_args (spec.put_in attr.now ss) s)) }
+{
+    let place = place_of(left, attr);
+    written.clear();
+    extend_from_slice(written, &left[..place.from])?;
+    open_attribute(attr, written)?;
+    push_places(parts, elements, written)?;
+    close_attribute(written)?;
+    extend_from_slice(written, &left[place.to..])?;
+    Ok(())
+}
+
+// Writes them with the elements at an end of others.
+fn write_at<'a>(
+    end: usize,
+    parts: &[Part<'a>],
+    elements: &[Place],
+    left: &[Part<'a>],
+    written: &mut Parts<'a>,
+) -> Result<(), NoMemory>
+    requires within { AreWithin elements.now (length parts.now) }
+    requires end { end ≤ length left.now }
+    ensures { OnOk result (map part_view written.new.items
+        ≡ replaced_at (record { from = end; to = end }) (parts_at (map part_view parts.now) elements.now)
+        (map part_view left.now)) }
+{
+    written.clear();
+    extend_from_slice(written, &left[..end])?;
+    push_places(parts, elements, written)?;
+    extend_from_slice(written, &left[end..])?;
+    Ok(())
+}
+
+// Writes them with the elements at the end of the first list part of an attribute, or in a new one.
+fn write_with<'a>(
+    attr: &str,
+    parts: &[Part<'a>],
+    elements: &[Place],
+    left: &[Part<'a>],
+    written: &mut Parts<'a>,
+) -> Result<(), NoMemory>
+    requires { AreWithin elements.now (length parts.now) }
+    ensures { OnOk result ((ss : List Segment) (s : Statement) (r : Rule)
+        → parts_at (map part_view parts.now) elements.now ≡ segs_parts (segs_of ss)
+        → IsRuleRow s r (map part_view left.now)
+        → map part_view written.new.items ≡ parts_of (with_args (spec.put_in attr.now ss) s)) }
+{
+    match list_place(left, attr) {
+        ListPlace::Absent => write_new(attr, parts, elements, left, written),
+        ListPlace::NoList => write_at(0, parts, &[], left, written),
+        ListPlace::At(list) => write_at(elements_end(left, list), parts, elements, left, written),
     }
 }

@@ -38,7 +38,6 @@ pub fn replace<'a>(
     let edit = StringEdit {
         env,
         meant: Meant::Unlike { old, new: value },
-        new: Some(value),
     };
     edit_strings(edit, attributes, parts, new)
 }

@@ -1,7 +1,8 @@
-//! What becomes of the strings among elements that a command means.
+//! What becomes of the elements that a command means.
 
-ghost use Rattle.std.specs.Prelude.{◌≡◌, map};
+ghost use Rattle.std.specs.Prelude.{◌≡◌, ◌||◌, None as Nothing, Some as Something, map, option_map};
 ghost use Rattle.std.specs.List.{list_any};
+ghost use Rattle.bz_command.specs.Values.{quoted};
 ghost use Rattle.bz_tree.specs.Rows.{part_view};
 ghost use Rattle.bz_list_commands.specs.private.StringEdits as spec;
 
@@ -11,32 +12,42 @@ use bz_command::has_value;
 use bz_token::Kind;
 use bz_tree::Part;
 
-/// Which strings a command means.
+/// Which elements a command means.
 #[derive(Clone, Copy)]
 pub enum Meant<'c, 'w> {
-    /// Those that equal a word.
+    Any,
+    /// Strings that equal a word.
     Word(&'c str),
-    /// Those that equal one of some words.
+    /// Strings that equal one of some words.
     Words(&'c WordSet<'w>),
-    /// Those that equal a word and are not exactly another.
+    /// Strings that equal a word and are not exactly another, which they become.
     Unlike { old: &'c str, new: &'c str },
 }
 
-/// The strings that a command means go, or become another.
+/// The elements that a command means go, or become another.
 #[derive(Clone, Copy)]
 pub struct StringEdit<'h, 'c, 'w> {
     pub env: Env<'h>,
     pub meant: Meant<'c, 'w>,
-    /// What they become.
-    pub new: Option<&'c str>,
 }
 
 impl<'h, 'c, 'w> StringEdit<'h, 'c, 'w> {
-    /// A string token of this text is meant.
-    pub fn means(self, text: &str) -> bool
-        ensures { result ≡ spec.means self.entry text.now }
+    /// What they become.
+    pub fn new(self) -> Option<&'c str>
+        ensures { option_map (λ value. quoted value.now) result ≡ spec.literal_of self.entry }
     {
         match self.meant {
+            Meant::Unlike { old: _, new } => Some(new),
+            Meant::Any | Meant::Word(_) | Meant::Words(_) => None,
+        }
+    }
+
+    // A string token of this text is meant.
+    fn means_text(self, text: &str) -> bool
+        ensures { result ≡ spec.means self.entry (Something text.now) }
+    {
+        match self.meant {
+            Meant::Any => true,
             Meant::Word(word) => text_equals(self.env.home, text, word),
             Meant::Words(words) => words.has_text(self.env.home, text),
             Meant::Unlike { old, new } => {
@@ -45,19 +56,37 @@ impl<'h, 'c, 'w> StringEdit<'h, 'c, 'w> {
         }
     }
 
+    /// An element is meant, by its text where it is one string token.
+    pub fn means(self, string: Option<&str>) -> bool
+        ensures { result ≡ spec.means self.entry (option_map (λ text. text.now) string.entry) }
+    {
+        match string {
+            Some(text) => self.means_text(text),
+            None => matches!(self.meant, Meant::Any),
+        }
+    }
+
     fn means_part(self, part: &Part<'_>) -> bool
         ensures { result ≡ spec.means_part (spec.means self.entry) (part_view part.now) }
     {
         match part {
-            Part::Token(Kind::String, text) => self.means(text),
+            Part::Token(Kind::String, text) => self.means_text(text),
             _ => false,
         }
     }
 
-    /// One of the strings among these parts is meant.
-    pub fn means_any(self, parts: &[Part<'_>]) -> bool
+    // One of the strings among these parts is meant.
+    fn means_any(self, parts: &[Part<'_>]) -> bool
         ensures { result ≡ list_any (spec.means_part (spec.means self.entry)) (map part_view parts.now) }
     {
         parts.iter().any(|part| self.means_part(part))
+    }
+
+    /// An element may be meant that has some of these parts.
+    pub fn may_mean(self, parts: &[Part<'_>]) -> bool
+        ensures { result ≡ (spec.means self.entry Nothing
+            || list_any (spec.means_part (spec.means self.entry)) (map part_view parts.now)) }
+    {
+        self.means(None) || self.means_any(parts)
     }
 }

@@ -126,10 +126,6 @@ pub(crate) fn in_args(
         Action::Set(Setting::ToValues(attr, values)) => {
             set(alloc, attr.as_str(), values.as_slice(), args)
         }
-        Action::Move(old, new, moved) => {
-            let env = Env { alloc, home };
-            move_elements(env, old.as_str(), new.as_str(), moved, args)
-        }
         Action::Comment(commented, text) => {
             let env = Env { alloc, home };
             comment(env, commented, text.as_str(), args)

@@ -25,6 +25,7 @@ use bz_attribute_commands::rename::rename;
 use bz_attribute_commands::set_kind::set_kind;
 use bz_command::{Attributes, Commented, Setting, Text};
 use bz_list_commands::add::add;
+use bz_list_commands::moving::{Move, move_elements};
 use bz_list_commands::remove::remove;
 use bz_list_commands::replace::{Change, replace};
 use bz_memory::NoMemory;
@@ -230,6 +231,14 @@ fn edit_arguments<'a>(
                 new: value.as_str(),
             };
             replace(env, attributes, change, parts, new)
+        }
+        Action::Move(old, to, moved) => {
+            let change = Move {
+                old: old.as_str(),
+                new: to.as_str(),
+                moved,
+            };
+            move_elements(env, change, parts, new)
         }
         Action::SetIfAbsent(attr, words) => {
             set_absent(env.alloc, attr.as_str(), words.as_slice(), parts, new)

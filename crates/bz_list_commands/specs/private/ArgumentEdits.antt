@@ -28,10 +28,10 @@ abbrev pub kept : Attributes → Segment → List Segment
 kept attributes a = if goes_by attributes a then [] else a ∷ []
 
 -- strings in it go or become another
-abbrev pub edited : (List ℕ → Bool) → Option (List ℕ) → Segment → List Segment
+abbrev pub edited : (Option (List ℕ) → Bool) → Option (List ℕ) → Segment → List Segment
 edited p literal a = if is_attribute a then filtered (become_all p literal) a else a ∷ []
 
-abbrev pub is_changed : (List ℕ → Bool) → Segment → Bool
+abbrev pub is_changed : (Option (List ℕ) → Bool) → Segment → Bool
 is_changed p a = is_attribute a && changes p a
 
 abbrev pub edit_by : ArgumentEdit → Segment → List Segment
@@ -53,7 +53,7 @@ HasEditedOne f t w next nodes to name ps before out =
     (a : Segment) (others : List Segment) → drop w.at ps ≡ argument_parts a others → IsFirstArgument a nodes to name → HasEdited f t a others w next ps before out
 
 -- where it is a keyword argument
-abbrev pub HasEditedKeyword : (List ℕ → Bool) → Option (List ℕ) → Written → Written → ℕ → ℕ → Option (List ℕ) → List RowPart → List RowPart → List RowPart → Type 0
+abbrev pub HasEditedKeyword : (Option (List ℕ) → Bool) → Option (List ℕ) → Written → Written → ℕ → ℕ → Option (List ℕ) → List RowPart → List RowPart → List RowPart → Type 0
 HasEditedKeyword p literal w next nodes to name ps before out =
     (a : Segment) (others : List Segment) → drop w.at ps ≡ argument_parts a others → IsFirstArgument a nodes to name → is_attribute a ≡ true
     → HasEdited (filtered (become_all p literal)) (changes p) a others w next ps before out

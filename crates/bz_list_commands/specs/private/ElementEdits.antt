@@ -5,9 +5,8 @@ use Rattle.bz_tree.specs.declared.stmt.GroupKind.TheVariants.{List as ListKind}
 use Rattle.bz_tree.specs.Tree.{Item, Segment, items_of, segs_of}
 use Rattle.bz_tree.specs.Rows.{RowPart, a_token, opening, segment_end, items_parts, segs_parts}
 use Rattle.bz_attribute.specs.Elements.{HasNoList, IsElementOf, IsListIn, ListRest, edit_in, lists_in, rest_parts, value_parts}
-use Rattle.bz_attribute.specs.Effects.{filtered}
 use Rattle.bz_attribute.specs.Lists.{edit_parts, parts}
-use Rattle.bz_list_commands.specs.private.StringEdits.{become, become_all, changes, in_place, is_meant, passes}
+use Rattle.bz_list_commands.specs.private.StringEdits.{become, become_all, in_place, is_meant}
 use Rattle.bz_list_commands.specs.private.WrittenParts.{IsWritten}
 use Rattle.bz_list_commands.specs.declared.rewriting.Written.{Written}
 
@@ -22,21 +21,21 @@ begins_list (opening ListKind ∷ ps) = true
 begins_list _ = false
 
 -- an element that is meant is written
-pub record HasPutElement (p : List ℕ → Bool) (literal : Option (List ℕ)) (w next : Written) (token to : ℕ) (string : Option (List ℕ)) (ps before out : List RowPart) : Type 0 where
+pub record HasPutElement (p : Option (List ℕ) → Bool) (literal : Option (List ℕ)) (w next : Written) (token to : ℕ) (string : Option (List ℕ)) (ps before out : List RowPart) : Type 0 where
   pub at : next.at ≡ to
   pub changed : next.changed ≡ true
-  pub are : (list : ListRest) (after : List RowPart) (e : IsElementOf list after ps w.at token to string) → passes p string ≡ true
+  pub are : (list : ListRest) (after : List RowPart) (e : IsElementOf list after ps w.at token to string) → p string ≡ true
       → (target : List RowPart) → IsWritten w ps before target → IsWritten next ps out (target ++ segs_parts (segs_of (in_place literal e.element)))
 
 -- an element is passed or written
-pub record HasEditedElement (p : List ℕ → Bool) (literal : Option (List ℕ)) (w next : Written) (token to : ℕ) (string : Option (List ℕ)) (ps before out : List RowPart) : Type 0 where
+pub record HasEditedElement (p : Option (List ℕ) → Bool) (literal : Option (List ℕ)) (w next : Written) (token to : ℕ) (string : Option (List ℕ)) (ps before out : List RowPart) : Type 0 where
   pub at : next.at ≡ to
-  pub changed : next.changed ≡ (w.changed || passes p string)
+  pub changed : next.changed ≡ (w.changed || p string)
   pub are : (list : ListRest) (after : List RowPart) (e : IsElementOf list after ps w.at token to string)
       → (target : List RowPart) → IsWritten w ps before target → IsWritten next ps out (target ++ segs_parts (segs_of (become p literal e.element)))
 
 -- some elements of a list part were edited, and others are left
-pub record HasEditedFront (p : List ℕ → Bool) (literal : Option (List ℕ)) (list : ListRest) (after : List RowPart) (w next : Written) (ps before out : List RowPart) : Type 0 where
+pub record HasEditedFront (p : Option (List ℕ) → Bool) (literal : Option (List ℕ)) (list : ListRest) (after : List RowPart) (w next : Written) (ps before out : List RowPart) : Type 0 where
   pub front : List Segment
   pub others : List Segment
   pub are : list.elements ≡ front ++ others
@@ -45,13 +44,13 @@ pub record HasEditedFront (p : List ℕ → Bool) (literal : Option (List ℕ)) 
   pub written : (target : List RowPart) → IsWritten w ps before target → IsWritten next ps out (target ++ segs_parts (segs_of (become_all p literal front)))
 
 -- all of them
-pub record HasEditedList (p : List ℕ → Bool) (literal : Option (List ℕ)) (list : ListRest) (after : List RowPart) (w next : Written) (ps before out : List RowPart) : Type 0 where
+pub record HasEditedList (p : Option (List ℕ) → Bool) (literal : Option (List ℕ)) (list : ListRest) (after : List RowPart) (w next : Written) (ps before out : List RowPart) : Type 0 where
   pub read : drop next.at ps ≡ rest_parts (record list { elements = [] }) after
   pub changed : next.changed ≡ (w.changed || list_any (is_meant p) list.elements)
   pub written : (target : List RowPart) → IsWritten w ps before target → IsWritten next ps out (target ++ segs_parts (segs_of (become_all p literal list.elements)))
 
 -- Some list parts of a value were edited. `lag` stands before the nodes that are left, and was passed over by the walk alone.
-pub record HasEditedLists (p : List ℕ → Bool) (literal : Option (List ℕ)) (nodes : List Item) (after : List RowPart) (w next : Written) (list : Option ℕ) (ps before out : List RowPart) : Type 0 where
+pub record HasEditedLists (p : Option (List ℕ) → Bool) (literal : Option (List ℕ)) (nodes : List Item) (after : List RowPart) (w next : Written) (list : Option ℕ) (ps before out : List RowPart) : Type 0 where
   pub whole : Bool
   pub left : List Item
   pub lag : List RowPart
@@ -64,15 +63,10 @@ pub record HasEditedLists (p : List ℕ → Bool) (literal : Option (List ℕ)) 
   pub none : list ≡ None → HasNoList whole left
 
 -- all of them: the rest of the value stays
-pub record HasEditedValue (p : List ℕ → Bool) (literal : Option (List ℕ)) (nodes : List Item) (after : List RowPart) (w next : Written) (ps before out : List RowPart) : Type 0 where
+pub record HasEditedValue (p : Option (List ℕ) → Bool) (literal : Option (List ℕ)) (nodes : List Item) (after : List RowPart) (w next : Written) (ps before out : List RowPart) : Type 0 where
   pub rest : List RowPart
   pub done : List RowPart
   pub read : drop next.at ps ≡ rest ++ segment_end ∷ after
   pub changed : next.changed ≡ (w.changed || list_any (list_any (is_meant p)) (parts nodes))
   pub total : done ++ rest ≡ items_parts (items_of (edit_parts (become_all p literal) nodes))
   pub written : (target : List RowPart) → IsWritten w ps before target → IsWritten next ps out (target ++ done)
-
--- an argument was edited
-pub record HasEditedArgument (p : List ℕ → Bool) (literal : Option (List ℕ)) (a : Segment) (w next : Written) (ps before out : List RowPart) : Type 0 where
-  pub changed : next.changed ≡ (w.changed || changes p a)
-  pub written : (target : List RowPart) → IsWritten w ps before target → IsWritten next ps out (target ++ segs_parts (segs_of (filtered (become_all p literal) a)))

@@ -1,34 +1,53 @@
--- For private clauses alone: which of the elements that leave arrive, and what is there.
-use Rattle.std.specs.Prelude.{ℕ, List, [], ◌∷◌, ◌++◌, Bool, true, false, if◌then◌else◌, Option, Some, None}
-use Rattle.bz_tree.specs.Tree.{Item, Segment}
+-- For private clauses alone: which of the elements that leave arrive, and where they come to stand.
+use Rattle.std.specs.Prelude.{◌≡◌, ℕ, ◌-◌, ◌≤◌, List, [], ◌∷◌, ◌++◌, Bool, false, ◌||◌, ◌&&◌, not, if◌then◌else◌, Option, Some, None, take, drop, filter}
+use Rattle.std.specs.List.{All, flat_map}
+use Rattle.bz_tree.specs.Rows.{RowPart, segs_parts}
+use Rattle.bz_tree.specs.Tree.{Segment, segs_of}
 use Rattle.bz_command.specs.Labels.{Package}
-use Rattle.bz_attribute.specs.Effects.{argument, has, list_item}
-use Rattle.bz_attribute.specs.Lists.{edit_first_part, with_value, equals}
-use Rattle.bz_attribute.specs.Rules.{string_value, value}
-use Rattle.bz_token.specs.Common.{map_or}
-use Rattle.std.specs.List.{list_any}
-
--- for each element whether it arrives, where `there` are the elements of the new list
-abbrev pub flags : Package → List Segment → List Segment → List Bool
-flags home there [] = []
-flags home there (s ∷ ss) =
-    if map_or false (λ word. list_any (equals home word) there) (string_value s.nodes) then false ∷ flags home there ss
-    else true ∷ flags home (there ++ s ∷ []) ss
+use Rattle.bz_command.specs.LabelSetViews.{has}
+use Rattle.bz_command.specs.declared.label_set.LabelSet.{LabelSet}
+use Rattle.bz_attribute.specs.Elements.{AreLists, ListRest, elements_left, rest_parts}
+use Rattle.bz_attribute.specs.Lists.{equals}
+use Rattle.bz_attribute.specs.Move.{arrivals, joined}
+use Rattle.bz_attribute.specs.Rules.{string_value}
+use Rattle.bz_attribute.specs.declared.place.Place.{Place}
+use Rattle.bz_list_commands.specs.private.StringEdits.{is_meant}
+use Rattle.bz_list_commands.specs.declared.arrivals.Lists.{Lists}
 
 -- it is a text that passes
 abbrev pub has_value : (List ℕ → Bool) → Option (List ℕ) → Bool
 has_value p None = false
 has_value p (Some text) = p text
 
--- the value of an argument that is there
-abbrev pub value_of : Option Segment → List Item
-value_of None = []
-value_of (Some a) = value a
+-- those that arrive of some elements, where a test tells which labels are there
+abbrev pub arrivals_by : Package → (Option (List ℕ) → Bool) → (List ℕ → Bool) → List Segment → List Segment
+arrivals_by home p known [] = []
+arrivals_by home p known (s ∷ ss) =
+    (if is_meant p s && not (has_value known (string_value s.nodes)) then s ∷ [] else [])
+    ++ arrivals_by home p (λ text. (is_meant p s && equals home text s) || known text) ss
 
--- an argument with these elements at the end of its first list part
-abbrev pub with_more : List Segment → Segment → Segment
-with_more ss a = with_value (edit_first_part (λ there. there ++ ss) (value a)) a
+-- ranges of so many parts
+abbrev pub AreWithin : List Place → ℕ → Type 0
+AreWithin places n = All (λ place. (place.from ≤ place.to) × (place.to ≤ n)) places
 
--- with an empty list, where there is no such attribute
-abbrev pub with_list : List ℕ → List Segment → List Segment
-with_list attr args = if has attr args then args else args ++ argument attr (list_item [] ∷ []) ∷ []
+-- the parts that stand there
+abbrev pub parts_at : List RowPart → List Place → List RowPart
+parts_at ps places = flat_map (λ place. take (place.to - place.from) (drop place.from ps)) places
+
+-- of the elements that are left in one list, those before `at` that are meant and arrive among others stand there
+pub record IsArriving (home : Package) (p : Option (List ℕ) → Bool) (l : ListRest) (others : List Segment) (after ps : List RowPart) (at : ℕ) (set : LabelSet) (places : List Place) : Type 0 where
+  pub left : ListRest
+  pub made : List Segment
+  pub read : drop at ps ≡ rest_parts left after
+  pub parts : parts_at ps places ≡ segs_parts (segs_of made)
+  pub arrived : made ++ arrivals_by home p (has set) (elements_left left) ≡ arrivals home others (filter (is_meant p) (elements_left l))
+
+abbrev pub AreArriving : Package → (Option (List ℕ) → Bool) → Lists → List RowPart → ℕ → LabelSet → List Place → Type 0
+AreArriving home p at ps k set places =
+    (l : ListRest) (after : List RowPart) (lists : List (List Segment)) → drop at.from ps ≡ rest_parts l after → AreLists ps at.to lists → IsArriving home p l (joined lists) after ps k set places
+
+-- all of them
+abbrev pub HaveArrivals : Package → (Option (List ℕ) → Bool) → Lists → List RowPart → List Place → Type 0
+HaveArrivals home p at ps places =
+    (l : ListRest) (after : List RowPart) (lists : List (List Segment)) → drop at.from ps ≡ rest_parts l after → AreLists ps at.to lists
+    → parts_at ps places ≡ segs_parts (segs_of (arrivals home (joined lists) (filter (is_meant p) (elements_left l))))

@@ -25,14 +25,14 @@ pub record IsPlaceEdit (f : Segment → List Segment) (t : Segment → Bool) (pl
   pub done : (args : List Segment) → AreThere place ps args → e.done ≡ done None (list_any t args)
 
 -- strings in the first argument of a name, or in all
-abbrev pub edited_in : (List ℕ → Bool) → Option (List ℕ) → Attributes → List Segment → List Segment
+abbrev pub edited_in : (Option (List ℕ) → Bool) → Option (List ℕ) → Attributes → List Segment → List Segment
 edited_in p literal Every args = flat_map (edited p literal) args
 edited_in p literal (Named attr) args = edit_first (is_named attr) (filtered (become_all p literal)) args
 
-abbrev pub changes_first : (List ℕ → Bool) → Option Segment → Bool
+abbrev pub changes_first : (Option (List ℕ) → Bool) → Option Segment → Bool
 changes_first p None = false
 changes_first p (Some a) = changes p a
 
-abbrev pub changes_in : (List ℕ → Bool) → Attributes → List Segment → Bool
+abbrev pub changes_in : (Option (List ℕ) → Bool) → Attributes → List Segment → Bool
 changes_in p Every args = list_any (is_changed p) args
 changes_in p (Named attr) args = changes_first p (first_named attr args)

@@ -9,7 +9,7 @@ use Rattle.bz_command.specs.declared.arguments.Attributes.TheVariants.{Named}
 use Rattle.bz_command.specs.declared.arguments.Commented.TheVariants.{Attribute, Rule as Above, Value}
 use Rattle.bz_command.specs.declared.arguments.Setting.TheVariants.{ToKind, ToValues}
 use Rattle.bz_rule.specs.Commands.{Command, args_after, args_done, done_of}
-use Rattle.bz_rule.specs.declared.command.Action.TheVariants.{Add, Comment, Delete, Move, Print, Remove, Rename, Replace, Set, SetIfAbsent}
+use Rattle.bz_rule.specs.declared.command.Action.TheVariants.{Add, Comment, Delete, Print, Remove, Rename, Replace, Set, SetIfAbsent}
 use Rattle.bz_attribute.specs.Comment.{comment_rule}
 use Rattle.bz_attribute.specs.Effects.{with_args}
 use Rattle.bz_attribute.specs.Heads.{HasHead}
@@ -75,7 +75,6 @@ edits_arguments c = is_edit c
 -- some of them by a tree
 abbrev pub takes_tree : Command → Bool
 takes_tree (Set (ToValues attr words)) = true
-takes_tree (Move old new chosen) = true
 takes_tree (Comment (Attribute attr) text) = true
 takes_tree (Comment (Value attr value) text) = true
 takes_tree _ = false

@@ -11,14 +11,14 @@ loop-element-init c = record {
 
 pub returns-then-is_word : goal.returns-then-is_word
 returns-then-is_word c =
-    sought_found c.args.home.now c.args.word.now (map part_view c.args.parts.now) c.args.from c.loop-element.at c.in-Some.element.to _ c.loop-element.invariant.sought c.in-Some.ensures.some
+    sought_found c.args.home.now c.args.word.now (map part_view c.args.parts.now) c.args.from c.loop-element.at c.in-Some.element.from c.in-Some.element.to _ c.loop-element.invariant.sought c.in-Some.ensures.some
     (sym c.if-is_word.true ∙ c.is_word.ensures)
 
 pub loop-element-preserved : goal.loop-element-preserved
 loop-element-preserved c = record {
   within = search rules;
   sought =
-      sought_more c.args.home.now c.args.word.now (map part_view c.args.parts.now) c.args.from c.loop-element.at c.in-Some.element.to _ c.loop-element.invariant.sought c.in-Some.ensures.some
+      sought_more c.args.home.now c.args.word.now (map part_view c.args.parts.now) c.args.from c.loop-element.at c.in-Some.element.from c.in-Some.element.to _ c.loop-element.invariant.sought c.in-Some.ensures.some
       (sym c.if-is_word.false ∙ c.is_word.ensures);
 }
 

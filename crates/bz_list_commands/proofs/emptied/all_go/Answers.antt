@@ -28,10 +28,10 @@ loop-element-init c = record {
   left = λ nodes suffix read. none_gone (means c.args.edit) nodes (beside_part suffix) (map part_view c.args.parts.now) c.args.value read (sym (c.begins_list.ensures ∙ ap begins_list (rest_seen c.args.parts.now c.args.value)) ∙ c.if-not-begins_list.false);
 }
 
-pub returns-then-not-is_meant : goal.returns-then-not-is_meant
-returns-then-not-is_meant c nodes suffix read =
+pub returns-then-not-means : goal.returns-then-not-means
+returns-then-not-means c nodes suffix read =
     let g = c.loop-element.invariant.left nodes suffix read in
-    sym (one_stays (means c.args.edit) nodes (beside_part suffix) (map part_view c.args.parts.now) _ c.loop-element.at _ _ _ g (c.in-Some.ensures.some (record g.list { elements = g.others }) (beside_part suffix) g.read) (sym c.is_meant.ensures ∙ c.if-not-is_meant.true))
+    sym (one_stays (means c.args.edit) nodes (beside_part suffix) (map part_view c.args.parts.now) _ c.loop-element.at _ _ _ g (c.in-Some.ensures.some (record g.list { elements = g.others }) (beside_part suffix) g.read) (sym c.means.ensures ∙ c.if-not-means.true))
 
 pub loop-element-preserved : goal.loop-element-preserved
 loop-element-preserved c = record {
@@ -39,7 +39,7 @@ loop-element-preserved c = record {
   within = c.in-Some.ensures.within.1.1;
   left = λ nodes suffix read.
       let g = c.loop-element.invariant.left nodes suffix read in
-      one_gone (means c.args.edit) nodes (beside_part suffix) (map part_view c.args.parts.now) _ c.loop-element.at _ _ _ g (c.in-Some.ensures.some (record g.list { elements = g.others }) (beside_part suffix) g.read) (sym c.is_meant.ensures ∙ c.if-not-is_meant.false)
+      one_gone (means c.args.edit) nodes (beside_part suffix) (map part_view c.args.parts.now) _ c.loop-element.at _ _ _ g (c.in-Some.ensures.some (record g.list { elements = g.others }) (beside_part suffix) g.read) (sym c.means.ensures ∙ c.if-not-means.false)
       (omega (arith, c.loop-element.invariant.order, c.in-Some.ensures.within.0, c.in-Some.ensures.within.1.0));
 }
 

@@ -10,5 +10,8 @@ returns-in-Remove c = rw (sym c.command.view_is, c.in-Remove.is) (rw (c.as_slice
 pub returns-in-Replace : goal.returns-in-Replace
 returns-in-Replace c = rw (sym c.command.view_is, c.in-Replace.is) (rw (c.as_str-in-Replace.ensures, c.as_str-in-Replace-2.ensures) at c.replace.ensures)
 
+pub returns-in-Move : goal.returns-in-Move
+returns-in-Move c = rw (sym c.command.view_is, c.in-Move.is) (rw (c.as_str-in-Move.ensures, c.as_str-in-Move-2.ensures) at c.move_elements.ensures)
+
 pub returns-in-SetIfAbsent : goal.returns-in-SetIfAbsent
 returns-in-SetIfAbsent c = rw (sym c.command.view_is, c.in-SetIfAbsent.is) (rw (c.as_str-in-SetIfAbsent.ensures, c.as_slice-in-SetIfAbsent.ensures) at c.set_absent.ensures)
