@@ -47,6 +47,8 @@ abbrev pub moves : Package → List ℕ → Moved → List Segment → Bool
 moves home old chosen args = map_or false (chooses home chosen) (first_named old args)
 
 -- nothing is moved where no element is chosen
+abbrev pub moved_where : Package → List ℕ → List ℕ → Moved → List Segment → List Segment
+moved_where home old new chosen args = if moves home old chosen args then moved home old new chosen args else args
+
 abbrev pub move : Package → List ℕ → List ℕ → Moved → List Segment → List Segment
-move home old new chosen args =
-    if is_some (move_note old new args) then args else (if moves home old chosen args then moved home old new chosen args else args)
+move home old new chosen args = if is_some (move_note old new args) then args else moved_where home old new chosen args

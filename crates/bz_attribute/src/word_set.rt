@@ -3,8 +3,7 @@
 ghost use Rattle.std.specs.Prelude.{◌≡◌, ℕ, List, IfOk, IsTrue, false};
 ghost use Rattle.std.specs.List.{list_any};
 ghost use Rattle.std.proofs.Props.{props};
-ghost use Rattle.bz_tree.specs.View.{seg_view};
-ghost use Rattle.bz_attribute.specs.Lists.{same, equals, same_value};
+ghost use Rattle.bz_attribute.specs.Lists.{same};
 ghost use Rattle.bz_command.specs.LabelSetViews.{holds};
 ghost use Rattle.bz_command.specs.Values as values;
 ghost use Rattle.bz_command.specs.private.ByteSteps.{left, is_good};
@@ -12,8 +11,6 @@ ghost use Rattle.bz_token.specs.Common.{map_or};
 
 use bz_command::{Bytes, Package, SortedLabels, Text, same_label, value_of};
 use bz_memory::NoMemory;
-use bz_tree::Seg;
-use std::alloc::Global;
 use std::alloc::Global;
 
 /// Words, and the labels that they are in a package: sorted once, so that an element is looked up.
@@ -26,7 +23,11 @@ pub struct WordSet<'a> {
 
 impl<'a> WordSet<'a> {
     /// No words take no memory.
-    pub fn new(alloc: Global, home: &'a Package, words: &'a [Text]) -> Result<WordSet<'a>, NoMemory>
+    pub fn new(
+        alloc: Global,
+        home: &'a Package,
+        words: &'a [Text],
+    ) -> Result<WordSet<'a>, NoMemory>
         ensures { IfOk result (λ set. set.words.now ≡ words.now) }
     {
         let labels = SortedLabels::new(alloc, home, words)?;

@@ -10,7 +10,7 @@ use Rattle.bz_command.specs.Labels.{Package}
 use Rattle.bz_command.specs.LabelSetViews.{Gains, has as holds_label}
 use Rattle.bz_command.specs.declared.label_set.LabelSet.{LabelSet}
 use Rattle.bz_attribute.specs.Add.{add, adds, fresh, is_fresh, new_elements, with_added}
-use Rattle.bz_attribute.specs.Effects.{argument, done, edit_first, has, list_item, not_a_list, string, with_args, failed, is_nil, no_parts}
+use Rattle.bz_attribute.specs.Effects.{argument, done, edit_first, has, list_item, not_a_list, string, with_args}
 use Rattle.bz_attribute.specs.Elements.{AreElementsTo, AreLists, IsListIn, IsValueAt, value_parts}
 use Rattle.bz_attribute.specs.Lists.{edit_first_part, parts, same, with_value}
 use Rattle.bz_attribute.specs.RowEdits.{replaced_at}
@@ -125,7 +125,7 @@ pub added_there : (home : Package) (attr : List ℕ) (values : List (List ℕ)) 
     → AreElementsTo l.list ps list end → new ≡ segs_parts (segs_of (new_elements home (parts (value v.arg)) values)) → replaced_at (record { from = end; to = end }) new ps ≡ parts_of (with_args (add home attr values) s)
 added_there home attr values s r ps new place list end h v l e written =
     let edit : Segment → List Segment = λ a. with_added home values a ∷ [] in
-    let some : no_parts (parts (value v.arg)) ≡ false = ap no_parts l.lists in
+    let some : is_empty (parts (value v.arg)) ≡ false = ap is_empty l.lists in
     put_there attr edit (add home attr values) (new_elements home (parts (value v.arg)) values) s r ps new place list end h v l e (rw some refl) (λ there. rw there refl) written
 
 pub lists_there : (ps : List RowPart) (nodes : List Item) (after : List RowPart) (place list : ℕ) → IsListIn true nodes after ps place list → AreLists ps (Some list) (parts nodes)

@@ -1,5 +1,5 @@
 -- Elements that arrive, told by a set of labels.
-use Rattle.std.proofs.Common.{◌≡◌, ℕ, ◌+◌, ◌-◌, ◌<◌, length, get_or, List, [], ◌∷◌, ◌++◌, Bool, true, false, not, ◌||◌, ◌&&◌, Option, None, Some, map, take, drop, refl, ap, sym, ◌∙◌, append_assoc, append-nil, cond, if◌then◌else◌, inl, inr, bytes_eq}
+use Rattle.std.proofs.Common.{◌≡◌, ℕ, ◌+◌, ◌-◌, ◌<◌, length, get_or, List, [], ◌∷◌, ◌++◌, Bool, true, false, not, ◌||◌, ◌&&◌, Option, None, Some, map, take, drop, refl, ap, sym, ◌∙◌, append_assoc, append-nil, cond, if◌then◌else◌, inl, inr, bytes_eq, option_and_then}
 use Rattle.std.specs.Prelude.{filter}
 use Rattle.std.specs.List.{list_any}
 use Rattle.std.proofs.lemmas.Bool.{cases_Bool}
@@ -13,12 +13,12 @@ use Rattle.bz_tree.specs.Tree.{Segment, segs_of}
 use Rattle.bz_command.specs.Labels.{Package}
 use Rattle.bz_command.specs.declared.arguments.Moved.{Moved}
 use Rattle.bz_command.specs.declared.arguments.Moved.TheVariants.{Values, All}
-use Rattle.bz_attribute.specs.Rules.{elements, is_named, is_text, name_of, first_named, string_value, value, value_in}
-use Rattle.bz_attribute.specs.Lists.{with_value, parts, parts_from, is_part, is_plus, is_joint, edit_list, edit_one_from, edit_first_part, edit_parts, equals, same, same_value}
+use Rattle.bz_attribute.specs.Rules.{elements, is_named, is_text, name_of, first_named, string_value, value}
+use Rattle.bz_attribute.specs.Lists.{with_value, parts, parts_from, is_part, is_plus, is_joint, edit_list, edit_one_from, edit_first_part, edit_parts, equals, same}
 use Rattle.bz_attribute.specs.Effects.{has, edit_first, filtered, unchosen, is_chosen, loses_all, argument, list_item, chooses}
 use Rattle.bz_attribute.specs.private.ChosenViews.{words_of}
 use Rattle.bz_attribute.specs.private.Places.{IsFirst, first_length, first_list}
-use Rattle.bz_attribute.specs.Move.{arrivals, elements_of, joined, moved, is_among}
+use Rattle.bz_attribute.specs.Move.{arrivals, elements_of, joined, moved}
 use Rattle.bz_attribute.proofs.LabelSets.{or_false}
 use Rattle.bz_list_commands.specs.private.MoveSteps.{value_of, with_list, with_more, AreArriving, HaveArrivals, arrivals_by, has_value, parts_at}
 use Rattle.bz_list_commands.proofs.Leaving.{swapped_front, swapped_rest}
@@ -38,11 +38,11 @@ use Rattle.bz_list_commands.specs.private.StringEdits.{is_meant}
 abbrev Knows : Package → (List ℕ → Bool) → List Segment → Type 0
 Knows home known there = (text : List ℕ) → known text ≡ list_any (equals home text) there
 
-told_value : (home : Package) (known : List ℕ → Bool) (there : List Segment) (o : Option (List ℕ)) → Knows home known there → has_value known o ≡ is_among home there o
+told_value : (home : Package) (known : List ℕ → Bool) (there : List Segment) (o : Option (List ℕ)) → Knows home known there → has_value known o ≡ map_or false (λ word. list_any (equals home word) there) o
 told_value home known there None h = refl
 told_value home known there (Some text) h = h text
 
-same_for : (home : Package) (text word : List ℕ) (o : Option (List ℕ)) → same home word text ≡ true → same_value home text o ≡ same_value home word o
+same_for : (home : Package) (text word : List ℕ) (o : Option (List ℕ)) → same home word text ≡ true → map_or false (λ value. same home value text) o ≡ map_or false (λ value. same home value word) o
 same_for home text word None is = refl
 same_for home text word (Some value) is = ap (λ (label : List ℕ). bytes_eq (completed home value) label) (sym (same_bytes (completed home word) (completed home text) is))
 
@@ -50,8 +50,8 @@ any_same_for : (home : Package) (text word : List ℕ) (there : List Segment) �
 any_same_for home text word there is = λ j. list_any (λ (s : Segment). same_for home text word (string_value s.nodes) is j) there
 
 -- a label that is there already
-told_again : (home : Package) (known : List ℕ → Bool) (there : List Segment) (o : Option (List ℕ)) → Knows home known there → is_among home there o ≡ true
-    → (text : List ℕ) → (same_value home text o || known text) ≡ list_any (equals home text) there
+told_again : (home : Package) (known : List ℕ → Bool) (there : List Segment) (o : Option (List ℕ)) → Knows home known there → map_or false (λ word. list_any (equals home word) there) o ≡ true
+    → (text : List ℕ) → (map_or false (λ value. same home value text) o || known text) ≡ list_any (equals home text) there
 told_again home known there None h among text = absurd cc
 told_again home known there (Some word) h among text = elim (cases_Bool (same home word text)) [
   | inl is ↦ ap (λ (b : Bool). b || known text) is ∙ sym (any_same_for home text word there is ∙ among)
@@ -79,11 +79,11 @@ pub told : (home : Package) (p : Option (List ℕ) → Bool) (known : List ℕ �
 told home p known there [] h = refl
 told home p known there (s ∷ ss) h =
     let text : Option (List ℕ) = string_value s.nodes in
-    let value : has_value known text ≡ is_among home there text = told_value home known there text h in
+    let value : has_value known text ≡ map_or false (λ word. list_any (equals home word) there) text = told_value home known there text h in
     elim (cases_Bool (is_meant p s)) [
       | inr other ↦
           (λ j. one_by home p known s ss (other j) (has_value known text)) ∙ told home p known there ss h ∙ ap (λ (b : Bool). arrivals home there (cond b (s ∷ filter (is_meant p) ss) (filter (is_meant p) ss))) (sym other)
-      | inl is ↦ elim (cases_Bool (is_among home there text)) [
+      | inl is ↦ elim (cases_Bool (map_or false (λ word. list_any (equals home word) there) text)) [
         | inl among ↦
             (λ j. one_by home p known s ss (is j) ((value ∙ among) j)) ∙ told home p (λ text. equals home text s || known text) there ss (told_again home known there text h among)
             ∙ ap (λ (b : Bool). if b then arrivals home there (filter (is_meant p) ss) else s ∷ arrivals home (there ++ s ∷ []) (filter (is_meant p) ss)) (sym among)
@@ -121,18 +121,18 @@ abbrev pub one_place : Bool → Place → List Place
 one_place b place = if b then place ∷ [] else []
 
 pub one_arrived : (home : Package) (p : Option (List ℕ) → Bool) (at : Lists) (ps : List RowPart) (k from to : ℕ) (string : Option (List ℕ)) (old new : LabelSet) (places more : List Place) (b : Bool) → AreArriving home p at ps k old places → HasNext ps k from to string
-    → b ≡ (p string && not (has_value (has old) (value_in string))) → old.home.now ≡ home → ((text : List ℕ) → has new text ≡ ((p string && same_value old.home.now text (value_in string)) || has old text))
+    → b ≡ (p string && not (has_value (has old) (option_and_then value_of string))) → old.home.now ≡ home → ((text : List ℕ) → has new text ≡ ((p string && map_or false (λ value. same old.home.now value text) (option_and_then value_of string)) || has old text))
     → more ≡ places ++ one_place b (record { from = from; to = to }) → AreArriving home p at ps to new more
 one_arrived home p at ps k from to string old new places more b so_far next arrives of gains written = λ l rest lists read are.
     let h = so_far l rest lists read are in
     let n = next h.left rest h.read in
     let s : Segment = n.element in
-    let arrives_s : b ≡ (is_meant p s && not (has_value (has old) (string_value s.nodes))) = arrives ∙ (λ i. p (n.text i) && not (has_value (has old) (value_in (n.text i)))) in
+    let arrives_s : b ≡ (is_meant p s && not (has_value (has old) (string_value s.nodes))) = arrives ∙ (λ i. p (n.text i) && not (has_value (has old) (option_and_then value_of (n.text i)))) in
     let one : List Segment = if b then s ∷ [] else [] in
     let own : parts_at ps (one_place b (record { from = from; to = to })) ≡ segs_parts (segs_of (if b then s ∷ [] else [])) =
     elim b as (λ c. parts_at ps (one_place c (record { from = from; to = to })) ≡ segs_parts (segs_of (if c then s ∷ [] else []))) [ true ↦ append-nil (take (to - from) (drop from ps)) ∙ n.own | false ↦ refl ] in
     let later : arrivals_by home p (has new) (elements_left n.left) ≡ arrivals_by home p (λ text. (is_meant p s && equals home text s) || has old text) (elements_left n.left) =
-    (λ i. arrivals_by home p (λ text. (gains text ∙ (λ j. (p (n.text j) && same_value (of j) text (value_in (n.text j))) || has old text)) i) (elements_left n.left)) in
+    (λ i. arrivals_by home p (λ text. (gains text ∙ (λ j. (p (n.text j) && map_or false (λ value. same (of j) value text) (option_and_then value_of (n.text j))) || has old text)) i) (elements_left n.left)) in
     record {
       left = n.left;
       made = h.made ++ one;

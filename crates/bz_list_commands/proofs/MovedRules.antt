@@ -6,10 +6,10 @@ use Rattle.bz_tree.specs.Rows.{RowPart, parts_of, segs_parts}
 use Rattle.bz_tree.specs.Tree.{Item, Segment, Statement, segs_of}
 use Rattle.bz_command.specs.Labels.{Package}
 use Rattle.bz_command.specs.declared.arguments.Moved.{Moved}
-use Rattle.bz_attribute.specs.Effects.{done, edit_first, failed, filtered, first_note, has, is_chosen, no_parts, not_a_list, with_args}
+use Rattle.bz_attribute.specs.Effects.{done, edit_first, filtered, has, is_chosen, not_a_list, with_args}
 use Rattle.bz_attribute.specs.Elements.{AreLists, elements_left}
 use Rattle.bz_attribute.specs.Lists.{edit_first_part, edit_list, edit_one_from, is_joint, is_part, is_plus, parts, parts_from, with_value}
-use Rattle.bz_attribute.specs.Move.{arrivals, chosen_of, elements_of, joined, move, move_note, moved, moved_where, moves, put_in}
+use Rattle.bz_attribute.specs.Move.{arrivals, elements_of, joined, move, move_note, moved, moves, put_in}
 use Rattle.bz_attribute.specs.RowEdits.{IsRowEdit, replaced_at}
 use Rattle.bz_attribute.specs.RowPlaces.{IsRuleRow}
 use Rattle.bz_attribute.specs.Rules.{Rule, elements, first_named, is_named, value}
@@ -28,6 +28,8 @@ use Rattle.bz_list_commands.specs.private.PlaceEdits.{changes_first}
 use Rattle.bz_list_commands.specs.private.StringEdits.{become_all, is_meant}
 use Rattle.bz_list_commands.proofs.Meanings.{left_unchosen, told_first}
 use Rattle.bz_list_commands.proofs.Named.{is_there}
+use Rattle.bz_token.specs.Common.{is_empty}
+use Rattle.std.specs.Option.{option_or}
 
 -- no list part: nothing is edited
 one_stays : (f : List Segment → List Segment) (start : Bool) (xs : List Item) → parts_from start xs ≡ [] → edit_one_from f start xs ≡ xs
@@ -68,7 +70,7 @@ of_target name s r ps (Some from) l = record {
 
 -- the elements that arrive
 abbrev arriving : Package → List ℕ → List ℕ → Moved → Rule → List Segment
-arriving home old new chosen r = arrivals home (elements_of (first_named new r.args)) (chosen_of home chosen (first_named old r.args))
+arriving home old new chosen r = arrivals home (elements_of (first_named new r.args)) (filter (is_chosen home chosen) (elements_of (first_named old r.args)))
 
 arrived : (home : Package) (old new : List ℕ) (chosen : Moved) (p : Option (List ℕ) → Bool) (at : Lists) (s : Statement) (r : Rule) (ps : List RowPart) (places : List Place) → is_meant p ≡ is_chosen home chosen
     → IsListAt old s r ps at.from → IsTarget new s r ps at.to → HaveArrivals home p at ps places → parts_at ps places ≡ segs_parts (segs_of (arriving home old new chosen r))
@@ -92,60 +94,60 @@ tells : (home : Package) (old : List ℕ) (chosen : Moved) (p : Option (List ℕ
 tells home old chosen p s r ps one gone b same edit is h = sym (told_first home chosen p (first_named old r.args) same) ∙ sym (ap (λ (d : Done). d.changed) (edit.done s r h)) ∙ is
 
 pub not_moved : (home : Package) (old new : List ℕ) (chosen : Moved) (p : Option (List ℕ) → Bool) (ps one : List RowPart) (gone e : Edit) → is_meant p ≡ is_chosen home chosen → IsRowEdit (gone_from old p) (told_gone old p) ps one gone → gone.done.changed ≡ false
-    → e ≡ record { done = done None false; place = record { from = 0; to = 0 } } → IsRowEdit (moved_where home old new chosen) (λ args. done None (moves home old chosen args)) ps one e
+    → e ≡ record { done = done None false; place = record { from = 0; to = 0 } } → IsRowEdit (λ x0. if moves home old chosen x0 then moved home old new chosen x0 else x0) (λ args. done None (moves home old chosen args)) ps one e
 not_moved home old new chosen p ps one gone e same edit quiet is = unchanged _ _ ps one (done None false) e is refl (λ s r h. ap (done None) (sym (tells home old chosen p s r ps one gone false same edit quiet h)))
 
 pub has_moved : (home : Package) (old new : List ℕ) (chosen : Moved) (p : Option (List ℕ) → Bool) (at : Lists) (ps one left out : List RowPart) (places : List Place) (gone e : Edit) → is_meant p ≡ is_chosen home chosen
     → IsRowEdit (gone_from old p) (told_gone old p) ps one gone → gone.done.changed ≡ true → left ≡ replaced_at gone.place one ps
     → ((s : Statement) (r : Rule) → IsRuleRow s r ps → IsListAt old s r ps at.from) → ((s : Statement) (r : Rule) → IsRuleRow s r ps → IsTarget new s r ps at.to) → HaveArrivals home p at ps places
     → ((ss : List Segment) (s : Statement) (r : Rule) → parts_at ps places ≡ segs_parts (segs_of ss) → IsRuleRow s r left → out ≡ parts_of (with_args (put_in new ss) s))
-    → e ≡ record { done = done None true; place = record { from = 0; to = length ps } } → IsRowEdit (moved_where home old new chosen) (λ args. done None (moves home old chosen args)) ps out e
+    → e ≡ record { done = done None true; place = record { from = 0; to = length ps } } → IsRowEdit (λ x0. if moves home old chosen x0 then moved home old new chosen x0 else x0) (λ args. done None (moves home old chosen args)) ps out e
 has_moved home old new chosen p at ps one left out places gone e same edit some left_is from to have put is =
     changed _ _ ps out (record { from = 0; to = length ps }) e is (omega arith, omega arith)
     (λ s r h.
     let ss : List Segment = arriving home old new chosen r in
     let go : List Segment → List Segment = gone_from old p in
-    let edits : put_in new ss (go r.args) ≡ moved_where home old new chosen r.args =
+    let edits : put_in new ss (go r.args) ≡ (if moves home old chosen r.args then moved home old new chosen r.args else r.args) =
     (λ i. put_in new ss (edit_first (is_named old) (filtered (left_unchosen home chosen p same i)) r.args))
     ∙ sym (ap (λ (b : Bool). if b then moved home old new chosen r.args else r.args) (tells home old chosen p s r ps one gone true same edit some h)) in
     whole ps out
     ∙ put ss (with_args go s) (rule_with go r) (arrived home old new chosen p at s r ps places same (from s r h) (to s r h) have) (row_after go s r ps left h (left_is ∙ edit.parts s r h some))
-    ∙ ap parts_of (with_args_twice (put_in new ss) go s ∙ with_args_at (λ args. put_in new ss (go args)) (moved_where home old new chosen) s r h.rule edits))
+    ∙ ap parts_of (with_args_twice (put_in new ss) go s ∙ with_args_at (λ args. put_in new ss (go args)) (λ x0. if moves home old chosen x0 then moved home old new chosen x0 else x0) s r h.rule edits))
     (λ s r h. ap (done None) (sym (tells home old chosen p s r ps one gone true same edit some h)))
 
 -- why nothing is moved
-pub no_attribute : (old new : List ℕ) (args : List Segment) (b : Bool) → has old args ≡ false → failed (NoAttribute old) ≡ done (move_note old new args) b
+pub no_attribute : (old new : List ℕ) (args : List Segment) (b : Bool) → has old args ≡ false → done (Some (NoAttribute old)) false ≡ done (move_note old new args) b
 no_attribute old new args b none =
-    sym (ap (λ (c : Bool). done (first_note (if c then None else Some (NoAttribute old)) (first_note (not_a_list old (first_named old args)) (not_a_list new (first_named new args)))) b) none)
+    sym (ap (λ (c : Bool). done (option_or (if c then None else Some (NoAttribute old)) (option_or (not_a_list old (first_named old args)) (not_a_list new (first_named new args)))) b) none)
 
-has_argument : (old new : List ℕ) (args : List Segment) (a : Segment) → first_named old args ≡ Some a → move_note old new args ≡ first_note (not_a_list old (Some a)) (not_a_list new (first_named new args))
+has_argument : (old new : List ℕ) (args : List Segment) (a : Segment) → first_named old args ≡ Some a → move_note old new args ≡ option_or (not_a_list old (Some a)) (not_a_list new (first_named new args))
 has_argument old new args a first =
-    ap (λ (c : Bool). first_note (if c then None else Some (NoAttribute old)) (first_note (not_a_list old (first_named old args)) (not_a_list new (first_named new args)))) (is_there old args a first)
-    ∙ ap (λ (o : Option Segment). first_note (not_a_list old o) (not_a_list new (first_named new args))) first
+    ap (λ (c : Bool). option_or (if c then None else Some (NoAttribute old)) (option_or (not_a_list old (first_named old args)) (not_a_list new (first_named new args)))) (is_there old args a first)
+    ∙ ap (λ (o : Option Segment). option_or (not_a_list old o) (not_a_list new (first_named new args))) first
 
-pub no_list_to_leave : (old new : List ℕ) (s : Statement) (r : Rule) (ps : List RowPart) (b : Bool) → HasNoListPart old s r ps → failed (NotAList old) ≡ done (move_note old new r.args) b
+pub no_list_to_leave : (old new : List ℕ) (s : Statement) (r : Rule) (ps : List RowPart) (b : Bool) → HasNoListPart old s r ps → done (Some (NotAList old)) false ≡ done (move_note old new r.args) b
 no_list_to_leave old new s r ps b lack =
     sym (ap (λ (n : Option Note). done n b) (has_argument old new r.args lack.there.arg lack.there.first
-    ∙ ap (λ (c : Bool). first_note (if c then Some (NotAList old) else None) (not_a_list new (first_named new r.args))) (ap no_parts lack.none)))
+    ∙ ap (λ (c : Bool). option_or (if c then Some (NotAList old) else None) (not_a_list new (first_named new r.args))) (ap is_empty lack.none)))
 
 has_list : (old new : List ℕ) (s : Statement) (r : Rule) (ps : List RowPart) (from : ℕ) → IsListAt old s r ps from → move_note old new r.args ≡ not_a_list new (first_named new r.args)
 has_list old new s r ps from l =
-    has_argument old new r.args l.there.arg l.there.first ∙ ap (λ (c : Bool). first_note (if c then Some (NotAList old) else None) (not_a_list new (first_named new r.args))) (ap no_parts l.list.lists)
+    has_argument old new r.args l.there.arg l.there.first ∙ ap (λ (c : Bool). option_or (if c then Some (NotAList old) else None) (not_a_list new (first_named new r.args))) (ap is_empty l.list.lists)
 
-pub no_list_to_come : (old new : List ℕ) (s : Statement) (r : Rule) (ps : List RowPart) (from : ℕ) (b : Bool) → IsListAt old s r ps from → HasNoListPart new s r ps → failed (NotAList new) ≡ done (move_note old new r.args) b
+pub no_list_to_come : (old new : List ℕ) (s : Statement) (r : Rule) (ps : List RowPart) (from : ℕ) (b : Bool) → IsListAt old s r ps from → HasNoListPart new s r ps → done (Some (NotAList new)) false ≡ done (move_note old new r.args) b
 no_list_to_come old new s r ps from b l lack =
-    sym (ap (λ (n : Option Note). done n b) (has_list old new s r ps from l ∙ ap (not_a_list new) lack.there.first ∙ ap (λ (c : Bool). if c then Some (NotAList new) else None) (ap no_parts lack.none)))
+    sym (ap (λ (n : Option Note). done n b) (has_list old new s r ps from l ∙ ap (not_a_list new) lack.there.first ∙ ap (λ (c : Bool). if c then Some (NotAList new) else None) (ap is_empty lack.none)))
 
 pub no_note : (old new : List ℕ) (s : Statement) (r : Rule) (ps : List RowPart) (from : ℕ) (to : Option ℕ) → IsListAt old s r ps from → IsTarget new s r ps to → move_note old new r.args ≡ None
 no_note old new s r ps from None l none = has_list old new s r ps from l ∙ ap (not_a_list new) (none_first new r.args none)
-no_note old new s r ps from (Some to) l there = has_list old new s r ps from l ∙ ap (not_a_list new) there.there.first ∙ ap (λ (c : Bool). if c then Some (NotAList new) else None) (ap no_parts there.list.lists)
+no_note old new s r ps from (Some to) l there = has_list old new s r ps from l ∙ ap (not_a_list new) there.there.first ∙ ap (λ (c : Bool). if c then Some (NotAList new) else None) (ap is_empty there.list.lists)
 
 pub with_no_note : (home : Package) (old new : List ℕ) (chosen : Moved) (ps out : List RowPart) (e : Edit) → ((s : Statement) (r : Rule) → IsRuleRow s r ps → move_note old new r.args ≡ None)
-    → IsRowEdit (moved_where home old new chosen) (λ args. done None (moves home old chosen args)) ps out e → IsRowEdit (move home old new chosen) (λ args. done (move_note old new args) (moves home old chosen args)) ps out e
+    → IsRowEdit (λ x0. if moves home old chosen x0 then moved home old new chosen x0 else x0) (λ args. done None (moves home old chosen args)) ps out e → IsRowEdit (move home old new chosen) (λ args. done (move_note old new args) (moves home old chosen args)) ps out e
 with_no_note home old new chosen ps out e none h = record {
   within = h.within;
   parts = λ s r row c.
       h.parts s r row c
-      ∙ ap parts_of (with_args_at (moved_where home old new chosen) (move home old new chosen) s r row.rule (sym (ap (λ (n : Option Note). if is_some n then r.args else moved_where home old new chosen r.args) (none s r row))));
+      ∙ ap parts_of (with_args_at (λ x0. if moves home old chosen x0 then moved home old new chosen x0 else x0) (move home old new chosen) s r row.rule (sym (ap (λ (n : Option Note). if is_some n then r.args else if moves home old chosen r.args then moved home old new chosen r.args else r.args) (none s r row))));
   done = λ s r row. h.done s r row ∙ sym (ap (λ (n : Option Note). done n (moves home old chosen r.args)) (none s r row));
 }

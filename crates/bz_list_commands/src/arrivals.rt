@@ -1,25 +1,18 @@
 //! Of the elements that leave a list, those that arrive in another: no string arrives that is there already.
 
-ghost use Rattle.std.specs.Prelude.{◌≡◌, ◌≤◌, ◌++◌, take, not, IfOk, OnOk, false, ◌||◌, ◌&&◌, ℕ, List, map, length, option_map, IfSome};
-ghost use Rattle.std.specs.Vec.{vec_len, vec_capacity};
-ghost use Rattle.bz_tree.specs.View.{nodes_view, seg_view, segs_view};
-ghost use Rattle.bz_attribute.specs.Rules as rules;
-ghost use Rattle.bz_attribute.specs.Lists.{equals, parts, same_value};
-ghost use Rattle.bz_command.specs.LabelSetViews.{Gains, has};
-ghost use Rattle.bz_attribute.specs.Lists as lists;
-ghost use Rattle.bz_attribute.specs.Move as spec;
-ghost use Rattle.bz_list_commands.specs.private.MoveSteps.{flags, has_value, AreWithin, HaveArrivals};
-ghost use Rattle.bz_token.specs.Common.{map_or};
-ghost use Rattle.std.specs.List.{list_any};
-use bz_attribute::equals::string_of;
-use bz_attribute::{Chosen, Env, any_chosen, is_any_chosen, labels_in, Element, Place, labels_of, next_of_value};
-use bz_command::{LabelSet, Package, value_of};
-use bz_tree::{Node, Seg};
+ghost use Rattle.std.specs.Prelude.{◌≡◌, ◌≤◌, ◌||◌, ◌&&◌, ℕ, List, not, map, length, option_map, IfOk, IfSome, OnOk, false, option_and_then};
 ghost use Rattle.bz_tree.specs.Rows.{part_view};
-ghost use Rattle.bz_attribute.specs.Rules.{value_in};
+ghost use Rattle.bz_command.specs.LabelSetViews.{has};
+ghost use Rattle.bz_list_commands.specs.private.MoveSteps.{AreWithin, HaveArrivals, has_value};
 ghost use Rattle.bz_list_commands.specs.private.StringEdits.{means};
+ghost use Rattle.bz_attribute.specs.Lists.{same};
+ghost use Rattle.bz_command.specs.Values.{value_of};
+ghost use Rattle.bz_token.specs.Common.{map_or};
+
 use crate::string_edit::StringEdit;
-use bz_memory::{NoMemory, push, with_room_for};
+use bz_attribute::{Element, Env, Place, labels_of, next_of_value};
+use bz_command::{LabelSet, value_of};
+use bz_memory::{NoMemory, push};
 use bz_tree::Part;
 
 /// Where the elements of two lists begin among the parts of a rule.
@@ -33,9 +26,9 @@ pub struct Lists {
 // The element is no string that the set has. Its label goes into the set.
 fn is_new<'s>(string: Option<&'s str>, there: &mut LabelSet<'s>) -> Result<bool, NoMemory>
     ensures new { IfOk result (λ new. new
-        ≡ not (has_value (has there.old) (value_in (option_map (λ text. text.now) string.entry)))) }
+        ≡ not (has_value (has there.old) (option_and_then value_of (option_map (λ text. text.now) string.entry)))) }
     ensures there { OnOk result ((text : List ℕ) → has there.new text
-        ≡ (same_value there.old.home.now text (value_in (option_map (λ text. text.now) string.entry))
+        ≡ (map_or false (λ value. same there.old.home.now value text) (option_and_then value_of (option_map (λ text. text.now) string.entry))
         || has there.old text)) }
     ensures home { there.new.home.now ≡ there.old.home.now }
 {
@@ -56,10 +49,10 @@ fn arrives<'s>(
 ) -> Result<bool, NoMemory>
     ensures arrives { IfOk result (λ arrives. arrives
         ≡ (means edit.entry (option_map (λ text. text.now) string.entry)
-        && not (has_value (has there.old) (value_in (option_map (λ text. text.now) string.entry))))) }
+        && not (has_value (has there.old) (option_and_then value_of (option_map (λ text. text.now) string.entry))))) }
     ensures there { OnOk result ((text : List ℕ) → has there.new text
         ≡ ((means edit.entry (option_map (λ text. text.now) string.entry)
-        && same_value there.old.home.now text (value_in (option_map (λ text. text.now) string.entry)))
+        && map_or false (λ value. same there.old.home.now value text) (option_and_then value_of (option_map (λ text. text.now) string.entry)))
         || has there.old text)) }
     ensures home { there.new.home.now ≡ there.old.home.now }
 {

@@ -1,19 +1,13 @@
 //! `move`: elements go from one attribute to another, each with its comments.
 
-ghost use Rattle.std.specs.Prelude.{◌≡◌, ◌≤◌, ◌+◌, ◌++◌, ◌∷◌, [], false, length, bytes_eq, is_some, None, IfOk, OnOk, OnErr, if◌then◌else◌, List, None as Nothing, map, IfSome};
-ghost use Rattle.std.specs.Vec.{vec_len, vec_capacity};
-ghost use Rattle.bz_tree.specs.View.{node_view, seg_view, segs_view};
-ghost use Rattle.bz_attribute.specs.Rules.{elements, first_named, is_named, Rule};
-ghost use Rattle.bz_attribute.specs.Lists.{edit_list};
-ghost use Rattle.bz_attribute.specs.private.ChosenViews.{chosen_view};
-ghost use Rattle.bz_attribute.specs.private.Places.{first_length};
-ghost use Rattle.bz_attribute.specs.Effects as effects;
+ghost use Rattle.std.specs.Prelude.{◌≡◌, ◌≤◌, ◌++◌, List, false, None as Nothing, map, length, IfOk, IfSome, OnOk};
 ghost use Rattle.bz_tree.specs.Tree.{Segment, Statement, segs_of};
 ghost use Rattle.bz_tree.specs.Rows.{part_view, parts_of, segs_parts};
 ghost use Rattle.bz_command.specs.declared.arguments.Moved.{Moved as Choice};
 ghost use Rattle.bz_attribute.specs.Effects.{done, has, is_chosen, with_args};
 ghost use Rattle.bz_attribute.specs.RowEdits.{IsRowEdit, replaced_at};
 ghost use Rattle.bz_attribute.specs.RowPlaces.{IsRuleRow};
+ghost use Rattle.bz_attribute.specs.Rules.{Rule};
 ghost use Rattle.bz_attribute.specs.Move as spec;
 ghost use Rattle.bz_list_commands.specs.private.ListPlaces.{IsListAt, IsTarget};
 ghost use Rattle.bz_list_commands.specs.private.MoveSteps.{AreWithin, parts_at};
@@ -26,9 +20,7 @@ use crate::place_edits::edit_named;
 use crate::string_edit::{Meant, StringEdit};
 use bz_attribute::{Done, Edit, Env, Parts, Place, WordSet, elements_end, place_of};
 use bz_command::Moved;
-use bz_memory::{NoMemory, extend_from_slice, with_capacity};
-use bz_tree::{Node, Seg};
-use std::alloc::Global;
+use bz_memory::{NoMemory, extend_from_slice};
 use bz_tree::Part;
 use std::alloc::Global;
 

@@ -7,7 +7,7 @@ use Rattle.bz_tree.specs.Rows.{RowPart, a_token}
 use Rattle.bz_command.specs.Labels.{Package}
 use Rattle.bz_command.specs.Values.{quoted, value_of}
 use Rattle.bz_attribute.specs.Rules.{is_text, only_text, value}
-use Rattle.bz_attribute.specs.Lists.{is_attribute, parts, same, same_value}
+use Rattle.bz_attribute.specs.Lists.{is_attribute, parts, same}
 use Rattle.bz_list_commands.specs.declared.string_edit.Meant.{Meant}
 use Rattle.bz_list_commands.specs.declared.string_edit.Meant.TheVariants.{Any, Word, Words, Unlike}
 use Rattle.bz_list_commands.specs.declared.string_edit.StringEdit.{StringEdit}
