@@ -1,18 +1,13 @@
 -- A walk over the list parts of a value.
-use Rattle.std.proofs.Common.{◌≡◌, ℕ, zero, suc, ◌+◌, ◌<◌, ◌≤◌, List, ◌∷◌, ◌++◌, Bool, true, false, [], arith, length, get_or, set, take, drop, refl, ap, subst, sym, ◌∙◌, add-one, append_assoc, ◌&&◌}
+use Rattle.std.proofs.Common.{◌≡◌, ℕ, zero, suc, ◌+◌, ◌<◌, ◌≤◌, List, ◌∷◌, ◌++◌, Bool, true, false, [], arith, length, get_or, set, take, drop, refl, ap, subst, sym, ◌∙◌, add-one, append_assoc}
 use Rattle.std.specs.List.{list_all}
 use Rattle.std.proofs.lemmas.List.{append-nil, drop-map, drop-set-lt, drop_all, drop_more, get_or-map, length-map, map-set, set-get_or, take-append-drop, take_all, take_more, take_more_set}
-use Rattle.std.specs.Global.{Vec}
-use Rattle.bz_tree.specs.declared.stmt.Group.{Group as GroupValue, out-Group, roll-Group}
-use Rattle.bz_tree.specs.declared.stmt.Leaf.{Leaf}
-use Rattle.bz_tree.specs.declared.stmt.Node.{Node, Group, Token}
-use Rattle.bz_tree.specs.declared.stmt.Seg.{Seg}
-use Rattle.bz_tree.specs.declared.stmt.Node.TheOpen.{Group-F}
+use Rattle.bz_tree.specs.declared.stmt.Node.{Node}
 use Rattle.bz_tree.specs.Tree.{Item, Segment, leaf, group}
 use Rattle.bz_tree.specs.View.{node_view, nodes_view, segs_view}
 use Rattle.bz_attribute.specs.Lists.{edit_first_part, edit_from, edit_list, edit_one_from, ends, is_joint, is_list, is_part, is_plus, parts, parts_from}
+use Rattle.bz_attribute.specs.Effects.{no_parts}
 use Rattle.bz_attribute.specs.Rules.{elements}
-use Rattle.bz_attribute.proofs.Groups.{edited_group, leaf_no_list}
 use Rattle.bz_attribute.specs.private.NextPart.{IsLastPart, IsNextPart, KeepsOthers, edit_rest, edited_from, rest}
 use Rattle.bz_attribute.specs.private.Places.{first_list}
 use Rattle.bz_token.specs.Common.{is_empty}
@@ -167,22 +162,3 @@ found ns at i start w h told =
     let n : Node = any_node ns i h in
     let is : start ≡ true = begins_part start (node_view (get_or ns i n)) (drop (i + 1) (nodes_view ns)) (part n) in
     next_at ns at i (subst (λ (b : Bool). Walked (nodes_view ns) at i b) is w) h (λ d. ap (λ (b : Bool). is_part b (node_view (get_or ns i d)) (drop (i + 1) (nodes_view ns))) (sym is) ∙ part d)
-
--- its elements are others now
-pub part_put : (f : List Segment → List Segment) (value now : List Node) (at i : ℕ) (d : Node) (g : GroupValue) (segs : Vec Seg) → IsNextPart value at i → get_or value i d ≡ Group g
-    → now ≡ set value i (Group (roll-Group (record { kind = (out-Group g).kind; segs = segs; one_comma = (out-Group g).one_comma; end = (out-Group g).end }))) → segs_view segs.items ≡ f (segs_view (out-Group g).segs.items)
-    → edit_rest f (i + 1) (nodes_view now) ≡ edit_rest f at (nodes_view value)
-part_put f value now at i d g segs next is put made =
-    let r : Group-F Node GroupValue Seg = record { kind = (out-Group g).kind; segs = segs; one_comma = (out-Group g).one_comma; end = (out-Group g).end } in
-    ap (λ (ns : List Node). edit_rest f (i + 1) (nodes_view ns)) put
-    ∙ next.edit f (Group (roll-Group r)) d (edited_group f g r refl refl refl made ∙ ap (λ (n : Node). edit_list f (node_view n)) (sym is))
-
--- it is a list
-list_part : (x : Item) (xs : List Item) → is_part true x xs ≡ true → is_list x ≡ true
-list_part x xs h = elim (is_list x) as (λ b. (b && ends xs) ≡ true → b ≡ true) [ true ↦ λ k. refl | false ↦ λ k. absurd cc ] h
-
-pub no_leaf : {P : Type 0} (value : List Node) (at i : ℕ) (d : Node) (l : Leaf) → IsNextPart value at i → get_or value i d ≡ Token l → P
-no_leaf value at i d l next is =
-    let list : is_list (node_view (Token l)) ≡ true = ap (λ (n : Node). is_list (node_view n)) (sym is) ∙ list_part (node_view (get_or value i d)) (drop (i + 1) (nodes_view value)) (next.part d) in
-    let clash : false ≡ true = sym (leaf_no_list l) ∙ list in
-    absurd cc
