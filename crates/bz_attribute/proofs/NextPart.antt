@@ -6,7 +6,6 @@ use Rattle.bz_tree.specs.declared.stmt.Node.{Node}
 use Rattle.bz_tree.specs.Tree.{Item, Segment, leaf, group}
 use Rattle.bz_tree.specs.View.{node_view, nodes_view, segs_view}
 use Rattle.bz_attribute.specs.Lists.{edit_first_part, edit_from, edit_list, edit_one_from, ends, is_joint, is_list, is_part, is_plus, parts, parts_from}
-use Rattle.bz_attribute.specs.Effects.{no_parts}
 use Rattle.bz_attribute.specs.Rules.{elements}
 use Rattle.bz_attribute.specs.private.NextPart.{IsLastPart, IsNextPart, KeepsOthers, edit_rest, edited_from, rest}
 use Rattle.bz_attribute.specs.private.Places.{first_list}
