@@ -68,7 +68,7 @@ one_labelled home choice ps from at begin to string value old new have next is g
       read = n.read;
       same = λ text.
           let later : Bool = is_among home choice (elements_left n.left) text in
-          let own : is_kept home text value ≡ (is_chosen home choice n.element && is_chosen home (Values (text ∷ [])) n.element) = ap (is_kept home text) (λ x0 x1. map_or false (λ value. same x0 value x1)) ∙ sym (element_told home choice text n.element) in
+          let own : is_kept home text value ≡ (is_chosen home choice n.element && is_chosen home (Values (text ∷ [])) n.element) = ap (is_kept home text) found_value ∙ sym (element_told home choice text n.element) in
           ap (λ (b : Bool). later || b) (gains text ∙ ap (λ (b : Bool). b || has old text) own)
           ∙ or_swap (is_chosen home choice n.element && is_chosen home (Values (text ∷ [])) n.element) later (has old text)
           ∙ ap (λ (ss : List Segment). is_among home choice ss text || has old text) (sym n.are)
