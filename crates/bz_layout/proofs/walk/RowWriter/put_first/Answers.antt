@@ -1,6 +1,6 @@
 use Rattle.std.proofs.Common.{sym, append-nil}
 use Rattle.bz_layout.proofs.Kept.{begun_here}
-use Rattle.bz_layout.proofs.walk.Walk.put_first.Goals as goal
+use Rattle.bz_layout.proofs.walk.RowWriter.put_first.Goals as goal
 
 pub returns-then-self-clause-ok : goal.returns-then-self-clause-ok
 returns-then-self-clause-ok g c = rw c.if-self.true c.new_line.ensures.put

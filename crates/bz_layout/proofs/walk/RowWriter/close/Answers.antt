@@ -1,7 +1,7 @@
 use Rattle.bz_layout.specs.private.Kept.{IsBegunBy}
 use Rattle.bz_layout.proofs.Kept.{begun_here, begun_further}
-use Rattle.bz_layout.proofs.walk.Walk.close.Goals.{then-self+in_ok-new_line, else-self+then-one_comma+in_ok-put_short, else-self+else-one_comma, in-Some+in_ok-put_short-2, in_default}
-use Rattle.bz_layout.proofs.walk.Walk.close.Goals as goal
+use Rattle.bz_layout.proofs.walk.RowWriter.close.Goals.{then-self+in_ok-new_line, else-self+then-one_comma+in_ok-put_short, else-self+else-one_comma, in-Some+in_ok-put_short-2, in_default}
+use Rattle.bz_layout.proofs.walk.RowWriter.close.Goals as goal
 
 pub returns-in_err-put_short-2-clause-begun : goal.returns-in_err-put_short-2-clause-begun
 returns-in_err-put_short-2-clause-begun g c =

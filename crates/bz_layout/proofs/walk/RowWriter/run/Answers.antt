@@ -4,7 +4,7 @@ use Rattle.bz_tree.specs.Rows.{RowPart, part_view, a_token, opening, closing, se
 use Rattle.bz_tree.specs.declared.row.Part.{Part}
 use Rattle.bz_layout.specs.private.RowLayout.{Laid, first_mark, run, step, laid}
 use Rattle.bz_layout.proofs.Kept.{begun_here, begun_further}
-use Rattle.bz_layout.proofs.walk.Walk.run.Goals as goal
+use Rattle.bz_layout.proofs.walk.RowWriter.run.Goals as goal
 
 -- one part more
 next_part : (parts : List Part) (i : ℕ) (d : Part) (s : Laid) → i < length parts → run (map part_view (drop (i + 1) parts)) (step (part_view (get_or parts i d)) s) ≡ run (map part_view (drop i parts)) s

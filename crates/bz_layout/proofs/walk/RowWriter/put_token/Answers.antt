@@ -7,7 +7,7 @@ use Rattle.bz_layout.specs.Respell.{respell}
 use Rattle.bz_layout.specs.Spacing.{closes_up, edge_after}
 use Rattle.bz_layout.specs.private.RowLayout.{Laid, due, gap_for, first_gap, with_token, laid}
 use Rattle.bz_layout.proofs.Kept.{begun_further}
-use Rattle.bz_layout.proofs.walk.Walk.put_token.Goals as goal
+use Rattle.bz_layout.proofs.walk.RowWriter.put_token.Goals as goal
 
 token_text : (old one two d gap text : List ℕ) → one ≡ old ++ (d ++ gap) → two ≡ one ++ text → two ≡ old ++ (d ++ (gap ++ text))
 token_text old one two d gap text first second = rw (second, first) (simp append_assoc)
