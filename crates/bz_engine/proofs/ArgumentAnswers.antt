@@ -6,14 +6,13 @@ use Rattle.std.specs.Prelude.{codes, option_to_list, Option, None, Some, Result,
 use Rattle.bz_tree.specs.Chunk.{IsStatementIn}
 use Rattle.bz_tree.specs.Tree.{Segment, Statement}
 use Rattle.bz_layout.specs.Layout.{layout_text}
-use Rattle.bz_layout_laws.specs.Lineless.{lineless}
 use Rattle.bz_command.specs.declared.arguments.Setting.TheVariants.{ToValues, ToKind}
 use Rattle.bz_command.specs.Labels.{Package}
 use Rattle.bz_attribute.specs.declared.done.Done.{Done}
 use Rattle.bz_attribute.specs.Effects.{done_in, is_nil, slot_done, with_args}
 use Rattle.bz_attribute.specs.Rules.{Rule, first_named, rule_of}
 use Rattle.bz_attribute_commands.specs.Argument.{new_argument}
-use Rattle.bz_canonical.specs.Canonical.{AreReadAlone, Between, HasName, HasPlace, argument_lines, first_args, rule_args, small_rule, small_text}
+use Rattle.bz_canonical.specs.Canonical.{AreReadAlone, Between, HasName, HasPlace, argument_lines, first_args, rule_args, small_text}
 use Rattle.bz_canonical.proofs.SmallRules.{no_lines, small_after, small_told}
 use Rattle.bz_rule.specs.declared.command.Action.TheVariants.{Add, Remove, Set, SetIfAbsent, Delete, Rename, Move, Replace, Comment, Print}
 use Rattle.bz_rule.specs.Commands.{Command, after, args_after, args_done, done_of}
@@ -52,9 +51,13 @@ adds_argument command new lines is lines_are = λ home.
     let made = set_alone command new is home in
     record { told = made.0; some = ap is_nil made.1; lines_are = lines_are ∙ ap argument_lines (sym made.1) }
 
-pub adds_to_none : (depth : ℕ) (command : Command) (home : Package) (lines : List ℕ) (new : List ℕ) → lines ≡ [] → AddsArgument command new
+nothing : (xs : List ℕ) → length xs ≡ 0 → xs ≡ []
+nothing [] is = refl
+nothing (x ∷ xs) is = absurd (omega (arith, is))
+
+pub adds_to_none : (depth : ℕ) (command : Command) (home : Package) (lines : List ℕ) (new : List ℕ) → length lines ≡ 0 → AddsArgument command new
     → (args : List Segment) → lines ≡ argument_lines args → AreReadAlone depth args → ChangesArgs command home args new
-adds_to_none depth command home lines new none adds args lines_are reads = subst (λ xs. ChangesArgs command home xs new) (sym (no_lines args (sym lines_are ∙ none))) (adds home)
+adds_to_none depth command home lines new none adds args lines_are reads = subst (λ xs. ChangesArgs command home xs new) (sym (no_lines args (sym lines_are ∙ nothing lines none))) (adds home)
 
 -- of the small rule, which was read of the lines
 not_nil : (xs : List Segment) (lines : List ℕ) → (lines ≡ [] → ⊥) → lines ≡ argument_lines xs → is_nil xs ≡ false
@@ -69,17 +72,17 @@ edits_alone depth command attr home lines text one text_is first t read told tol
     law : Local command home attr
     law = local command home attr one
 
-    same : (args : List Segment) → lines ≡ argument_lines args → AreReadAlone depth args → lineless t ≡ lineless (small_rule args)
-    same args lines_are reads = reads first t (subst (λ bytes. IsStatementIn first depth bytes t) (text_is ∙ ap small_text lines_are) read)
+    read_of : (args : List Segment) → lines ≡ argument_lines args → IsStatementIn first depth (small_text (argument_lines args)) t
+    read_of args lines_are = subst (λ bytes. IsStatementIn first depth bytes t) (text_is ∙ ap small_text lines_are) read
 
     done_is : (args : List Segment) → lines ≡ argument_lines args → AreReadAlone depth args → args_done command home args ≡ told
-    done_is args lines_are reads = sym (told_is ∙ law.done t ∙ small_told (args_done command home) args t (same args lines_are reads))
+    done_is args lines_are reads = sym (told_is ∙ law.done t ∙ small_told (args_done command home) args t (reads first t (read_of args lines_are)))
 
     by : (edited : EditedArgument) → AreLinesAfter told slot edited → EditsLines depth command home lines edited
     by Unchanged known = λ args lines_are reads. done_is args lines_are reads ∙ known
     by (Lines new) known = λ args lines_are reads.
         let new_is : new.items ≡ argument_lines (args_after command home args) =
-        known.2 (with_args (args_after command home) t) (args_after command home args) (slot_is ∙ law.slot t) (small_after (args_after command home) args t (same args lines_are reads)) in
+        known.2 (with_args (args_after command home) t) (args_after command home args) (slot_is ∙ law.slot t) (small_after (args_after command home) args t (reads first t (read_of args lines_are))) in
         record { told = done_is args lines_are reads ∙ known.0; some = not_nil (args_after command home args) new.items known.1 new_is; lines_are = new_is }
 
 pub edited_alone : {E : Type 0} (depth : ℕ) (command : Command) (attr : List ℕ) (home : Package) (lines text : List ℕ) → one_attribute command ≡ Some attr → text ≡ small_text lines → (first : ℕ) (t : Statement)

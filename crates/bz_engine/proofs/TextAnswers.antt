@@ -9,16 +9,13 @@ use Rattle.bz_command.specs.declared.arguments.Attributes.TheVariants.{Named, Ev
 use Rattle.bz_command.specs.declared.arguments.Setting.TheVariants.{ToValues, ToKind}
 use Rattle.bz_command.specs.Labels.{Package}
 use Rattle.bz_attribute.specs.declared.done.Done.{Done}
-use Rattle.bz_attribute.specs.Effects.{argument, done, done_in, edit_first, has, nodes_after, nodes_of}
+use Rattle.bz_attribute.specs.Effects.{done, done_in, has}
 use Rattle.bz_attribute.specs.Rules.{Rule, first_named, is_named, rule_of}
-use Rattle.bz_attribute.specs.Set.{new_of, new_value, set, set_if_absent, set_in, sets}
-use Rattle.bz_attribute_commands.specs.Argument.{new_argument}
-use Rattle.bz_canonical.specs.Canonical.{HasArgumentName, HasName, rule_args, with_argument}
+use Rattle.bz_canonical.specs.Canonical.{HasArgumentName, rule_args}
 use Rattle.bz_rule.specs.declared.command.Action.TheVariants.{Add, Remove, Set, SetIfAbsent, Delete, Rename, Move, Replace, Comment, Print}
 use Rattle.bz_rule.specs.Commands.{Command, after, args_after, args_done, done_of}
 use Rattle.bz_rule.proofs.Commands.{lawful}
 use Rattle.bz_engine.specs.private.Found.{IsWithout, Makes, looked_at, told_line}
-use Rattle.bz_engine.proofs.OnlyPass.{named_rule}
 
 -- a text in which the name and the sign are not found
 pub not_found : (text attr needle : List ℕ) (r : Option ℕ) → needle ≡ attr ++ codes " =" → FindsNeedle text needle 0 r → r ≡ None → HasArgumentName attr text → ⊥

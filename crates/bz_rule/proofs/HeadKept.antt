@@ -8,17 +8,16 @@ use Rattle.bz_command.specs.declared.arguments.Attributes.TheVariants.{Every, Na
 use Rattle.bz_command.specs.declared.arguments.Commented.TheVariants.{Rule as Above, Attribute, Value}
 use Rattle.bz_command.specs.declared.arguments.Moved.TheVariants.{Values}
 use Rattle.bz_command.specs.declared.arguments.Setting.TheVariants.{ToKind, ToValues}
-use Rattle.bz_attribute.specs.Rules.{Rule, first_named, is_named, is_text, name_of, rule_of, string_in, value}
+use Rattle.bz_attribute.specs.Rules.{first_named, is_named, is_text, name_of, string_in, value}
 use Rattle.bz_attribute.specs.Lists.{edit_first_part, edit_parts, equals, parts, with_value}
 use Rattle.bz_attribute.specs.Add.{add, new_elements, with_added}
 use Rattle.bz_attribute.specs.Comment.{comment_attribute, comment_element, edit_element, comment_line, comment_note, comment_rule, comment_value, with_comment}
 use Rattle.bz_attribute.specs.Effects.{argument, edit_first, filtered, has, list_item, loses_all, no_parts, unchosen, with_args}
-use Rattle.bz_attribute.specs.Heads.{HasHead, IsHeadOf}
+use Rattle.bz_attribute.specs.Heads.{HasHead}
 use Rattle.bz_attribute.specs.Remove.{remove_values}
 use Rattle.bz_attribute.specs.Replace.{replace, replaced, replaced_in}
 use Rattle.bz_attribute.specs.RowPlaces.{IsLocal}
 use Rattle.bz_attribute.specs.Set.{is_value, new_of, new_value, set, set_if_absent, set_in}
-use Rattle.bz_attribute.specs.declared.head.Head.{Head}
 use Rattle.bz_attribute.proofs.EditedAt.{none_first}
 use Rattle.bz_rule.specs.Commands.{Command, args_after}
 use Rattle.bz_rule.specs.declared.command.Action.TheVariants.{Add, Comment, Delete, Move, Print, Remove, Rename, Replace, Set, SetIfAbsent}
@@ -26,7 +25,6 @@ use Rattle.bz_rule.specs.OneAttribute.{one_attribute}
 use Rattle.bz_rule.specs.private.RowEdits.{KeepsHead, edits_arguments, rule_after}
 use Rattle.bz_rule.proofs.Arguments.{attribute_named, has_first, is_first_named, name_put}
 use Rattle.bz_rule.proofs.Commands.{local}
-use Rattle.bz_rule.proofs.Lawful.{Local}
 use Rattle.bz_rule.proofs.Rebuilt.{rule_with}
 use Rattle.bz_rule.proofs.Rebuilt as rebuilt
 use Rattle.bz_rule.proofs.RowEdited.{args_rule}
