@@ -26,11 +26,7 @@ pub(crate) struct ReadStatement<'t> {
 
 /// The statement that the text begins with.
 #[inline(always)]
-pub(crate) fn statement<'t>(
-    text: &'t [u8],
-    attr: &[u8],
-    max_depth: u8,
-) -> Option<ReadStatement<'t>>
+pub(crate) fn statement<'t>(text: &'t [u8], attr: &[u8], max_depth: u8) -> Option<ReadStatement<'t>>
     requires { max_depth < 254 }
     ensures { IfSome result (λ read. IsStatementFront max_depth attr.now read.class (option_map (λ name. name.now) read.name)
         (option_map ends_of read.place) text.now read.end.now read.rest.now) }

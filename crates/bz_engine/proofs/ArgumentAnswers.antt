@@ -10,6 +10,7 @@ use Rattle.bz_command.specs.declared.arguments.Setting.TheVariants.{ToValues, To
 use Rattle.bz_command.specs.Labels.{Package}
 use Rattle.bz_attribute.specs.declared.done.Done.{Done}
 use Rattle.bz_attribute.specs.Effects.{done_in, is_nil, slot_done, with_args}
+use Rattle.bz_attribute.specs.RowPlaces.{LooksAt}
 use Rattle.bz_attribute.specs.Rules.{Rule, first_named, rule_of}
 use Rattle.bz_attribute_commands.specs.Argument.{new_argument}
 use Rattle.bz_canonical.specs.Canonical.{AreReadAlone, Between, HasName, HasPlace, argument_lines, first_args, rule_args, small_text}
@@ -18,14 +19,12 @@ use Rattle.bz_rule.specs.declared.command.Action.TheVariants.{Add, Remove, Set, 
 use Rattle.bz_rule.specs.Commands.{Command, after, args_after, args_done, done_of}
 use Rattle.bz_rule.specs.OneAttribute.{one_attribute}
 use Rattle.bz_rule.proofs.Commands.{local}
-use Rattle.bz_rule.proofs.Lawful.{Local}
-use Rattle.bz_rule.proofs.Local.{told_alone}
 use Rattle.bz_engine.specs.declared.argument.EditedArgument.{EditedArgument}
 use Rattle.bz_engine.specs.declared.argument.EditedArgument.TheVariants.{Unchanged, Lines}
 use Rattle.bz_engine.specs.private.ArgumentEdits.{AddsArgument, AreLinesAfter, ChangesArgs, EditsLines, Setting, set_by}
 use Rattle.bz_engine.specs.private.Found.{Makes, told_line}
 use Rattle.bz_engine.proofs.OnlyPass.{named_rule}
-use Rattle.bz_engine.proofs.TextAnswers.{stays_by}
+use Rattle.bz_engine.proofs.TextAnswers.{none_has, stays_by}
 
 -- what is set where none has the name
 set_alone : (command : Command) (new : Setting) → set_by command ≡ Some new → (home : Package)
@@ -69,18 +68,16 @@ edits_alone : (depth : ℕ) (command : Command) (attr : List ℕ) (home : Packag
     → (edited : EditedArgument) → AreLinesAfter told slot edited → EditsLines depth command home lines edited
 edits_alone depth command attr home lines text one text_is first t read told told_is slot slot_is edited known = by edited known
   where
-    law : Local command home attr
-    law = local command home attr one
-
     read_of : (args : List Segment) → lines ≡ argument_lines args → IsStatementIn first depth (small_text (argument_lines args)) t
     read_of args lines_are = subst (λ bytes. IsStatementIn first depth bytes t) (text_is ∙ ap small_text lines_are) read
 
     done_is : (args : List Segment) → lines ≡ argument_lines args → AreReadAlone depth args → args_done command home args ≡ told
-    done_is args lines_are reads = sym (told_is ∙ law.done t ∙ small_told (args_done command home) args t (reads first t (read_of args lines_are)))
+    done_is args lines_are reads = let law = local command home attr one in sym (told_is ∙ law.done t ∙ small_told (args_done command home) args t (reads first t (read_of args lines_are)))
 
     by : (edited : EditedArgument) → AreLinesAfter told slot edited → EditsLines depth command home lines edited
     by Unchanged known = λ args lines_are reads. done_is args lines_are reads ∙ known
     by (Lines new) known = λ args lines_are reads.
+        let law = local command home attr one in
         let new_is : new.items ≡ argument_lines (args_after command home args) =
         known.2 (with_args (args_after command home) t) (args_after command home args) (slot_is ∙ law.slot t) (small_after (args_after command home) args t (reads first t (read_of args lines_are))) in
         record { told = done_is args lines_are reads ∙ known.0; some = not_nil (args_after command home args) new.items known.1 new_is; lines_are = new_is }
@@ -98,6 +95,13 @@ pub lines_in : (text new : List ℕ) → text ≡ small_text new → take (lengt
 lines_in text new is = ap (λ (t : List ℕ). take (length (drop 2 t) - 9) (drop 2 t)) is ∙ ap (λ n. take n (new ++ codes "\n    #\n)\n")) (omega (arith, length-append new (codes "\n    #\n)\n"))) ∙ take-append_seam new (codes "\n    #\n)\n")
 
 -- so of the rule
+told_first : (attr : List ℕ) (g : List Segment → Done) (args : List Segment) → LooksAt attr g → g (option_to_list (first_named attr args)) ≡ g args
+told_first attr g args looks = by (first_named attr args) refl
+  where
+    by : (o : Option Segment) → first_named attr args ≡ o → g (option_to_list (first_named attr args)) ≡ g args
+    by None e = ap (λ o. g (option_to_list o)) e ∙ sym (looks.absent args (none_has attr args e))
+    by (Some a) e = ap (λ o. g (option_to_list o)) e ∙ sym (looks.there args a e)
+
 told_of_rule : (attr : List ℕ) (g : List Segment → Done) (s : Statement) (r : Rule) → rule_of s.nodes ≡ Some r → g (first_args attr s) ≡ g r.args → slot_done g (Some s) ≡ g (first_args attr s)
 told_of_rule attr g s r at told = ap (done_in g) at ∙ sym told
 
@@ -106,7 +110,7 @@ args_told command attr name home s one named =
     let law = local command home attr one in
     let rule = named_rule s name named in
     law.done s ∙ told_of_rule attr (args_done command home) s rule.0 rule.1
-    (ap (λ o. args_done command home (option_to_list (first_named attr (rule_args o)))) rule.1 ∙ told_alone attr (args_done command home) rule.0 law.told)
+    (ap (λ o. args_done command home (option_to_list (first_named attr (rule_args o)))) rule.1 ∙ told_first attr (args_done command home) rule.0.args law.told)
 
 pub argument_stays : (depth : ℕ) (command : Command) (attr name : List ℕ) (home : Package) (s : Statement) (place : Between) → one_attribute command ≡ Some attr → HasName (Some name) s → HasPlace depth attr s place
     → EditsLines depth command home place.lines Unchanged → Makes command home s s (told_line false None)
@@ -117,6 +121,7 @@ pub argument_changes : (depth : ℕ) (command : Command) (attr name : List ℕ) 
     → Makes command home s (with_args (args_after command home) s) (told_line true None) × (layout_text (with_args (args_after command home) s) ≡ place.before ++ (lines ++ place.after))
 argument_changes depth command attr name home s place lines one named has changes =
     let law = local command home attr one in
-    let made = changes (first_args attr s) has.lines has.reads in
-    (record { after_is = law.slot s; done = args_told command attr name home s one named ∙ made.told },
-    has.takes (args_after command home) law.args made.some ∙ ap (λ (t : List ℕ). place.before ++ (t ++ place.after)) (sym made.lines_are))
+    let made = changes (first_args attr s) has.lines has.reads in (
+      record { after_is = law.slot s; done = args_told command attr name home s one named ∙ made.told },
+      has.takes (args_after command home) law.args made.some ∙ ap (λ (t : List ℕ). place.before ++ (t ++ place.after)) (sym made.lines_are),
+    )

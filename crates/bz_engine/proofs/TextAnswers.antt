@@ -33,7 +33,7 @@ quiet : (done_is : Option Rule → Done) (o : Option Rule) → done_is None ≡ 
 quiet done_is None none some = none
 quiet done_is (Some r) none some = some r refl
 
-none_has : (attr : List ℕ) (args : List Segment) → first_named attr args ≡ None → has attr args ≡ false
+pub none_has : (attr : List ℕ) (args : List Segment) → first_named attr args ≡ None → has attr args ≡ false
 none_has attr [] is = refl
 none_has attr (a ∷ args) is = by (is_named attr a) (none_has attr args) is
   where

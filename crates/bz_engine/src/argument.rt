@@ -30,6 +30,7 @@ struct NewArgument<'c> {
 
 // The small rule before its argument and after it: the comment keeps the rule on lines.
 const BEFORE: &str = "k(";
+
 const AFTER: &str = "\n    #\n)\n";
 
 // More is not read alone.
@@ -96,8 +97,13 @@ fn edit_alone(
     if text.len() > LONGEST {
         return Ok(None);
     }
-    let Ok(Some(row)) = read_text(script.alloc, script.bump, text.as_str(), 1, script.max_depth)
-    else {
+    let Ok(Some(row)) = read_text(
+        script.alloc,
+        script.bump,
+        text.as_str(),
+        1,
+        script.max_depth,
+    ) else {
         return Ok(None);
     };
     let env = Env {

@@ -89,11 +89,7 @@ pub(crate) struct Found<'a> {
 }
 
 /// The canonical chunk that the text begins with, where it is not too long.
-fn find_canonical<'a>(
-    script: Script<'a>,
-    text: &'a str,
-    max_statement: u64,
-) -> Option<Found<'a>>
+fn find_canonical<'a>(script: Script<'a>, text: &'a str, max_statement: u64) -> Option<Found<'a>>
     ensures canonical { IfSome result (λ found. IsCanonical script.entry.max_depth found.attr.now found.chunk.class
         (option_map (λ name. name.now) found.chunk.name) (option_map between found.chunk.place)
         found.chunk.chunk.now found.chunk.written.now text.now) }

@@ -10,15 +10,21 @@ returns-in_ok-read-in-Some c =
     let found = c.in-Some.found in
     let known = c.in_ok-read-in-Some.ensures in
     let named = subst (λ o. IfSome o (λ read. IsArgumentFront c.args.depth c.args.attr.now passed.rest.now read.rest.now true read.noted)) c.in-Some.is c.others-passed.ensures.named in
-    rw (c.either.ensures, c.either-about.ensures) (known.3,
-    with_named c.args.depth c.args.attr.now c.args.text.now passed.rest.now found.rest.now known.3 known.0 passed.one passed.noted found.noted c.in_ok-read-in-Some.read.holds c.in_ok-read-in-Some.read.noted
-    c.others-passed.ensures.passed named known.4, known.5)
+    rw (c.either.ensures, c.either-about.ensures) (
+      known.3,
+      with_named c.args.depth c.args.attr.now c.args.text.now passed.rest.now found.rest.now known.3 known.0 passed.one passed.noted found.noted c.in_ok-read-in-Some.read.holds c.in_ok-read-in-Some.read.noted
+          c.others-passed.ensures.passed named known.4,
+      known.5,
+    )
 
 pub returns-in_ok-read-in-None : goal.returns-in_ok-read-in-None
 returns-in_ok-read-in-None c =
     let passed = c.others-passed.result in
     let read = c.in_ok-read-in-None.read in
     let known = c.in_ok-read-in-None.ensures in
-    rw (c.either-in-None.ensures, c.either-in-None-2.ensures) (known.3,
-    without_named c.args.depth c.args.attr.now c.args.text.now passed.rest.now known.3 known.0 passed.one passed.noted read.one read.holds read.noted
-    c.others-passed.ensures.passed known.4 known.1 (option_map ends_of c.end_place.result) c.end_place.ensures, known.5)
+    rw (c.either-in-None.ensures, c.either-in-None-2.ensures) (
+      known.3,
+      without_named c.args.depth c.args.attr.now c.args.text.now passed.rest.now known.3 known.0 passed.one passed.noted read.one read.holds read.noted
+          c.others-passed.ensures.passed known.4 known.1 (option_map ends_of c.end_place.result) c.end_place.ensures,
+      known.5,
+    )
