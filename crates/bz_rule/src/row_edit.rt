@@ -12,8 +12,9 @@ ghost use Rattle.bz_attribute.specs.Rules.{Rule, first_named, rule_of};
 ghost use Rattle.bz_attribute.specs.Set.{set, set_if_absent, sets};
 ghost use Rattle.bz_command.specs.Labels as labels;
 ghost use Rattle.bz_rule.specs.Commands as commands;
+ghost use Rattle.bz_rule.specs.OneAttribute.{one_attribute};
 ghost use Rattle.bz_rule.specs.declared.command.Action.TheVariants.{Set};
-ghost use Rattle.bz_rule.specs.private.RowEdits.{HasKindAndParts, HasMore, IsEditFor, IsEditOf, IsPlaceFor, KeepsHead, edits_arguments, is_edit, one_attribute, rule_after, takes_tree};
+ghost use Rattle.bz_rule.specs.private.RowEdits.{HasKindAndParts, HasMore, IsEditFor, IsEditOf, IsPlaceFor, KeepsHead, edits_arguments, is_edit, rule_after, takes_tree};
 
 use crate::command::{Action, Command, in_args};
 use bz_attribute::{
@@ -42,7 +43,7 @@ pub(crate) struct RuleParts<'p, 'a> {
 }
 
 /// The attribute of a command that looks at its first argument alone.
-fn one_attribute(command: &Command) -> Option<&str>
+pub fn one_attribute(command: &Command) -> Option<&str>
     ensures { IfSome result (λ attr. one_attribute command.now ≡ Some attr.now) }
 {
     match &command.action {

@@ -1,15 +1,14 @@
 -- For private clauses: where the arguments stand that a command looks at, and a row with its head.
-use Rattle.std.specs.Prelude.{◌≡◌, ℕ, ◌-◌, List, ◌∷◌, ◌++◌, Bool, true, false, Option, Some, None, map, take, drop, ◌≤◌, ◌+◌, length}
+use Rattle.std.specs.Prelude.{◌≡◌, ℕ, ◌-◌, List, ◌++◌, Bool, true, false, Option, Some, map, take, drop, ◌≤◌, ◌+◌, length}
 use Rattle.bz_tree.specs.Statement.{class_of}
 use Rattle.bz_tree.specs.declared.stmt.Class.TheVariants.{Rule as RuleClass}
 use Rattle.bz_tree.specs.Tree.{Segment, Statement, segs_of}
 use Rattle.bz_tree.specs.Rows.{RowPart, part_view, parts_of, segs_parts}
 use Rattle.bz_command.specs.Labels.{Package}
-use Rattle.bz_command.specs.declared.arguments.Attributes.TheVariants.{Named}
 use Rattle.bz_command.specs.declared.arguments.Commented.TheVariants.{Attribute, Rule as Above, Value}
 use Rattle.bz_command.specs.declared.arguments.Setting.TheVariants.{ToKind, ToValues}
 use Rattle.bz_rule.specs.Commands.{Command, args_after, args_done, done_of}
-use Rattle.bz_rule.specs.declared.command.Action.TheVariants.{Add, Comment, Delete, Print, Remove, Rename, Replace, Set, SetIfAbsent}
+use Rattle.bz_rule.specs.declared.command.Action.TheVariants.{Add, Comment, Delete, Print, Remove, Rename, Replace, Set, SetIfAbsent, Move}
 use Rattle.bz_attribute.specs.Comment.{comment_rule}
 use Rattle.bz_attribute.specs.Effects.{with_args}
 use Rattle.bz_attribute.specs.Heads.{HasHead}
@@ -84,17 +83,6 @@ abbrev pub rule_after : Command → Package → Statement → Statement
 rule_after (Set (ToKind kind)) home s = with_kind kind s
 rule_after (Comment Above text) home s = comment_rule text s
 rule_after c home s = with_args (args_after c home) s
-
--- the attribute of a command that looks at its first argument alone, and adds one after all where there is none
-abbrev pub one_attribute : Command → Option (List ℕ)
-one_attribute (Add attr values) = Some attr
-one_attribute (Remove (Named attr) (value ∷ values)) = Some attr
-one_attribute (Set (ToValues attr values)) = Some attr
-one_attribute (SetIfAbsent attr values) = Some attr
-one_attribute (Replace (Named attr) old new) = Some attr
-one_attribute (Comment (Attribute attr) text) = Some attr
-one_attribute (Comment (Value attr value) text) = Some attr
-one_attribute _ = None
 
 -- it has at least so many comments more above it
 abbrev pub HasMore : ℕ → Statement → Statement → Type 0
