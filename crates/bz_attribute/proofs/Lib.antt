@@ -1,6 +1,7 @@
 pub mod CallEdits
 pub mod Calls
 pub mod EditedAt
+pub mod ElementSearch
 pub mod EndsBack
 pub mod FinderSteps
 pub mod First
@@ -18,10 +19,12 @@ pub mod Lengths
 pub mod ListEdits
 pub mod ListElements
 pub mod ListWalk
+pub mod Locals
 pub mod Mapped
 pub mod NameTexts
 pub mod NextArguments
 pub mod NextPart
+pub mod OnlyLists
 pub mod Passed
 pub mod PlaceFound
 pub mod RowArgs

@@ -1,11 +1,12 @@
 -- A walk over the elements of a value: what an edit of them, one by one, makes of its parts.
-use Rattle.std.proofs.Common.{◌≡◌, ℕ, ◌+◌, ◌-◌, List, [], ◌∷◌, ◌++◌, Bool, true, false, Option, map, length, take, drop, refl, ap, sym, ◌∙◌, arith, append_assoc, append-nil, length-append, drop-drop}
+use Rattle.std.proofs.Common.{◌≡◌, ℕ, ◌+◌, ◌-◌, List, [], ◌∷◌, ◌++◌, Bool, true, false, Option, map, length, take, drop, refl, ap, sym, ◌∙◌, arith, append_assoc, append-nil, length-append, drop-drop, take-add}
 use Rattle.std.proofs.lemmas.List.{length-map}
 use Rattle.std.proofs.Math.Seq.{drop-append_seam, take-append_seam}
 use Rattle.bz_tree.specs.declared.stmt.GroupKind.TheVariants.{List as ListKind}
 use Rattle.bz_tree.specs.Tree.{Item, Segment, items_of, segs_of}
 use Rattle.bz_tree.specs.Rows.{RowPart, above, closing, opening, segment_end, item_parts, items_parts, segs_parts}
-use Rattle.bz_attribute.specs.Elements.{HasNoList, IsByElement, IsEditedTo, IsElementOf, IsListIn, ListRest, edited_rest, list_item, rest_parts, value_parts}
+use Rattle.bz_attribute.specs.Comment.{edit_element}
+use Rattle.bz_attribute.specs.Elements.{HasNoList, IsByElement, IsEditedTo, IsElementOf, IsListIn, ListRest, edited_rest, found_rest, list_item, rest_parts, value_parts}
 use Rattle.bz_attribute.specs.Lists.{edit_first_part, edit_from, edit_parts, parts, parts_from}
 use Rattle.bz_attribute.specs.Move.{joined}
 use Rattle.bz_attribute.proofs.EditedAt.{segs_join}
@@ -26,7 +27,7 @@ list_cut front l after =
     let moved : (items_parts (items_of front) ++ ((opening ListKind ∷ inner) ++ last)) ++ segment_end ∷ after ≡ opened front ++ rest_parts l after = simp append_assoc in
     ap (λ (ps : List RowPart). ps ++ segment_end ∷ after) (items_join front (list_item l ∷ l.items)) ∙ moved
 
-long_opened : (front : List Item) → length (opened front) ≡ length (items_parts (items_of front)) + 1
+pub long_opened : (front : List Item) → length (opened front) ≡ length (items_parts (items_of front)) + 1
 long_opened front = length-append (items_parts (items_of front)) (opening ListKind ∷ [])
 
 -- what stands before the elements of the first list part
@@ -46,6 +47,17 @@ edits_begin f nodes after ps from to read l = record {
       ∙ list_cut l.front (edited_rest f l.list) after
       ∙ ap (λ (ps : List RowPart). ps ++ rest_parts (edited_rest f l.list) after) (sym (first_opened nodes after ps from to read l));
 }
+
+-- where the first element that passes is edited
+pub found_opened : (p : Segment → Bool) (f : Segment → Segment) (nodes : List Item) (after ps : List RowPart) (from to : ℕ) → drop from ps ≡ value_parts nodes after → (l : IsListIn true nodes after ps from to)
+    → take from ps ++ value_parts (edit_element p f nodes) after ≡ take to ps ++ rest_parts (found_rest p f l.list) after
+found_opened p f nodes after ps from to read l =
+    let front : take to ps ≡ take from ps ++ opened l.front =
+    ap (λ (k : ℕ). take k ps) (omega (arith, l.begins)) ∙ take-add from (to - from) ps ∙ ap (λ (qs : List RowPart). take from ps ++ qs) (first_opened nodes after ps from to read l) in
+    ap (λ (xs : List Item). take from ps ++ value_parts xs after) (l.found p f)
+    ∙ ap (λ (qs : List RowPart). take from ps ++ qs) (list_cut l.front (found_rest p f l.list) after)
+    ∙ sym (append_assoc (take from ps) (opened l.front) (rest_parts (found_rest p f l.list) after))
+    ∙ ap (λ (qs : List RowPart). qs ++ rest_parts (found_rest p f l.list) after) (sym front)
 
 -- an element
 pub edits_element : (f : List Segment → List Segment) (nodes : List Item) (after ps : List RowPart) (at token to : ℕ) (string : Option (List ℕ)) (new : List RowPart) → IsByElement f
@@ -72,7 +84,7 @@ edits_element f nodes after ps at token to string new by w e =
     }
 
 -- the next list part
-ended : (end : List (List ℕ)) (one_comma : Bool) (front : List Item) (l : ListRest) (after : List RowPart)
+pub ended : (end : List (List ℕ)) (one_comma : Bool) (front : List Item) (l : ListRest) (after : List RowPart)
     → map above end ++ closing one_comma ∷ value_parts (front ++ list_item l ∷ l.items) after ≡ (map above end ++ closing one_comma ∷ opened front) ++ rest_parts l after
 ended end one_comma front l after =
     ap (λ (qs : List RowPart). map above end ++ closing one_comma ∷ qs) (list_cut front l after) ∙ sym (append_assoc (map above end) (closing one_comma ∷ opened front) (rest_parts l after))

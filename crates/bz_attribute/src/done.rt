@@ -1,7 +1,7 @@
 //! What a command did to a statement.
 
 ghost use Rattle.std.specs.Prelude.{◌≡◌, None, IfOk};
-ghost use Rattle.bz_attribute.specs.declared.done.Note.TheVariants.{AttributeExists, NoAttribute, NotAList};
+ghost use Rattle.bz_attribute.specs.declared.done.Note.TheVariants.{AttributeExists, NoAttribute, NoValue, NotAList};
 ghost use Rattle.bz_attribute.specs.Effects as spec;
 
 use bz_command::Text;
@@ -74,5 +74,14 @@ impl Done {
         ensures { IfOk result (λ done. done ≡ spec.failed (NotAList attr.now)) }
     {
         Ok(Done::failure(Note::NotAList(Text::from_str(alloc, attr)?)))
+    }
+
+    /// The failure where no element of the attribute equals the value.
+    pub fn no_value(alloc: Global, attr: &str, value: &str) -> Executed
+        ensures { IfOk result (λ done. done ≡ spec.failed (NoValue attr.now value.now)) }
+    {
+        let attr = Text::from_str(alloc, attr)?;
+        let value = Text::from_str(alloc, value)?;
+        Ok(Done::failure(Note::NoValue { attr, value }))
     }
 }

@@ -24,7 +24,8 @@ use Rattle.bz_attribute.proofs.Fresh.{fresh_step}
 use Rattle.bz_attribute.proofs.ListEdits.{appended}
 use Rattle.bz_list_commands.specs.private.AddSteps.{IsAdding, Knows}
 use Rattle.bz_list_commands.proofs.Known.{knows_fresh, knows_more}
-use Rattle.bz_list_commands.proofs.Named.{add_local, is_there}
+use Rattle.bz_attribute.proofs.Locals.{is_there}
+use Rattle.bz_list_commands.proofs.Named.{add_local}
 
 -- value by value
 pub adding_begins : (home : Package) (lists : List (List Segment)) (values : List (List ℕ)) (set : LabelSet) (before : List RowPart) → Knows home lists values 0 set → IsAdding home lists values 0 set before before

@@ -6,8 +6,6 @@ ghost use Rattle.bz_rule.specs.Commands as spec;
 ghost use Rattle.bz_rule.specs.private.RowEdits.{takes_tree};
 
 use bz_attribute::{Done, Env, Executed};
-use bz_attribute_commands::comment::comment;
-use bz_attribute_commands::set::set;
 use bz_command::{Attributes, Commented, Field, Moved, Package, Seq, Setting, Text};
 use bz_list_commands::moving::move_elements;
 use bz_tree::Seg;
@@ -122,16 +120,9 @@ pub(crate) fn in_args(
     ensures err { OnErr result (segs_view args.new.items ≡ segs_view args.old.items) }
 {
     match &command.action {
-        Action::Set(Setting::ToValues(attr, values)) => {
-            set(alloc, attr.as_str(), values.as_slice(), args)
-        }
         Action::Move(old, new, moved) => {
             let env = Env { alloc, home };
             move_elements(env, old.as_str(), new.as_str(), moved, args)
-        }
-        Action::Comment(commented, text) => {
-            let env = Env { alloc, home };
-            comment(env, commented, text.as_str(), args)
         }
         _ => Ok(Done::quiet(false)),
     }

@@ -74,10 +74,7 @@ edits_arguments c = is_edit c
 
 -- some of them by a tree
 abbrev pub takes_tree : Command → Bool
-takes_tree (Set (ToValues attr words)) = true
 takes_tree (Move old new chosen) = true
-takes_tree (Comment (Attribute attr) text) = true
-takes_tree (Comment (Value attr value) text) = true
 takes_tree _ = false
 
 -- that rule
