@@ -9,6 +9,7 @@ ghost use Rattle.bz_attribute.specs.RowPlaces.{IsRuleRow};
 ghost use Rattle.bz_attribute.specs.Rules.{Rule, rule_of};
 ghost use Rattle.bz_command.specs.Labels as labels;
 ghost use Rattle.bz_rule.specs.Commands as commands;
+ghost use Rattle.bz_rule.specs.declared.command.Action.TheVariants.{Set};
 ghost use Rattle.bz_rule.specs.private.RowEdits.{HasKindAndParts, HasMore, IsEditFor, IsEditOf, IsPlaceFor, KeepsHead, edits_arguments, is_edit, one_attribute, rule_after, takes_tree};
 
 use crate::command::{Action, Command, in_args};
@@ -88,6 +89,25 @@ fn edit_by_tree<'a>(
     Ok(Edit { done, place })
 }
 
+// `set` of an attribute. The kind of a rule is none of its arguments.
+fn set_argument<'a>(
+    env: Env<'_>,
+    setting: &Setting,
+    parts: &[Part<'a>],
+    new: &mut Parts<'a>,
+) -> Result<Edit, AllocError>
+    ensures { IfOk result (IsRowEdit (commands.args_after (Set setting.now) env.entry.home.now)
+        (commands.args_done (Set setting.now) env.entry.home.now)
+        (map part_view parts.now) (map part_view new.new.items)) }
+{
+    match setting {
+        Setting::ToKind(_) => Ok(Edit::none(Done::quiet(false))),
+        Setting::ToValues(attr, words) => {
+            set(env.alloc, attr.as_str(), words.as_slice(), parts, new)
+        }
+    }
+}
+
 // What a command makes of the arguments of a rule.
 fn edit_arguments<'a>(
     env: Env<'_>,
@@ -111,9 +131,7 @@ fn edit_arguments<'a>(
             };
             replace(env, attributes, change, parts, new)
         }
-        Action::Set(Setting::ToValues(attr, words)) => {
-            set(env.alloc, attr.as_str(), words.as_slice(), parts, new)
-        }
+        Action::Set(setting) => set_argument(env, setting, parts, new),
         Action::SetIfAbsent(attr, words) => {
             set_if_absent(env.alloc, attr.as_str(), words.as_slice(), parts, new)
         }

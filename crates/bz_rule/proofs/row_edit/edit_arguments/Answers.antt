@@ -10,5 +10,11 @@ returns-in-Remove c = rw (sym c.command.view_is, c.in-Remove.is) (rw (c.as_slice
 pub returns-in-Replace : goal.returns-in-Replace
 returns-in-Replace c = rw (sym c.command.view_is, c.in-Replace.is) (rw (c.as_str-in-Replace.ensures, c.as_str-in-Replace-2.ensures) at c.replace.ensures)
 
+pub returns-in-Set : goal.returns-in-Set
+returns-in-Set c = rw (sym c.command.view_is, c.in-Set.is) c.set_argument.ensures
+
 pub returns-in-SetIfAbsent : goal.returns-in-SetIfAbsent
-returns-in-SetIfAbsent c = rw (sym c.command.view_is, c.in-SetIfAbsent.is) (rw (c.as_str-in-SetIfAbsent.ensures, c.as_slice-in-SetIfAbsent.ensures) at c.set_absent.ensures)
+returns-in-SetIfAbsent c = rw (sym c.command.view_is, c.in-SetIfAbsent.is) (rw (c.as_str-in-SetIfAbsent.ensures, c.as_slice-in-SetIfAbsent.ensures) at c.set_if_absent.ensures)
+
+pub returns-in-Comment : goal.returns-in-Comment
+returns-in-Comment c = rw (sym c.command.view_is, c.in-Comment.is) (rw (c.as_str-in-Comment.ensures) at c.comment.ensures)
