@@ -1,5 +1,5 @@
 -- The first argument of a name, and edits that look at it alone.
-use Rattle.std.proofs.Common.{◌≡◌, ℕ, List, [], ◌∷◌, ◌++◌, Bool, true, false, ◌||◌, if◌then◌else◌, Option, Some, None, is_some, refl, ap, sym, ◌∙◌, append-nil}
+use Rattle.std.proofs.Common.{◌≡◌, ℕ, List, [], ◌∷◌, ◌++◌, Bool, true, false, ◌||◌, if◌then◌else◌, Some, None, is_some, refl, ap, sym, ◌∙◌, append-nil}
 use Rattle.bz_tree.specs.Tree.{Segment}
 use Rattle.bz_attribute.specs.Rules.{first_named, is_named}
 use Rattle.bz_attribute.specs.Effects.{edit_first, has}

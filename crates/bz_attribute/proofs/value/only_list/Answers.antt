@@ -1,4 +1,4 @@
-use Rattle.std.proofs.Common.{◌-◌, ◌<◌, arith, drop, length, length-drop, refl, map, sym, take, ◌∙◌}
+use Rattle.std.proofs.Common.{◌<◌, arith, drop, length, length-drop, refl, map, sym, ◌∙◌}
 use Rattle.std.proofs.lemmas.List.{take_rest}
 use Rattle.bz_tree.specs.Rows.{part_view}
 use Rattle.bz_attribute.proofs.OnlyLists.{only_there}
