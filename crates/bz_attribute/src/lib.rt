@@ -41,7 +41,7 @@ pub use make::{
 };
 pub use next_argument::next_place;
 pub use place::{Place, all_arguments, new_place, place_of};
-pub use row_args::{Parts, push_stmt, read_arguments, write_arguments};
+pub use row_args::{Parts, push_stmt, read_arguments};
 pub use row_kind::kind_place;
 pub use rule::{
     Rule, call_at, find, first_named, ident_of, is_named, is_string, name_of, only_text, rule_of,

@@ -9,4 +9,4 @@ pub returns-then-are_of : goal.returns-then-are_of
 returns-then-are_of c =
     let words : List (List ℕ) = c.args.self.now.words.now in
     let value : List ℕ = left c.args.value in
-    c.contains.ensures ∙ c.args.self.now.all value ∙ ap (λ (p : Package). list_any (same p value) words) (c.are_of.ensures c.if-are_of.true)
+    c.contains.ensures ∙ c.args.self.now.all value ∙ ap (λ (p : Package). list_any (same p value) words) (c.are_of.ensures.0 c.if-are_of.true)
