@@ -13,8 +13,8 @@ use Rattle.bz_attribute.specs.Lists.{edit_first_part, edit_parts, with_value, is
 use Rattle.bz_attribute.specs.Effects.{argument, edit_first, filtered, has, list_item, loses_all, unchosen, is_chosen, chooses}
 use Rattle.bz_attribute.specs.Move.{arrivals, elements_of, move, move_note, moved, moves, put_in, joined}
 use Rattle.bz_rule.proofs.Arguments.{attribute_named, is_first_named, name_put}
-use Rattle.bz_list_commands.proofs.Arriving.{text_of_one}
-use Rattle.bz_list_commands.proofs.Leaving.{filter-append}
+use Rattle.bz_token.proofs.Classes.{same_bytes}
+use Rattle.std.proofs.lemmas.List.Elements.{filter-append}
 use Rattle.bz_rule.proofs.Remove.{filtered_kept, filtered_same}
 use Rattle.bz_command.specs.Names.{is_identifier}
 use Rattle.std.specs.Prelude.{not, ◌&&◌}
@@ -34,6 +34,16 @@ use Rattle.bz_token.specs.declared.token.Kind.TheVariants.{Identifier}
 use Rattle.bz_tree.specs.Grammar.{IsArg, IsTest}
 use Rattle.std.specs.Str.{is_utf8}
 use Rattle.bz_token.specs.Common.{map_or}
+
+-- an argument has one name
+text_of_one : (old new : List ℕ) (name : Option (List ℕ)) → bytes_eq old new ≡ false → is_word old name ≡ true → is_word new name ≡ false
+text_of_one old new None other h = absurd cc
+text_of_one old new (Some text) other h = elim (cases_Bool (bytes_eq new text)) [
+  | inl is ↦
+      let clash : true ≡ false = sym h ∙ ap (bytes_eq old) (sym (same_bytes new text is)) ∙ other in
+      absurd cc
+  | inr differs ↦ differs
+]
 
 -- an argument of the new name has not the old one
 not_old : (old new : List ℕ) (name : Option (List ℕ)) → bytes_eq old new ≡ false → is_word new name ≡ true → is_word old name ≡ false
