@@ -114,16 +114,16 @@ none_arrived home p at ps set all = λ l after lists read are. record {
   arrived = told home p (has set) (joined lists) (elements_left l) (λ text. all lists are text ∙ in_joined home lists text);
 }
 
-abbrev HasNext : List RowPart → ℕ → ℕ → ℕ → Option (List ℕ) → Type 0
-HasNext ps at from to string = (l : ListRest) (after : List RowPart) → drop at ps ≡ rest_parts l after → IsNextElement l after ps from to string
+abbrev HasNext : List RowPart → ℕ → ℕ → ℕ → ℕ → Option (List ℕ) → Type 0
+HasNext ps at from token to string = (l : ListRest) (after : List RowPart) → drop at ps ≡ rest_parts l after → IsNextElement l after ps at from token to string
 
 abbrev pub one_place : Bool → Place → List Place
 one_place b place = if b then place ∷ [] else []
 
-pub one_arrived : (home : Package) (p : Option (List ℕ) → Bool) (at : Lists) (ps : List RowPart) (k from to : ℕ) (string : Option (List ℕ)) (old new : LabelSet) (places more : List Place) (b : Bool) → AreArriving home p at ps k old places → HasNext ps k from to string
+pub one_arrived : (home : Package) (p : Option (List ℕ) → Bool) (at : Lists) (ps : List RowPart) (k from token to : ℕ) (string : Option (List ℕ)) (old new : LabelSet) (places more : List Place) (b : Bool) → AreArriving home p at ps k old places → HasNext ps k from token to string
     → b ≡ (p string && not (has_value (has old) (option_and_then value_of string))) → old.home.now ≡ home → ((text : List ℕ) → has new text ≡ ((p string && map_or false (λ value. same old.home.now value text) (option_and_then value_of string)) || has old text))
     → more ≡ places ++ one_place b (record { from = from; to = to }) → AreArriving home p at ps to new more
-one_arrived home p at ps k from to string old new places more b so_far next arrives of gains written = λ l rest lists read are.
+one_arrived home p at ps k from token to string old new places more b so_far next arrives of gains written = λ l rest lists read are.
     let h = so_far l rest lists read are in
     let n = next h.left rest h.read in
     let s : Segment = n.element in
