@@ -11,17 +11,12 @@ use Rattle.bz_tree.specs.declared.row.Part.{Part}
 use Rattle.bz_tree.specs.Rows.{RowPart, part_view, segs_parts}
 use Rattle.bz_tree.specs.Tree.{Segment, segs_of}
 use Rattle.bz_command.specs.Labels.{Package}
-use Rattle.bz_command.specs.declared.arguments.Moved.{Moved}
-use Rattle.bz_command.specs.declared.arguments.Moved.TheVariants.{Values, All}
-use Rattle.bz_attribute.specs.Rules.{elements, is_named, is_text, name_of, first_named, string_value, value}
-use Rattle.bz_attribute.specs.Lists.{with_value, parts, parts_from, is_part, is_plus, is_joint, edit_list, edit_one_from, edit_first_part, edit_parts, equals, same}
-use Rattle.bz_attribute.specs.Effects.{has, edit_first, filtered, unchosen, is_chosen, loses_all, argument, list_item, chooses}
-use Rattle.bz_attribute.specs.private.ChosenViews.{words_of}
-use Rattle.bz_attribute.specs.private.Places.{IsFirst, first_length, first_list}
-use Rattle.bz_attribute.specs.Move.{arrivals, elements_of, joined, moved}
+use Rattle.bz_command.specs.declared.arguments.Moved.TheVariants.{All, Values}
+use Rattle.bz_attribute.specs.Lists.{equals, same}
+use Rattle.bz_attribute.specs.Move.{arrivals, joined}
+use Rattle.bz_attribute.specs.Rules.{string_value}
 use Rattle.bz_attribute.proofs.LabelSets.{or_false}
-use Rattle.bz_list_commands.specs.private.MoveSteps.{value_of, with_list, with_more, AreArriving, HaveArrivals, arrivals_by, has_value, parts_at}
-use Rattle.bz_list_commands.proofs.Leaving.{swapped_front, swapped_rest}
+use Rattle.bz_list_commands.specs.private.MoveSteps.{AreArriving, HaveArrivals, arrivals_by, has_value, parts_at}
 use Rattle.bz_token.specs.Common.{map_or}
 use Rattle.bz_command.specs.LabelSetViews.{has}
 use Rattle.bz_command.specs.Same.{completed}

@@ -13,7 +13,6 @@ use Rattle.bz_attribute.specs.Comment.{comment_line}
 use Rattle.bz_attribute.specs.Rules.{Rule, rule_of, kind_text}
 use Rattle.bz_attribute.specs.Effects.{done, holds_rule, nodes_of, slot_done, with_args}
 use Rattle.bz_attribute.specs.declared.done.Done.{Done}
-use Rattle.bz_attribute.specs.RowPlaces.{alone, IsPlaceOf, IsPlaceOfAll}
 use Rattle.bz_attribute.specs.Set.{kind_after, kind_items, sets_kind_of, with_kind}
 use Rattle.bz_rule.specs.Commands.{Command, after, args_after, args_done, done_of}
 use Rattle.bz_rule.specs.declared.command.Action.TheVariants.{Add, Comment, Delete, Move, Print, Remove, Rename, Replace, Set, SetIfAbsent}
@@ -23,8 +22,7 @@ use Rattle.bz_rule.specs.private.RowEdits.{HasMore, IsEditOf, IsNextOf, edits_ar
 use Rattle.bz_command.specs.declared.arguments.Field.{Field}
 use Rattle.bz_attribute_commands.specs.Print.{prints, fields_of, printed}
 use Rattle.bz_rule.proofs.Commands.{lawful}
-use Rattle.bz_rule.proofs.Lawful.{Lawful, Local}
-use Rattle.bz_rule.proofs.Local.{told_alone}
+use Rattle.bz_rule.proofs.Lawful.{Lawful}
 use Rattle.bz_rule.proofs.Rebuilt.{kind_dotted}
 use Rattle.bz_rule.proofs.RuleClass.{call_class, class_after, rule_class}
 use Rattle.bz_token.specs.Common.{map_or}
