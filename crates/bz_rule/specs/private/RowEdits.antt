@@ -51,13 +51,6 @@ pub record IsNextOf (old : Statement) (parts : List RowPart) (s : Statement) : T
 abbrev pub KeepsHead : Statement → Statement → Type 0
 KeepsHead s after = (head : Option Head) → HasHead head s → HasHead head after
 
--- Some arguments stand there: the command does to the rule what it does to them alone, and tells the same.
-pub record IsPlaceFor (c : Command) (home : Package) (s : Statement) (r : Rule) (ps : List RowPart) (from to : ℕ) : Type 0 where
-  pub args : List Segment
-  pub read : take (to - from) (drop from ps) ≡ segs_parts (segs_of args)
-  pub put : take from ps ++ (segs_parts (segs_of (args_after c home args)) ++ drop to ps) ≡ parts_of (with_args (args_after c home) s)
-  pub told : args_done c home args ≡ args_done c home r.args
-
 -- a command that makes another rule of a rule
 abbrev pub is_edit : Command → Bool
 is_edit Delete = false
@@ -70,13 +63,6 @@ edits_arguments (Set (ToKind kind)) = false
 edits_arguments (Comment Above text) = false
 edits_arguments (Rename old new) = false
 edits_arguments c = is_edit c
-
--- some of them by a tree
-abbrev pub takes_tree : Command → Bool
-takes_tree (Set (ToValues attr words)) = true
-takes_tree (Comment (Attribute attr) text) = true
-takes_tree (Comment (Value attr value) text) = true
-takes_tree _ = false
 
 -- that rule
 abbrev pub rule_after : Command → Package → Statement → Statement

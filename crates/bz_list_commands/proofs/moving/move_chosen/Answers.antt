@@ -2,14 +2,8 @@ use Rattle.std.proofs.Common.{None, ap, map, refl, subst, sym, ◌∙◌, if◌t
 use Rattle.bz_tree.specs.Rows.{part_view}
 use Rattle.bz_command.specs.declared.arguments.Moved.{Moved}
 use Rattle.bz_command.specs.declared.arguments.Moved.TheVariants.{All, Values}
-use Rattle.bz_attribute.specs.Rules.{first_named, is_named}
-use Rattle.bz_attribute.specs.Lists.{parts}
-use Rattle.bz_attribute.specs.private.ChosenViews.{chosen_view}
-use Rattle.bz_attribute.specs.private.Places.{first_length, first_list}
-use Rattle.bz_attribute.specs.Effects.{done, edit_first, filtered, is_chosen, unchosen}
-use Rattle.bz_attribute.specs.Move.{arrivals, elements_of, joined, moved, moves}
-use Rattle.bz_list_commands.specs.private.MoveSteps.{value_of, with_list, with_more}
-use Rattle.bz_list_commands.proofs.Arriving.{chosen_counted, elements_there, first_among, first_given, moved_by, room_given}
+use Rattle.bz_attribute.specs.Effects.{done}
+use Rattle.bz_attribute.specs.Move.{moved, moves}
 use Rattle.bz_attribute.specs.RowEdits.{IsRowEdit}
 use Rattle.bz_list_commands.proofs.Meanings.{meant_chosen}
 use Rattle.bz_list_commands.proofs.WrittenParts.{ok_as}
