@@ -20,6 +20,7 @@ use Rattle.bz_list_commands.specs.private.MoveSteps.{AreArriving, HaveArrivals, 
 use Rattle.bz_token.specs.Common.{map_or}
 use Rattle.bz_command.specs.LabelSetViews.{has}
 use Rattle.bz_command.specs.Same.{completed}
+use Rattle.bz_command.specs.Values.{value_of}
 use Rattle.bz_command.specs.declared.label_set.LabelSet.{LabelSet}
 use Rattle.bz_attribute.specs.Elements.{AreLists, IsNextElement, ListRest, elements_left, rest_parts}
 use Rattle.bz_attribute.specs.private.ElementSets.{is_in}

@@ -1,4 +1,4 @@
-use Rattle.std.proofs.Common.{ℕ, ◌≤◌, List, [], ◌++◌, Bool, length, map, ap, subst, sym, ◌∙◌, append-nil}
+use Rattle.std.proofs.Common.{arith, ℕ, ◌≤◌, List, [], ◌++◌, Bool, length, map, ap, subst, sym, ◌∙◌, append-nil}
 use Rattle.std.proofs.lemmas.List.Elements.{All-nil, All-push, All-same}
 use Rattle.bz_tree.specs.Rows.{part_view}
 use Rattle.bz_attribute.specs.declared.place.Place.{Place}
@@ -27,7 +27,7 @@ loop-element-preserved c =
     let home = c.args.edit.env.home.now in
     let places : List Place = c.loop-element.places.items in
     record {
-      within = c.in-Some.ensures.within.1.1;
+      within = c.in-Some.ensures.within.1.1.1;
       places = c.loop-element.invariant.places;
       home = c.in_ok-arrives.ensures.home ∙ c.loop-element.invariant.home;
       arriving =
@@ -42,9 +42,9 @@ loop-element-preserved-in_ok-push c =
     let home = c.args.edit.env.home.now in
     let places : List Place = c.loop-element.places.items in
     record {
-      within = c.in-Some.ensures.within.1.1;
+      within = c.in-Some.ensures.within.1.1.1;
       places = All-same (Within (length c.args.parts.now)) c.push.new.list.items _ c.in_ok-push.ensures.items
-          (All-push (Within (length c.args.parts.now)) places (record { from = c.in-Some.element.from; to = c.in-Some.element.to }) c.loop-element.invariant.places (c.in-Some.ensures.within.0, c.in-Some.ensures.within.1.1));
+          (All-push (Within (length c.args.parts.now)) places (record { from = c.in-Some.element.from; to = c.in-Some.element.to }) c.loop-element.invariant.places (omega (arith, c.in-Some.ensures.within.1.0, c.in-Some.ensures.within.1.1.0), c.in-Some.ensures.within.1.1.1));
       home = c.in_ok-arrives.ensures.home ∙ c.loop-element.invariant.home;
       arriving =
           one_arrived home (means c.args.edit) c.args.lists (map part_view c.args.parts.now) c.loop-element.at c.in-Some.element.from c.in-Some.element.token c.in-Some.element.to _ c.loop-element.there c.arrives.new.there places c.push.new.list.items c.in_ok-arrives.field-0

@@ -17,6 +17,6 @@ returns-in_ok-words-in-Values c =
     let home = c.args.env.home.now in
     let words = c.in_ok-words-in-Values.words.words.now in
     ok_as
-    (λ e h. subst (λ (moved : Moved). IsRowEdit (λ x0. if moves home c.args.change.old.now moved x0 then moved home c.args.change.old.now c.args.change.new.now moved x0 else x0) (λ args. done None (moves home c.args.change.old.now moved args)) (map part_view c.args.parts.now) (map part_view c.move_meant-in-Values.new.written.items) e)
+    (λ e h. subst (λ (chosen : Moved). IsRowEdit (λ args. if moves home c.args.change.old.now chosen args then moved home c.args.change.old.now c.args.change.new.now chosen args else args) (λ args. done None (moves home c.args.change.old.now chosen args)) (map part_view c.args.parts.now) (map part_view c.move_meant-in-Values.new.written.items) e)
     (sym (c.in-Values.is ∙ ap Values (sym (c.in_ok-words-in-Values.ensures ∙ c.as_slice.ensures)))) (h (Values words) refl (meant_chosen home words)))
     c.move_meant-in-Values.result c.move_meant-in-Values.ensures
