@@ -63,7 +63,7 @@ mutual
       (join d (beside_part suffix) (segs_parts ss) rest (pass_beside d suffix (segs_parts ss ++ rest)) (pass_segs d ss rest))))
 
 -- an item ends after so many parts
-item_long : (x : Item) (rest : List RowPart) → item_len (item_parts x ++ rest) ≡ length (item_parts x)
+pub item_long : (x : Item) (rest : List RowPart) → item_len (item_parts x ++ rest) ≡ length (item_parts x)
 item_long (leaf kind text) rest = refl
 item_long (group kind segs one_comma end) rest =
     let inner : List RowPart = segs_parts segs ++ map above end in

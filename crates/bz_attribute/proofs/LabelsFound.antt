@@ -56,10 +56,10 @@ none_labelled home choice ps from set empty = λ l after read. record {
   same = λ text. ap (λ (b : Bool). is_among home choice (elements_left l) text || b) (empty text) ∙ or_false (is_among home choice (elements_left l) text);
 }
 
-pub one_labelled : (home : Package) (choice : Moved) (ps : List RowPart) (from at begin to : ℕ) (string : Option (List ℕ)) (value : Option (List ℕ)) (old new : LabelSet) → HaveLabels home choice ps from at old
-    → ((l : ListRest) (after : List RowPart) → drop at ps ≡ rest_parts l after → IsNextElement l after ps begin to string) → value ≡ kept home choice (option_and_then value_of string)
+pub one_labelled : (home : Package) (choice : Moved) (ps : List RowPart) (from at begin token to : ℕ) (string : Option (List ℕ)) (value : Option (List ℕ)) (old new : LabelSet) → HaveLabels home choice ps from at old
+    → ((l : ListRest) (after : List RowPart) → drop at ps ≡ rest_parts l after → IsNextElement l after ps at begin token to string) → value ≡ kept home choice (option_and_then value_of string)
     → ((text : List ℕ) → has new text ≡ (is_kept home text value || has old text)) → HaveLabels home choice ps from to new
-one_labelled home choice ps from at begin to string value old new have next is gains = λ l after read.
+one_labelled home choice ps from at begin token to string value old new have next is gains = λ l after read.
     let h = have l after read in
     let n = next h.left after h.read in
     let found_value : value ≡ kept home choice (string_value n.element.nodes) = is ∙ ap (λ (t : Option (List ℕ)). kept home choice (option_and_then value_of t)) n.text in

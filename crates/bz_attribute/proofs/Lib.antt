@@ -2,6 +2,7 @@ pub mod CallEdits
 pub mod Calls
 pub mod EditedAt
 pub mod EditedRules
+pub mod ElementSearch
 pub mod EndsBack
 pub mod FinderSteps
 pub mod First
@@ -19,10 +20,12 @@ pub mod Lengths
 pub mod ListEdits
 pub mod ListElements
 pub mod ListWalk
+pub mod Locals
 pub mod Mapped
 pub mod NameTexts
 pub mod NextArguments
 pub mod NextPart
+pub mod OnlyLists
 pub mod Passed
 pub mod PlaceFound
 pub mod RowArgs

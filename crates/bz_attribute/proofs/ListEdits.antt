@@ -1,10 +1,11 @@
--- Elements at the end of a list, by the parts of the value.
-use Rattle.std.proofs.Common.{◌≡◌, ℕ, ◌+◌, ◌-◌, List, [], ◌∷◌, ◌++◌, true, map, length, take, drop, refl, ap, sym, ◌∙◌, arith, append_assoc, length-append, drop-drop}
+-- Edits of the first list part of a value, by its parts.
+use Rattle.std.proofs.Common.{◌≡◌, ℕ, ◌+◌, ◌-◌, List, [], ◌∷◌, ◌++◌, Bool, true, false, map, length, take, drop, refl, ap, sym, ◌∙◌, arith, append_assoc, length-append, drop-drop, take-add}
 use Rattle.std.proofs.Math.Seq.{drop-append_seam, take-append_seam}
 use Rattle.bz_tree.specs.declared.stmt.GroupKind.TheVariants.{List as ListKind}
 use Rattle.bz_tree.specs.Tree.{Item, Segment, items_of, segs_of}
 use Rattle.bz_tree.specs.Rows.{RowPart, above, closing, opening, segment_end, item_parts, items_parts, segs_parts}
-use Rattle.bz_attribute.specs.Elements.{IsListIn, ListRest, list_item, rest_parts, value_parts}
+use Rattle.bz_attribute.specs.Comment.{edit_element}
+use Rattle.bz_attribute.specs.Elements.{IsListIn, ListRest, found_rest, list_item, rest_parts, value_parts}
 use Rattle.bz_attribute.specs.Lists.{edit_first_part}
 use Rattle.bz_attribute.proofs.EditedAt.{segs_join}
 
@@ -24,8 +25,31 @@ list_cut front l after =
     let moved : (items_parts (items_of front) ++ ((opening ListKind ∷ inner) ++ last)) ++ segment_end ∷ after ≡ opened front ++ rest_parts l after = simp append_assoc in
     ap (λ (ps : List RowPart). ps ++ segment_end ∷ after) (items_join front (list_item l ∷ l.items)) ∙ moved
 
-long_opened : (front : List Item) → length (opened front) ≡ length (items_parts (items_of front)) + 1
+pub long_opened : (front : List Item) → length (opened front) ≡ length (items_parts (items_of front)) + 1
 long_opened front = length-append (items_parts (items_of front)) (opening ListKind ∷ [])
+
+-- what stands before the elements of the first list part
+first_opened : (nodes : List Item) (after ps : List RowPart) (from to : ℕ) → drop from ps ≡ value_parts nodes after → (l : IsListIn true nodes after ps from to) → take (to - from) (drop from ps) ≡ opened l.front
+first_opened nodes after ps from to read l =
+    let size : to - from ≡ length (opened l.front) = omega (arith, l.begins, long_opened l.front) in
+    (λ i. take (size i) ((read ∙ ap (λ (xs : List Item). value_parts xs after) l.are ∙ list_cut l.front l.list after) i)) ∙ take-append_seam (opened l.front) (rest_parts l.list after)
+
+-- where the first element that passes is edited
+pub found_opened : (p : Segment → Bool) (f : Segment → Segment) (nodes : List Item) (after ps : List RowPart) (from to : ℕ) → drop from ps ≡ value_parts nodes after → (l : IsListIn true nodes after ps from to)
+    → take from ps ++ value_parts (edit_element p f nodes) after ≡ take to ps ++ rest_parts (found_rest p f l.list) after
+found_opened p f nodes after ps from to read l =
+    let front : take to ps ≡ take from ps ++ opened l.front =
+    ap (λ (k : ℕ). take k ps) (omega (arith, l.begins)) ∙ take-add from (to - from) ps ∙ ap (λ (qs : List RowPart). take from ps ++ qs) (first_opened nodes after ps from to read l) in
+    ap (λ (xs : List Item). take from ps ++ value_parts xs after) (l.found p f)
+    ∙ ap (λ (qs : List RowPart). take from ps ++ qs) (list_cut l.front (found_rest p f l.list) after)
+    ∙ sym (append_assoc (take from ps) (opened l.front) (rest_parts (found_rest p f l.list) after))
+    ∙ ap (λ (qs : List RowPart). qs ++ rest_parts (found_rest p f l.list) after) (sym front)
+
+-- the next list part
+pub ended : (end : List (List ℕ)) (one_comma : Bool) (front : List Item) (l : ListRest) (after : List RowPart)
+    → map above end ++ closing one_comma ∷ value_parts (front ++ list_item l ∷ l.items) after ≡ (map above end ++ closing one_comma ∷ opened front) ++ rest_parts l after
+ended end one_comma front l after =
+    ap (λ (qs : List RowPart). map above end ++ closing one_comma ∷ qs) (list_cut front l after) ∙ sym (append_assoc (map above end) (closing one_comma ∷ opened front) (rest_parts l after))
 
 -- elements at the end of the first list part
 pub appended : (new : List Segment) (nodes : List Item) (after ps : List RowPart) (from to end : ℕ) → drop from ps ≡ value_parts nodes after → (l : IsListIn true nodes after ps from to)

@@ -1,12 +1,14 @@
 -- A walk over the items of a value, by their parts, from one list part to the next.
-use Rattle.std.proofs.Common.{◌≡◌, ℕ, ◌+◌, ◌<◌, ◌≤◌, List, [], ◌∷◌, ◌++◌, Bool, true, false, ◌&&◌, map, length, drop, get_or, refl, ap, sym, ◌∙◌, subst, arith, append_assoc, length-append, drop-drop}
-use Rattle.std.specs.List.{list_all}
+use Rattle.std.proofs.Common.{◌≡◌, ℕ, ◌+◌, ◌<◌, ◌≤◌, List, [], ◌∷◌, ◌++◌, Bool, true, false, ◌&&◌, if◌then◌else◌, map, length, drop, get_or, refl, ap, sym, ◌∙◌, subst, arith, append_assoc, length-append, drop-drop}
+use Rattle.std.specs.List.{list_all, list_any}
 use Rattle.std.specs.Prelude.{Option, Some, None, IfSome, IfNone, Result, Ok, Err, IfOk}
 use Rattle.bz_tree.specs.declared.row.Part.{Part}
 use Rattle.bz_tree.specs.declared.stmt.GroupKind.TheVariants.{List as ListKind}
 use Rattle.bz_tree.specs.Tree.{Item, leaf, group, Segs, Segment, items_of, segments}
 use Rattle.bz_tree.specs.Rows.{RowPart, part_view, opening, closing, segment_end, above, item_parts, items_parts, segs_parts}
-use Rattle.bz_attribute.specs.Elements.{HasNoList, IsListIn, ListRest, edit_in, edit_one_in, list_item, lists_in, rest_parts, value_parts}
+use Rattle.bz_attribute.specs.Comment.{edit_element_from}
+use Rattle.bz_attribute.specs.Effects.{edit_first}
+use Rattle.bz_attribute.specs.Elements.{HasNoList, IsListIn, ListRest, edit_element_in, edit_in, edit_one_in, found_rest, list_item, lists_in, rest_parts, value_parts}
 use Rattle.bz_attribute.specs.Lists.{edit_from, edit_list, edit_one_from, is_list, parts_from}
 use Rattle.bz_attribute.specs.Lists as lists
 use Rattle.bz_attribute.specs.private.HeadParts.{is_end}
@@ -82,6 +84,9 @@ keeps_all f start x xs told = rw told refl
 keeps_first : (f : List Segment → List Segment) → KeepsOthers (edit_one_from f)
 keeps_first f start x xs told = rw told refl
 
+keeps_found : (p : Segment → Bool) (f : Segment → Segment) → KeepsOthers (edit_element_from p f)
+keeps_found p f start x xs told = rw told refl
+
 abbrev Joined : Bool → List Item → Type 0
 Joined whole nodes = whole ≡ true → list_all lists.is_joint nodes ≡ true
 
@@ -96,6 +101,10 @@ all_edited false f nodes h = refl
 one_edited : (whole : Bool) (f : List Segment → List Segment) (nodes : List Item) → Joined whole nodes → edit_one_in whole f nodes ≡ edit_one_from f whole nodes
 one_edited true f nodes h = rw (h refl) refl
 one_edited false f nodes h = refl
+
+found_edited : (whole : Bool) (p : Segment → Bool) (f : Segment → Segment) (nodes : List Item) → Joined whole nodes → edit_element_in whole p f nodes ≡ edit_element_from p f whole nodes
+found_edited true p f nodes h = rw (h refl) refl
+found_edited false p f nodes h = refl
 
 -- the end
 nothing_left : (whole start : Bool) (nodes : List Item) (after ps : List RowPart) (from at : ℕ) → (w : IsWalked whole start nodes after ps from at) → w.back ≡ [] → Joined whole nodes → HasNoList whole nodes
@@ -125,14 +134,26 @@ list_is (group ListKind segs one_comma end) h = record { segs = segs; one_comma 
 list_is (group _ segs one_comma end) h = absurd cc
 list_is (leaf kind text) h = absurd cc
 
-abbrev rest_of : Segs → Bool → List (List ℕ) → List Item → ListRest
+abbrev pub rest_of : Segs → Bool → List (List ℕ) → List Item → ListRest
 rest_of segs one_comma end xs = record { elements = segments segs; end = end; one_comma = one_comma; items = xs }
 
-opened : (segs : Segs) (one_comma : Bool) (end : List (List ℕ)) (xs : List Item) (after : List RowPart)
+pub opened : (segs : Segs) (one_comma : Bool) (end : List (List ℕ)) (xs : List Item) (after : List RowPart)
     → value_parts (group ListKind segs one_comma end ∷ xs) after ≡ opening ListKind ∷ rest_parts (rest_of segs one_comma end xs) after
 opened segs one_comma end xs after =
     let moved : ((segs_parts segs ++ (map above end ++ closing one_comma ∷ [])) ++ items_parts (items_of xs)) ++ segment_end ∷ after ≡ segs_parts segs ++ (map above end ++ closing one_comma ∷ value_parts xs after) = simp append_assoc in
     ap (λ (ps : List RowPart). opening ListKind ∷ ps) (moved ∙ ap (λ (ss : Segs). segs_parts ss ++ (map above end ++ closing one_comma ∷ value_parts xs after)) (sym (segs_back segs)))
+
+found_here : (p : Segment → Bool) (f : Segment → Segment) (segs : Segs) (one_comma : Bool) (end : List (List ℕ)) (xs : List Item) → lists.ends xs ≡ true
+    → edit_element_from p f true (group ListKind segs one_comma end ∷ xs) ≡ list_item (found_rest p f (rest_of segs one_comma end xs)) ∷ (found_rest p f (rest_of segs one_comma end xs)).items
+found_here p f segs one_comma end xs ends =
+    let x : Item = group ListKind segs one_comma end in
+    let edit : List Segment → List Segment = edit_first p (λ s. f s ∷ []) in
+    let after : List Item = edit_element_from p f false xs in
+    let there : ListRest = record { elements = edit (segments segs); end = end; one_comma = one_comma; items = xs } in
+    let later : ListRest = record { elements = segments segs; end = end; one_comma = one_comma; items = after } in
+    ap (λ (b : Bool). if b && list_any p (segments segs) then edit_list edit x ∷ xs else x ∷ after) ends
+    ∙ elim (list_any p (segments segs)) as (λ b. (if b then edit_list edit x ∷ xs else x ∷ after) ≡ list_item (if b then there else later) ∷ (if b then there else later).items)
+    [ true ↦ refl | false ↦ ap (λ (ss : Segs). group ListKind ss one_comma end ∷ after) (sym (segs_back segs)) ]
 
 here : (whole : Bool) (nodes : List Item) (after ps : List RowPart) (from at : ℕ) (xs : List Item) (segs : Segs) (one_comma : Bool) (end : List (List ℕ))
     → (w : IsWalked whole true nodes after ps from at) → w.back ≡ group ListKind segs one_comma end ∷ xs → lists.ends xs ≡ true → Joined whole nodes → IsListIn whole nodes after ps from (at + 1)
@@ -151,6 +172,9 @@ here whole nodes after ps from at xs segs one_comma end w back ends joined =
       ends = ends;
       edit = λ f. all_edited whole f nodes joined ∙ w.others (edit_from f) (keeps_all f) ∙ ap (λ (ys : List Item). w.front ++ ys) (ap (edit_from f true) back ∙ rw part refl);
       first = λ f. one_edited whole f nodes joined ∙ w.others (edit_one_from f) (keeps_first f) ∙ ap (λ (ys : List Item). w.front ++ ys) (ap (edit_one_from f true) back ∙ rw part refl);
+      found = λ p f.
+          found_edited whole p f nodes joined ∙ w.others (edit_element_from p f) (keeps_found p f)
+          ∙ ap (λ (ys : List Item). w.front ++ ys) (ap (edit_element_from p f true) back ∙ found_here p f segs one_comma end xs ends);
     }
 
 pub list_here : (whole start : Bool) (ps : List Part) (from at end : ℕ) (d : Part) (nodes : List Item) (after : List RowPart) → HasWalked whole start (map part_view ps) from at → at < length ps → is_end (part_view (get_or ps at d)) ≡ false

@@ -198,9 +198,8 @@ place_there name s r ps at from to h is from_is to_is =
     over name s r ps from to h
     (found_place name s r f.n at from to h.rule f.arg f.is (from_is ∙ ap (λ (qs : List RowPart). plain_len (take at qs)) h.are) (to_is ∙ ap (λ (qs : List RowPart). at + segment_len (drop at qs)) h.are))
 
-pub place_absent : (name : List ℕ) (s : Statement) (r : Rule) (ps : List RowPart) (end : ℕ) → IsRuleRow s r ps → find_from name 0 false ps ≡ None → end ≡ arguments_end ps → IsPlaceOf name s r ps end end
-place_absent name s r ps end h is end_is =
-    let none = nowhere name s r (args_found name s r) (answered name s r) (sym (told name s r ps h) ∙ is) in
+pub place_new : (name : List ℕ) (s : Statement) (r : Rule) (ps : List RowPart) (end : ℕ) → IsRuleRow s r ps → has name r.args ≡ false → end ≡ arguments_end ps → IsPlaceOf name s r ps end end
+place_new name s r ps end h none end_is =
     let long : end ≡ length (pre s r r.args) = end_is ∙ ap arguments_end (h.are ∙ parts_cut s r (rule_nodes [] s.nodes r h.rule)) ∙ args_end s r r.args in
     over name s r ps end end h
     (middle name s r r.args [] [] end end h.rule (missing name s r none) long (long ∙ ap length (sym (append-nil (pre s r r.args)))))

@@ -1,13 +1,19 @@
 -- A walk over all elements of a value.
-use Rattle.std.proofs.Common.{◌≡◌, ℕ, ◌+◌, ◌-◌, List, [], ◌∷◌, ◌++◌, false, Option, length, take, drop, refl, ap, sym, ◌∙◌, arith, append_assoc, append-nil, length-append}
-use Rattle.std.proofs.Math.Seq.{take-append_seam}
-use Rattle.bz_tree.specs.Tree.{Segment, segs_of}
-use Rattle.bz_tree.specs.Rows.{RowPart, segs_parts}
-use Rattle.bz_attribute.specs.Elements.{AreElementsTo, HasNoList, IsElementOf, IsListIn, IsNextElement, ListRest, elements_left, rest_parts}
+use Rattle.std.proofs.Common.{◌≡◌, ℕ, ◌+◌, ◌-◌, List, [], ◌∷◌, ◌++◌, Bool, true, false, ◌||◌, if◌then◌else◌, Option, None, Some, is_some, map, length, take, drop, refl, ap, sym, ◌∙◌, arith, append_assoc, append-nil, length-append, drop-drop, take-add}
+use Rattle.std.specs.Prelude.{IfNone}
+use Rattle.std.specs.List.{list_any}
+use Rattle.std.proofs.lemmas.List.{length-map, map-append}
+use Rattle.std.proofs.Math.Seq.{drop-append_seam, take-append_seam}
+use Rattle.bz_tree.specs.Tree.{Item, Segment, items_of, segs_of}
+use Rattle.bz_tree.specs.Rows.{RowPart, above, beside_part, closing, items_parts, segment_end, segs_parts}
+use Rattle.bz_attribute.specs.Comment.{edit_element_from, with_comment}
+use Rattle.bz_attribute.specs.Effects.{edit_first}
+use Rattle.bz_attribute.specs.Elements.{AreElementsTo, HasNoList, IsElementOf, IsListIn, IsNextElement, ListRest, elements_left, found_rest, rest_parts, value_parts}
 use Rattle.bz_attribute.specs.Lists.{parts_from}
 use Rattle.bz_attribute.specs.Move.{joined}
 use Rattle.bz_attribute.specs.private.ListParts.{HasEmptied, HasPassedTo}
 use Rattle.bz_attribute.proofs.EditedAt.{segs_join}
+use Rattle.bz_attribute.proofs.ListEdits.{ended, long_opened, opened}
 
 -- one list part
 pub none_passed : (ps : List RowPart) (from : ℕ) → HasPassedTo ps from from
@@ -41,9 +47,29 @@ all_passed ps from at l after passed none read =
       size = p.size ∙ ap (λ (ss : List Segment). from + length (segs_parts (segs_of ss))) all;
     }
 
+-- the next list part
+abbrev last : ListRest → List RowPart → List RowPart
+last l after = map above l.end ++ closing l.one_comma ∷ value_parts l.items after
+
+-- it is passed, where an element after it is edited
+found_list : (p : Segment → Bool) (f : Segment → Segment) (l : ListRest) (after ps : List RowPart) (at to : ℕ) → l.elements ≡ [] → drop at ps ≡ rest_parts l after → (n : IsListIn false l.items after ps (at + length l.end + 1) to)
+    → take at ps ++ rest_parts (found_rest p f l) after ≡ take to ps ++ rest_parts (found_rest p f n.list) after
+found_list p f l after ps at to none read n =
+    let own : List RowPart = map above l.end ++ closing l.one_comma ∷ opened n.front in
+    let cut : drop at ps ≡ own ++ rest_parts n.list after =
+    read ∙ ap (λ (ss : List Segment). segs_parts (segs_of ss) ++ last l after) none
+    ∙ ap (λ (xs : List Item). map above l.end ++ closing l.one_comma ∷ value_parts xs after) n.are ∙ ended l.end l.one_comma n.front n.list after in
+    let size : to - at ≡ length own = omega (arith, n.begins, long_opened n.front, length-append (map above l.end) (closing l.one_comma ∷ opened n.front), length-map l.end above) in
+    let front : take to ps ≡ take at ps ++ own =
+    ap (λ (k : ℕ). take k ps) (omega (arith, n.begins)) ∙ take-add at (to - at) ps ∙ ap (λ (qs : List RowPart). take at ps ++ qs) ((λ i. take (size i) (cut i)) ∙ take-append_seam own (rest_parts n.list after)) in
+    let made : rest_parts (found_rest p f l) after ≡ own ++ rest_parts (found_rest p f n.list) after =
+    ap (λ (ss : List Segment). rest_parts (found_rest p f (record l { elements = ss })) after) none
+    ∙ ap (λ (xs : List Item). map above l.end ++ closing l.one_comma ∷ value_parts xs after) (n.found p f) ∙ ended l.end l.one_comma n.front (found_rest p f n.list) after in
+    ap (λ (qs : List RowPart). take at ps ++ qs) made ∙ sym (append_assoc (take at ps) own (rest_parts (found_rest p f n.list) after)) ∙ ap (λ (qs : List RowPart). qs ++ rest_parts (found_rest p f n.list) after) (sym front)
+
 -- one that is emptied, and the next
 pub first_emptied : (ps : List RowPart) (at : ℕ) → ((rest : ListRest) (after : List RowPart) → drop at ps ≡ rest_parts rest after → rest.elements ≡ []) → HasEmptied ps at at
-first_emptied ps at none = λ l after read. record { left = l; none = none l after read; same = refl; read = read }
+first_emptied ps at none = λ l after read. record { left = l; none = none l after read; same = refl; read = read; found = λ p f. refl }
 
 abbrev HasNext : List RowPart → ℕ → ℕ → Type 0
 HasNext ps end from = (rest : ListRest) (after : List RowPart) → rest.elements ≡ [] → drop end ps ≡ rest_parts rest after → IsListIn false rest.items after ps (end + length rest.end + 1) from
@@ -55,7 +81,13 @@ pub next_emptied : (ps : List RowPart) (at end from : ℕ) → HasEmptied ps at 
 next_emptied ps at end from emptied next none = λ l after read.
     let m = emptied l after read in
     let n = next m.left after m.none m.read in
-    record { left = n.list; none = none n.list after n.read; same = m.same ∙ next_left m.left n.list [] m.none n.lists; read = n.read }
+    record {
+      left = n.list;
+      none = none n.list after n.read;
+      same = m.same ∙ next_left m.left n.list [] m.none n.lists;
+      read = n.read;
+      found = λ p f. m.found p f ∙ found_list p f m.left after ps end from m.none m.read n;
+    }
 
 pub none_in_value : (ps : List RowPart) (at end : ℕ) (l : ListRest) (after : List RowPart) → HasEmptied ps at end
     → ((rest : ListRest) (after : List RowPart) → rest.elements ≡ [] → drop end ps ≡ rest_parts rest after → HasNoList false rest.items) → drop at ps ≡ rest_parts l after → elements_left l ≡ []
@@ -63,28 +95,95 @@ none_in_value ps at end l after emptied last read =
     let m = emptied l after read in
     m.same ∙ (λ i. m.none i ++ joined ((last m.left after m.none m.read).none i))
 
-element_next : (l : ListRest) (after ps : List RowPart) (at token from to : ℕ) (string : Option (List ℕ)) → from ≡ at → IsElementOf l after ps at token to string → IsNextElement l after ps from to string
-element_next l after ps at token from to string begins e = record {
-  element = e.element;
-  left = record l { elements = e.others };
-  are = ap (λ (ss : List Segment). ss ++ joined (parts_from false l.items)) e.are;
-  own =
-      let size : to - from ≡ length (segs_parts (segs_of (e.element ∷ []))) = omega (arith, begins, e.ends) in
-      (λ i. take (size i) (drop (begins i) ps)) ∙ ap (take (length (segs_parts (segs_of (e.element ∷ []))))) e.own ∙ take-append_seam (segs_parts (segs_of (e.element ∷ []))) (drop to ps);
-  read = e.read;
-  text = e.text;
-}
+-- the first element that is left passes, or not
+parts_split : (s : Segment) (ss : List Segment) (qs : List RowPart) → segs_parts (segs_of (s ∷ ss)) ++ qs ≡ segs_parts (segs_of (s ∷ [])) ++ (segs_parts (segs_of ss) ++ qs)
+parts_split s ss qs = ap (λ (ps : List RowPart). ps ++ qs) (segs_join (s ∷ []) ss) ∙ append_assoc (segs_parts (segs_of (s ∷ []))) (segs_parts (segs_of ss)) qs
+
+found_passed : (p : Segment → Bool) (f : Segment → Segment) (l : ListRest) (after : List RowPart) (s : Segment) (ss : List Segment) → l.elements ≡ s ∷ ss → p s ≡ false
+    → rest_parts (found_rest p f l) after ≡ segs_parts (segs_of (s ∷ [])) ++ rest_parts (found_rest p f (record l { elements = ss })) after
+found_passed p f l after s ss are is =
+    let edit : List Segment → List Segment = edit_first p (λ z. f z ∷ []) in
+    let later : ListRest = record l { elements = s ∷ ss; items = edit_element_from p f false l.items } in
+    ap (λ (zs : List Segment). rest_parts (found_rest p f (record l { elements = zs })) after) are
+    ∙ ap (λ (b : Bool). rest_parts (if b || list_any p ss then record l { elements = if b then f s ∷ ss else s ∷ edit ss } else later) after) is
+    ∙ elim (list_any p ss) as (λ b. rest_parts (if b then record l { elements = s ∷ edit ss } else later) after
+    ≡ segs_parts (segs_of (s ∷ [])) ++ rest_parts (if b then record l { elements = edit ss } else record l { elements = ss; items = edit_element_from p f false l.items }) after) [
+      | true ↦ parts_split s (edit ss) (last l after)
+      | false ↦ parts_split s ss (last (record l { items = edit_element_from p f false l.items }) after)
+    ]
+
+found_first : (p : Segment → Bool) (f : Segment → Segment) (l : ListRest) (after : List RowPart) (s : Segment) (ss : List Segment) → l.elements ≡ s ∷ ss → p s ≡ true → rest_parts (found_rest p f l) after ≡ segs_parts (segs_of (f s ∷ ss)) ++ last l after
+found_first p f l after s ss are is =
+    let edit : List Segment → List Segment = edit_first p (λ z. f z ∷ []) in
+    let later : ListRest = record l { elements = s ∷ ss; items = edit_element_from p f false l.items } in
+    ap (λ (zs : List Segment). rest_parts (found_rest p f (record l { elements = zs })) after) are
+    ∙ ap (λ (b : Bool). rest_parts (if b || list_any p ss then record l { elements = if b then f s ∷ ss else s ∷ edit ss } else later) after) is
+
+-- a comment line more above its nodes
+line_above : (line : List ℕ) (s : Segment) (qs ps : List RowPart) (at token : ℕ) → drop at ps ≡ map above s.before ++ qs → token ≡ at + length s.before → take at ps ++ (map above (s.before ++ line ∷ []) ++ qs) ≡ take token ps ++ above line ∷ drop token ps
+line_above line s qs ps at token cut begins =
+    let own : List RowPart = map above s.before in
+    let size : token ≡ at + length own = omega (arith, begins, length-map s.before above) in
+    let front : take token ps ≡ take at ps ++ own =
+    ap (λ (k : ℕ). take k ps) size ∙ take-add at (length own) ps ∙ ap (λ (zs : List RowPart). take at ps ++ zs) (ap (take (length own)) cut ∙ take-append_seam own qs) in
+    let left : drop token ps ≡ qs = ap (λ (k : ℕ). drop k ps) size ∙ sym (drop-drop (length own) at ps) ∙ ap (drop (length own)) cut ∙ drop-append_seam own qs in
+    ap (λ (zs : List RowPart). take at ps ++ (zs ++ qs)) (map-append above s.before (line ∷ []))
+    ∙ ap (λ (zs : List RowPart). take at ps ++ zs) (append_assoc own (above line ∷ []) qs)
+    ∙ sym (append_assoc (take at ps) own (above line ∷ qs)) ∙ (λ i. sym front i ++ above line ∷ sym left i)
+
+element_next : (l : ListRest) (after ps : List RowPart) (at from token to : ℕ) (string : Option (List ℕ)) → from ≡ at → drop at ps ≡ rest_parts l after → IsElementOf l after ps at token to string → IsNextElement l after ps at from token to string
+element_next l after ps at from token to string begins read e =
+    let s : Segment = e.element in
+    let own : List RowPart = segs_parts (segs_of (s ∷ [])) in
+    let nodes : List RowPart = items_parts (items_of s.nodes) ++ (segment_end ∷ (beside_part s.suffix ++ segs_parts (segs_of e.others))) in
+    let cut : drop at ps ≡ map above s.before ++ (nodes ++ last l after) =
+    read ∙ ap (λ (ss : List Segment). segs_parts (segs_of ss) ++ last l after) e.are ∙ append_assoc (map above s.before) nodes (last l after) in
+    let front : take to ps ≡ take at ps ++ own =
+    ap (λ (k : ℕ). take k ps) e.ends ∙ take-add at (length own) ps ∙ ap (λ (qs : List RowPart). take at ps ++ qs) (ap (take (length own)) e.own ∙ take-append_seam own (drop to ps)) in
+    record {
+      element = s;
+      left = record l { elements = e.others };
+      are = ap (λ (ss : List Segment). ss ++ joined (parts_from false l.items)) e.are;
+      own =
+          let size : to - from ≡ length own = omega (arith, begins, e.ends) in
+          (λ i. take (size i) (drop (begins i) ps)) ∙ ap (take (length own)) e.own ∙ take-append_seam own (drop to ps);
+      read = e.read;
+      text = e.text;
+      line = λ p line is.
+          ap (λ (qs : List RowPart). take at ps ++ qs) (found_first p (with_comment line) l after s e.others e.are is ∙ append_assoc (map above (s.before ++ line ∷ [])) nodes (last l after))
+          ∙ line_above line s (nodes ++ last l after) ps at token cut e.begins;
+      passed = λ p f is.
+          ap (λ (qs : List RowPart). take at ps ++ qs) (found_passed p f l after s e.others e.are is)
+          ∙ sym (append_assoc (take at ps) own (rest_parts (found_rest p f (record l { elements = e.others })) after))
+          ∙ ap (λ (qs : List RowPart). qs ++ rest_parts (found_rest p f (record l { elements = e.others })) after) (sym front);
+    }
 
 abbrev HasElement : List RowPart → ℕ → ℕ → ℕ → Option (List ℕ) → Type 0
 HasElement ps at token to string = (rest : ListRest) (after : List RowPart) → drop at ps ≡ rest_parts rest after → IsElementOf rest after ps at token to string
 
-pub next_here : (ps : List RowPart) (at token from to : ℕ) (string : Option (List ℕ)) (l : ListRest) (after : List RowPart) → from ≡ at → HasElement ps at token to string → drop at ps ≡ rest_parts l after → IsNextElement l after ps from to string
-next_here ps at token from to string l after begins next read = element_next l after ps at token from to string begins (next l after read)
+pub next_here : (ps : List RowPart) (at from token to : ℕ) (string : Option (List ℕ)) (l : ListRest) (after : List RowPart) → from ≡ at → HasElement ps at token to string → drop at ps ≡ rest_parts l after
+    → IsNextElement l after ps at from token to string
+next_here ps at from token to string l after begins next read = element_next l after ps at from token to string begins read (next l after read)
 
-pub next_later : (ps : List RowPart) (at end from token begin to : ℕ) (string : Option (List ℕ)) (l : ListRest) (after : List RowPart) → begin ≡ from → HasEmptied ps at end → HasNext ps end from → HasElement ps from token to string → drop at ps ≡ rest_parts l after
-    → IsNextElement l after ps begin to string
-next_later ps at end from token begin to string l after begins emptied next element read =
+pub next_later : (ps : List RowPart) (at end list from token to : ℕ) (string : Option (List ℕ)) (l : ListRest) (after : List RowPart) → from ≡ list → HasEmptied ps at end → HasNext ps end list → HasElement ps list token to string → drop at ps ≡ rest_parts l after
+    → IsNextElement l after ps at from token to string
+next_later ps at end list from token to string l after begins emptied next element read =
     let m = emptied l after read in
     let n = next m.left after m.none m.read in
-    let e = element_next n.list after ps from token begin to string begins (element n.list after n.read) in
-    record { element = e.element; left = e.left; are = m.same ∙ next_left m.left n.list [] m.none n.lists ∙ e.are; own = e.own; read = e.read; text = e.text }
+    let e = element_next n.list after ps list from token to string begins n.read (element n.list after n.read) in
+    let found : (p : Segment → Bool) (f : Segment → Segment) → take at ps ++ rest_parts (found_rest p f l) after ≡ take list ps ++ rest_parts (found_rest p f n.list) after =
+    λ p f. m.found p f ∙ found_list p f m.left after ps end list m.none m.read n in
+    record {
+      element = e.element;
+      left = e.left;
+      are = m.same ∙ next_left m.left n.list [] m.none n.lists ∙ e.are;
+      own = e.own;
+      read = e.read;
+      text = e.text;
+      line = λ p line is. found p (with_comment line) ∙ e.line p line is;
+      passed = λ p f is. found p f ∙ e.passed p f is;
+    }
+
+pub when_none : {A P : Type 0} (o : Option A) → is_some o ≡ false → IfNone o P → P
+when_none None h p = p
+when_none (Some a) h p = absurd cc

@@ -1,10 +1,13 @@
 -- The list parts of a value and the elements of each, among the parts of its rule.
-use Rattle.std.specs.Prelude.{◌≡◌, ℕ, ◌+◌, ◌-◌, List, [], ◌∷◌, ◌++◌, Bool, true, false, Option, None, Some, length, map, take, drop}
+use Rattle.std.specs.Prelude.{◌≡◌, ℕ, ◌+◌, ◌-◌, List, [], ◌∷◌, ◌++◌, Bool, true, false, if◌then◌else◌, Option, None, Some, length, map, take, drop}
+use Rattle.std.specs.List.{list_any}
 use Rattle.bz_tree.specs.declared.stmt.GroupKind.TheVariants.{List as ListKind}
 use Rattle.bz_tree.specs.Tree.{Item, group, Segment, Statement, items_of, segs_of}
 use Rattle.bz_tree.specs.Rows.{RowPart, above, closing, segment_end, items_parts, parts_of, segs_parts}
+use Rattle.bz_command.specs.Labels.{Package}
 use Rattle.bz_attribute.specs.Rules.{Rule, first_named, is_named, only_text, value}
-use Rattle.bz_attribute.specs.Lists.{edit_first_part, edit_from, edit_one_from, edit_parts, ends, parts, parts_from, with_value}
+use Rattle.bz_attribute.specs.Lists.{edit_first_part, edit_from, edit_one_from, edit_parts, ends, equals, is_list, is_only, parts, parts_from, with_value}
+use Rattle.bz_attribute.specs.Comment.{edit_element, edit_element_from, with_comment}
 use Rattle.bz_attribute.specs.Effects.{edit_first, with_args}
 use Rattle.bz_attribute.specs.Move.{joined}
 
@@ -50,6 +53,16 @@ abbrev pub edit_one_in : Bool → (List Segment → List Segment) → List Item 
 edit_one_in true f nodes = edit_first_part f nodes
 edit_one_in false f nodes = edit_one_from f false nodes
 
+abbrev pub edit_element_in : Bool → (Segment → Bool) → (Segment → Segment) → List Item → List Item
+edit_element_in true p f nodes = edit_element p f nodes
+edit_element_in false p f nodes = edit_element_from p f false nodes
+
+-- what is left of a value, where its first element that passes is edited
+abbrev pub found_rest : (Segment → Bool) → (Segment → Segment) → ListRest → ListRest
+found_rest p f l =
+    if list_any p l.elements then record l { elements = edit_first p (λ s. f s ∷ []) l.elements }
+    else record l { items = edit_element_from p f false l.items }
+
 -- The first list part of nodes that stand at `from`: its elements begin at `to`.
 pub record IsListIn (whole : Bool) (nodes : List Item) (after ps : List RowPart) (from to : ℕ) : Type 0 where
   pub front : List Item
@@ -63,6 +76,8 @@ pub record IsListIn (whole : Bool) (nodes : List Item) (after ps : List RowPart)
       → edit_in whole f nodes ≡ front ++ list_item (record list { elements = f list.elements }) ∷ edit_from f false list.items
   pub first : (f : List Segment → List Segment)
       → edit_one_in whole f nodes ≡ front ++ list_item (record list { elements = f list.elements }) ∷ list.items
+  pub found : (p : Segment → Bool) (f : Segment → Segment)
+      → edit_element_in whole p f nodes ≡ front ++ list_item (found_rest p f list) ∷ (found_rest p f list).items
 
 -- there is none
 pub record HasNoList (whole : Bool) (nodes : List Item) : Type 0 where
@@ -80,18 +95,40 @@ pub record IsElementOf (l : ListRest) (after ps : List RowPart) (at token to : �
   pub read : drop to ps ≡ rest_parts (record l { elements = others }) after
   pub text : string ≡ only_text element.nodes
 
+-- the value is one list: its elements begin at `to`
+pub record IsOnlyList (nodes : List Item) (after ps : List RowPart) (to : ℕ) : Type 0 where
+  pub list : ListRest
+  pub are : nodes ≡ list_item list ∷ []
+  pub read : drop to ps ≡ rest_parts list after
+
+-- it may be none
+abbrev pub OnlyList : List Item → List RowPart → List RowPart → Option ℕ → Type 0
+OnlyList nodes after ps None = is_only is_list nodes ≡ false
+OnlyList nodes after ps (Some to) = IsOnlyList nodes after ps to
+
 -- all elements that are left of the value
 abbrev pub elements_left : ListRest → List Segment
 elements_left l = l.elements ++ joined (parts_from false l.items)
 
--- the next of them stands from `from` to `to`
-pub record IsNextElement (l : ListRest) (after ps : List RowPart) (from to : ℕ) (string : Option (List ℕ)) : Type 0 where
+-- The next of the elements that are left from `at` on stands from `from` to `to`, and its nodes begin at `token`.
+pub record IsNextElement (l : ListRest) (after ps : List RowPart) (at from token to : ℕ) (string : Option (List ℕ)) : Type 0 where
   pub element : Segment
   pub left : ListRest
   pub are : elements_left l ≡ element ∷ elements_left left
   pub own : take (to - from) (drop from ps) ≡ segs_parts (segs_of (element ∷ []))
   pub read : drop to ps ≡ rest_parts left after
   pub text : string ≡ only_text element.nodes
+  -- the first that passes gets a comment line: this one, or one of those after it
+  pub line : (p : Segment → Bool) (line : List ℕ) → p element ≡ true
+      → take at ps ++ rest_parts (found_rest p (with_comment line) l) after ≡ take token ps ++ above line ∷ drop token ps
+  pub passed : (p : Segment → Bool) (f : Segment → Segment) → p element ≡ false
+      → take at ps ++ rest_parts (found_rest p f l) after ≡ take to ps ++ rest_parts (found_rest p f left) after
+
+-- Of what is left of a value from `from` on, the first element that equals the word begins at `at`, with its nodes.
+pub record IsFirstEqual (home : Package) (word : List ℕ) (l : ListRest) (after ps : List RowPart) (from at : ℕ) : Type 0 where
+  pub there : list_any (equals home word) (elements_left l) ≡ true
+  pub line : (line : List ℕ)
+      → take from ps ++ rest_parts (found_rest (equals home word) (with_comment line) l) after ≡ take at ps ++ above line ∷ drop at ps
 
 -- the elements of a list part end at `end`
 pub record AreElementsTo (l : ListRest) (ps : List RowPart) (from end : ℕ) : Type 0 where

@@ -1,7 +1,7 @@
 //! What a command did to a statement.
 
 ghost use Rattle.std.specs.Prelude.{◌≡◌, None, IfOk, Some, false};
-ghost use Rattle.bz_attribute.specs.declared.done.Note.TheVariants.{AttributeExists, NoAttribute, NotAList};
+ghost use Rattle.bz_attribute.specs.declared.done.Note.TheVariants.{AttributeExists, NoAttribute, NoValue, NotAList};
 ghost use Rattle.bz_attribute.specs.Effects as spec;
 
 use bz_command::Text;
@@ -75,5 +75,14 @@ impl Done {
         ensures { IfOk result (λ done. done ≡ spec.done (Some (NotAList attr.now)) false) }
     {
         Ok(Done::failure(Note::NotAList(Text::from_str(alloc, attr)?)))
+    }
+
+    /// The failure where no element of the attribute equals the value.
+    pub fn no_value(alloc: Global, attr: &str, value: &str) -> Executed
+        ensures { IfOk result (λ done. done ≡ spec.done (Some (NoValue attr.now value.now)) false) }
+    {
+        let attr = Text::from_str(alloc, attr)?;
+        let value = Text::from_str(alloc, value)?;
+        Ok(Done::failure(Note::NoValue { attr, value }))
     }
 }

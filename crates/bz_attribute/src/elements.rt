@@ -65,7 +65,7 @@ fn close_len(parts: &[Part<'_>]) -> usize
 }
 
 // How many parts the item has that they begin with: a token, or brackets with what stands in them.
-fn item_len(parts: &[Part<'_>]) -> usize
+pub(crate) fn item_len(parts: &[Part<'_>]) -> usize
     ensures len { result ≡ spec.item_len (map part_view parts.now) }
     ensures within { result ≤ length parts.now }
     ensures some { 0 < length parts.now → 0 < result }
@@ -249,10 +249,10 @@ pub fn next_of_value<'a>(parts: &[Part<'a>], at: usize) -> Option<Element<'a>>
     requires { at ≤ length parts.now }
     ensures some { IfSome result (λ e. (rest : ListRest) (after : List RowPart)
         → drop at (map part_view parts.now) ≡ rest_parts rest after → IsNextElement rest after
-        (map part_view parts.now) e.from e.to (option_map (λ text. text.now) e.string)) }
+        (map part_view parts.now) at e.from e.token e.to (option_map (λ text. text.now) e.string)) }
     ensures none { IfNone result ((rest : ListRest) (after : List RowPart)
         → drop at (map part_view parts.now) ≡ rest_parts rest after → elements_left rest ≡ []) }
-    ensures within { IfSome result (λ e. (e.from ≤ e.to) × ((at < e.to) × (e.to ≤ length parts.now))) }
+    ensures within { IfSome result (λ e. (at ≤ e.from) × ((e.from ≤ e.token) × ((e.token < e.to) × (e.to ≤ length parts.now)))) }
 {
     let element = next_element(parts, at);
     if element.is_some() {

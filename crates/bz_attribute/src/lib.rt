@@ -6,6 +6,7 @@ mod arguments;
 mod done;
 mod edit;
 mod element_labels;
+mod element_search;
 mod elements;
 mod env;
 pub mod equals;
@@ -20,12 +21,14 @@ mod row_args;
 mod row_kind;
 mod rule;
 mod texts;
+mod value;
 mod word_set;
 
 pub use arguments::{FirstArgument, first_argument};
 pub use done::{Done, Executed, Note};
 pub use edit::Edit;
 pub use element_labels::labels_of;
+pub use element_search::first_equal;
 pub use elements::{
     Element, elements_end, first_list, next_element, next_list, next_of_value, value_place,
 };
@@ -37,12 +40,13 @@ pub use make::{
     argument, list, literal, push_argument, push_string, segment, string, strings, token,
 };
 pub use next_argument::next_place;
-pub use place::{Place, all_arguments, place_of};
-pub use row_args::{Parts, push_stmt, read_arguments, write_arguments};
+pub use place::{Place, all_arguments, new_place, place_of};
+pub use row_args::{Parts, push_stmt, read_arguments};
 pub use row_kind::kind_place;
 pub use rule::{
     Rule, call_at, find, first_named, ident_of, is_named, is_string, name_of, only_text, rule_of,
     value_of,
 };
 pub use texts::{label, push_home};
+pub use value::{only_list, value_end};
 pub use word_set::WordSet;

@@ -1,8 +1,9 @@
 //! Where the argument of a name stands among the parts of a rule, and where a new one goes.
 
-ghost use Rattle.std.specs.Prelude.{◌≡◌, ◌≤◌, map, length};
+ghost use Rattle.std.specs.Prelude.{◌≡◌, ◌≤◌, ℕ, List, false, map, length};
 ghost use Rattle.bz_tree.specs.Tree.{Statement};
 ghost use Rattle.bz_tree.specs.Rows.{part_view};
+ghost use Rattle.bz_attribute.specs.Effects.{has};
 ghost use Rattle.bz_attribute.specs.Rules.{Rule};
 ghost use Rattle.bz_attribute.specs.RowPlaces.{IsPlaceOf, IsPlaceOfAll, IsRuleRow};
 ghost use Rattle.bz_attribute.specs.private.Ends as spec;
@@ -19,7 +20,7 @@ pub struct Place {
 }
 
 // How many parts stand before the end of the segment that they begin with.
-fn nodes_len(parts: &[Part<'_>]) -> usize
+pub(crate) fn nodes_len(parts: &[Part<'_>]) -> usize
     ensures len { result ≡ spec.nodes_len 0 (map part_view parts.now) }
     ensures within { result ≤ length parts.now }
 {
@@ -122,6 +123,16 @@ fn arguments_end(parts: &[Part<'_>]) -> usize
     0
 }
 
+/// Where an argument goes whose name no argument of the rule has: after the last one.
+pub fn new_place(parts: &[Part<'_>]) -> Place
+    ensures within { (result.from ≤ result.to) × (result.to ≤ length parts.now) }
+    ensures place { (name : List ℕ) (s : Statement) (r : Rule) → IsRuleRow s r (map part_view parts.now)
+        → has name r.args ≡ false → IsPlaceOf name s r (map part_view parts.now) result.from result.to }
+{
+    let end = arguments_end(parts);
+    Place { from: end, to: end }
+}
+
 /// Where the first argument of a name stands among the parts of a rule, with its comments. Where none has the name, it
 /// is an empty place after the last argument.
 pub fn place_of(parts: &[Part<'_>], name: &str) -> Place
@@ -134,10 +145,7 @@ pub fn place_of(parts: &[Part<'_>], name: &str) -> Place
             from: comments_begin(&parts[..at]),
             to: at + segment_len(&parts[at..]),
         },
-        None => {
-            let end = arguments_end(parts);
-            Place { from: end, to: end }
-        }
+        None => new_place(parts),
     }
 }
 

@@ -156,15 +156,3 @@ pub fn push_stmt<'a>(bump: &'a Bump, stmt: &Stmt<'a>, parts: &mut Parts<'a>) -> 
     push_nodes(bump, &stmt.nodes, parts)?;
     push_beside(bump, &stmt.suffix, parts)
 }
-
-/// Writes the parts of arguments, in place of what the list holds. `Err`: memory was refused, and the list is of no use.
-pub fn write_arguments<'a>(
-    bump: &'a Bump,
-    args: &[Seg<'a>],
-    new: &mut Parts<'a>,
-) -> Result<(), NoMemory>
-    ensures { OnOk result (map part_view new.new.items ≡ segs_parts (segs_of (segs_view args.now))) }
-{
-    new.clear();
-    push_arguments(bump, args, new)
-}

@@ -23,11 +23,7 @@ pub struct WordSet<'a> {
 
 impl<'a> WordSet<'a> {
     /// No words take no memory.
-    pub fn new(
-        alloc: Global,
-        home: &'a Package,
-        words: &'a [Text],
-    ) -> Result<WordSet<'a>, NoMemory>
+    pub fn new(alloc: Global, home: &'a Package, words: &'a [Text]) -> Result<WordSet<'a>, NoMemory>
         ensures { IfOk result (λ set. set.words.now ≡ words.now) }
     {
         let labels = SortedLabels::new(alloc, home, words)?;

@@ -5,4 +5,6 @@ pub mod KindWritten
 pub mod LineWritten
 pub mod Printed
 pub mod PrintedFields
+pub mod SameValues
+pub mod SetEdits
 pub mod Written

@@ -1,3 +1,4 @@
-pub mod CommentPlaces
+pub mod CommentTexts
 pub mod PrintSteps
 pub mod SetViews
+pub mod ValueParts

@@ -23,7 +23,7 @@ pub fn put_argument(
         → out.new.items ≡ out.old.items ++ argument_lines (new_argument attr.now words.now)) }
     ensures nothing { IfOk result (λ put. IsFalse put → out.new.items ≡ out.old.items) }
 {
-    put_new(alloc, attr, new_of(attr, words, &[]), out)
+    put_new(alloc, attr, new_of(attr, words, false), out)
 }
 
 fn put_new(alloc: Global, attr: &str, new: New<'_>, out: &mut Vec<u8>) -> Result<bool, NoMemory>

@@ -7,5 +7,6 @@ pub mod line;
 pub mod new_argument;
 pub mod print;
 pub mod rename;
+mod same_value;
 pub mod set;
 pub mod set_kind;

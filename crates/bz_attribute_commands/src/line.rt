@@ -1,4 +1,4 @@
-//! `comment` above a rule or an argument: a line more among the parts of the rule.
+//! `comment` above a rule, an argument or an element: a line more among the parts of the rule.
 
 ghost use Rattle.std.specs.Prelude.{◌≡◌, ◌∷◌, [], IfOk, None, OnOk, map, true};
 ghost use Rattle.bz_tree.specs.Tree.{Statement};
@@ -10,7 +10,10 @@ ghost use Rattle.bz_attribute.specs.RowPlaces.{IsRuleRow};
 ghost use Rattle.bz_attribute.specs.Rules.{Rule};
 
 use crate::comment::comment_line;
-use bz_attribute::{Done, Edit, Parts, Place, find_argument, kind_place};
+use bz_attribute::{
+    Done, Edit, Env, Parts, Place, find_argument, first_equal, first_list, kind_place, value_place,
+};
+use bz_command::Commented;
 use bz_memory::{NoMemory, alloc_str, push};
 use bz_tree::Part;
 use std::alloc::Global;
@@ -32,8 +35,35 @@ pub fn comment_rule<'a>(
     Ok(insertion(kind_place(parts).from))
 }
 
-/// Adds a comment line above the first argument of a name of the rule that has these parts. The line goes into `new`.
-pub fn comment_attribute<'a>(
+/// Adds a comment line above an argument, or an element of one, of the rule that has these parts; for one above the rule
+/// it does nothing. The line goes into `new`.
+pub fn comment<'a>(
+    env: Env<'_>,
+    commented: &Commented,
+    text: &str,
+    parts: &[Part<'a>],
+    new: &mut Parts<'a>,
+) -> Result<Edit, NoMemory>
+    ensures { IfOk result (IsRowEdit (spec.comment_args commented.now env.entry.home.now text.now)
+        (spec.comment_done commented.now env.entry.home.now) (map part_view parts.now) (map part_view new.new.items)) }
+{
+    match commented {
+        Commented::Rule => Ok(Edit::none(Done::quiet(false))),
+        Commented::Attribute(attr) => {
+            comment_attribute(env.alloc, attr.as_str(), text, parts, new)
+        }
+        Commented::Value(attr, value) => {
+            let element = ElementOf {
+                attr: attr.as_str(),
+                value: value.as_str(),
+            };
+            comment_value(env, element, text, parts, new)
+        }
+    }
+}
+
+// Adds a comment line above the first argument of a name.
+fn comment_attribute<'a>(
     alloc: Global,
     attr: &str,
     text: &str,
@@ -48,6 +78,40 @@ pub fn comment_attribute<'a>(
     };
     write_line(alloc, text, new)?;
     Ok(insertion(at))
+}
+
+// An element of an attribute, by its value.
+#[derive(Clone, Copy)]
+struct ElementOf<'c> {
+    attr: &'c str,
+    value: &'c str,
+}
+
+// Adds a comment line above the first element of an attribute that equals a value.
+fn comment_value<'a>(
+    env: Env<'_>,
+    element: ElementOf<'_>,
+    text: &str,
+    parts: &[Part<'a>],
+    new: &mut Parts<'a>,
+) -> Result<Edit, NoMemory>
+    ensures { IfOk result (IsRowEdit
+        (spec.comment_value env.entry.home.now element.entry.attr.now element.entry.value.now text.now)
+        (λ args. done (spec.comment_note env.entry.home.now element.entry.attr.now element.entry.value.now args) true)
+        (map part_view parts.now) (map part_view new.new.items)) }
+{
+    let ElementOf { attr, value } = element;
+    let Some(at) = value_place(parts, attr) else {
+        return Ok(Edit::none(Done::no_attribute(env.alloc, attr)?));
+    };
+    let Some(list) = first_list(parts, at) else {
+        return Ok(Edit::none(Done::not_a_list(env.alloc, attr)?));
+    };
+    let Some(token) = first_equal(env.home, value, parts, list) else {
+        return Ok(Edit::none(Done::no_value(env.alloc, attr, value)?));
+    };
+    write_line(env.alloc, text, new)?;
+    Ok(insertion(token))
 }
 
 // What is written comes to stand before a part.

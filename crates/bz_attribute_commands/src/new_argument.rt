@@ -30,13 +30,17 @@ pub fn write_argument<'a>(
     new.clear();
     push_token(Kind::Identifier, attr, new)?;
     push(new, Part::Token(Kind::Operator, "="))?;
-    push_value(alloc, new_of(attr, words, &[]), new)?;
+    push_value(alloc, new_of(attr, words, false), new)?;
     push(new, Part::End)?;
     Ok(())
 }
 
-// Appends the parts of a value.
-fn push_value<'a>(alloc: Global, value: New<'_>, new: &mut Parts<'a>) -> Result<(), NoMemory>
+/// Appends the parts of a value.
+pub(crate) fn push_value<'a>(
+    alloc: Global,
+    value: New<'_>,
+    new: &mut Parts<'a>,
+) -> Result<(), NoMemory>
     ensures { OnOk result (map part_view new.new.items
         ≡ map part_view new.old.items ++ items_parts (items_of (spec.new_value (new_view value.entry)))) }
 {

@@ -1,24 +1,24 @@
-//! `set`: an attribute gets a value.
+//! `set` and `set_if_absent`: an attribute gets a value.
 
-ghost use Rattle.std.specs.Prelude.{◌≡◌, ◌++◌, ◌∷◌, [], None, Some, not, true, false, IfOk, IsOk, OnOk, OnErr};
-ghost use Rattle.bz_tree.specs.View.{node_view, nodes_view, seg_view, segs_view};
+ghost use Rattle.std.specs.Prelude.{◌≡◌, None, false, not, map, IfOk};
+ghost use Rattle.bz_tree.specs.Rows.{part_view};
+ghost use Rattle.bz_attribute.specs.Effects.{done, has};
+ghost use Rattle.bz_attribute.specs.RowEdits.{IsRowEdit};
 ghost use Rattle.bz_attribute.specs.Rules.{first_named};
-ghost use Rattle.bz_attribute.specs.Lists.{with_value};
-ghost use Rattle.bz_attribute.specs.Effects as effects;
-ghost use Rattle.bz_attribute_commands.specs.private.SetViews.{new_view};
+ghost use Rattle.bz_attribute_commands.specs.private.SetViews.{IsAdded, new_view};
 ghost use Rattle.bz_attribute.specs.Lists as lists;
 ghost use Rattle.bz_attribute.specs.Rules as rules;
 ghost use Rattle.bz_attribute.specs.Set as spec;
 ghost use Rattle.bz_token.specs.Common.{map_or};
 
+use crate::new_argument::{push_value, write_argument};
+use crate::same_value::is_value;
 use bz_attribute::{
-    Done, Executed, elements_at, find, ident_of, is_list, is_string, list, literal, push_argument,
-    strings, token, value_of,
+    Done, Edit, Parts, Place, find_argument, new_place, only_list, value_end, value_place,
 };
 use bz_command::Text;
-use bz_memory::{NoMemory, reserve};
-use bz_token::Kind;
-use bz_tree::{Node, Seg};
+use bz_memory::NoMemory;
+use bz_tree::Part;
 use std::alloc::Global;
 
 /// What an attribute is set to.
@@ -33,62 +33,76 @@ pub enum New<'w> {
     Strings(&'w [Text]),
 }
 
-/// Sets the first argument of a name, or adds one. Where the value is there already it succeeds. An `Err` leaves all as
-/// it was.
-pub fn set(alloc: Global, attr: &str, words: &[Text], args: &mut Vec<Seg<'_>>) -> Executed
-    ensures args { OnOk result (segs_view args.new.items ≡ spec.set attr.now words.now (segs_view args.old.items)) }
-    ensures done { IfOk result
-        (λ done. done
-        ≡ effects.done None (spec.sets attr.now words.now (first_named attr.now (segs_view args.old.items)))) }
-    ensures unchanged { spec.sets attr.now words.now (first_named attr.now (segs_view args.old.items)) ≡ false
-        → IsOk result }
-    ensures err { OnErr result (segs_view args.new.items ≡ segs_view args.old.items) }
+/// Sets the first argument of a name of the rule that has these parts, or adds one: what is new goes into `written`.
+/// Where the value is there already nothing changes.
+pub fn set<'a>(
+    alloc: Global,
+    attr: &str,
+    words: &[Text],
+    parts: &[Part<'a>],
+    written: &mut Parts<'a>,
+) -> Result<Edit, NoMemory>
+    ensures { IfOk result (IsRowEdit (spec.set attr.now words.now)
+        (λ args. done None (spec.sets attr.now words.now (first_named attr.now args)))
+        (map part_view parts.now) (map part_view written.new.items)) }
 {
-    let Some(i) = find(args, attr) else {
-        let value = new_node(alloc, new_of(attr, words, &[]))?;
-        push_argument(alloc, attr, value, args)?;
-        return Ok(Done::quiet(true));
+    let Some(value) = value_place(parts, attr) else {
+        return add_argument(alloc, attr, words, parts, written);
     };
-    set_in(alloc, attr, words, &mut args[i])
-}
-
-fn set_in(alloc: Global, attr: &str, words: &[Text], arg: &mut Seg<'_>) -> Executed
-    ensures arg { OnOk result
-        (seg_view arg.new ≡ spec.set_in (spec.new_of attr.now words.now (Some (seg_view arg.old))) (seg_view arg.old)) }
-    ensures done { IfOk result
-        (λ done. done ≡ effects.done None (spec.sets attr.now words.now (Some (seg_view arg.old)))) }
-    ensures unchanged { spec.sets attr.now words.now (Some (seg_view arg.old)) ≡ false → IsOk result }
-    ensures err { OnErr result (seg_view arg.new ≡ seg_view arg.old) }
-{
-    let value = value_of(arg);
-    let new = new_of(attr, words, value);
-    if is_value(new, value) {
-        return Ok(Done::quiet(false));
+    let list = only_list(parts, value);
+    let new = new_of(attr, words, list.is_some());
+    if is_value(new, parts, value, list) {
+        return Ok(Edit::none(Done::quiet(false)));
     }
-    reserve(&mut arg.nodes, 1)?;
-    let value = new_node(alloc, new)?;
-    arg.nodes.truncate(2);
-    arg.nodes.push_reserved(value);
-    Ok(Done::quiet(true))
+    written.clear();
+    push_value(alloc, new, written)?;
+    Ok(Edit::at(Place {
+        from: value,
+        to: value_end(parts, value),
+    }))
 }
 
-// What the words stand for, where `was` is the value that is there, if any.
-pub(crate) fn new_of<'w>(attr: &str, words: &'w [Text], was: &[Node<'_>]) -> New<'w>
-    ensures { (arg : _) → map_or false (λ a. lists.is_only lists.is_list (rules.value a)) arg
-        ≡ lists.is_only lists.is_list (nodes_view was.now)
+/// Adds an argument where the rule that has these parts has none of the name. It goes into `written`.
+pub fn set_if_absent<'a>(
+    alloc: Global,
+    attr: &str,
+    words: &[Text],
+    parts: &[Part<'a>],
+    written: &mut Parts<'a>,
+) -> Result<Edit, NoMemory>
+    ensures { IfOk result (IsRowEdit (spec.set_if_absent attr.now words.now)
+        (λ args. done None (not (has attr.now args))) (map part_view parts.now) (map part_view written.new.items)) }
+{
+    match find_argument(parts, attr) {
+        Some(_) => Ok(Edit::none(Done::quiet(false))),
+        None => add_argument(alloc, attr, words, parts, written),
+    }
+}
+
+// Adds an argument to a rule that has none of the name.
+fn add_argument<'a>(
+    alloc: Global,
+    attr: &str,
+    words: &[Text],
+    parts: &[Part<'a>],
+    written: &mut Parts<'a>,
+) -> Result<Edit, NoMemory>
+    ensures { IfOk result (IsAdded attr.now words.now (map part_view parts.now) (map part_view written.new.items)) }
+{
+    write_argument(alloc, attr, words, written)?;
+    Ok(Edit::at(new_place(parts)))
+}
+
+// What the words stand for, where the attribute is one list or not.
+pub(crate) fn new_of<'w>(attr: &str, words: &'w [Text], is_list: bool) -> New<'w>
+    ensures { (arg : _) → map_or false (λ a. lists.is_only lists.is_list (rules.value a)) arg ≡ is_list
         → new_view result ≡ spec.new_of attr.now words.now arg }
 {
     match words {
         [word] if attr == "name" => New::String(word.as_str()),
-        [word] if !is_list_attribute(attr) && !is_one_list(was) => new_word(word.as_str()),
+        [word] if !is_list && !is_list_attribute(attr) => new_word(word.as_str()),
         _ => New::Strings(words),
     }
-}
-
-fn is_one_list(value: &[Node<'_>]) -> bool
-    ensures { result ≡ lists.is_only lists.is_list (nodes_view value.now) }
-{
-    matches!(value, [node] if is_list(node))
 }
 
 // The attributes that are lists in all rules.
@@ -137,43 +151,4 @@ fn is_number(word: &[u8]) -> bool
         [b'0'] => true,
         [first, ..] => *first != b'0' && word.iter().all(u8::is_ascii_digit),
     }
-}
-
-fn new_node<'a>(alloc: Global, new: New<'_>) -> Result<Node<'a>, NoMemory>
-    ensures { IfOk result (λ node. node_view node ∷ [] ≡ spec.new_value (new_view new.entry)) }
-{
-    match new {
-        New::String(word) => literal(alloc, word),
-        New::Number(digits) => token(alloc, Kind::Integer, digits),
-        New::Constant(name) => token(alloc, Kind::Identifier, name),
-        New::Strings(words) => Ok(list(alloc, strings(alloc, words)?)),
-    }
-}
-
-// The value is the new one already: strings are compared by their values, comments not at all.
-fn is_value(new: New<'_>, value: &[Node<'_>]) -> bool
-    ensures { result ≡ spec.is_value (new_view new.entry) (nodes_view value.now) }
-{
-    match (new, value) {
-        (New::String(word), _) => is_string(value, word),
-        (New::Number(digits), [node]) => is_int(digits, node),
-        (New::Constant(name), [node]) => ident_of(node) == Some(name),
-        (New::Strings(words), [node]) => is_list(node) && are_strings(words, elements_at(node)),
-        _ => false,
-    }
-}
-
-fn is_int(digits: &str, node: &Node<'_>) -> bool
-    ensures { result ≡ spec.is_int digits.now (node_view node.now) }
-{
-    matches!(node, Node::Token(leaf) if leaf.kind == Kind::Integer && leaf.text.as_str() == digits)
-}
-
-// Strings with these values, one for each word.
-fn are_strings(words: &[Text], elements: &[Seg<'_>]) -> bool
-    ensures { result ≡ spec.are_strings words.now (segs_view elements.now) }
-{
-    let mut pairs = words.iter().zip(elements);
-    words.len() == elements.len()
-        && pairs.all(|(word, element)| is_string(&element.nodes, word.as_str()))
 }

@@ -68,6 +68,18 @@ four_or false true c d = refl
 four_or false false true d = refl
 four_or false false false d = refl
 
+-- a segment with its comments before others
+abbrev pub noted_before : (kind : GroupKind) (level depth : ℕ) (rest below inner end after next : List ℕ) (k d e : Bool) → (above : AreNotesFront level rest below d) → (s : IsSegmentFront kind level depth inner end k) → (beside : IsBesideFront after next e)
+    → (tail : Segs) → AreSegments kind depth tail → AreSegments kind depth (seg above.notes s.xs beside.note tail)
+noted_before kind level depth rest below inner end after next k d e above s beside tail are = record {
+  texts = (above.are, s.is.some, s.is.texts, beside.is, are.texts);
+  kinds = (s.is.kinds, are.kinds);
+  grammar = one_more kind above.notes s.xs beside.note tail s.is.grammar are.grammar;
+  no_for = s.is.no_for;
+  depth_fits = most _ _ depth s.is.depth_fits are.depth_fits;
+  stays = ap (λ xs. seg above.notes xs beside.note _) s.is.stays ∙ ap (λ ss. seg above.notes s.xs beside.note ss) are.stays;
+}
+
 -- on lines
 
 abbrev pub begin : (kind : GroupKind) (level depth : ℕ) (text : List ℕ) → Continues kind level depth text text 0 false false
@@ -77,14 +89,7 @@ abbrev pub more : (kind : GroupKind) (level depth : ℕ) (text rest below inner 
     → AreNotesFront level rest below d → below ≡ 10 ∷ (indent level ++ inner) → IsSegmentFront kind level depth inner end k → end ≡ 44 ∷ after → IsBesideFront after next e
     → Continues kind level depth text next (n + 1) (h || k) (c || (d || e))
 more kind level depth text rest below inner end after next n h k c d e so above line s comma beside = λ tail last are is.
-    let all = so (seg above.notes s.xs beside.note tail) last (record {
-      texts = (above.are, s.is.some, s.is.texts, beside.is, are.texts);
-      kinds = (s.is.kinds, are.kinds);
-      grammar = one_more kind above.notes s.xs beside.note tail s.is.grammar are.grammar;
-      no_for = s.is.no_for;
-      depth_fits = most _ _ depth s.is.depth_fits are.depth_fits;
-      stays = ap (λ xs. seg above.notes xs beside.note _) s.is.stays ∙ ap (λ ss. seg above.notes s.xs beside.note ss) are.stays;
-    }) (by tail last is) in
+    let all = so (seg above.notes s.xs beside.note tail) last (noted_before kind level depth rest below inner end after next k d e above s beside tail are) (by tail last is) in
     record {
       segs = all.segs;
       are = all.are;

@@ -8,4 +8,6 @@ pub mod RuleCalls
 pub mod BareStatements
 pub mod StatementFronts
 pub mod CanonicalChunks
-pub mod Rooms
+pub mod Places
+pub mod ArgumentLines
+pub mod SmallRules

@@ -1,17 +1,21 @@
 -- What is known of the chunk that a text begins with, where it stands as it would be written.
-use Rattle.std.specs.Prelude.{◌≡◌, ◌<◌, ℕ, List, [], ◌∷◌, ◌++◌, codes, length, true, Option, None, Some, IfSome}
+use Rattle.std.specs.Prelude.{◌≡◌, ◌<◌, ℕ, List, [], ◌∷◌, ◌++◌, codes, length, true, false, Option, None, Some, IfSome, option_to_list}
+use Rattle.bz_token.specs.declared.token.Kind.TheVariants.{Identifier}
 use Rattle.bz_token.specs.Cuts.{IsChunk}
 use Rattle.bz_tree.specs.declared.stmt.Class.{Class}
+use Rattle.bz_tree.specs.declared.stmt.Class.TheVariants.{Rule as RuleClass}
 use Rattle.bz_tree.specs.Chunk.{IsStatementIn}
 use Rattle.bz_tree.specs.declared.stmt.GroupKind.TheVariants.{RuleCall}
-use Rattle.bz_tree.specs.Tree.{Item, Segment, Statement, segs_of}
+use Rattle.bz_tree.specs.Tree.{Segment, Statement, group, leaf, segs_of}
 use Rattle.bz_layout.specs.declared.broken.Style.TheVariants.{Broken}
 use Rattle.bz_layout.specs.Layout.{broken_segs, layout_text}
 use Rattle.bz_layout.specs.Pieces.{bytes_of}
-use Rattle.bz_canonical.specs.declared.chunk.Room.{Room}
+use Rattle.bz_canonical.specs.declared.chunk.Place.{Place}
+use Rattle.bz_layout_laws.specs.Lineless.{lineless}
+use Rattle.bz_attribute.specs.Effects.{with_args}
+use Rattle.bz_attribute.specs.RowPlaces.{IsLocal}
 use Rattle.bz_attribute.specs.Rules.{Rule, first_named, rule_of, name_in}
-use Rattle.bz_attribute.specs.Effects.{nodes_of}
-use Rattle.bz_token.specs.Common.{map_or}
+use Rattle.bz_token.specs.Common.{is_empty}
 
 abbrev pub rule_name : Option Rule → Option (List ℕ)
 rule_name None = None
@@ -32,30 +36,50 @@ pub record HasArgumentName (name text : List ℕ) : Type 0 where
   pub after : List ℕ
   pub is : text ≡ before ++ (name ++ (codes " =" ++ after))
 
--- a rule with one argument more, after all others
-abbrev pub nodes_with : Segment → List Item → List Item
-nodes_with arg nodes = map_or nodes (λ r. nodes_of (record r { args = (λ args. args ++ arg ∷ []) r.args })) (rule_of nodes)
+-- the lines of arguments on lines of their own
+abbrev pub argument_lines : List Segment → List ℕ
+argument_lines args = bytes_of (broken_segs Broken 1 RuleCall true (segs_of args))
 
-abbrev pub with_argument : Segment → Statement → Statement
-with_argument arg s = record s { nodes = nodes_with arg s.nodes }
+-- the first argument of a name, alone
+abbrev pub first_args : List ℕ → Statement → List Segment
+first_args attr s = option_to_list (first_named attr (rule_args (rule_of s.nodes)))
 
--- the lines of an argument on lines of its own
-abbrev pub argument_lines : Segment → List ℕ
-argument_lines arg = bytes_of (broken_segs Broken 1 RuleCall true (segs_of (arg ∷ [])))
+-- a rule of some arguments, which the comment after them keeps on lines
+abbrev pub small_rule : List Segment → Statement
+small_rule args = record {
+  before = [];
+  nodes = leaf Identifier (codes "k") ∷ group RuleCall (segs_of args) false (codes "#" ∷ []) ∷ [];
+  suffix = None;
+  class = RuleClass;
+  start = 0;
+  end = 0;
+}
 
--- what is written before one argument more, and what after it
+abbrev pub small_text : List ℕ → List ℕ
+small_text lines = codes "k(" ++ (lines ++ codes "\n    #\n)\n")
+
+-- What is read of the lines of some arguments in that rule are these arguments.
+abbrev pub AreReadAlone : ℕ → List Segment → Type 0
+AreReadAlone depth args = (first : ℕ) (t : Statement) → IsStatementIn first depth (small_text (argument_lines args)) t → lineless t ≡ lineless (small_rule args)
+
+-- what is written before the lines of an argument, they, and what after them
 pub record Between : Type 0 where
   pub before : List ℕ
+  pub lines : List ℕ
   pub after : List ℕ
 
-abbrev pub between : Room → Between
-between room = record { before = room.before.now; after = room.after.now }
+abbrev pub between : Place → Between
+between place = record { before = place.before.now; lines = place.lines.now; after = place.after.now }
 
-abbrev pub HasRoom : Statement → Between → Type 0
-HasRoom s room = (arg : Segment) → layout_text (with_argument arg s) ≡ room.before ++ (argument_lines arg ++ room.after)
+-- The lines are those of the first argument of this name, or there is none. An edit that looks at it alone changes them alone.
+pub record HasPlace (depth : ℕ) (attr : List ℕ) (s : Statement) (place : Between) : Type 0 where
+  pub lines : place.lines ≡ argument_lines (first_args attr s)
+  pub reads : AreReadAlone depth (first_args attr s)
+  pub takes : (f : List Segment → List Segment) → IsLocal attr f → is_empty (f (first_args attr s)) ≡ false
+      → layout_text (with_args f s) ≡ place.before ++ (argument_lines (f (first_args attr s)) ++ place.after)
 
 -- The chunk is read as a statement of this class and name, of which `text` is written. Its first line has this number.
-pub record IsReadBack (first depth : ℕ) (class : Class) (name : Option (List ℕ)) (room : Option Between) (chunk text : List ℕ) : Type 0 where
+pub record IsReadBack (first depth : ℕ) (attr : List ℕ) (class : Class) (name : Option (List ℕ)) (place : Option Between) (chunk text : List ℕ) : Type 0 where
   pub statement : Statement
   pub read : IsStatementIn first depth chunk statement
   pub class_is : statement.class ≡ class
@@ -63,12 +87,12 @@ pub record IsReadBack (first depth : ℕ) (class : Class) (name : Option (List �
   pub written : layout_text statement ≡ text
   -- no argument has a name that stands nowhere in the text with its equals sign
   pub absent : (attr : List ℕ) → (HasArgumentName attr text → ⊥) → first_named attr (rule_args (rule_of statement.nodes)) ≡ None
-  pub grows : IfSome room (HasRoom statement)
+  pub has : IfSome place (HasPlace depth attr statement)
 
 -- The text begins with this chunk, whatever follows the text, and on whatever line the chunk begins it is read back.
-pub record IsCanonical (depth : ℕ) (class : Class) (name : Option (List ℕ)) (room : Option Between) (chunk written text : List ℕ) : Type 0 where
+pub record IsCanonical (depth : ℕ) (attr : List ℕ) (class : Class) (name : Option (List ℕ)) (place : Option Between) (chunk written text : List ℕ) : Type 0 where
   pub some : 0 < length chunk
   pub rest : List ℕ
   pub front : text ≡ chunk ++ rest
   pub ends : IsChunk chunk
-  pub read : (first : ℕ) → IsReadBack first depth class name room chunk written
+  pub read : (first : ℕ) → IsReadBack first depth attr class name place chunk written

@@ -1,5 +1,6 @@
 pub mod Fronts
 pub mod Values
 pub mod Segments
+pub mod Arguments
 pub mod Chains
 pub mod Statements

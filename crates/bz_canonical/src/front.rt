@@ -1,6 +1,6 @@
 //! What stands at the front of a text: a byte, a word, a token, the beginning of a line.
 
-ghost use Rattle.std.specs.Prelude.{◌≡◌, ◌∷◌, ◌++◌, ◌≤◌, ◌<◌, length, drop, codes, IfSome};
+ghost use Rattle.std.specs.Prelude.{◌≡◌, ◌∷◌, ◌++◌, ◌≤◌, ◌<◌, ◌-◌, length, drop, take, codes, IfSome};
 ghost use Rattle.std.specs.List.{prefix_len};
 ghost use Rattle.bz_token.specs.declared.token.Kind.TheVariants.{Comment, Identifier, Integer, String};
 ghost use Rattle.bz_layout.specs.Pieces.{indent};
@@ -17,6 +17,15 @@ pub(crate) fn after(text: &[u8], byte: u8) -> Option<&[u8]>
         [first, rest @ ..] if *first == byte => Some(rest),
         _ => None,
     }
+}
+
+/// The bytes without so many of the last.
+pub(crate) fn before(text: &[u8], left: usize) -> Option<&[u8]>
+    ensures { IfSome result (λ front. front.now ≡ take (length text.now - left) text.now) }
+{
+    let len = text.len().checked_sub(left)?;
+    let (front, _) = text.split_at_checked(len)?;
+    Some(front)
 }
 
 /// What follows the first bytes, so many of them. None: there are fewer, or 0 are asked for.

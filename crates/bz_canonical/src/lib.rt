@@ -5,6 +5,7 @@
 //! statement, of which the layout writes the same text.
 #![tactic(auto)]
 
+mod arguments;
 mod assignment;
 mod bare;
 mod chunk;
@@ -17,4 +18,4 @@ mod segments;
 mod statement;
 mod value;
 
-pub use chunk::{CanonicalChunk, Room, canonical};
+pub use chunk::{CanonicalChunk, Place, canonical};

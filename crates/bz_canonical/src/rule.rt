@@ -1,13 +1,14 @@
 //! The call of a rule that stands as it would be written.
 
-ghost use Rattle.std.specs.Prelude.{◌≡◌, ◌-◌, ◌<◌, ◌∷◌, ◌++◌, codes, length, option_map, take, IfSome, IfNone, IsFalse, Some, None, ℕ, [], false};
+ghost use Rattle.std.specs.Prelude.{◌≡◌, ◌<◌, ◌∷◌, ◌++◌, codes, option_map, IfSome, IfNone, IsFalse, Some, None, ℕ, [], false, bytes_eq};
 ghost use Rattle.bz_layout.specs.Pieces.{indent};
 ghost use Rattle.bz_canonical.specs.Canonical.{HasArgumentName};
+ghost use Rattle.bz_canonical.specs.private.Arguments.{ends_of};
 ghost use Rattle.bz_canonical.specs.private.Statements.{IsRuleCallFront};
 
-use crate::front::{after, after_name, line, simple_string};
+use crate::arguments::{Lines, arguments};
+use crate::front::{after, after_name, before, line, simple_string};
 use crate::group::group;
-use crate::segments::segments;
 use crate::value::either;
 use bz_tree::GroupKind;
 
@@ -15,39 +16,39 @@ use bz_tree::GroupKind;
 #[derive(Clone, Copy)]
 pub(crate) struct RuleCall<'t> {
     pub(crate) name: Option<&'t [u8]>,
-    /// What follows its last argument, where the lines of one more may stand before it.
-    pub(crate) room: Option<&'t [u8]>,
+    /// Where the first argument of the name stands, or would stand, that is asked for.
+    pub(crate) place: Option<Lines<'t>>,
     pub(crate) rest: &'t [u8],
 }
 
 /// The call of a rule here, whose name is its first argument or which has none.
 #[inline(always)]
-pub(crate) fn rule_call(text: &[u8], depth: u8) -> Option<RuleCall<'_>>
+pub(crate) fn rule_call<'t>(text: &'t [u8], attr: &[u8], depth: u8) -> Option<RuleCall<'t>>
     requires { depth < 253 }
-    ensures { IfSome result (λ read. IsRuleCallFront depth (option_map (λ name. name.now) read.name)
-        (option_map (λ room. room.now) read.room) text.now read.rest.now) }
+    ensures { IfSome result (λ read. IsRuleCallFront depth attr.now (option_map (λ name. name.now) read.name)
+        (option_map ends_of read.place) text.now read.rest.now) }
 {
     match after_first_name(text) {
         Some(value) => {
-            let read = named_call(value, depth)?;
+            let read = named_call(value, attr, depth)?;
             Some(RuleCall {
                 name: Some(read.name),
-                room: read.room,
+                place: read.place,
                 rest: read.rest,
             })
         }
         None => {
-            let read = short_call(text, depth)?;
+            let read = short_call(text, attr, depth)?;
             Some(read)
         }
     }
 }
 
 /// The call of a rule here, whose name is its only argument, in place, or which has none.
-fn short_call(text: &[u8], depth: u8) -> Option<RuleCall<'_>>
+fn short_call<'t>(text: &'t [u8], attr: &[u8], depth: u8) -> Option<RuleCall<'t>>
     requires { depth < 253 }
-    ensures { IfSome result (λ read. IsRuleCallFront depth (option_map (λ name. name.now) read.name)
-        (option_map (λ room. room.now) read.room) text.now read.rest.now) }
+    ensures { IfSome result (λ read. IsRuleCallFront depth attr.now (option_map (λ name. name.now) read.name)
+        (option_map ends_of read.place) text.now read.rest.now) }
 {
     match after_only_name(text) {
         Some(value) => {
@@ -55,15 +56,15 @@ fn short_call(text: &[u8], depth: u8) -> Option<RuleCall<'_>>
             let rest = after(name.rest, b')')?;
             Some(RuleCall {
                 name: Some(name.inner),
-                room: None,
+                place: None,
                 rest,
             })
         }
         None => {
-            let rest = unnamed_call(text, depth)?;
+            let rest = unnamed_call(text, attr, depth)?;
             Some(RuleCall {
                 name: None,
-                room: None,
+                place: None,
                 rest,
             })
         }
@@ -94,21 +95,20 @@ fn after_first_name(text: &[u8]) -> Option<&[u8]>
 #[derive(Clone, Copy)]
 struct NamedCall<'t> {
     name: &'t [u8],
-    /// What follows its last argument, where no comments stand there.
-    room: Option<&'t [u8]>,
+    place: Option<Lines<'t>>,
     rest: &'t [u8],
 }
 
 /// The call of a rule whose name is this value, the first argument of two or more.
 #[inline(always)]
-fn named_call(value: &[u8], depth: u8) -> Option<NamedCall<'_>>
+fn named_call<'t>(value: &'t [u8], attr: &[u8], depth: u8) -> Option<NamedCall<'t>>
     requires { depth < 253 }
-    ensures { IfSome result (λ read. IsRuleCallFront depth (Some read.name.now) (option_map (λ room. room.now) read.room)
+    ensures { IfSome result (λ read. IsRuleCallFront depth attr.now (Some read.name.now) (option_map ends_of read.place)
         (40 ∷ 10 ∷ (indent 1 ++ (codes "name" ++ (codes " = " ++ value.now)))) read.rest.now) }
 {
     let name = simple_string(value)?;
     let next = after(name.rest, b',')?;
-    let read = segments(GroupKind::RuleCall, next, 1, depth)?;
+    let read = arguments(next, attr, depth)?;
     let noted = either(read.noted, read.one);
     let broken = either(read.ended, noted);
     if !broken {
@@ -118,25 +118,26 @@ fn named_call(value: &[u8], depth: u8) -> Option<NamedCall<'_>>
     let rest = after(end, b')')?;
     Some(NamedCall {
         name: name.inner,
-        room: bare_end(read.rest, read.ended),
+        place: place_of_other(read.place, attr),
         rest,
     })
 }
 
-/// The end of arguments, where no comments stand after the last.
-fn bare_end(end: &[u8], noted: bool) -> Option<&[u8]>
-    ensures { IfSome (option_map (λ room. room.now) result) (λ room. (noted ≡ false) × (room ≡ end.now)) }
+/// The place of an argument that is not the name.
+fn place_of_other<'t>(place: Option<Lines<'t>>, attr: &[u8]) -> Option<Lines<'t>>
+    ensures { IfSome (option_map ends_of result) (λ kept. (bytes_eq attr.now (codes "name") ≡ false)
+        × (option_map ends_of place.entry ≡ Some kept)) }
 {
-    if noted {
+    if attr == b"name".as_slice() {
         return None;
     }
-    Some(end)
+    place
 }
 
 /// What follows the call of a rule here, no argument of which is `name`.
-fn unnamed_call(text: &[u8], depth: u8) -> Option<&[u8]>
+fn unnamed_call<'t>(text: &'t [u8], attr: &[u8], depth: u8) -> Option<&'t [u8]>
     requires { depth < 253 }
-    ensures { IfSome result (λ rest. IsRuleCallFront depth None None text.now rest.now) }
+    ensures { IfSome result (λ rest. IsRuleCallFront depth attr.now None None text.now rest.now) }
 {
     let read = group(GroupKind::RuleCall, text, 0, depth)?;
     let call = before(text, read.rest.len())?;
@@ -144,15 +145,6 @@ fn unnamed_call(text: &[u8], depth: u8) -> Option<&[u8]>
         return None;
     }
     Some(read.rest)
-}
-
-/// The bytes without so many of the last.
-fn before(text: &[u8], left: usize) -> Option<&[u8]>
-    ensures { IfSome result (λ front. front.now ≡ take (length text.now - left) text.now) }
-{
-    let len = text.len().checked_sub(left)?;
-    let (front, _) = text.split_at_checked(len)?;
-    Some(front)
 }
 
 /// Whether an argument `name` may stand here: its name and equals sign do.

@@ -13,11 +13,11 @@ use Rattle.bz_tree_laws.proofs.ChunkLaws.{chunk_class}
 use Rattle.bz_command.specs.Labels.{Name, Pkg, All, Kind as OfKind, Line}
 use Rattle.bz_attribute.specs.Rules.{Rule, is_text, rule_of}
 use Rattle.bz_canonical.specs.Canonical.{HasName, IsCanonical, between, rule_name}
-use Rattle.bz_canonical.specs.declared.chunk.CanonicalChunk.{CanonicalChunk}
 use Rattle.bz_devices.specs.Ahead.{Ahead, IsFewAfter}
 use Rattle.bz_passes.specs.declared.index.Key.TheVariants.{Name as Named, NoName}
 use Rattle.bz_engine.specs.Outcome.{Run}
 use Rattle.bz_engine.specs.Progress.{Progress}
+use Rattle.bz_engine.specs.declared.canonical.Found.{Found}
 use Rattle.bz_engine.specs.declared.edit.Edited.TheVariants.{Done}
 use Rattle.bz_engine.specs.declared.edit.Scripted.TheVariants.{Done as Laid}
 use Rattle.bz_engine.specs.private.Edits.{IsEdited, IsLaidOut}
@@ -68,20 +68,20 @@ front_taken chunk rest text is = sym (ap (take (length chunk)) is ∙ take-appen
 few_lines : (line : ℕ) (chunk : List ℕ) → line_at line chunk ≤ line + length chunk
 few_lines line chunk = omega (arith, count_by-le-length (λ b. b == 10) chunk)
 
-pub canonical_edited : (run : Run) (most : ℕ) (ahead : Ahead) (found : CanonicalChunk) (text : List ℕ) (old mid new : Progress) (before after : List ℕ)
-    → IsFewAfter ahead → IsTakenOf text ahead.bytes → IsUtf8 found.chunk.now → length found.chunk.now ≤ most
-    → IsCanonical run.max_depth found.class (option_map (λ name. name.now) found.name) (option_map between found.room) found.chunk.now found.written.now text
-    → ((s : Statement) → IsFound found s → IsLaidOut run s old mid before after)
-    → new ≡ record mid { line = line_at mid.line found.chunk.now }
-    → IsFirstEdited run most ahead old new before after (record { len = length found.chunk.now; edited = Done })
+pub canonical_edited : (run : Run) (most : ℕ) (ahead : Ahead) (found : Found) (text : List ℕ) (old mid new : Progress) (before after : List ℕ)
+    → IsFewAfter ahead → IsTakenOf text ahead.bytes → IsUtf8 found.chunk.chunk.now → length found.chunk.chunk.now ≤ most
+    → IsCanonical run.max_depth found.attr.now found.chunk.class (option_map (λ name. name.now) found.chunk.name) (option_map between found.chunk.place) found.chunk.chunk.now found.chunk.written.now text
+    → ((s : Statement) → IsFound run.max_depth found s → IsLaidOut run s old mid before after)
+    → new ≡ record mid { line = line_at mid.line found.chunk.chunk.now }
+    → IsFirstEdited run most ahead old new before after (record { len = length found.chunk.chunk.now; edited = Done })
 canonical_edited run most ahead found text old mid new before after few outer utf8 size c laid is =
-    let chunk : List ℕ = found.chunk.now in
+    let chunk : List ℕ = found.chunk.chunk.now in
     let within : length chunk ≤ length text = front_size chunk c.rest text c.front in
     let front : chunk ≡ take (length chunk) text = front_taken chunk c.rest text c.front in
     let read = c.read old.line in
     let s = read.statement in
     let done : IsLaidOut run s old mid before after =
-    laid s (record { class = chunk_class old.line chunk read.read.tokens s read.read.reads.chunk; class_is = read.class_is; named = read.named; written = read.written; absent = read.absent; grows = read.grows }) in
+    laid s (record { class = chunk_class old.line chunk read.read.tokens s read.read.reads.chunk; class_is = read.class_is; named = read.named; written = read.written; absent = read.absent; has = read.has }) in
     record {
       chunk = first_is_next most ahead chunk text few outer c.some within front size c.ends;
       lines = subst (λ n. n ≤ old.line + length chunk) (sym (ap (λ (p : Progress). p.line) is ∙ ap (λ n. line_at n chunk) done.line)) (few_lines old.line chunk);

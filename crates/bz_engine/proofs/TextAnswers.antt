@@ -9,16 +9,13 @@ use Rattle.bz_command.specs.declared.arguments.Attributes.TheVariants.{Named, Ev
 use Rattle.bz_command.specs.declared.arguments.Setting.TheVariants.{ToValues, ToKind}
 use Rattle.bz_command.specs.Labels.{Package}
 use Rattle.bz_attribute.specs.declared.done.Done.{Done}
-use Rattle.bz_attribute.specs.Effects.{argument, done, edit_first, has, nodes_after, nodes_of}
+use Rattle.bz_attribute.specs.Effects.{done, has}
 use Rattle.bz_attribute.specs.Rules.{Rule, first_named, is_named, rule_of}
-use Rattle.bz_attribute.specs.Set.{new_of, new_value, set, set_if_absent, set_in, sets}
-use Rattle.bz_attribute_commands.specs.Argument.{new_argument}
-use Rattle.bz_canonical.specs.Canonical.{HasArgumentName, HasName, rule_args, with_argument}
+use Rattle.bz_canonical.specs.Canonical.{HasArgumentName, rule_args}
 use Rattle.bz_rule.specs.declared.command.Action.TheVariants.{Add, Remove, Set, SetIfAbsent, Delete, Rename, Move, Replace, Comment, Print}
 use Rattle.bz_rule.specs.Commands.{Command, after, args_after, args_done, done_of}
 use Rattle.bz_rule.proofs.Commands.{lawful}
-use Rattle.bz_engine.specs.private.Found.{IsWithout, Makes, Setting, looked_at, set_by, told_line}
-use Rattle.bz_engine.proofs.OnlyPass.{named_rule}
+use Rattle.bz_engine.specs.private.Found.{IsWithout, Makes, looked_at, told_line}
 use Rattle.bz_token.specs.Common.{map_or}
 
 -- a text in which the name and the sign are not found
@@ -37,7 +34,7 @@ quiet : (done_is : Option Rule → Done) (o : Option Rule) → done_is None ≡ 
 quiet done_is None none some = none
 quiet done_is (Some r) none some = some r refl
 
-none_has : (attr : List ℕ) (args : List Segment) → first_named attr args ≡ None → has attr args ≡ false
+pub none_has : (attr : List ℕ) (args : List Segment) → first_named attr args ≡ None → has attr args ≡ false
 none_has attr [] is = refl
 none_has attr (a ∷ args) is = by (is_named attr a) (none_has attr args) is
   where
@@ -45,7 +42,7 @@ none_has attr (a ∷ args) is = by (is_named attr a) (none_has attr args) is
     by true others is = absurd cc
     by false others is = others is
 
-stays_by : (command : Command) (home : Package) (s : Statement) → done_of command home (Some s) ≡ told_line false None → Makes command home s s (told_line false None)
+pub stays_by : (command : Command) (home : Package) (s : Statement) → done_of command home (Some s) ≡ told_line false None → Makes command home s s (told_line false None)
 stays_by command home s told = record { after_is = (lawful command home).stays (Some s) (ap (λ (d : Done). d.changed) told); done = told }
 
 looked_at_done : (command : Command) (attr : List ℕ) (home : Package) (s : Statement) → looked_at command ≡ Some attr → IsWithout attr s → done_of command home (Some s) ≡ told_line false None
@@ -74,54 +71,3 @@ looked_at_done (Print fields) attr home s is without = absurd cc
 
 pub looked_at_stays : (command : Command) (attr : List ℕ) (home : Package) (s : Statement) → looked_at command ≡ Some attr → IsWithout attr s → Makes command home s s (told_line false None)
 looked_at_stays command attr home s is without = stays_by command home s (looked_at_done command attr home s is without)
-
--- a command that adds an argument
-grown : (f : List Segment → List Segment) (arg : Segment) (s : Statement) (r : Rule) → rule_of s.nodes ≡ Some r → f r.args ≡ r.args ++ arg ∷ []
-    → record s { nodes = nodes_after f s.nodes (rule_of s.nodes) } ≡ with_argument arg s
-grown f arg s r at is =
-    ap (λ o. record s { nodes = nodes_after f s.nodes o }) at ∙ ap (λ (args : List Segment). record s { nodes = nodes_of (record r { args = args }) }) is
-    ∙ ap (λ o. record s { nodes = nodes_after (λ args. args ++ arg ∷ []) s.nodes o }) (sym at)
-
-set_makes : (a : List ℕ) (ws : List (List ℕ)) (home : Package) (s : Statement) (r : Rule) → rule_of s.nodes ≡ Some r → first_named a r.args ≡ None
-    → Makes (Set (ToValues a ws)) home s (with_argument (new_argument a ws) s) (told_line true None)
-set_makes a ws home s r at none = record {
-  after_is = ap Some (grown (set a ws) (new_argument a ws) s r at (by (has a r.args) (first_named a r.args) (none_has a r.args none) none));
-  done = ap (λ x0. map_or (done None false) (λ r. (args_done (Set (ToValues a ws)) home) r.args) x0) at ∙ ap (λ o. done None (sets a ws o)) none;
-}
-  where
-    by : (b : Bool) (o : Option Segment) → b ≡ false → o ≡ None
-        → (if b then edit_first (is_named a) (λ z. set_in (new_of a ws o) z ∷ []) r.args else r.args ++ argument a (new_value (new_of a ws o)) ∷ []) ≡ r.args ++ new_argument a ws ∷ []
-    by b o b_is o_is = rw (b_is, o_is) refl
-
-set_if_absent_makes : (a : List ℕ) (ws : List (List ℕ)) (home : Package) (s : Statement) (r : Rule) → rule_of s.nodes ≡ Some r → first_named a r.args ≡ None
-    → Makes (SetIfAbsent a ws) home s (with_argument (new_argument a ws) s) (told_line true None)
-set_if_absent_makes a ws home s r at none =
-    let absent : has a r.args ≡ false = none_has a r.args none in
-    record {
-      after_is = ap Some (grown (set_if_absent a ws) (new_argument a ws) s r at (ap (λ b. if b then r.args else r.args ++ new_argument a ws ∷ []) absent));
-      done = ap (λ x0. map_or (done None false) (λ r. (args_done (SetIfAbsent a ws) home) r.args) x0) at ∙ ap (λ b. done None (not b)) absent;
-    }
-
-set_by_makes : (command : Command) (new : Setting) (home : Package) (s : Statement) (r : Rule) → set_by command ≡ Some new → rule_of s.nodes ≡ Some r → first_named new.attr r.args ≡ None
-    → Makes command home s (with_argument (new_argument new.attr new.words) s) (told_line true None)
-set_by_makes (Set (ToValues a ws)) new home s r is at none =
-    let same : record { attr = a; words = ws } ≡ new = cc in
-    subst (λ (n : Setting). first_named n.attr r.args ≡ None → Makes (Set (ToValues a ws)) home s (with_argument (new_argument n.attr n.words) s) (told_line true None)) same (set_makes a ws home s r at) none
-set_by_makes (SetIfAbsent a ws) new home s r is at none =
-    let same : record { attr = a; words = ws } ≡ new = cc in
-    subst (λ (n : Setting). first_named n.attr r.args ≡ None → Makes (SetIfAbsent a ws) home s (with_argument (new_argument n.attr n.words) s) (told_line true None)) same (set_if_absent_makes a ws home s r at) none
-set_by_makes (Set (ToKind kind)) new home s r is at none = absurd cc
-set_by_makes (Remove attrs values) new home s r is at none = absurd cc
-set_by_makes (Replace attrs old by_it) new home s r is at none = absurd cc
-set_by_makes (Add a values) new home s r is at none = absurd cc
-set_by_makes Delete new home s r is at none = absurd cc
-set_by_makes (Rename a b) new home s r is at none = absurd cc
-set_by_makes (Move a b moved) new home s r is at none = absurd cc
-set_by_makes (Comment place text) new home s r is at none = absurd cc
-set_by_makes (Print fields) new home s r is at none = absurd cc
-
-pub set_by_grows : (command : Command) (new : Setting) (home : Package) (s : Statement) (name : List ℕ) → set_by command ≡ Some new → HasName (Some name) s → IsWithout new.attr s
-    → Makes command home s (with_argument (new_argument new.attr new.words) s) (told_line true None)
-set_by_grows command new home s name is named without =
-    let rule = named_rule s name named in
-    set_by_makes command new home s rule.0 is rule.1 (ap (λ o. first_named new.attr (rule_args o)) (sym rule.1) ∙ without)

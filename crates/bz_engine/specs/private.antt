@@ -6,3 +6,4 @@ pub mod Rows
 pub mod NextChunks
 pub mod Finds
 pub mod Found
+pub mod ArgumentEdits

@@ -1,68 +1,53 @@
-//! What the one command of a script makes of a rule, by the rule's text alone.
+//! Rules that the one command of a script leaves as they are, by their text alone.
 
 ghost use Rattle.std.specs.Prelude.{◌≡◌, ◌++◌, codes, string_bytes, IfOk, IfSome, IsFalse, IsTrue, Some, false, true};
 ghost use Rattle.bz_tree.specs.Tree.{Statement};
 ghost use Rattle.bz_attribute.specs.Marks.{marks};
 ghost use Rattle.bz_canonical.specs.Canonical.{HasArgumentName, HasName};
-ghost use Rattle.bz_engine.specs.private.Found.{Answers, Makes, looked_at, new_of, set_by, told_line};
+ghost use Rattle.bz_engine.specs.private.Found.{LeavesRule, Makes, looked_at, told_line};
 
 use bz_attribute::Env;
 use bz_attribute_commands::print::print_name;
 use bz_command::{Attributes, Marked, Setting, Target};
 use bz_memory::{NoMemory, from_str, push_str};
-use bz_rule::{Action, Command, Text};
+use bz_rule::{Action, Command, Text, one_attribute};
 use memchr::memmem;
 use std::alloc::Global;
 
-/// What the one command of a script makes of a rule whose text is known.
+/// A rule stays as it is, and this is printed of it.
 #[derive(Drop)]
-pub(crate) enum Answer<'c> {
-    /// It stays as it is, and this is printed of it.
-    Stays(Option<Text>),
-    /// It gets an argument, after all others.
-    Grows(NewArgument<'c>),
+pub(crate) struct Unchanged {
+    pub(crate) line: Option<Text>,
 }
 
-/// An argument that `set` adds.
-#[derive(Clone, Copy)]
-pub(crate) struct NewArgument<'c> {
-    pub(crate) attr: &'c str,
-    pub(crate) values: &'c [Text],
-}
-
-/// Whether such an answer may be had of the command.
+/// Whether it may be known what the command makes of a rule whose text is known.
 pub(crate) fn is_answerable(command: &Command) -> bool {
     match &command.action {
         Action::Print(_) => true,
-        _ => looked_at(command).is_some() || set_by(command).is_some(),
+        _ => looked_at(command).is_some() || one_attribute(command).is_some(),
     }
 }
 
-/// What the command makes of a rule of this name and this text. None: the rule is to be seen.
-pub(crate) fn answer_by_text<'c>(
+/// What the command prints of a rule of this name and this text, where it leaves it as it is. None: it may change it, or
+/// the rule is to be seen.
+pub(crate) fn unchanged_by_text(
     env: Env<'_>,
-    command: &'c Command,
+    command: &Command,
     name: &str,
     text: &str,
-) -> Result<Option<Answer<'c>>, NoMemory>
-    ensures { IfOk result (λ told. IfSome told (Answers command.now env.entry.home.now name.now text.now)) }
+) -> Result<Option<Unchanged>, NoMemory>
+    ensures { IfOk result (λ told. IfSome told (LeavesRule command.now env.entry.home.now name.now text.now)) }
 {
     if let Some(attr) = looked_at(command) {
         if may_have(env.alloc, text, attr)? {
             return Ok(None);
         }
-        return Ok(Some(Answer::Stays(None)));
-    }
-    if let Some(new) = set_by(command) {
-        if may_have(env.alloc, text, new.attr)? {
-            return Ok(None);
-        }
-        return Ok(Some(Answer::Grows(new)));
+        return Ok(Some(Unchanged { line: None }));
     }
     let line = printed_by_name(env, command, name)?;
     match line {
         None => Ok(None),
-        Some(line) => Ok(Some(Answer::Stays(Some(line)))),
+        Some(line) => Ok(Some(Unchanged { line: Some(line) })),
     }
 }
 
@@ -73,21 +58,6 @@ fn looked_at(command: &Command) -> Option<&str>
     match &command.action {
         Action::Remove(Attributes::Named(attr), _)
         | Action::Replace(Attributes::Named(attr), _, _) => Some(attr.as_str()),
-        _ => None,
-    }
-}
-
-/// The argument that the command adds to a rule that has none of its name.
-fn set_by(command: &Command) -> Option<NewArgument<'_>>
-    ensures { IfSome result (λ new. set_by command.now ≡ Some (new_of new)) }
-{
-    match &command.action {
-        Action::Set(Setting::ToValues(attr, values)) | Action::SetIfAbsent(attr, values) => {
-            Some(NewArgument {
-                attr: attr.as_str(),
-                values: values.as_slice(),
-            })
-        }
         _ => None,
     }
 }

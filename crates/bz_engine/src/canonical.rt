@@ -8,27 +8,29 @@ ghost use Rattle.bz_layout.specs.Layout.{layout_text};
 ghost use Rattle.bz_canonical.specs.Canonical.{HasName, IsCanonical, between};
 ghost use Rattle.bz_passes.specs.Exchange.{Fits, IsPassedBy};
 ghost use Rattle.bz_devices.specs.Ahead.{IsFewAfter};
+ghost use Rattle.bz_rule.specs.OneAttribute.{one_attribute};
 ghost use Rattle.bz_engine.specs.Meaning.{meaning, changes, fails_on};
 ghost use Rattle.bz_engine.specs.Outcome.{is_query};
 ghost use Rattle.bz_engine.specs.Progress.{text_following};
 ghost use Rattle.bz_engine.specs.private.Edits.{IsLaidOut, run_of};
-ghost use Rattle.bz_engine.specs.private.Found.{IsFound, one_pass};
+ghost use Rattle.bz_engine.specs.private.Found.{IsFound, IsMarked, one_pass};
 ghost use Rattle.bz_engine.specs.private.NextChunks.{IsFirstEdited};
 ghost use Rattle.bz_engine.specs.private.Rows.{HasKey};
 
-use crate::answer::{Answer, answer_by_text, is_answerable, marks_name};
+use crate::answer::{is_answerable, marks_name, unchanged_by_text};
 use crate::edit::{Edited, ScriptRun, put_gap};
+use crate::argument::{EditedArgument, edit_lines};
 use crate::next_chunk::NextChunk;
 use crate::progress::Progress;
 use crate::rule_passes::OnePass;
 use crate::rules::Rules;
 use bz_attribute::Env;
-use bz_attribute_commands::argument::put_argument;
-use bz_canonical::{CanonicalChunk, Room, canonical};
+use bz_canonical::{CanonicalChunk, Place, canonical};
 use bz_devices::ahead::Ahead;
 use bz_memory::{NoMemory, extend_from_slice};
 use bz_passes::index::Key;
 use bz_passes::script::passes_by;
+use bz_rule::{Command, one_attribute};
 use bz_tree::Class;
 
 /// The script on the first chunk of the text ahead, where the chunk stands as it would be written and what the script
@@ -61,9 +63,9 @@ pub(crate) fn edit_canonical(
         return Ok(None);
     }
     progress.looked_well();
-    progress.pass_lines(found.chunk.as_bytes());
+    progress.pass_lines(found.chunk.chunk.as_bytes());
     Ok(Some(NextChunk {
-        len: found.chunk.len(),
+        len: found.chunk.chunk.len(),
         edited: Edited::Done,
     }))
 }
@@ -79,41 +81,56 @@ fn may_be_known(script: ScriptRun<'_>) -> bool {
     }
 }
 
+/// A canonical chunk, and the attribute whose argument was looked for in it.
+#[derive(Clone, Copy)]
+pub(crate) struct Found<'a> {
+    pub(crate) chunk: CanonicalChunk<'a>,
+    pub(crate) attr: &'a str,
+}
+
 /// The canonical chunk that the text begins with, where it is not too long.
-fn find_canonical<'a>(
-    script: ScriptRun<'_>,
-    text: &'a str,
-    max_statement: u64,
-) -> Option<CanonicalChunk<'a>>
-    ensures canonical { IfSome result (λ found. IsCanonical script.entry.max_depth found.class
-        (option_map (λ name. name.now) found.name) (option_map between found.room)
-        found.chunk.now found.written.now text.now) }
-    ensures size { IfSome result (λ found. length found.chunk.now ≤ max_statement) }
+fn find_canonical<'a>(script: ScriptRun<'a>, text: &'a str, max_statement: u64) -> Option<Found<'a>>
+    ensures canonical { IfSome result (λ found. IsCanonical script.entry.max_depth found.attr.now found.chunk.class
+        (option_map (λ name. name.now) found.chunk.name) (option_map between found.chunk.place)
+        found.chunk.chunk.now found.chunk.written.now text.now) }
+    ensures size { IfSome result (λ found. length found.chunk.chunk.now ≤ max_statement) }
 {
-    let found = canonical(text, script.max_depth)?;
-    if found.chunk.len() as u64 > max_statement {
+    let attr = asked(script);
+    let chunk = canonical(text, attr, script.max_depth)?;
+    if chunk.chunk.len() as u64 > max_statement {
         return None;
     }
-    Some(found)
+    Some(Found { chunk, attr })
+}
+
+/// The attribute that the one command of the script looks at alone. Empty: there is none.
+fn asked<'a>(script: ScriptRun<'a>) -> &'a str {
+    match script.passes.only() {
+        None => "",
+        Some(only) => match one_attribute(only.command) {
+            None => "",
+            Some(attr) => attr,
+        },
+    }
 }
 
 /// The script on the statement of such a chunk. False, with nothing done: the statement is to be seen.
 fn edit_found(
     script: ScriptRun<'_>,
-    found: CanonicalChunk<'_>,
+    found: Found<'_>,
     progress: &mut Progress,
     text: &mut Vec<u8>,
 ) -> Result<bool, NoMemory>
     requires fits { Fits progress.old.kept script.passes.now }
     ensures fits { OnOk result (Fits progress.new.kept script.entry.passes.now) }
     ensures line { OnOk result (progress.new.line ≡ progress.old.line) }
-    ensures done { IfOk result (λ done. IsTrue done → (s : Statement) → IsFound found.entry s
+    ensures done { IfOk result (λ done. IsTrue done → (s : Statement) → IsFound script.entry.max_depth found.entry s
         → IsLaidOut (run_of script.entry) s progress.old progress.new text.old.items text.new.items) }
     ensures nothing { IfOk result (λ done. IsFalse done
         → (progress.new ≡ progress.old) × (text.new.items ≡ text.old.items)) }
 {
     if is_passed_by(script, found) {
-        put_canonical(script, found, progress, text)?;
+        put_canonical(script, found.chunk, progress, text)?;
         return Ok(true);
     }
     match script.passes.only() {
@@ -126,7 +143,7 @@ fn edit_found(
 fn edit_by_text(
     script: ScriptRun<'_>,
     only: OnePass<'_>,
-    found: CanonicalChunk<'_>,
+    found: Found<'_>,
     progress: &mut Progress,
     text: &mut Vec<u8>,
 ) -> Result<bool, NoMemory>
@@ -134,12 +151,12 @@ fn edit_by_text(
     requires only { script.passes.now ≡ one_pass only.target.now only.command.now }
     ensures fits { OnOk result (Fits progress.new.kept script.entry.passes.now) }
     ensures line { OnOk result (progress.new.line ≡ progress.old.line) }
-    ensures done { IfOk result (λ done. IsTrue done → (s : Statement) → IsFound found.entry s
+    ensures done { IfOk result (λ done. IsTrue done → (s : Statement) → IsFound script.entry.max_depth found.entry s
         → IsLaidOut (run_of script.entry) s progress.old progress.new text.old.items text.new.items) }
     ensures nothing { IfOk result (λ done. IsFalse done
         → (progress.new ≡ progress.old) × (text.new.items ≡ text.old.items)) }
 {
-    let Some(name) = found.name else {
+    let Some(name) = found.chunk.name else {
         return Ok(false);
     };
     if !marks_name(only.target, name) {
@@ -149,41 +166,78 @@ fn edit_by_text(
         alloc: script.alloc,
         home: script.home,
     };
-    match answer_by_text(env, only.command, name, found.written)? {
-        None => Ok(false),
-        Some(Answer::Stays(line)) => {
-            progress.keep_line(line)?;
-            put_canonical(script, found, progress, text)?;
-            Ok(true)
-        }
-        Some(Answer::Grows(new)) => {
-            let mut lines = Vec::new(script.alloc);
-            if !put_argument(script.alloc, new.attr, new.values, &mut lines)? {
-                return Ok(false);
-            }
-            let Some(room) = found.room else {
-                return Ok(false);
-            };
-            progress.keep_line(None)?;
-            let grown = Grown {
-                class: found.class,
-                room,
-                lines: lines.as_slice(),
-            };
-            put_grown(script, grown, progress, text)?;
+    match unchanged_by_text(env, only.command, name, found.chunk.written)? {
+        None => edit_argument(script, only, found, progress, text),
+        Some(unchanged) => {
+            progress.keep_line(unchanged.line)?;
+            put_canonical(script, found.chunk, progress, text)?;
             Ok(true)
         }
     }
 }
 
+/// The one command of the script on a rule that it marks, where it looks at one argument alone, and the lines of that
+/// are known.
+fn edit_argument(
+    script: ScriptRun<'_>,
+    only: OnePass<'_>,
+    found: Found<'_>,
+    progress: &mut Progress,
+    text: &mut Vec<u8>,
+) -> Result<bool, NoMemory>
+    requires fits { Fits progress.old.kept script.passes.now }
+    requires only { script.passes.now ≡ one_pass only.target.now only.command.now }
+    requires marked { IsMarked script.max_depth only.target.now found }
+    ensures fits { OnOk result (Fits progress.new.kept script.entry.passes.now) }
+    ensures line { OnOk result (progress.new.line ≡ progress.old.line) }
+    ensures done { IfOk result (λ done. IsTrue done → (s : Statement) → IsFound script.entry.max_depth found.entry s
+        → IsLaidOut (run_of script.entry) s progress.old progress.new text.old.items text.new.items) }
+    ensures nothing { IfOk result (λ done. IsFalse done
+        → (progress.new ≡ progress.old) × (text.new.items ≡ text.old.items)) }
+{
+    let Some(place) = place_for(only.command, found) else {
+        return Ok(false);
+    };
+    match edit_lines(script, only.command, place.lines)? {
+        None => Ok(false),
+        Some(EditedArgument::Unchanged) => {
+            progress.keep_line(None)?;
+            put_canonical(script, found.chunk, progress, text)?;
+            Ok(true)
+        }
+        Some(EditedArgument::Lines(lines)) => {
+            progress.keep_line(None)?;
+            let changed = Changed {
+                class: found.chunk.class,
+                place,
+                lines: lines.as_slice(),
+            };
+            put_changed(script, changed, progress, text)?;
+            Ok(true)
+        }
+    }
+}
+
+/// The place of the argument that the command looks at alone.
+fn place_for<'a>(command: &Command, found: Found<'a>) -> Option<Place<'a>>
+    ensures { IfSome result (λ place. (one_attribute command.now ≡ Some found.entry.attr.now)
+        × (found.entry.chunk.place ≡ Some place)) }
+{
+    let attr = one_attribute(command)?;
+    if attr != found.attr {
+        return None;
+    }
+    found.chunk.place
+}
+
 /// No pass of the script may mark the statement.
-fn is_passed_by(script: ScriptRun<'_>, found: CanonicalChunk<'_>) -> bool
-    ensures { IsTrue result → (s : Statement) → IsFound found.entry s
+fn is_passed_by(script: ScriptRun<'_>, found: Found<'_>) -> bool
+    ensures { IsTrue result → (s : Statement) → IsFound script.entry.max_depth found.entry s
         → IsPassedBy (meaning script.entry.home.now) (changes script.entry.home.now) (fails_on script.entry.home.now)
         script.entry.passes.now (Some s) }
 {
-    match found.class {
-        Class::Rule => script.passes.ask_for_names() && is_name_passed_by(script, found.name),
+    match found.chunk.class {
+        Class::Rule => script.passes.ask_for_names() && is_name_passed_by(script, found.chunk.name),
         _ => true,
     }
 }
@@ -233,34 +287,34 @@ fn put_canonical(
     Ok(())
 }
 
-/// A rule with the lines of one argument more.
+/// A rule with other lines in the place of an argument.
 #[derive(Clone, Copy)]
-struct Grown<'t> {
+struct Changed<'t> {
     class: Class,
-    room: Room<'t>,
+    place: Place<'t>,
     lines: &'t [u8],
 }
 
-/// Writes the text of a rule that has one argument more.
-fn put_grown(
+/// Writes the text of a rule that has other lines in the place of an argument.
+fn put_changed(
     script: ScriptRun<'_>,
-    grown: Grown<'_>,
+    changed: Changed<'_>,
     progress: &mut Progress,
     text: &mut Vec<u8>,
 ) -> Result<(), NoMemory>
-    ensures last { OnOk result (progress.new ≡ record progress.old { last = Some grown.entry.class; changed = true }) }
-    ensures text { OnOk result ((s : Statement) → s.class ≡ grown.entry.class
-        → layout_text s ≡ grown.entry.room.before.now ++ (grown.entry.lines.now ++ grown.entry.room.after.now)
+    ensures last { OnOk result (progress.new ≡ record progress.old { last = Some changed.entry.class; changed = true }) }
+    ensures text { OnOk result ((s : Statement) → s.class ≡ changed.entry.class
+        → layout_text s ≡ changed.entry.place.before.now ++ (changed.entry.lines.now ++ changed.entry.place.after.now)
         → text.new.items ≡ text.old.items
         ++ (if is_query script.entry.passes.now then [] else text_following progress.old.last (Some s ∷ []))) }
 {
     if !script.passes.is_query() {
-        put_gap(progress.last, grown.class, text)?;
-        extend_from_slice(text, grown.room.before.as_bytes())?;
-        extend_from_slice(text, grown.lines)?;
-        extend_from_slice(text, grown.room.after.as_bytes())?;
+        put_gap(progress.last, changed.class, text)?;
+        extend_from_slice(text, changed.place.before.as_bytes())?;
+        extend_from_slice(text, changed.lines)?;
+        extend_from_slice(text, changed.place.after.as_bytes())?;
     }
-    progress.last = Some(grown.class);
+    progress.last = Some(changed.class);
     progress.changed = true;
     Ok(())
 }

@@ -7,6 +7,7 @@
 #![tactic(auto)]
 
 mod answer;
+mod argument;
 mod canonical;
 mod chunk;
 mod edit;

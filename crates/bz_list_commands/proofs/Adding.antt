@@ -24,7 +24,8 @@ use Rattle.bz_attribute.proofs.Fresh.{fresh_step}
 use Rattle.bz_attribute.proofs.ListEdits.{appended}
 use Rattle.bz_list_commands.specs.private.AddSteps.{IsAdding, Knows}
 use Rattle.bz_list_commands.proofs.Known.{knows_fresh, knows_more}
-use Rattle.bz_list_commands.proofs.Named.{add_local, is_there, put_local}
+use Rattle.bz_attribute.proofs.Locals.{is_there}
+use Rattle.bz_list_commands.proofs.Named.{put_local}
 use Rattle.bz_token.specs.Common.{is_empty}
 
 -- value by value

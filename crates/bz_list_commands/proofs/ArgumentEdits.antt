@@ -125,7 +125,7 @@ value_early a h nodes to name first =
 gone_value : (f : List Segment → List Segment) (a : Segment) → loses_all f (value a) ≡ true → filtered f a ≡ []
 gone_value f a is = ap (λ (b : Bool). if b then [] else with_value (edit_parts f (value a)) a ∷ []) is
 
-any_gone : (p : Option (List ℕ) → Bool) (ss : List Segment) → (not (is_nil ss) && is_nil (become_all p None ss)) ≡ true → list_any (is_meant p) ss ≡ true
+any_gone : (p : Option (List ℕ) → Bool) (ss : List Segment) → (not (is_empty ss) && is_empty (become_all p None ss)) ≡ true → list_any (is_meant p) ss ≡ true
 any_gone p [] h = absurd (false≢true h)
 any_gone p (s ∷ ss) h = elim (is_meant p s) as (λ b. is_empty ((if b then [] else s ∷ []) ++ become_all p None ss) ≡ true → (b || list_any (is_meant p) ss) ≡ true) [ true ↦ λ e. refl | false ↦ λ e. absurd (false≢true e) ] h
 
@@ -137,7 +137,7 @@ lost_changes p (leaf k text ∷ []) h = absurd (false≢true h)
 lost_changes p (x ∷ y ∷ xs) h = absurd (false≢true h)
 
 -- what becomes another is never lost
-never_nil : (p : Option (List ℕ) → Bool) (literal : List ℕ) (ss : List Segment) → (not (is_nil ss) && is_nil (become_all p (Some literal) ss)) ≡ false
+never_nil : (p : Option (List ℕ) → Bool) (literal : List ℕ) (ss : List Segment) → (not (is_empty ss) && is_empty (become_all p (Some literal) ss)) ≡ false
 never_nil p literal [] = refl
 never_nil p literal (s ∷ ss) = elim (is_meant p s) as (λ b. is_empty ((if b then record s { nodes = leaf String literal ∷ [] } ∷ [] else s ∷ []) ++ become_all p (Some literal) ss) ≡ false) [ true ↦ refl | false ↦ refl ]
 

@@ -11,20 +11,16 @@ use Rattle.bz_tree.specs.declared.row.Part.{Part}
 use Rattle.bz_tree.specs.Rows.{RowPart, part_view, segs_parts}
 use Rattle.bz_tree.specs.Tree.{Segment, segs_of}
 use Rattle.bz_command.specs.Labels.{Package}
-use Rattle.bz_command.specs.declared.arguments.Moved.{Moved}
-use Rattle.bz_command.specs.declared.arguments.Moved.TheVariants.{Values, All}
-use Rattle.bz_attribute.specs.Rules.{elements, is_named, is_text, name_of, first_named, string_value, value}
-use Rattle.bz_attribute.specs.Lists.{with_value, parts, parts_from, is_part, is_plus, is_joint, edit_list, edit_one_from, edit_first_part, edit_parts, equals, same}
-use Rattle.bz_attribute.specs.Effects.{has, edit_first, filtered, unchosen, is_chosen, loses_all, argument, list_item, chooses}
-use Rattle.bz_attribute.specs.private.ChosenViews.{words_of}
-use Rattle.bz_attribute.specs.private.Places.{IsFirst, first_length, first_list}
-use Rattle.bz_attribute.specs.Move.{arrivals, elements_of, joined, moved}
+use Rattle.bz_command.specs.declared.arguments.Moved.TheVariants.{All, Values}
+use Rattle.bz_attribute.specs.Lists.{equals, same}
+use Rattle.bz_attribute.specs.Move.{arrivals, joined}
+use Rattle.bz_attribute.specs.Rules.{string_value}
 use Rattle.bz_attribute.proofs.LabelSets.{or_false}
-use Rattle.bz_list_commands.specs.private.MoveSteps.{value_of, with_list, with_more, AreArriving, HaveArrivals, arrivals_by, has_value, parts_at}
-use Rattle.bz_list_commands.proofs.Leaving.{swapped_front, swapped_rest}
+use Rattle.bz_list_commands.specs.private.MoveSteps.{AreArriving, HaveArrivals, arrivals_by, has_value, parts_at}
 use Rattle.bz_token.specs.Common.{map_or}
 use Rattle.bz_command.specs.LabelSetViews.{has}
 use Rattle.bz_command.specs.Same.{completed}
+use Rattle.bz_command.specs.Values.{value_of}
 use Rattle.bz_command.specs.declared.label_set.LabelSet.{LabelSet}
 use Rattle.bz_attribute.specs.Elements.{AreLists, IsNextElement, ListRest, elements_left, rest_parts}
 use Rattle.bz_attribute.specs.private.ElementSets.{is_in}
@@ -114,16 +110,16 @@ none_arrived home p at ps set all = λ l after lists read are. record {
   arrived = told home p (has set) (joined lists) (elements_left l) (λ text. all lists are text ∙ in_joined home lists text);
 }
 
-abbrev HasNext : List RowPart → ℕ → ℕ → ℕ → Option (List ℕ) → Type 0
-HasNext ps at from to string = (l : ListRest) (after : List RowPart) → drop at ps ≡ rest_parts l after → IsNextElement l after ps from to string
+abbrev HasNext : List RowPart → ℕ → ℕ → ℕ → ℕ → Option (List ℕ) → Type 0
+HasNext ps at from token to string = (l : ListRest) (after : List RowPart) → drop at ps ≡ rest_parts l after → IsNextElement l after ps at from token to string
 
 abbrev pub one_place : Bool → Place → List Place
 one_place b place = if b then place ∷ [] else []
 
-pub one_arrived : (home : Package) (p : Option (List ℕ) → Bool) (at : Lists) (ps : List RowPart) (k from to : ℕ) (string : Option (List ℕ)) (old new : LabelSet) (places more : List Place) (b : Bool) → AreArriving home p at ps k old places → HasNext ps k from to string
+pub one_arrived : (home : Package) (p : Option (List ℕ) → Bool) (at : Lists) (ps : List RowPart) (k from token to : ℕ) (string : Option (List ℕ)) (old new : LabelSet) (places more : List Place) (b : Bool) → AreArriving home p at ps k old places → HasNext ps k from token to string
     → b ≡ (p string && not (has_value (has old) (option_and_then value_of string))) → old.home.now ≡ home → ((text : List ℕ) → has new text ≡ ((p string && map_or false (λ value. same old.home.now value text) (option_and_then value_of string)) || has old text))
     → more ≡ places ++ one_place b (record { from = from; to = to }) → AreArriving home p at ps to new more
-one_arrived home p at ps k from to string old new places more b so_far next arrives of gains written = λ l rest lists read are.
+one_arrived home p at ps k from token to string old new places more b so_far next arrives of gains written = λ l rest lists read are.
     let h = so_far l rest lists read are in
     let n = next h.left rest h.read in
     let s : Segment = n.element in

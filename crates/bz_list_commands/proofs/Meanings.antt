@@ -63,10 +63,10 @@ left_by_words : (home : Package) (words : List (List ℕ)) → become_all (passe
 left_by_words home words = left_unchosen home (Values words) (passes (equals_one home words)) (meant_chosen home words)
 
 removed : (home : Package) (attributes : Attributes) (v : List ℕ) (values : List (List ℕ)) → edited_in (passes (equals_one home (v ∷ values))) None attributes ≡ remove home attributes (v ∷ values)
-removed home Every v values = λ i args. filtered_everywhere (left_by_words home (v ∷ values) i) args
+removed home Every v values = λ i args. flat_map (λ a. if is_attribute a then filtered (left_by_words home (v ∷ values) i) a else a ∷ []) args
 removed home (Named attr) v values = λ i args. edit_first (is_named attr) (filtered (left_by_words home (v ∷ values) i)) args
 
-pub told_first : (home : Package) (chosen : Moved) (p : Option (List ℕ) → Bool) (o : Option Segment) → is_meant p ≡ is_chosen home chosen → changes_first p o ≡ chooses_in home chosen o
+pub told_first : (home : Package) (chosen : Moved) (p : Option (List ℕ) → Bool) (o : Option Segment) → is_meant p ≡ is_chosen home chosen → changes_first p o ≡ map_or false (chooses home chosen) o
 told_first home chosen p None same = refl
 told_first home chosen p (Some a) same = ap (λ (q : Segment → Bool). list_any (list_any q) (parts (value a))) same
 
@@ -125,7 +125,7 @@ replaced_by : (home : Package) (attributes : Attributes) (old new : List ℕ) �
 replaced_by home Every old new = λ i args. ((λ j. flat_map (λ a. each_replaced home old new a j) args) ∙ flat_map_single (λ a. if is_attribute a then replaced_in home old new a else a) args) i
 replaced_by home (Named attr) old new = λ i args. edit_first (is_named attr) (λ a. argument_replaced home old new a i) args
 
-told_first_replaced : (home : Package) (old new : List ℕ) (o : Option Segment) → changes_first (passes (is_unlike home old new)) o ≡ replaces_first home old new o
+told_first_replaced : (home : Package) (old new : List ℕ) (o : Option Segment) → changes_first (passes (is_unlike home old new)) o ≡ map_or false (replaces_in home old new) o
 told_first_replaced home old new None = refl
 told_first_replaced home old new (Some a) = ap (λ (p : Segment → Bool). list_any (list_any p) (parts (value a))) (meant_replaced home old new)
 

@@ -27,7 +27,7 @@ use Rattle.bz_list_commands.specs.private.MoveSteps.{HaveArrivals, parts_at}
 use Rattle.bz_list_commands.specs.private.PlaceEdits.{changes_first}
 use Rattle.bz_list_commands.specs.private.StringEdits.{become_all, is_meant}
 use Rattle.bz_list_commands.proofs.Meanings.{left_unchosen, told_first}
-use Rattle.bz_list_commands.proofs.Named.{is_there}
+use Rattle.bz_attribute.proofs.Locals.{is_there}
 use Rattle.bz_token.specs.Common.{is_empty}
 use Rattle.std.specs.Option.{option_or}
 

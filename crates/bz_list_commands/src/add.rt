@@ -14,10 +14,9 @@ ghost use Rattle.bz_command.specs.Values.{value_of};
 ghost use Rattle.bz_token.specs.Common.{map_or};
 
 use crate::new_attribute::{close_attribute, open_attribute};
-use bz_attribute::equals::text_equals;
 use bz_attribute::{
-    Done, Edit, Env, Parts, Place, WordSet, elements_end, first_list, labels_of, next_of_value,
-    place_of, value_place,
+    Done, Edit, Env, Parts, Place, WordSet, elements_end, first_equal, first_list, labels_of,
+    new_place, value_place,
 };
 use bz_command::{Bytes, Package, Text, quote};
 use bz_memory::{NoMemory, alloc_str, push};
@@ -42,7 +41,7 @@ pub fn add<'a>(
     written.clear();
     let Some(value) = value_place(parts, attr) else {
         write_attribute(env, attr, values, written)?;
-        return Ok(Edit::at(place_of(parts, attr)));
+        return Ok(Edit::at(new_place(parts)));
     };
     let Some(list) = first_list(parts, value) else {
         return Ok(Edit::none(Done::not_a_list(env.alloc, attr)?));
@@ -141,32 +140,7 @@ fn is_there(home: &Package, word: &str, parts: &[Part<'_>], list: Option<usize>)
 {
     match list {
         None => false,
-        Some(from) => is_from(home, word, parts, from),
-    }
-}
-
-// An element from a place in a list part of a value on equals the word.
-fn is_from(home: &Package, word: &str, parts: &[Part<'_>], from: usize) -> bool
-    requires { from ≤ length parts.now }
-    ensures { (rest : ListRest) (after : List RowPart) → drop from (map part_view parts.now) ≡ rest_parts rest after
-        → result ≡ list_any (equals home.now word.now) (elements_left rest) }
-{
-    let mut at = from;
-    while let Some(element) = next_of_value(parts, at) {
-        if is_word(home, word, element.string) {
-            return true;
-        }
-        at = element.to;
-    }
-    false
-}
-
-fn is_word(home: &Package, word: &str, string: Option<&str>) -> bool
-    ensures { result ≡ map_or false (λ value. same home.now value word.now) (option_and_then value_of (option_map (λ text. text.now) string.entry)) }
-{
-    match string {
-        None => false,
-        Some(text) => text_equals(home, text, word),
+        Some(from) => first_equal(home, word, parts, from).is_some(),
     }
 }
 

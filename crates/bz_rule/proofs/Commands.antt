@@ -9,7 +9,7 @@ use Rattle.bz_attribute.specs.declared.done.Done.{Done}
 use Rattle.bz_attribute.specs.declared.done.Note.{Note}
 use Rattle.bz_attribute.specs.Effects.{fails, holds_rule, with_args}
 use Rattle.bz_rule.specs.Aside.{IsAside}
-use Rattle.bz_rule.specs.private.RowEdits.{one_attribute}
+use Rattle.bz_rule.specs.OneAttribute.{one_attribute}
 use Rattle.bz_rule.proofs.Lawful.{Lawful, Local, SlotFormed}
 use Rattle.bz_rule.proofs.Add.{add_lawful, add_keeps, add_read}
 use Rattle.bz_rule.proofs.Comment.{comment_lawful, comment_read}

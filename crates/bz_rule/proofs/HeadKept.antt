@@ -17,14 +17,13 @@ use Rattle.bz_attribute.specs.Heads.{HasHead, IsHeadOf}
 use Rattle.bz_attribute.specs.Replace.{replace, replaced, replaced_in}
 use Rattle.bz_attribute.specs.RowPlaces.{IsLocal}
 use Rattle.bz_attribute.specs.Set.{is_value, new_of, new_value, set, set_if_absent, set_in}
-use Rattle.bz_attribute.specs.declared.head.Head.{Head}
 use Rattle.bz_attribute.proofs.EditedAt.{none_first}
 use Rattle.bz_rule.specs.Commands.{Command, args_after}
 use Rattle.bz_rule.specs.declared.command.Action.TheVariants.{Add, Comment, Delete, Move, Print, Remove, Rename, Replace, Set, SetIfAbsent}
-use Rattle.bz_rule.specs.private.RowEdits.{KeepsHead, edits_arguments, one_attribute, rule_after}
+use Rattle.bz_rule.specs.OneAttribute.{one_attribute}
+use Rattle.bz_rule.specs.private.RowEdits.{KeepsHead, edits_arguments, rule_after}
 use Rattle.bz_rule.proofs.Arguments.{attribute_named, has_first, is_first_named, name_put}
 use Rattle.bz_rule.proofs.Commands.{local}
-use Rattle.bz_rule.proofs.Lawful.{Local}
 use Rattle.bz_rule.proofs.Rebuilt.{rule_with}
 use Rattle.bz_rule.proofs.Rebuilt as rebuilt
 use Rattle.bz_rule.proofs.RowEdited.{args_rule}

@@ -12,7 +12,7 @@ use Rattle.bz_attribute.specs.declared.done.Note.{Note}
 use Rattle.bz_attribute.specs.Effects.{done, holds_rule, nodes_after, nodes_of, slot_done, with_args}
 use Rattle.bz_rule.specs.Aside.{IsAside}
 use Rattle.bz_attribute.specs.RowPlaces.{IsLocal, LooksAt}
-use Rattle.bz_rule.specs.private.RowEdits.{one_attribute}
+use Rattle.bz_rule.specs.OneAttribute.{one_attribute}
 use Rattle.bz_attribute.proofs.Views.{segments_of}
 use Rattle.bz_attribute.proofs.RuleNodes.{rule_nodes}
 use Rattle.bz_rule.proofs.Rebuilt.{slot_exchanged, told_alike}

@@ -23,7 +23,6 @@ mod ListParts
 mod Local
 mod Move
 mod NamesKept
-mod NewArgument
 mod NewTexts
 mod OwnComments
 mod PartLaws

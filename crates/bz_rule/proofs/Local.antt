@@ -1,63 +1,26 @@
 -- Edits that look at the first argument of a name alone.
 use Rattle.std.proofs.Common.{◌≡◌, ℕ, List, [], ◌∷◌, ◌++◌, Bool, true, false, if◌then◌else◌, Option, Some, None, is_some, refl, ap, sym, ◌∙◌, append-nil}
-use Rattle.std.specs.Prelude.{option_to_list}
 use Rattle.bz_tree.specs.Tree.{Segment}
 use Rattle.bz_command.specs.Labels.{Package}
-use Rattle.bz_attribute.specs.Rules.{Rule, first_named, is_named}
+use Rattle.bz_attribute.specs.Rules.{first_named, is_named}
 use Rattle.bz_attribute.specs.Effects.{argument, edit_first, has, list_item, not_a_list}
 use Rattle.bz_attribute.specs.Add.{add, new_elements, with_added}
 use Rattle.bz_attribute.specs.Comment.{comment_attribute, comment_element, comment_line, comment_note, comment_value, is_missing, with_comment}
-use Rattle.bz_attribute.specs.RowPlaces.{alone, IsLocal, LooksAt}
+use Rattle.bz_attribute.specs.RowPlaces.{IsLocal, LooksAt}
 use Rattle.bz_attribute.specs.Set.{new_of, new_value, set, set_if_absent, set_in}
 use Rattle.bz_attribute.specs.declared.done.Note.{Note}
 use Rattle.bz_attribute.specs.declared.done.Note.TheVariants.{NoAttribute}
 use Rattle.bz_attribute.proofs.EditedAt.{none_first}
 use Rattle.bz_attribute.proofs.First.{edit_first_none}
-use Rattle.bz_rule.proofs.Arguments.{has_first, is_first_named, rest_same}
+use Rattle.bz_attribute.proofs.Locals.{edit_same, edits_one, first_alone, is_there, kept_first}
+use Rattle.bz_rule.proofs.Arguments.{has_first}
 use Rattle.std.specs.Option.{option_or}
-
--- the first of a name is the first of itself
-first_alone : (name : List ℕ) (args : List Segment) (a : Segment) → first_named name args ≡ Some a → first_named name (a ∷ []) ≡ Some a
-first_alone name args a h = ap (λ (b : Bool). if b then Some a else None) (is_first_named name args a h)
-
-is_there : (name : List ℕ) (args : List Segment) (a : Segment) → first_named name args ≡ Some a → has name args ≡ true
-is_there name args a h = has_first name args ∙ ap is_some h
-
--- of the first of a name, edits that do the same to it are the same
-edit_same : (name : List ℕ) (f : Segment → List Segment) (ss : List Segment) (args : List Segment) (a : Segment) → first_named name args ≡ Some a → f a ≡ ss → edit_first (is_named name) f args ≡ edit_first (is_named name) (λ x. ss) args
-edit_same name f ss [] a h same = refl
-edit_same name f ss (x ∷ args) a h same =
-    elim (is_named name x) as (λ b. (if b then Some x else first_named name args) ≡ Some a → (if b then f x ++ args else x ∷ edit_first (is_named name) f args) ≡ (if b then ss ++ args else x ∷ edit_first (is_named name) (λ z. ss) args)) [
-      | true ↦ λ e. let is : x ≡ a = cc in ap (λ (zs : List Segment). zs ++ args) (ap f is ∙ same)
-      | false ↦ λ e. ap (λ (zs : List Segment). x ∷ zs) (edit_same name f ss args a e same)
-    ] h
-
--- what it makes of the first, and what it adds where there is none
-pub edits_one : (name : List ℕ) (f : List Segment → List Segment) (new : List Segment) (edit : Segment → List Segment) → ((args : List Segment) → has name args ≡ false → f args ≡ args ++ new)
-    → ((args : List Segment) (a : Segment) → first_named name args ≡ Some a → f args ≡ edit_first (is_named name) (λ x. edit a) args) → IsLocal name f
-edits_one name f new edit none one = record {
-  absent = λ args h. none args h ∙ ap (λ (zs : List Segment). args ++ zs) (sym (none [] refl));
-  there = λ args a h.
-      let alone_is : f (a ∷ []) ≡ edit a = one (a ∷ []) a (first_alone name args a h) ∙ ap (λ (b : Bool). if b then edit a ++ [] else a ∷ []) (is_first_named name args a h) ∙ append-nil (edit a) in
-      one args a h ∙ ap (λ (zs : List Segment). edit_first (is_named name) (λ x. zs) args) (sym alone_is);
-}
 
 pub looks_at_one : {A : Type 0} (name : List ℕ) (f : List Segment → A) (g : Option Segment → A) → ((args : List Segment) → f args ≡ g (first_named name args)) → LooksAt name f
 looks_at_one name f g by = record {
   absent = λ args h. by args ∙ ap g (none_first name args h) ∙ sym (by []);
   there = λ args a h. by args ∙ ap g h ∙ sym (by (a ∷ []) ∙ ap g (first_alone name args a h));
 }
-
--- what it tells of the first, it tells of all
-pub told_alone : {A : Type 0} (name : List ℕ) (f : List Segment → A) (r : Rule) → LooksAt name f → f (alone name r) ≡ f r.args
-told_alone name f r looks =
-    elim (first_named name r.args) as (λ o. first_named name r.args ≡ o → f (alone name r) ≡ f r.args) [
-      | None ↦ λ e. ap f (ap (λ (o : Option Segment). option_to_list o) e) ∙ sym (looks.absent r.args (has_first name r.args ∙ ap is_some e))
-      | Some a ↦ λ e. ap f (ap (λ (o : Option Segment). option_to_list o) e) ∙ sym (looks.there r.args a e)
-    ] refl
-
-kept_first : (name : List ℕ) (args : List Segment) (a : Segment) → first_named name args ≡ Some a → args ≡ edit_first (is_named name) (λ x. a ∷ []) args
-kept_first name args a h = sym (rest_same name (λ x. a ∷ []) args (λ b e. let same : a ≡ b = cc in ap (λ (z : Segment). z ∷ []) same))
 
 -- each command on one attribute
 pub add_local : (home : Package) (attr : List ℕ) (values : List (List ℕ)) → IsLocal attr (add home attr values)

@@ -15,7 +15,7 @@ use Rattle.bz_attribute.specs.Replace.{is_replaced, replaced, replaced_in, repla
 use Rattle.bz_command.proofs.ReadBack.{quoted_value}
 use Rattle.bz_rule.specs.Aside.{IsAside}
 use Rattle.bz_rule.proofs.Arguments.{attribute_named, first_after, is_first_named, name_put, rest_same, same_bytes, value_back, value_put}
-use Rattle.bz_rule.specs.private.RowEdits.{one_attribute}
+use Rattle.bz_rule.specs.OneAttribute.{one_attribute}
 use Rattle.bz_rule.proofs.Local.{edit_local, looks_at_one}
 use Rattle.bz_rule.proofs.Lawful.{Local, Lawful, on_arguments}
 use Rattle.bz_rule.proofs.PartLaws.{parts_edited, parts_stay}

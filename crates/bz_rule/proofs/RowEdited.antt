@@ -13,29 +13,19 @@ use Rattle.bz_attribute.specs.Comment.{comment_line}
 use Rattle.bz_attribute.specs.Rules.{Rule, rule_of, kind_text}
 use Rattle.bz_attribute.specs.Effects.{done, holds_rule, nodes_of, slot_done, with_args}
 use Rattle.bz_attribute.specs.declared.done.Done.{Done}
-use Rattle.bz_attribute.specs.RowPlaces.{alone, IsPlaceOf, IsPlaceOfAll}
 use Rattle.bz_attribute.specs.Set.{kind_after, kind_items, sets_kind_of, with_kind}
 use Rattle.bz_rule.specs.Commands.{Command, after, args_after, args_done, done_of}
 use Rattle.bz_rule.specs.declared.command.Action.TheVariants.{Add, Comment, Delete, Move, Print, Remove, Rename, Replace, Set, SetIfAbsent}
 use Rattle.bz_attribute.specs.RowEdits.{IsRowEdit}
 use Rattle.bz_attribute.specs.declared.edit.Edit.{Edit}
-use Rattle.bz_rule.specs.private.RowEdits.{HasMore, IsEditOf, IsNextOf, IsPlaceFor, edits_arguments, is_edit, rule_after}
+use Rattle.bz_rule.specs.private.RowEdits.{HasMore, IsEditOf, IsNextOf, edits_arguments, is_edit, rule_after}
 use Rattle.bz_command.specs.declared.arguments.Field.{Field}
 use Rattle.bz_attribute_commands.specs.Print.{prints, fields_of, printed}
 use Rattle.bz_rule.proofs.Commands.{lawful}
-use Rattle.bz_rule.proofs.Lawful.{Lawful, Local}
-use Rattle.bz_rule.proofs.Local.{told_alone}
+use Rattle.bz_rule.proofs.Lawful.{Lawful}
 use Rattle.bz_rule.proofs.Rebuilt.{kind_dotted}
 use Rattle.bz_rule.proofs.RuleClass.{call_class, class_after, rule_class}
 use Rattle.bz_token.specs.Common.{map_or}
-
--- where the first argument of a name stands, or all
-pub place_alone : (c : Command) (home : Package) (name : List ℕ) (s : Statement) (r : Rule) (ps : List RowPart) (from to : ℕ) → Local c home name → IsPlaceOf name s r ps from to → IsPlaceFor c home s r ps from to
-place_alone c home name s r ps from to law place =
-    record { args = alone name r; read = place.read; put = place.put (args_after c home) law.args; told = told_alone name (args_done c home) r law.told }
-
-pub place_all : (c : Command) (home : Package) (s : Statement) (r : Rule) (ps : List RowPart) (from to : ℕ) → IsPlaceOfAll s r ps from to → IsPlaceFor c home s r ps from to
-place_all c home s r ps from to place = record { args = r.args; read = place.read; put = place.put (args_after c home); told = refl }
 
 -- what an edit leaves of a rule
 pub after_edit : (c : Command) (home : Package) (s : Statement) → is_edit c ≡ true → after c home (Some s) ≡ Some (rule_after c home s)

@@ -1,5 +1,6 @@
 pub mod Aside
 pub mod Commands
+pub mod OneAttribute
 pub mod OwnComments
 pub mod RowViews
 pub mod WellFormedSegments

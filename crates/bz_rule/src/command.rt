@@ -1,18 +1,10 @@
-//! The commands on one rule: what each is, and which code carries it out.
+//! The commands on one rule: what each is.
 
-ghost use Rattle.std.specs.Prelude.{◌≡◌, IfOk, OnOk, OnErr, true};
-ghost use Rattle.bz_tree.specs.View.{segs_view};
+ghost use Rattle.std.specs.Prelude.{◌≡◌};
 ghost use Rattle.bz_rule.specs.Commands as spec;
-ghost use Rattle.bz_rule.specs.private.RowEdits.{takes_tree};
 
-use bz_attribute::{Done, Env, Executed};
-use bz_attribute_commands::comment::comment;
-use bz_attribute_commands::set::set;
-use bz_command::{Attributes, Commented, Field, Moved, Package, Seq, Setting, Text};
-use bz_list_commands::moving::move_elements;
+use bz_command::{Attributes, Commented, Field, Moved, Seq, Setting, Text};
 use bz_memory::NoMemory;
-use bz_tree::Seg;
-use std::alloc::Global;
 use std::marker::Model;
 
 /// The ten commands.
@@ -106,31 +98,6 @@ impl Command {
         ensures { result ≡ spec.is_print self.now }
     {
         matches!(self.action, Action::Print(_))
-    }
-}
-
-/// What a command makes of arguments, and tells.
-pub(crate) fn in_args(
-    alloc: Global,
-    command: &Command,
-    home: &Package,
-    args: &mut Vec<Seg<'_>>,
-) -> Executed
-    requires { takes_tree command.now ≡ true }
-    ensures args { OnOk result
-        (segs_view args.new.items ≡ spec.args_after command.now home.now (segs_view args.old.items)) }
-    ensures done { IfOk result (λ done. done ≡ spec.args_done command.now home.now (segs_view args.old.items)) }
-    ensures err { OnErr result (segs_view args.new.items ≡ segs_view args.old.items) }
-{
-    match &command.action {
-        Action::Set(Setting::ToValues(attr, values)) => {
-            set(alloc, attr.as_str(), values.as_slice(), args)
-        }
-        Action::Comment(commented, text) => {
-            let env = Env { alloc, home };
-            comment(env, commented, text.as_str(), args)
-        }
-        _ => Ok(Done::quiet(false)),
     }
 }
 

@@ -1,36 +1,30 @@
-//! Commands on the arguments of a rule, by its parts: those that a command looks at are read, edited and written in their
-//! place.
+//! Commands on a rule, by its parts: each tells which of them give way to which new ones.
 
-ghost use Rattle.std.specs.Prelude.{◌≡◌, ◌≤◌, IfOk, IfSome, None, Some, length, map, not, true};
+ghost use Rattle.std.specs.Prelude.{◌≡◌, ◌≤◌, IfOk, IfSome, Some, length, map, true};
 ghost use Rattle.bz_tree.specs.Tree.{Statement};
 ghost use Rattle.bz_tree.specs.Rows.{part_view};
-ghost use Rattle.bz_attribute.specs.Comment.{comment_args, comment_done};
-ghost use Rattle.bz_attribute.specs.Effects.{done, has};
 ghost use Rattle.bz_attribute.specs.RowEdits.{IsRowEdit, IsWithin};
 ghost use Rattle.bz_attribute.specs.RowPlaces.{IsRuleRow};
-ghost use Rattle.bz_attribute.specs.Rules.{Rule, first_named, rule_of};
-ghost use Rattle.bz_attribute.specs.Set.{set, set_if_absent, sets};
+ghost use Rattle.bz_attribute.specs.Rules.{Rule, rule_of};
 ghost use Rattle.bz_command.specs.Labels as labels;
 ghost use Rattle.bz_rule.specs.Commands as commands;
+ghost use Rattle.bz_rule.specs.OneAttribute.{one_attribute};
 ghost use Rattle.bz_rule.specs.declared.command.Action.TheVariants.{Set};
-ghost use Rattle.bz_rule.specs.private.RowEdits.{HasKindAndParts, HasMore, IsEditFor, IsEditOf, IsPlaceFor, KeepsHead, edits_arguments, is_edit, one_attribute, rule_after, takes_tree};
+ghost use Rattle.bz_rule.specs.private.RowEdits.{HasKindAndParts, HasMore, IsEditFor, IsEditOf, KeepsHead, edits_arguments, is_edit, rule_after};
 
-use crate::command::{Action, Command, in_args};
-use bz_attribute::{
-    Done, Edit, Env, Parts, Place, all_arguments, place_of, read_arguments, write_arguments,
-};
-use bz_attribute_commands::line::{comment_attribute, comment_rule};
-use bz_attribute_commands::new_argument::write_argument;
+use crate::command::{Action, Command};
+use bz_attribute::{Done, Edit, Env, Parts, Place};
+use bz_attribute_commands::line::{comment, comment_rule};
 use bz_attribute_commands::rename::rename;
+use bz_attribute_commands::set::{set, set_if_absent};
 use bz_attribute_commands::set_kind::set_kind;
-use bz_command::{Attributes, Commented, Setting, Text};
+use bz_command::{Attributes, Commented, Setting};
 use bz_list_commands::add::add;
 use bz_list_commands::moving::{Move, move_elements};
 use bz_list_commands::remove::remove;
 use bz_list_commands::replace::{Change, replace};
 use bz_memory::NoMemory;
 use bz_tree::Part;
-use std::alloc::Global;
 
 /// The parts of a rule, beside the text of its kind.
 #[derive(Clone, Copy)]
@@ -42,7 +36,7 @@ pub(crate) struct RuleParts<'p, 'a> {
 }
 
 /// The attribute of a command that looks at its first argument alone.
-fn one_attribute(command: &Command) -> Option<&str>
+pub fn one_attribute(command: &Command) -> Option<&str>
     ensures { IfSome result (λ attr. one_attribute command.now ≡ Some attr.now) }
 {
     match &command.action {
@@ -60,153 +54,23 @@ fn one_attribute(command: &Command) -> Option<&str>
     }
 }
 
-// Where the arguments stand that a command looks at: the first of one attribute, or all.
-fn place_for(command: &Command, parts: &[Part<'_>]) -> Place
-    ensures within { (result.from ≤ result.to) × (result.to ≤ length parts.now) }
-    ensures place { (home : labels.Package) (s : Statement) (r : Rule) → IsRuleRow s r (map part_view parts.now)
-        → IsPlaceFor command.now home s r (map part_view parts.now) result.from result.to }
-{
-    match one_attribute(command) {
-        Some(attr) => place_of(parts, attr),
-        None => all_arguments(parts),
-    }
-}
-
-// What a command makes of the arguments of a rule, by a tree of those that it looks at.
-fn edit_by_tree<'a>(
-    env: Env<'_>,
-    command: &Command,
-    parts: &[Part<'a>],
-    new: &mut Parts<'a>,
-) -> Result<Edit, NoMemory>
-    requires { takes_tree command.now ≡ true }
-    ensures { IfOk result (IsRowEdit (commands.args_after command.now env.entry.home.now)
-        (commands.args_done command.now env.entry.home.now) (map part_view parts.now) (map part_view new.new.items)) }
-{
-    let place = place_for(command, parts);
-    let mut args = read_arguments(env.alloc, &parts[place.from..place.to])?;
-    let done = in_args(env.alloc, command, env.home, &mut args)?;
-    if !done.changed {
-        return Ok(Edit::none(done));
-    }
-    let bump = *new.allocator();
-    write_arguments(bump, &args, new)?;
-    Ok(Edit { done, place })
-}
-
-// Sets an argument that the rule does not have. None: it has one of the name.
-fn set_new<'a>(
-    alloc: Global,
-    attr: &str,
-    words: &[Text],
-    parts: &[Part<'a>],
-    new: &mut Parts<'a>,
-) -> Result<Option<Edit>, NoMemory>
-    ensures { IfOk result (λ told. IfSome told (IsRowEdit (set attr.now words.now)
-        (λ args. done None (sets attr.now words.now (first_named attr.now args)))
-        (map part_view parts.now) (map part_view new.new.items))) }
-{
-    let place = place_of(parts, attr);
-    if place.from < place.to {
-        return Ok(None);
-    }
-    write_argument(alloc, attr, words, new)?;
-    Ok(Some(Edit::at(place)))
-}
-
-// Sets an argument where the rule has none of the name.
-fn set_absent<'a>(
-    alloc: Global,
-    attr: &str,
-    words: &[Text],
-    parts: &[Part<'a>],
-    new: &mut Parts<'a>,
-) -> Result<Edit, NoMemory>
-    ensures { IfOk result (IsRowEdit (set_if_absent attr.now words.now)
-        (λ args. done None (not (has attr.now args))) (map part_view parts.now) (map part_view new.new.items)) }
-{
-    let place = place_of(parts, attr);
-    if place.from < place.to {
-        return Ok(Edit::none(Done::quiet(false)));
-    }
-    write_argument(alloc, attr, words, new)?;
-    Ok(Edit::at(place))
-}
-
-// `set` of an argument that the rule does not have. None: it takes a tree, or sets the kind.
-fn set_in_row<'a>(
+// `set` of an attribute. The kind of a rule is none of its arguments.
+fn set_argument<'a>(
     env: Env<'_>,
     setting: &Setting,
     parts: &[Part<'a>],
     new: &mut Parts<'a>,
-) -> Result<Option<Edit>, NoMemory>
-    ensures { IfOk result (λ told. IfSome told (IsRowEdit (commands.args_after (Set setting.now) env.entry.home.now)
+) -> Result<Edit, NoMemory>
+    ensures { IfOk result (IsRowEdit (commands.args_after (Set setting.now) env.entry.home.now)
         (commands.args_done (Set setting.now) env.entry.home.now)
-        (map part_view parts.now) (map part_view new.new.items))) }
+        (map part_view parts.now) (map part_view new.new.items)) }
 {
     match setting {
-        Setting::ToKind(_) => Ok(None),
+        Setting::ToKind(_) => Ok(Edit::none(Done::quiet(false))),
         Setting::ToValues(attr, words) => {
-            set_new(env.alloc, attr.as_str(), words.as_slice(), parts, new)
+            set(env.alloc, attr.as_str(), words.as_slice(), parts, new)
         }
     }
-}
-
-// `comment` above an argument. None: it takes a tree, or stands above the rule.
-fn comment_in_row<'a>(
-    env: Env<'_>,
-    commented: &Commented,
-    text: &str,
-    parts: &[Part<'a>],
-    new: &mut Parts<'a>,
-) -> Result<Option<Edit>, NoMemory>
-    ensures { IfOk result (λ told. IfSome told (IsRowEdit (comment_args commented.now env.entry.home.now text.now)
-        (comment_done commented.now env.entry.home.now)
-        (map part_view parts.now) (map part_view new.new.items))) }
-{
-    match commented {
-        Commented::Attribute(attr) => {
-            let edit = comment_attribute(env.alloc, attr.as_str(), text, parts, new)?;
-            Ok(Some(edit))
-        }
-        _ => Ok(None),
-    }
-}
-
-// What a command makes of the arguments of a rule, straight on its parts. None: it takes a tree.
-fn edit_in_row<'a>(
-    env: Env<'_>,
-    command: &Command,
-    parts: &[Part<'a>],
-    new: &mut Parts<'a>,
-) -> Result<Option<Edit>, NoMemory>
-    ensures { IfOk result (λ told. IfSome told (IsRowEdit (commands.args_after command.now env.entry.home.now)
-        (commands.args_done command.now env.entry.home.now) (map part_view parts.now) (map part_view new.new.items))) }
-{
-    match &command.action {
-        Action::Set(setting) => set_in_row(env, setting, parts, new),
-        Action::Comment(commented, text) => {
-            comment_in_row(env, commented, text.as_str(), parts, new)
-        }
-        _ => Ok(None),
-    }
-}
-
-// What a command makes of the arguments of a rule, on its parts where it can, else by a tree.
-fn edit_others<'a>(
-    env: Env<'_>,
-    command: &Command,
-    parts: &[Part<'a>],
-    new: &mut Parts<'a>,
-) -> Result<Edit, NoMemory>
-    requires { takes_tree command.now ≡ true }
-    ensures { IfOk result (IsRowEdit (commands.args_after command.now env.entry.home.now)
-        (commands.args_done command.now env.entry.home.now) (map part_view parts.now) (map part_view new.new.items)) }
-{
-    if let Some(edit) = edit_in_row(env, command, parts, new)? {
-        return Ok(edit);
-    }
-    edit_by_tree(env, command, parts, new)
 }
 
 // What a command makes of the arguments of a rule.
@@ -240,10 +104,12 @@ fn edit_arguments<'a>(
             };
             move_elements(env, change, parts, new)
         }
+        Action::Set(setting) => set_argument(env, setting, parts, new),
         Action::SetIfAbsent(attr, words) => {
-            set_absent(env.alloc, attr.as_str(), words.as_slice(), parts, new)
+            set_if_absent(env.alloc, attr.as_str(), words.as_slice(), parts, new)
         }
-        _ => edit_others(env, command, parts, new),
+        Action::Comment(commented, text) => comment(env, commented, text.as_str(), parts, new),
+        _ => Ok(Edit::none(Done::quiet(false))),
     }
 }
 

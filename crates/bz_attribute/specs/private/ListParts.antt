@@ -1,10 +1,11 @@
 -- For private clauses alone: the items of a value, by their parts.
-use Rattle.std.specs.Prelude.{◌≡◌, ℕ, zero, suc, ◌+◌, List, [], ◌∷◌, ◌++◌, Bool, true, false, ◌||◌, if◌then◌else◌, Option, None, length, drop}
-use Rattle.std.specs.List.{list_all}
+use Rattle.std.specs.Prelude.{◌≡◌, ℕ, zero, suc, ◌+◌, List, [], ◌∷◌, ◌++◌, Bool, true, false, ◌||◌, if◌then◌else◌, Option, None, length, drop, take}
+use Rattle.std.specs.List.{list_all, list_any}
 use Rattle.bz_tree.specs.declared.stmt.GroupKind.TheVariants.{List as ListKind}
 use Rattle.bz_tree.specs.Tree.{Item, leaf, Segment, items_of, segs_of}
-use Rattle.bz_tree.specs.Rows.{RowPart, a_token, closing, opening, items_parts, segs_parts}
-use Rattle.bz_attribute.specs.Elements.{ListRest, elements_left, rest_parts, value_parts}
+use Rattle.bz_tree.specs.Rows.{RowPart, a_token, closing, opening, segment_end, items_parts, segs_parts}
+use Rattle.bz_command.specs.Labels.{Package}
+use Rattle.bz_attribute.specs.Elements.{ListRest, elements_left, found_rest, rest_parts, value_parts}
 use Rattle.bz_attribute.specs.Lists as lists
 use Rattle.bz_attribute.specs.private.HeadParts.{is_end, text_of}
 
@@ -38,6 +39,16 @@ opens_list _ = false
 abbrev pub ends_piece : List RowPart → Bool
 ends_piece [] = true
 ends_piece (p ∷ ps) = is_end p || is_plus p
+
+-- the value begins with a list
+abbrev pub begins_list : List RowPart → Bool
+begins_list (opening ListKind ∷ ps) = true
+begins_list _ = false
+
+-- it ends there
+abbrev pub ends_value : List RowPart → Bool
+ends_value (segment_end ∷ ps) = true
+ends_value _ = false
 
 -- the elements of a list end there
 abbrev pub ends_list : List RowPart → Bool
@@ -89,11 +100,23 @@ abbrev pub HasPassedTo : List RowPart → ℕ → ℕ → Type 0
 HasPassedTo ps from at = (l : ListRest) (after : List RowPart) → drop from ps ≡ rest_parts l after → IsPassedTo l after ps from at
 
 -- no element is left of the list part that `at` is in, and of the value what was left before
-pub record IsEmptiedTo (l : ListRest) (after ps : List RowPart) (at : ℕ) : Type 0 where
+pub record IsEmptiedTo (l : ListRest) (after ps : List RowPart) (from at : ℕ) : Type 0 where
   pub left : ListRest
   pub none : left.elements ≡ []
   pub same : elements_left l ≡ elements_left left
   pub read : drop at ps ≡ rest_parts left after
+  pub found : (p : Segment → Bool) (f : Segment → Segment) → take from ps ++ rest_parts (found_rest p f l) after ≡ take at ps ++ rest_parts (found_rest p f left) after
 
 abbrev pub HasEmptied : List RowPart → ℕ → ℕ → Type 0
-HasEmptied ps from at = (l : ListRest) (after : List RowPart) → drop from ps ≡ rest_parts l after → IsEmptiedTo l after ps at
+HasEmptied ps from at = (l : ListRest) (after : List RowPart) → drop from ps ≡ rest_parts l after → IsEmptiedTo l after ps from at
+
+-- of the elements that are left from `from` on, none before `at` equals the word
+pub record IsSought (home : Package) (word : List ℕ) (l : ListRest) (after ps : List RowPart) (from at : ℕ) : Type 0 where
+  pub left : ListRest
+  pub read : drop at ps ≡ rest_parts left after
+  pub same : list_any (lists.equals home word) (elements_left left) ≡ list_any (lists.equals home word) (elements_left l)
+  pub found : (f : Segment → Segment)
+      → take from ps ++ rest_parts (found_rest (lists.equals home word) f l) after ≡ take at ps ++ rest_parts (found_rest (lists.equals home word) f left) after
+
+abbrev pub HasSought : Package → List ℕ → List RowPart → ℕ → ℕ → Type 0
+HasSought home word ps from at = (l : ListRest) (after : List RowPart) → drop from ps ≡ rest_parts l after → IsSought home word l after ps from at

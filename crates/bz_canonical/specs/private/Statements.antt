@@ -1,5 +1,5 @@
 -- The statement at the front of a text that stands as it is laid out, for private clauses.
-use Rattle.std.specs.Prelude.{◌≡◌, ◌≤◌, ◌-◌, codes, ℕ, drop, length, take, List, [], ◌∷◌, ◌++◌, Bool, true, false, if◌then◌else◌, map, Option, None, Some, IfSome}
+use Rattle.std.specs.Prelude.{◌≡◌, ◌≤◌, ◌-◌, codes, ℕ, suc, drop, length, take, List, [], ◌∷◌, ◌++◌, Bool, true, false, if◌then◌else◌, map, Option, None, Some, IfSome}
 use Rattle.bz_token.specs.declared.token.Kind.TheVariants.{String}
 use Rattle.bz_tree.specs.declared.kinds.Preceding.TheVariants.{Other}
 use Rattle.bz_tree.specs.declared.stmt.Class.{Class}
@@ -17,38 +17,44 @@ use Rattle.bz_layout_laws.specs.Parsed.{HaveKinds, plain_calls}
 use Rattle.bz_layout_laws.specs.Spelled.{spelled, spelled_statement}
 use Rattle.bz_layout_laws.specs.TextsOfKinds.{HaveTexts}
 use Rattle.bz_layout_laws.specs.WellFormed.{IsWellFormed}
+use Rattle.bz_attribute.specs.Effects.{nodes_after}
+use Rattle.bz_attribute.specs.RowPlaces.{IsLocal}
 use Rattle.bz_attribute.specs.Rules.{first_named, name_in, rule_of}
-use Rattle.bz_canonical.specs.Canonical.{Between, HasArgumentName, HasName, HasRoom, argument_lines, nodes_with, rule_args, rule_name}
+use Rattle.bz_canonical.specs.Canonical.{AreReadAlone, Between, HasArgumentName, HasName, HasPlace, argument_lines, rule_args, rule_name}
+use Rattle.bz_canonical.specs.private.Arguments.{Ends, alone}
 use Rattle.bz_canonical.specs.private.Fronts.{IsTokenFront}
 use Rattle.bz_canonical.specs.private.Segments.{AreFlatFront, IsGroupFront}
 use Rattle.bz_canonical.specs.private.Values.{AreNodesFront}
+use Rattle.bz_token.specs.Common.{is_empty}
 
--- a group of arguments on lines with one more, after all others
-abbrev pub grown : Segs → List (List ℕ) → Segment → Item
-grown segs end arg = group RuleCall (segs_of (segments segs ++ arg ∷ [])) false end
-
--- Before `inner` one argument more may stand in a group of arguments, and `rest` follows the group.
-pub record HasGroupRoom (segs : Segs) (end : List (List ℕ)) (text inner rest : List ℕ) : Type 0 where
+-- The place of an argument in a group of arguments, which `rest` follows.
+pub record HasGroupPlace (depth : ℕ) (attr : List ℕ) (segs : Segs) (end : List (List ℕ)) (text rest : List ℕ) (place : Ends) : Type 0 where
   pub before : List ℕ
   pub after : List ℕ
-  pub front : text ≡ before ++ inner
-  pub ends : inner ≡ after ++ rest
-  pub takes : (arg : Segment) → bytes_of (item_pieces Broken 0 Closed (grown segs end arg)) ≡ before ++ (argument_lines arg ++ after)
+  pub front : text ≡ before ++ place.from
+  pub lines : place.from ≡ argument_lines (alone attr (segments segs)) ++ place.to
+  pub ends : place.to ≡ after ++ rest
+  pub reads : AreReadAlone (suc depth) (alone attr (segments segs))
+  pub takes : (f : List Segment → List Segment) → IsLocal attr f → is_empty (f (alone attr (segments segs))) ≡ false
+      → bytes_of (item_pieces Broken 0 Closed (group RuleCall (segs_of (f (segments segs))) false end)) ≡ before ++ (argument_lines (f (alone attr (segments segs))) ++ after)
 
 -- the same of the nodes of a statement
-pub record HasNodesRoom (nodes : List Item) (text inner rest : List ℕ) : Type 0 where
+pub record HasNodesPlace (depth : ℕ) (attr : List ℕ) (nodes : List Item) (text rest : List ℕ) (place : Ends) : Type 0 where
   pub before : List ℕ
   pub after : List ℕ
-  pub front : text ≡ before ++ inner
-  pub ends : inner ≡ after ++ rest
-  pub takes : (arg : Segment) → bytes_of (items_pieces Broken 0 None Closed Start (items_of (nodes_with arg nodes))) ≡ before ++ (argument_lines arg ++ after)
+  pub front : text ≡ before ++ place.from
+  pub lines : place.from ≡ argument_lines (alone attr (rule_args (rule_of nodes))) ++ place.to
+  pub ends : place.to ≡ after ++ rest
+  pub reads : AreReadAlone depth (alone attr (rule_args (rule_of nodes)))
+  pub takes : (f : List Segment → List Segment) → IsLocal attr f → is_empty (f (alone attr (rule_args (rule_of nodes)))) ≡ false
+      → bytes_of (items_pieces Broken 0 None Closed Start (items_of (nodes_after f nodes (rule_of nodes)))) ≡ before ++ (argument_lines (f (alone attr (rule_args (rule_of nodes)))) ++ after)
 
--- the call of a rule of this name, where one argument more may stand before `room`
-pub record IsRuleCallFront (depth : ℕ) (name : Option (List ℕ)) (room : Option (List ℕ)) (text rest : List ℕ) : Type 0 where
+-- the call of a rule of this name, with the place of an argument
+pub record IsRuleCallFront (depth : ℕ) (attr : List ℕ) (name : Option (List ℕ)) (place : Option Ends) (text rest : List ℕ) : Type 0 where
   pub holds : Bool
   pub group : IsGroupFront RuleCall 0 depth text rest holds
   pub named : name_in (segments group.segs) ≡ name
-  pub grows : IfSome room (λ inner. HasGroupRoom group.segs group.end text inner rest)
+  pub has : IfSome place (HasGroupPlace depth attr group.segs group.end text rest)
 
 -- what stands in the bracket of a load, in place, and the closing bracket
 pub record IsLoadFront (inside rest : List ℕ) : Type 0 where
@@ -71,7 +77,7 @@ pub record IsAssignedFront (depth : ℕ) (text rest : List ℕ) : Type 0 where
   pub nodes : AreNodesFront 0 depth value rest holds
 
 -- what well-formed statements ask of the nodes of one, where no string is to be spelled anew
-pub record IsBareFront (depth : ℕ) (class : Class) (name : Option (List ℕ)) (room : Option (List ℕ)) (text rest : List ℕ) : Type 0 where
+pub record IsBareFront (depth : ℕ) (attr : List ℕ) (class : Class) (name : Option (List ℕ)) (place : Option Ends) (text rest : List ℕ) : Type 0 where
   pub nodes : List Item
   pub some : are_some (items_of nodes) ≡ true
   pub texts : HaveTexts (items_of nodes)
@@ -86,29 +92,31 @@ pub record IsBareFront (depth : ℕ) (class : Class) (name : Option (List ℕ)) 
   pub named : rule_name (rule_of nodes) ≡ name
   pub absent : (attr : List ℕ) → (HasArgumentName attr (bytes_of (items_pieces Broken 0 None Closed Start (items_of nodes))) → ⊥)
       → first_named attr (rule_args (rule_of nodes)) ≡ None
-  pub grows : IfSome room (λ inner. HasNodesRoom nodes text inner rest)
+  pub has : IfSome place (HasNodesPlace depth attr nodes text rest)
 
 -- comment lines alone are a chunk with the empty line after them
 abbrev pub empty_line : Class → List ℕ
 empty_line class = if is_comment class then codes "\n" else []
 
--- Before `inner` one argument more may stand in the statement, whose text ends before `end`.
-pub record HasStatementRoom (s : Statement) (text inner end : List ℕ) : Type 0 where
-  pub room : Between
-  pub front : text ≡ room.before ++ inner
-  pub ends : inner ≡ room.after ++ end
-  pub takes : HasRoom s room
+-- The place of an argument in a statement, whose text ends before `end`.
+pub record HasStatementPlace (depth : ℕ) (attr : List ℕ) (s : Statement) (text end : List ℕ) (place : Ends) : Type 0 where
+  pub between : Between
+  pub front : text ≡ between.before ++ place.from
+  pub lines : place.from ≡ between.lines ++ place.to
+  pub ends : place.to ≡ between.after ++ end
+  pub has : HasPlace depth attr s between
 
--- The room in what is written of a text: the text before `inner`, and what is written after that.
-abbrev pub IsRoomIn : List ℕ → List ℕ → Option (List ℕ) → Option Between → Type 0
-IsRoomIn text written inner None = Unit {0}
-IsRoomIn text written None (Some room) = ⊥
-IsRoomIn text written (Some inner) (Some room) =
-    (room.before ≡ take (length text - length inner) text) × (room.after ≡ drop (length room.before) written)
+-- The place in what is written of a text: what is cut from the text before its ends, and what is written after that.
+abbrev pub IsPlaceIn : List ℕ → List ℕ → Option Ends → Option Between → Type 0
+IsPlaceIn text written ends None = Unit {0}
+IsPlaceIn text written None (Some place) = ⊥
+IsPlaceIn text written (Some ends) (Some place) =
+    let front : List ℕ = take (length text - length ends.to) text in
+    (place.before ≡ take (length text - length ends.from) text) × (place.lines ≡ drop (length place.before) front) × (place.after ≡ drop (length front) written)
 
 -- The text begins with what is written of a well-formed statement of this class and name, in which no string is to be spelled
 -- anew. `end` follows that, `rest` its chunk.
-pub record IsStatementFront (depth : ℕ) (class : Class) (name : Option (List ℕ)) (room : Option (List ℕ)) (text end rest : List ℕ) : Type 0 where
+pub record IsStatementFront (depth : ℕ) (attr : List ℕ) (class : Class) (name : Option (List ℕ)) (place : Option Ends) (text end rest : List ℕ) : Type 0 where
   pub s : Statement
   pub well : IsWellFormed depth s
   pub stays : spelled_statement s ≡ s
@@ -117,4 +125,4 @@ pub record IsStatementFront (depth : ℕ) (class : Class) (name : Option (List �
   pub front : text ≡ layout_text s ++ end
   pub ends : end ≡ empty_line class ++ rest
   pub absent : (attr : List ℕ) → (HasArgumentName attr (layout_text s) → ⊥) → first_named attr (rule_args (rule_of s.nodes)) ≡ None
-  pub grows : IfSome room (λ inner. HasStatementRoom s text inner end)
+  pub has : IfSome place (HasStatementPlace depth attr s text end)

@@ -7,19 +7,16 @@ use Rattle.bz_tree.specs.Tree.{Statement}
 use Rattle.bz_layout.specs.Layout.{layout_text}
 use Rattle.bz_attribute.specs.declared.done.Done.{Done}
 use Rattle.bz_command.specs.declared.arguments.Attributes.TheVariants.{Named}
-use Rattle.bz_command.specs.declared.arguments.Setting.TheVariants.{ToValues}
 use Rattle.bz_command.specs.Labels.{Package, Target}
-use Rattle.bz_rule.specs.declared.command.Action.TheVariants.{Remove, Replace, Set, SetIfAbsent}
+use Rattle.bz_rule.specs.declared.command.Action.TheVariants.{Remove, Replace}
 use Rattle.bz_attribute.specs.Rules.{first_named, rule_of}
-use Rattle.bz_attribute_commands.specs.Argument.{new_argument}
-use Rattle.bz_canonical.specs.Canonical.{HasArgumentName, HasName, HasRoom, between, rule_args, with_argument}
-use Rattle.bz_canonical.specs.declared.chunk.CanonicalChunk.{CanonicalChunk}
+use Rattle.bz_attribute.specs.Marks.{marks}
+use Rattle.bz_canonical.specs.Canonical.{HasArgumentName, HasName, HasPlace, between, rule_args}
 use Rattle.bz_rule.specs.Commands.{Command, after, done_of}
 use Rattle.bz_passes.specs.Exchange.{Kept}
 use Rattle.bz_passes.specs.declared.entry.Entry.{Entry}
-use Rattle.bz_engine.specs.declared.answer.Answer.{Answer}
-use Rattle.bz_engine.specs.declared.answer.Answer.TheVariants.{Stays, Grows}
-use Rattle.bz_engine.specs.declared.answer.NewArgument.{NewArgument}
+use Rattle.bz_engine.specs.declared.answer.Unchanged.{Unchanged}
+use Rattle.bz_engine.specs.declared.canonical.Found.{Found}
 use Rattle.bz_engine.specs.Meaning.{line_told}
 use Rattle.bz_engine.specs.Outcome.{Script}
 
@@ -36,13 +33,19 @@ abbrev pub HasOneLog : List (Kept Entry) → Type 0
 HasOneLog kept = (k : Kept Entry) × (log : List Entry) × (kept ≡ k ∷ []) × (k.logs ≡ log ∷ [])
 
 -- the statement of the chunk
-pub record IsFound (found : CanonicalChunk) (s : Statement) : Type 0 where
+pub record IsFound (depth : ℕ) (found : Found) (s : Statement) : Type 0 where
   pub class : s.class ≡ class_of s.nodes
-  pub class_is : s.class ≡ found.class
-  pub named : HasName (option_map (λ name. name.now) found.name) s
-  pub written : layout_text s ≡ found.written.now
-  pub absent : (attr : List ℕ) → (HasArgumentName attr found.written.now → ⊥) → first_named attr (rule_args (rule_of s.nodes)) ≡ None
-  pub grows : IfSome (option_map between found.room) (HasRoom s)
+  pub class_is : s.class ≡ found.chunk.class
+  pub named : HasName (option_map (λ name. name.now) found.chunk.name) s
+  pub written : layout_text s ≡ found.chunk.written.now
+  pub absent : (attr : List ℕ) → (HasArgumentName attr found.chunk.written.now → ⊥) → first_named attr (rule_args (rule_of s.nodes)) ≡ None
+  pub has : IfSome (option_map between found.chunk.place) (HasPlace depth found.attr.now s)
+
+-- the target marks the statement of the chunk, which is a rule
+pub record IsMarked (depth : ℕ) (target : Target) (found : Found) : Type 0 where
+  pub met : (s : Statement) → IsFound depth found s → marks target s ≡ true
+  pub name : List ℕ
+  pub named : option_map (λ name. name.now) found.chunk.name ≡ Some name
 
 -- no argument of this name stands in a rule
 abbrev pub IsWithout : List ℕ → Statement → Type 0
@@ -67,22 +70,6 @@ looked_at (Remove (Named attr) values) = Some attr
 looked_at (Replace (Named attr) old new) = Some attr
 looked_at _ = None
 
--- an attribute and its words
-pub record Setting : Type 0 where
-  pub attr : List ℕ
-  pub words : List (List ℕ)
-
--- the argument that a command adds to a rule that has none of its name
-abbrev pub set_by : Command → Option Setting
-set_by (Set (ToValues attr words)) = Some (record { attr = attr; words = words })
-set_by (SetIfAbsent attr words) = Some (record { attr = attr; words = words })
-set_by _ = None
-
-abbrev pub new_of : NewArgument → Setting
-new_of new = record { attr = new.attr.now; words = new.values.now }
-
--- what the command makes of each rule of this name and this text
-abbrev pub Answers : Command → Package → List ℕ → List ℕ → Answer → Type 0
-Answers command home name text (Stays line) = (s : Statement) → IsRuleOf name text s → Makes command home s s (told_line false line)
-Answers command home name text (Grows new) = (s : Statement) → IsRuleOf name text s
-    → Makes command home s (with_argument (new_argument new.attr.now new.values.now) s) (told_line true None)
+-- the command leaves each rule of this name and this text
+abbrev pub LeavesRule : Command → Package → List ℕ → List ℕ → Unchanged → Type 0
+LeavesRule command home name text unchanged = (s : Statement) → IsRuleOf name text s → Makes command home s s (told_line false unchanged.line)

@@ -24,12 +24,3 @@ pub record IsAdding (home : Package) (lists : List (List Segment)) (values : Lis
   pub parts : now ≡ before ++ segs_parts (segs_of made)
   pub knows : Knows home lists values i set
   pub added : made ++ map string (fresh home lists (take i values) (drop i values)) ≡ new_elements home lists values
-
--- of the elements that are left from `from` on, none before `at` equals the word
-pub record IsSought (home : Package) (word : List ℕ) (l : ListRest) (after ps : List RowPart) (at : ℕ) : Type 0 where
-  pub left : ListRest
-  pub read : drop at ps ≡ rest_parts left after
-  pub same : list_any (equals home word) (elements_left left) ≡ list_any (equals home word) (elements_left l)
-
-abbrev pub HasSought : Package → List ℕ → List RowPart → ℕ → ℕ → Type 0
-HasSought home word ps from at = (l : ListRest) (after : List RowPart) → drop from ps ≡ rest_parts l after → IsSought home word l after ps at

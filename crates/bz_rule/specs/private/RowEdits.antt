@@ -1,15 +1,14 @@
 -- For private clauses: where the arguments stand that a command looks at, and a row with its head.
-use Rattle.std.specs.Prelude.{◌≡◌, ℕ, ◌-◌, List, ◌∷◌, ◌++◌, Bool, true, false, Option, Some, None, map, take, drop, ◌≤◌, ◌+◌, length}
+use Rattle.std.specs.Prelude.{◌≡◌, ℕ, ◌-◌, List, ◌++◌, Bool, true, false, Option, Some, map, take, drop, ◌≤◌, ◌+◌, length}
 use Rattle.bz_tree.specs.Statement.{class_of}
 use Rattle.bz_tree.specs.declared.stmt.Class.TheVariants.{Rule as RuleClass}
 use Rattle.bz_tree.specs.Tree.{Segment, Statement, segs_of}
 use Rattle.bz_tree.specs.Rows.{RowPart, part_view, parts_of, segs_parts}
 use Rattle.bz_command.specs.Labels.{Package}
-use Rattle.bz_command.specs.declared.arguments.Attributes.TheVariants.{Named}
 use Rattle.bz_command.specs.declared.arguments.Commented.TheVariants.{Attribute, Rule as Above, Value}
 use Rattle.bz_command.specs.declared.arguments.Setting.TheVariants.{ToKind, ToValues}
 use Rattle.bz_rule.specs.Commands.{Command, args_after, args_done, done_of}
-use Rattle.bz_rule.specs.declared.command.Action.TheVariants.{Add, Comment, Delete, Print, Remove, Rename, Replace, Set, SetIfAbsent}
+use Rattle.bz_rule.specs.declared.command.Action.TheVariants.{Add, Comment, Delete, Print, Remove, Rename, Replace, Set, SetIfAbsent, Move}
 use Rattle.bz_attribute.specs.Comment.{comment_rule}
 use Rattle.bz_attribute.specs.Effects.{with_args}
 use Rattle.bz_attribute.specs.Heads.{HasHead}
@@ -52,13 +51,6 @@ pub record IsNextOf (old : Statement) (parts : List RowPart) (s : Statement) : T
 abbrev pub KeepsHead : Statement → Statement → Type 0
 KeepsHead s after = (head : Option Head) → HasHead head s → HasHead head after
 
--- Some arguments stand there: the command does to the rule what it does to them alone, and tells the same.
-pub record IsPlaceFor (c : Command) (home : Package) (s : Statement) (r : Rule) (ps : List RowPart) (from to : ℕ) : Type 0 where
-  pub args : List Segment
-  pub read : take (to - from) (drop from ps) ≡ segs_parts (segs_of args)
-  pub put : take from ps ++ (segs_parts (segs_of (args_after c home args)) ++ drop to ps) ≡ parts_of (with_args (args_after c home) s)
-  pub told : args_done c home args ≡ args_done c home r.args
-
 -- a command that makes another rule of a rule
 abbrev pub is_edit : Command → Bool
 is_edit Delete = false
@@ -72,29 +64,11 @@ edits_arguments (Comment Above text) = false
 edits_arguments (Rename old new) = false
 edits_arguments c = is_edit c
 
--- some of them by a tree
-abbrev pub takes_tree : Command → Bool
-takes_tree (Set (ToValues attr words)) = true
-takes_tree (Comment (Attribute attr) text) = true
-takes_tree (Comment (Value attr value) text) = true
-takes_tree _ = false
-
 -- that rule
 abbrev pub rule_after : Command → Package → Statement → Statement
 rule_after (Set (ToKind kind)) home s = with_kind kind s
 rule_after (Comment Above text) home s = comment_rule text s
 rule_after c home s = with_args (args_after c home) s
-
--- the attribute of a command that looks at its first argument alone, and adds one after all where there is none
-abbrev pub one_attribute : Command → Option (List ℕ)
-one_attribute (Add attr values) = Some attr
-one_attribute (Remove (Named attr) (value ∷ values)) = Some attr
-one_attribute (Set (ToValues attr values)) = Some attr
-one_attribute (SetIfAbsent attr values) = Some attr
-one_attribute (Replace (Named attr) old new) = Some attr
-one_attribute (Comment (Attribute attr) text) = Some attr
-one_attribute (Comment (Value attr value) text) = Some attr
-one_attribute _ = None
 
 -- it has at least so many comments more above it
 abbrev pub HasMore : ℕ → Statement → Statement → Type 0

@@ -19,7 +19,7 @@ loop-element-preserved-in_ok-insert c =
       within = search rules;
       home = c.in_ok-insert.ensures.home ∙ c.loop-element.invariant.home;
       same =
-          one_labelled home (choice c.args.words) (map part_view c.args.parts.now) c.args.from c.loop-element.at c.in-Some.element.from c.in-Some.element.to _ (Some (left c.in-Some-kept_value.value)) c.loop-element.set c.insert.new.self
+          one_labelled home (choice c.args.words) (map part_view c.args.parts.now) c.args.from c.loop-element.at c.in-Some.element.from c.in-Some.element.token c.in-Some.element.to _ (Some (left c.in-Some-kept_value.value)) c.loop-element.set c.insert.new.self
           c.loop-element.invariant.same c.in-Some.ensures.some c.in-Some-kept_value.ensures.value
           (gained home (left c.in-Some-kept_value.value) _ c.loop-element.set c.insert.new.self refl c.loop-element.invariant.home c.in_ok-insert.ensures.ok);
     }
@@ -32,7 +32,7 @@ loop-element-preserved c =
       within = search rules;
       home = c.loop-element.invariant.home;
       same =
-          one_labelled home (choice c.args.words) (map part_view c.args.parts.now) c.args.from c.loop-element.at c.in-Some.element.from c.in-Some.element.to _ None c.loop-element.set c.loop-element.set
+          one_labelled home (choice c.args.words) (map part_view c.args.parts.now) c.args.from c.loop-element.at c.in-Some.element.from c.in-Some.element.token c.in-Some.element.to _ None c.loop-element.set c.loop-element.set
           c.loop-element.invariant.same c.in-Some.ensures.some (sym (ap (option_map left) none) ∙ c.kept_value.ensures.value)
           (not_gained home None c.loop-element.set c.loop-element.set refl refl);
     }

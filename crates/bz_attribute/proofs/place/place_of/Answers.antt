@@ -1,7 +1,7 @@
 use Rattle.std.proofs.Common.{ℕ, ◌+◌, map, ap, sym, ◌∙◌}
 use Rattle.bz_tree.specs.Rows.{part_view}
 use Rattle.bz_attribute.specs.private.Ends.{plain_len, segment_len}
-use Rattle.bz_attribute.proofs.PlaceFound.{place_absent, place_there}
+use Rattle.bz_attribute.proofs.PlaceFound.{has_none, place_there}
 use Rattle.bz_attribute.proofs.Slices.{front_seen, rest_seen}
 use Rattle.bz_attribute.proofs.place.place_of.Goals as goal
 
@@ -13,5 +13,4 @@ returns-in-Some-clause-place c s r h =
     (ap (λ (n : ℕ). at + n) (c.segment_len.ensures.len ∙ ap segment_len (rest_seen c.args.parts.now at)))
 
 pub returns-in-None-clause-place : goal.returns-in-None-clause-place
-returns-in-None-clause-place c s r h =
-    place_absent c.args.name.now s r (map part_view c.args.parts.now) c.arguments_end-end.result h (sym c.find_argument.ensures.found ∙ c.in-None.is) c.arguments_end-end.ensures.end
+returns-in-None-clause-place c s r h = c.new_place.ensures.place c.args.name.now s r h (has_none c.args.name.now s r (map part_view c.args.parts.now) h (sym c.find_argument.ensures.found ∙ c.in-None.is))

@@ -1,5 +1,5 @@
 use Rattle.std.proofs.Common.{◌≡◌, true, false, string_bytes, string_len, ap, sym, ◌∙◌, arith}
-use Rattle.bz_attribute_commands.specs.private.CommentPlaces.{ends_blank}
+use Rattle.bz_attribute_commands.specs.private.CommentTexts.{ends_blank}
 use Rattle.bz_attribute_commands.proofs.CommentEdits.{trim_step, trim_end}
 use Rattle.bz_attribute_commands.proofs.comment.trim.Goals as goal
 

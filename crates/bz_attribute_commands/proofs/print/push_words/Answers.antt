@@ -13,7 +13,7 @@ use Rattle.bz_token.specs.Common.{map_or}
 pub loop-element-init : goal.loop-element-init
 loop-element-init c =
     let words = map element_word (segs_view c.args.list.now) in
-    let opened : string_bytes c.push.new.list ≡ string_bytes c.args.text.now ++ 91 ∷ [] = search rules in
+    let opened : string_bytes c.push_char.new.string ≡ string_bytes c.args.text.now ++ 91 ∷ [] = search rules in
     record {
       utf8 = search rules;
       written = ap (λ (z : List ℕ). z ++ spaced_from [] words) opened ∙ ap (λ (z : List ℕ). (string_bytes c.args.text.now ++ 91 ∷ []) ++ z) (spaced_all words);

@@ -16,4 +16,4 @@ returns-clause-chunk c =
     canonical_edited run c.args.max_statement c.args.ahead.now c.in-Some.found c.text.result.now c.args.progress.now mid c.pass_lines.new.self before after
     c.requires.few c.text.ensures.front (subst IsUtf8 c.as_bytes.ensures.value c.as_bytes.ensures.utf8) found.size found.canonical
     (λ s is. subst (λ (p : Progress). IsLaidOut run s p mid before after) c.is_worth_a_look.ensures (c.in_ok-edit_found.ensures.done c.if-not-branch.false s is))
-    (c.pass_lines.ensures ∙ ap (λ bytes. line_passed bytes c.looked_well.new.self) c.as_bytes.ensures.value ∙ ap (line_passed c.in-Some.found.chunk.now) c.looked_well.ensures)
+    (c.pass_lines.ensures ∙ ap (λ bytes. line_passed bytes c.looked_well.new.self) c.as_bytes.ensures.value ∙ ap (line_passed c.in-Some.found.chunk.chunk.now) c.looked_well.ensures)

@@ -21,8 +21,8 @@ returns-in_default c =
     let ps : List RowPart = map part_view c.args.parts.now in
     let new : List RowPart = segs_parts (segs_of (argument attr (list_item (new_elements home [] values) ∷ []) ∷ [])) in
     let written : map part_view c.write_attribute.new.written.items ≡ new = c.in_ok-write_attribute.ensures ∙ ap (λ (qs : List Part). map part_view qs ++ new) c.clear.ensures.items in
-    changed _ _ ps _ c.place_of.result _ c.at.ensures (c.place_of.ensures.within.0, omega (arith, c.place_of.ensures.within.1, length-map c.args.parts.now part_view))
-    (λ s r h. added_new home attr values s r ps _ c.place_of.result (c.in_default.ensures.none s r h) (c.place_of.ensures.place s r h) written)
+    changed _ _ ps _ c.new_place.result _ c.at.ensures (c.new_place.ensures.within.0, omega (arith, c.new_place.ensures.within.1, length-map c.args.parts.now part_view))
+    (λ s r h. added_new home attr values s r ps _ c.new_place.result (c.in_default.ensures.none s r h) (c.new_place.ensures.place attr s r h (c.in_default.ensures.none s r h)) written)
     (λ s r h. told_absent home attr values r.args (c.in_default.ensures.none s r h))
 
 pub returns-in_default-first_list : goal.returns-in_default-first_list

@@ -2,14 +2,8 @@ use Rattle.std.proofs.Common.{None, ap, map, refl, subst, sym, ◌∙◌, if◌t
 use Rattle.bz_tree.specs.Rows.{part_view}
 use Rattle.bz_command.specs.declared.arguments.Moved.{Moved}
 use Rattle.bz_command.specs.declared.arguments.Moved.TheVariants.{All, Values}
-use Rattle.bz_attribute.specs.Rules.{first_named, is_named}
-use Rattle.bz_attribute.specs.Lists.{parts}
-use Rattle.bz_attribute.specs.private.ChosenViews.{chosen_view}
-use Rattle.bz_attribute.specs.private.Places.{first_length, first_list}
-use Rattle.bz_attribute.specs.Effects.{done, edit_first, filtered, is_chosen, unchosen}
-use Rattle.bz_attribute.specs.Move.{arrivals, elements_of, joined, moved, moves}
-use Rattle.bz_list_commands.specs.private.MoveSteps.{value_of, with_list, with_more}
-use Rattle.bz_list_commands.proofs.Arriving.{chosen_counted, elements_there, first_among, first_given, moved_by, room_given}
+use Rattle.bz_attribute.specs.Effects.{done}
+use Rattle.bz_attribute.specs.Move.{moved, moves}
 use Rattle.bz_attribute.specs.RowEdits.{IsRowEdit}
 use Rattle.bz_list_commands.proofs.Meanings.{meant_chosen}
 use Rattle.bz_list_commands.proofs.WrittenParts.{ok_as}
@@ -23,6 +17,6 @@ returns-in_ok-words-in-Values c =
     let home = c.args.env.home.now in
     let words = c.in_ok-words-in-Values.words.words.now in
     ok_as
-    (λ e h. subst (λ (moved : Moved). IsRowEdit (λ x0. if moves home c.args.change.old.now moved x0 then moved home c.args.change.old.now c.args.change.new.now moved x0 else x0) (λ args. done None (moves home c.args.change.old.now moved args)) (map part_view c.args.parts.now) (map part_view c.move_meant-in-Values.new.written.items) e)
+    (λ e h. subst (λ (chosen : Moved). IsRowEdit (λ args. if moves home c.args.change.old.now chosen args then moved home c.args.change.old.now c.args.change.new.now chosen args else args) (λ args. done None (moves home c.args.change.old.now chosen args)) (map part_view c.args.parts.now) (map part_view c.move_meant-in-Values.new.written.items) e)
     (sym (c.in-Values.is ∙ ap Values (sym (c.in_ok-words-in-Values.ensures ∙ c.as_slice.ensures)))) (h (Values words) refl (meant_chosen home words)))
     c.move_meant-in-Values.result c.move_meant-in-Values.ensures

@@ -20,5 +20,5 @@ returns c =
 
 pub loop-place-preserved : goal.loop-place-preserved
 loop-place-preserved c =
-    places_more c.args.parts.now c.args.places.now c.loop-place.place-index (get_or c.args.places.now c.loop-place.place-index none) none c.args.written.now.items c.loop-place.written.items c.extend_from_slice.new.self.items
+    places_more c.args.parts.now c.args.places.now c.loop-place.place-index (get_or c.args.places.now c.loop-place.place-index none) none c.args.written.now.items c.loop-place.written.items c.extend_from_slice.new.list.items
     (omega (arith, c.loop-place-test.true)) refl c.loop-place.invariant c.in_ok-extend_from_slice.ensures.items

@@ -7,6 +7,6 @@ use Rattle.bz_list_commands.proofs.moving.replaced.Goals as goal
 
 pub returns : goal.returns
 returns c =
-    three_written c.args.parts.now c.extend_from_slice.new.self.items c.extend_from_slice-2.new.self.items c.extend_from_slice-3.new.self.items c.args.place.from c.args.place.to (map part_view c.args.new.now)
+    three_written c.args.parts.now c.extend_from_slice.new.list.items c.extend_from_slice-2.new.list.items c.extend_from_slice-3.new.list.items c.args.place.from c.args.place.to (map part_view c.args.new.now)
     (c.in_ok-extend_from_slice.ensures.items ∙ ap (λ (ps : List Part). ps ++ take c.args.place.from c.args.parts.now) c.new-left.ensures.items)
-    (ap (map part_view) c.in_ok-extend_from_slice-2.ensures.items ∙ map-append part_view c.extend_from_slice.new.self.items c.args.new.now) c.in_ok-extend_from_slice-3.ensures.items
+    (ap (map part_view) c.in_ok-extend_from_slice-2.ensures.items ∙ map-append part_view c.extend_from_slice.new.list.items c.args.new.now) c.in_ok-extend_from_slice-3.ensures.items

@@ -16,9 +16,9 @@ returns c ss s r are row none =
     let attr = c.args.attr.now in
     let place = c.place_of-place.result in
     let new = argument attr (list_item ss ∷ []) ∷ [] in
-    three_written c.args.left.now c.extend_from_slice.new.self.items c.close_attribute.new.written.items c.extend_from_slice-2.new.self.items place.from place.to (segs_parts (segs_of new))
+    three_written c.args.left.now c.extend_from_slice.new.list.items c.close_attribute.new.written.items c.extend_from_slice-2.new.list.items place.from place.to (segs_parts (segs_of new))
     (c.in_ok-extend_from_slice.ensures.items ∙ ap (λ (ps : List Part). ps ++ take place.from c.args.left.now) c.clear.ensures.items)
-    (attribute_written attr ss (map part_view c.extend_from_slice.new.self.items) (map part_view c.open_attribute.new.written.items) (map part_view c.push_places.new.written.items) (map part_view c.close_attribute.new.written.items)
+    (attribute_written attr ss (map part_view c.extend_from_slice.new.list.items) (map part_view c.open_attribute.new.written.items) (map part_view c.push_places.new.written.items) (map part_view c.close_attribute.new.written.items)
     c.in_ok-open_attribute.ensures (c.in_ok-push_places.ensures ∙ ap (λ (qs : List RowPart). map part_view c.open_attribute.new.written.items ++ qs) are) c.in_ok-close_attribute.ensures)
     c.in_ok-extend_from_slice-2.ensures.items
     ∙ put_new attr (put_in attr ss) s r (map part_view c.args.left.now) (segs_parts (segs_of new)) place (put_local attr (λ a. with_value (edit_first_part (λ there. there ++ ss) (value a)) a ∷ []) new) none (c.place_of-place.ensures.place s r row) refl

@@ -13,5 +13,11 @@ returns-in-Replace c = rw (sym c.command.view_is, c.in-Replace.is) (rw (c.as_str
 pub returns-in-Move : goal.returns-in-Move
 returns-in-Move c = rw (sym c.command.view_is, c.in-Move.is) (rw (c.as_str-in-Move.ensures, c.as_str-in-Move-2.ensures) at c.move_elements.ensures)
 
+pub returns-in-Set : goal.returns-in-Set
+returns-in-Set c = rw (sym c.command.view_is, c.in-Set.is) c.set_argument.ensures
+
 pub returns-in-SetIfAbsent : goal.returns-in-SetIfAbsent
-returns-in-SetIfAbsent c = rw (sym c.command.view_is, c.in-SetIfAbsent.is) (rw (c.as_str-in-SetIfAbsent.ensures, c.as_slice-in-SetIfAbsent.ensures) at c.set_absent.ensures)
+returns-in-SetIfAbsent c = rw (sym c.command.view_is, c.in-SetIfAbsent.is) (rw (c.as_str-in-SetIfAbsent.ensures, c.as_slice-in-SetIfAbsent.ensures) at c.set_if_absent.ensures)
+
+pub returns-in-Comment : goal.returns-in-Comment
+returns-in-Comment c = rw (sym c.command.view_is, c.in-Comment.is) (rw (c.as_str-in-Comment.ensures) at c.comment.ensures)

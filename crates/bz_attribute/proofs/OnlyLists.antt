@@ -1,0 +1,58 @@
+-- A value that is one list, and its end, by its parts.
+use Rattle.std.proofs.Common.{◌≡◌, ℕ, ◌+◌, List, [], ◌∷◌, ◌++◌, Bool, true, false, ◌&&◌, length, drop, refl, ap, sym, ◌∙◌, append_assoc, drop-drop}
+use Rattle.std.proofs.lemmas.Bool.{false≢true}
+use Rattle.std.proofs.Math.Seq.{drop-append_seam}
+use Rattle.bz_tree.specs.declared.stmt.GroupKind.TheVariants.{List as ListKind}
+use Rattle.bz_tree.specs.Tree.{Item, leaf, group, Segs, items_of}
+use Rattle.bz_tree.specs.Rows.{RowPart, segment_end, item_parts, items_parts}
+use Rattle.bz_attribute.specs.Elements.{IsOnlyList, value_parts}
+use Rattle.bz_attribute.specs.Lists.{is_list, is_only}
+use Rattle.bz_attribute.specs.private.Ends.{nodes_len}
+use Rattle.bz_attribute.specs.private.ListParts.{begins_list, ends_value, item_len}
+use Rattle.bz_attribute.proofs.ItemParts.{item_long}
+use Rattle.bz_attribute.proofs.Lengths.{nodes_ended}
+use Rattle.bz_attribute.proofs.ListWalk.{opened, rest_of}
+use Rattle.bz_attribute.proofs.RuleNodes.{segs_back}
+
+pub value_ended : (nodes : List Item) (after ps : List RowPart) (value end : ℕ) → drop value ps ≡ value_parts nodes after → end ≡ value + nodes_len 0 (drop value ps) → drop end ps ≡ segment_end ∷ after
+value_ended nodes after ps value end read is =
+    let own : List RowPart = items_parts (items_of nodes) in
+    let size : end ≡ value + length own = is ∙ ap (λ (n : ℕ). value + n) (ap (nodes_len 0) read ∙ nodes_ended (items_of nodes) after) in
+    ap (λ (n : ℕ). drop n ps) size ∙ sym (drop-drop (length own) value ps) ∙ ap (drop (length own)) read ∙ drop-append_seam own (segment_end ∷ after)
+
+begins_told : (x : Item) (xs : List Item) (after : List RowPart) → begins_list (value_parts (x ∷ xs) after) ≡ is_list x
+begins_told (leaf kind text) xs after = refl
+begins_told (group ListKind segs one_comma end) xs after = refl
+begins_told (group _ segs one_comma end) xs after = refl
+
+abbrev is_nil : List Item → Bool
+is_nil [] = true
+is_nil (x ∷ xs) = false
+
+ends_told : (xs : List Item) (after : List RowPart) → ends_value (value_parts xs after) ≡ is_nil xs
+ends_told [] after = refl
+ends_told (leaf kind text ∷ xs) after = refl
+ends_told (group kind segs one_comma end ∷ xs) after = refl
+
+both_told : (x : Item) (xs : List Item) → is_list x && is_nil xs ≡ is_only is_list (x ∷ xs)
+both_told x [] = elim (is_list x) as (λ b. b && true ≡ b) [ true ↦ refl | false ↦ refl ]
+both_told x (y ∷ xs) = elim (is_list x) as (λ b. b && false ≡ false) [ true ↦ refl | false ↦ refl ]
+
+pub only_told : (nodes : List Item) (after qs : List RowPart) → qs ≡ value_parts nodes after → begins_list qs && ends_value (drop (item_len qs) qs) ≡ is_only is_list nodes
+only_told [] after qs are = ap (λ (ps : List RowPart). begins_list ps && ends_value (drop (item_len ps) ps)) are
+only_told (x ∷ xs) after qs are =
+    let cut : qs ≡ item_parts x ++ value_parts xs after = are ∙ append_assoc (item_parts x) (items_parts (items_of xs)) (segment_end ∷ after) in
+    let long : item_len qs ≡ length (item_parts x) = ap item_len cut ∙ item_long x (value_parts xs after) in
+    let left : drop (item_len qs) qs ≡ value_parts xs after = (λ i. drop (long i) (cut i)) ∙ drop-append_seam (item_parts x) (value_parts xs after) in
+    (λ i. (ap begins_list are ∙ begins_told x xs after) i && (ap ends_value left ∙ ends_told xs after) i) ∙ both_told x xs
+
+pub only_there : (nodes : List Item) (after ps : List RowPart) (value to : ℕ) → drop value ps ≡ value_parts nodes after → to ≡ value + 1 → is_only is_list nodes ≡ true → IsOnlyList nodes after ps to
+only_there [] after ps value to read to_is is = absurd (false≢true is)
+only_there (leaf kind text ∷ []) after ps value to read to_is is = absurd (false≢true is)
+only_there (group ListKind segs one_comma end ∷ []) after ps value to read to_is is = record {
+  list = rest_of segs one_comma end [];
+  are = ap (λ (ss : Segs). group ListKind ss one_comma end ∷ []) (sym (segs_back segs));
+  read = ap (λ (n : ℕ). drop n ps) to_is ∙ sym (drop-drop 1 value ps) ∙ ap (drop 1) (read ∙ opened segs one_comma end [] after);
+}
+only_there (group _ segs one_comma end ∷ []) after ps value to read to_is is = absurd (false≢true is)
+only_there (x ∷ y ∷ xs) after ps value to read to_is is = absurd (false≢true is)

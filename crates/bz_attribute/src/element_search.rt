@@ -1,0 +1,44 @@
+//! The first element of a value that equals a word.
+
+ghost use Rattle.std.specs.Prelude.{◌≡◌, ◌≤◌, List, false, drop, map, length, option_map, IfNone, IfSome, option_and_then};
+ghost use Rattle.std.specs.List.{list_any};
+ghost use Rattle.bz_tree.specs.Rows.{RowPart, part_view};
+ghost use Rattle.bz_attribute.specs.Elements.{IsFirstEqual, ListRest, elements_left, rest_parts};
+ghost use Rattle.bz_attribute.specs.Lists.{equals, same};
+ghost use Rattle.bz_command.specs.Values.{value_of};
+ghost use Rattle.bz_token.specs.Common.{map_or};
+
+use crate::elements::next_of_value;
+use crate::equals::text_equals;
+use bz_command::Package;
+use bz_tree::Part;
+
+/// Where the nodes of the first element of a value begin that equals a word, from a place in a list part of it on.
+pub fn first_equal(home: &Package, word: &str, parts: &[Part<'_>], from: usize) -> Option<usize>
+    requires { from ≤ length parts.now }
+    ensures some { IfSome result (λ at. (rest : ListRest) (after : List RowPart)
+        → drop from (map part_view parts.now) ≡ rest_parts rest after
+        → IsFirstEqual home.now word.now rest after (map part_view parts.now) from at) }
+    ensures none { IfNone result ((rest : ListRest) (after : List RowPart)
+        → drop from (map part_view parts.now) ≡ rest_parts rest after
+        → list_any (equals home.now word.now) (elements_left rest) ≡ false) }
+    ensures within { IfSome result (λ at. at ≤ length parts.now) }
+{
+    let mut at = from;
+    while let Some(element) = next_of_value(parts, at) {
+        if is_word(home, word, element.string) {
+            return Some(element.token);
+        }
+        at = element.to;
+    }
+    None
+}
+
+fn is_word(home: &Package, word: &str, string: Option<&str>) -> bool
+    ensures { result ≡ map_or false (λ value. same home.now value word.now) (option_and_then value_of (option_map (λ text. text.now) string.entry)) }
+{
+    match string {
+        None => false,
+        Some(text) => text_equals(home, text, word),
+    }
+}

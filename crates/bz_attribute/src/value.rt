@@ -1,0 +1,58 @@
+//! The value of an argument as a whole, by its parts: where it ends, and whether it is one list.
+
+ghost use Rattle.std.specs.Prelude.{◌≡◌, ◌<◌, ◌≤◌, ◌∷◌, List, IfSome, true, drop, map, length};
+ghost use Rattle.bz_tree.specs.Tree.{Item};
+ghost use Rattle.bz_tree.specs.Rows.{RowPart, part_view, segment_end};
+ghost use Rattle.bz_attribute.specs.Elements.{OnlyList, value_parts};
+ghost use Rattle.bz_attribute.specs.Lists as lists;
+ghost use Rattle.bz_attribute.specs.private.ListParts as spec;
+
+use crate::elements::item_len;
+use crate::place::nodes_len;
+use bz_tree::{GroupKind, Part};
+
+/// Where a value ends.
+pub fn value_end(parts: &[Part<'_>], value: usize) -> usize
+    requires { value ≤ length parts.now }
+    ensures end { (nodes : List Item) (after : List RowPart)
+        → drop value (map part_view parts.now) ≡ value_parts nodes after
+        → drop result (map part_view parts.now) ≡ segment_end ∷ after }
+    ensures within { (value ≤ result) × (result ≤ length parts.now) }
+{
+    value + nodes_len(&parts[value..])
+}
+
+fn begins_list(parts: &[Part<'_>]) -> bool
+    ensures { result ≡ spec.begins_list (map part_view parts.now) }
+{
+    matches!(parts, [Part::Open(GroupKind::List), ..])
+}
+
+fn ends_value(parts: &[Part<'_>]) -> bool
+    ensures { result ≡ spec.ends_value (map part_view parts.now) }
+{
+    matches!(parts, [Part::End, ..])
+}
+
+// The value that they begin with is one list.
+fn is_one_list(parts: &[Part<'_>]) -> bool
+    ensures told { (nodes : List Item) (after : List RowPart) → map part_view parts.now ≡ value_parts nodes after
+        → result ≡ lists.is_only lists.is_list nodes }
+    ensures some { result ≡ true → 0 < length parts.now }
+{
+    begins_list(parts) && ends_value(&parts[item_len(parts)..])
+}
+
+/// Where the elements of a value begin, where it is one list.
+pub fn only_list(parts: &[Part<'_>], value: usize) -> Option<usize>
+    requires { value ≤ length parts.now }
+    ensures list { (nodes : List Item) (after : List RowPart)
+        → drop value (map part_view parts.now) ≡ value_parts nodes after
+        → OnlyList nodes after (map part_view parts.now) result }
+    ensures within { IfSome result (λ list. list ≤ length parts.now) }
+{
+    if !is_one_list(&parts[value..]) {
+        return None;
+    }
+    Some(value + 1)
+}

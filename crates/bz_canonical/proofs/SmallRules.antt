@@ -1,0 +1,84 @@
+-- A rule of some arguments and a comment after them.
+use Rattle.std.proofs.Common.{◌≡◌, ℕ, suc, ◌+◌, length, length-append, List, [], ◌∷◌, ◌++◌, false, true, refl, sym, ap, ◌∙◌, arith, append_assoc, append-nil, subst}
+use Rattle.std.specs.Prelude.{codes, Some, None}
+use Rattle.std.proofs.lemmas.Bool.{false≢true}
+use Rattle.bz_token.specs.declared.token.Kind.TheVariants.{Comment, Identifier, Newline, Operator}
+use Rattle.bz_token.specs.Lexical.{is_text, keywords}
+use Rattle.bz_tree.specs.declared.kinds.Shape.TheVariants.{Round}
+use Rattle.bz_tree.specs.declared.stmt.Class.TheVariants.{Rule as RuleClass}
+use Rattle.bz_tree.specs.declared.stmt.GroupKind.TheVariants.{RuleCall}
+use Rattle.bz_tree.specs.Chunk.{IsStatementIn}
+use Rattle.bz_tree.specs.Grammar.{IsStatement, IsExpr, IsTest, IsChain, IsTerm, IsPrimary, IsOperand, AreSuffixes, IsSuffix}
+use Rattle.bz_tree.specs.Tree.{Item, leaf, group, Segment, Statement, items_of, segs_of}
+use Rattle.bz_layout.specs.declared.spacing.Edge.TheVariants.{Start}
+use Rattle.bz_layout.specs.declared.spacing.Gap.TheVariants.{Closed, Line}
+use Rattle.bz_layout.specs.declared.broken.Style.TheVariants.{Broken}
+use Rattle.bz_layout.specs.Layout.{broken_segs, items_pieces, layout_text}
+use Rattle.bz_layout.specs.Pieces.{Piece, piece, bytes_of, comments, suffix_piece}
+use Rattle.bz_layout.proofs.Pieces.{bytes_append}
+use Rattle.bz_layout_laws.specs.Legible.{are_some}
+use Rattle.bz_layout_laws.specs.Lineless.{lineless}
+use Rattle.bz_layout_laws.specs.WellFormed.{IsWellFormed}
+use Rattle.bz_layout_laws.proofs.WellFormed.{formed_only}
+use Rattle.bz_attribute.specs.Effects.{slot_done, with_args}
+use Rattle.bz_attribute.specs.declared.done.Done.{Done}
+use Rattle.bz_attribute.proofs.Views.{segments_of}
+use Rattle.bz_canonical.specs.Canonical.{AreReadAlone, argument_lines, small_rule, small_text}
+use Rattle.bz_canonical.specs.private.Segments.{AreSegments}
+use Rattle.bz_canonical.proofs.GroupSegments.{most}
+
+kind_text : is_text Identifier (codes "k") ≡ true
+unfolding keywords
+kind_text = refl
+
+absurd_of : {A : Type 0} → false ≡ true → A
+absurd_of h = absurd (false≢true h)
+
+small_formed : (depth : ℕ) (args : List Segment) → AreSegments RuleCall depth (segs_of args) → IsWellFormed (suc depth) (small_rule args)
+small_formed depth args are = record {
+  texts = record { some = λ no. refl; before = refl; nodes = ((kind_text, refl), ((are.texts, refl), tt)); suffix = refl };
+  parsed = record {
+    kinds = (λ is. refl, tt, (λ is. refl, (Round, refl, record { one = λ is. absurd_of is; comma = λ is. absurd_of is }, are.kinds), tt));
+    rule = refl;
+    class = refl;
+    alone = λ none. refl;
+    lines = λ none. absurd_of (sym (ap (λ (xs : List Item). are_some (items_of xs)) none));
+  };
+  grammar = IsStatement.expression (IsExpr.last_test (IsTest.plain (IsChain.single (IsTerm.primary (IsPrimary.operand (IsOperand.ident refl) (AreSuffixes.suffix (IsSuffix.call refl are.grammar) AreSuffixes.no_suffix))))));
+  depth_fits = most _ _ (suc depth) (omega arith) (most _ _ (suc depth) (omega (arith, are.depth_fits)) (omega arith));
+}
+
+written : (args : List Segment) → layout_text (small_rule args) ≡ small_text (argument_lines args)
+written args = by (broken_segs Broken 1 RuleCall true (segs_of args))
+  where
+    by : (P : List Piece) → bytes_of ((piece Closed Identifier (codes "k") ∷ piece Closed Operator (codes "(") ∷ ((P ++ (piece (Line 1) Comment (codes "#") ∷ piece (Line 0) Operator (codes ")") ∷ [])) ++ [])) ++ piece Closed Newline (codes "\n") ∷ [])
+        ≡ small_text (bytes_of P)
+    by P = rw (
+      append-nil (P ++ (piece (Line 1) Comment (codes "#") ∷ piece (Line 0) Operator (codes ")") ∷ [])),
+      bytes_append (P ++ (piece (Line 1) Comment (codes "#") ∷ piece (Line 0) Operator (codes ")") ∷ [])) (piece Closed Newline (codes "\n") ∷ []),
+      bytes_append P (piece (Line 1) Comment (codes "#") ∷ piece (Line 0) Operator (codes ")") ∷ []),
+    ) (simp append_assoc)
+
+pub read_alone : (depth : ℕ) (args : List Segment) → AreSegments RuleCall depth (segs_of args) → AreReadAlone (suc depth) args
+read_alone depth args are = λ first t read.
+    let only = formed_only first (suc depth) (small_rule args) t (small_formed depth args are) (subst (λ text. IsStatementIn first (suc depth) text t) (sym (written args)) read) in
+    only.0 ∙ ap (λ ss. record { before = []; nodes = leaf Identifier (codes "k") ∷ group RuleCall ss false (codes "#" ∷ []) ∷ []; suffix = None; class = RuleClass; start = 0; end = 0 }) are.stays
+
+-- what is written of it after an edit, and what is told of it
+pub small_after : (f : List Segment → List Segment) (args : List Segment) (t : Statement) → lineless t ≡ lineless (small_rule args) → layout_text (with_args f t) ≡ small_text (argument_lines (f args))
+small_after f args t same = ap (λ (z : Statement). layout_text (with_args f z)) same ∙ ap (λ (xs : List Segment). layout_text (small_rule (f xs))) (segments_of args) ∙ written (f args)
+
+pub small_told : (g : List Segment → Done) (args : List Segment) (t : Statement) → lineless t ≡ lineless (small_rule args) → slot_done g (Some t) ≡ g args
+small_told g args t same = ap (λ (z : Statement). slot_done g (Some z)) same ∙ ap g (segments_of args)
+
+-- an argument has lines
+pub no_lines : (args : List Segment) → argument_lines args ≡ [] → args ≡ []
+no_lines [] is = refl
+no_lines (x ∷ xs) is = absurd (by (comments 1 x.before) (items_pieces Broken 1 (Some RuleCall) (Line 1) Start (items_of x.nodes)) (suffix_piece x.suffix ++ broken_segs Broken 1 RuleCall true (segs_of xs)) is)
+  where
+    by : (C P R : List Piece) → bytes_of (C ++ (P ++ (piece Closed Operator (codes ",") ∷ R))) ≡ [] → ⊥
+    by C P R none =
+        let size : length (bytes_of (C ++ (P ++ (piece Closed Operator (codes ",") ∷ R)))) ≡ length (bytes_of C) + (length (bytes_of P) + length (44 ∷ bytes_of R)) =
+        ap length (bytes_append C (P ++ (piece Closed Operator (codes ",") ∷ R))) ∙ length-append (bytes_of C) (bytes_of (P ++ (piece Closed Operator (codes ",") ∷ R)))
+        ∙ ap (λ (n : ℕ). length (bytes_of C) + n) (ap length (bytes_append P (piece Closed Operator (codes ",") ∷ R)) ∙ length-append (bytes_of P) (44 ∷ bytes_of R)) in
+        omega (arith, size, ap length none)

@@ -1,0 +1,128 @@
+-- What a command that looks at one argument alone makes of its lines, and so of the rule.
+use Rattle.std.proofs.Common.{◌≡◌, ℕ, ◌+◌, ◌-◌, Bool, true, false, List, [], ◌∷◌, ◌++◌, length, take, drop, refl, sym, ◌∙◌, ap, subst, arith, append_assoc}
+use Rattle.std.proofs.Math.Seq.{take-append_seam}
+use Rattle.std.proofs.lemmas.List.{length-append}
+use Rattle.std.specs.Prelude.{codes, option_to_list, Option, None, Some, Result, Ok, Err, IfOk, IfSome}
+use Rattle.bz_tree.specs.Chunk.{IsStatementIn}
+use Rattle.bz_tree.specs.Tree.{Segment, Statement}
+use Rattle.bz_layout.specs.Layout.{layout_text}
+use Rattle.bz_command.specs.declared.arguments.Setting.TheVariants.{ToValues, ToKind}
+use Rattle.bz_command.specs.Labels.{Package}
+use Rattle.bz_attribute.specs.declared.done.Done.{Done}
+use Rattle.bz_attribute.specs.Effects.{slot_done, with_args, done}
+use Rattle.bz_attribute.specs.RowPlaces.{LooksAt}
+use Rattle.bz_attribute.specs.Rules.{Rule, first_named, rule_of}
+use Rattle.bz_attribute_commands.specs.Argument.{new_argument}
+use Rattle.bz_canonical.specs.Canonical.{AreReadAlone, Between, HasName, HasPlace, argument_lines, first_args, rule_args, small_text}
+use Rattle.bz_canonical.proofs.SmallRules.{no_lines, small_after, small_told}
+use Rattle.bz_rule.specs.declared.command.Action.TheVariants.{Add, Remove, Set, SetIfAbsent, Delete, Rename, Move, Replace, Comment, Print}
+use Rattle.bz_rule.specs.Commands.{Command, after, args_after, args_done, done_of}
+use Rattle.bz_rule.specs.OneAttribute.{one_attribute}
+use Rattle.bz_rule.proofs.Commands.{local}
+use Rattle.bz_engine.specs.declared.argument.EditedArgument.{EditedArgument}
+use Rattle.bz_engine.specs.declared.argument.EditedArgument.TheVariants.{Unchanged, Lines}
+use Rattle.bz_engine.specs.private.ArgumentEdits.{AddsArgument, AreLinesAfter, ChangesArgs, EditsLines, Setting, set_by}
+use Rattle.bz_engine.specs.private.Found.{Makes, told_line}
+use Rattle.bz_engine.proofs.OnlyPass.{named_rule}
+use Rattle.bz_engine.proofs.TextAnswers.{none_has, stays_by}
+use Rattle.bz_token.specs.Common.{is_empty, map_or}
+
+-- what is set where none has the name
+set_alone : (command : Command) (new : Setting) → set_by command ≡ Some new → (home : Package)
+    → (args_done command home [] ≡ told_line true None) × (args_after command home [] ≡ new_argument new.attr new.words ∷ [])
+set_alone (Set (ToValues a ws)) new is home =
+    let same : record { attr = a; words = ws } ≡ new = cc in
+    (refl, ap (λ (n : Setting). new_argument n.attr n.words ∷ []) same)
+set_alone (SetIfAbsent a ws) new is home =
+    let same : record { attr = a; words = ws } ≡ new = cc in
+    (refl, ap (λ (n : Setting). new_argument n.attr n.words ∷ []) same)
+set_alone (Set (ToKind kind)) new is home = absurd cc
+set_alone (Add a values) new is home = absurd cc
+set_alone (Remove attrs values) new is home = absurd cc
+set_alone (Replace attrs old by_it) new is home = absurd cc
+set_alone Delete new is home = absurd cc
+set_alone (Rename a b) new is home = absurd cc
+set_alone (Move a b moved) new is home = absurd cc
+set_alone (Comment place text) new is home = absurd cc
+set_alone (Print fields) new is home = absurd cc
+
+pub adds_argument : (command : Command) (new : Setting) (lines : List ℕ) → set_by command ≡ Some new → lines ≡ argument_lines (new_argument new.attr new.words ∷ []) → AddsArgument command lines
+adds_argument command new lines is lines_are = λ home.
+    let made = set_alone command new is home in
+    record { told = made.0; some = ap is_empty made.1; lines_are = lines_are ∙ ap argument_lines (sym made.1) }
+
+nothing : (xs : List ℕ) → length xs ≡ 0 → xs ≡ []
+nothing [] is = refl
+nothing (x ∷ xs) is = absurd (omega (arith, is))
+
+pub adds_to_none : (depth : ℕ) (command : Command) (home : Package) (lines : List ℕ) (new : List ℕ) → length lines ≡ 0 → AddsArgument command new
+    → (args : List Segment) → lines ≡ argument_lines args → AreReadAlone depth args → ChangesArgs command home args new
+adds_to_none depth command home lines new none adds args lines_are reads = subst (λ xs. ChangesArgs command home xs new) (sym (no_lines args (sym lines_are ∙ nothing lines none))) (adds home)
+
+-- of the small rule, which was read of the lines
+not_nil : (xs : List Segment) (lines : List ℕ) → (lines ≡ [] → ⊥) → lines ≡ argument_lines xs → is_empty xs ≡ false
+not_nil [] lines some is = absurd (some is)
+not_nil (x ∷ xs) lines some is = refl
+
+edits_alone : (depth : ℕ) (command : Command) (attr : List ℕ) (home : Package) (lines text : List ℕ) → one_attribute command ≡ Some attr → text ≡ small_text lines → (first : ℕ) (t : Statement) → IsStatementIn first depth text t
+    → (told : Done) → told ≡ done_of command home (Some t) → (slot : Option Statement) → slot ≡ after command home (Some t)
+    → (edited : EditedArgument) → AreLinesAfter told slot edited → EditsLines depth command home lines edited
+edits_alone depth command attr home lines text one text_is first t read told told_is slot slot_is edited known = by edited known
+  where
+    read_of : (args : List Segment) → lines ≡ argument_lines args → IsStatementIn first depth (small_text (argument_lines args)) t
+    read_of args lines_are = subst (λ bytes. IsStatementIn first depth bytes t) (text_is ∙ ap small_text lines_are) read
+
+    done_is : (args : List Segment) → lines ≡ argument_lines args → AreReadAlone depth args → args_done command home args ≡ told
+    done_is args lines_are reads = let law = local command home attr one in sym (told_is ∙ law.done t ∙ small_told (args_done command home) args t (reads first t (read_of args lines_are)))
+
+    by : (edited : EditedArgument) → AreLinesAfter told slot edited → EditsLines depth command home lines edited
+    by Unchanged known = λ args lines_are reads. done_is args lines_are reads ∙ known
+    by (Lines new) known = λ args lines_are reads.
+        let law = local command home attr one in
+        let new_is : new.items ≡ argument_lines (args_after command home args) =
+        known.2 (with_args (args_after command home) t) (args_after command home args) (slot_is ∙ law.slot t) (small_after (args_after command home) args t (reads first t (read_of args lines_are))) in
+        record { told = done_is args lines_are reads ∙ known.0; some = not_nil (args_after command home args) new.items known.1 new_is; lines_are = new_is }
+
+pub edited_alone : {E : Type 0} (depth : ℕ) (command : Command) (attr : List ℕ) (home : Package) (lines text : List ℕ) → one_attribute command ≡ Some attr → text ≡ small_text lines → (first : ℕ) (t : Statement)
+    → IsStatementIn first depth text t → (told : Done) → told ≡ done_of command home (Some t) → (slot : Option Statement) → slot ≡ after command home (Some t)
+    → (r : Result (Option EditedArgument) E) → IfOk r (λ edited. IfSome edited (AreLinesAfter told slot)) → IfOk r (λ edited. IfSome edited (EditsLines depth command home lines))
+edited_alone depth command attr home lines text one text_is first t read told told_is slot slot_is (Ok (Some edited)) known =
+    edits_alone depth command attr home lines text one text_is first t read told told_is slot slot_is edited known
+edited_alone depth command attr home lines text one text_is first t read told told_is slot slot_is (Ok None) known = tt
+edited_alone depth command attr home lines text one text_is first t read told told_is slot slot_is (Err e) known = known
+
+-- the lines in the text of the small rule
+pub lines_in : (text new : List ℕ) → text ≡ small_text new → take (length (drop 2 text) - 9) (drop 2 text) ≡ new
+lines_in text new is = ap (λ (t : List ℕ). take (length (drop 2 t) - 9) (drop 2 t)) is ∙ ap (λ n. take n (new ++ codes "\n    #\n)\n")) (omega (arith, length-append new (codes "\n    #\n)\n"))) ∙ take-append_seam new (codes "\n    #\n)\n")
+
+-- so of the rule
+told_first : (attr : List ℕ) (g : List Segment → Done) (args : List Segment) → LooksAt attr g → g (option_to_list (first_named attr args)) ≡ g args
+told_first attr g args looks = by (first_named attr args) refl
+  where
+    by : (o : Option Segment) → first_named attr args ≡ o → g (option_to_list (first_named attr args)) ≡ g args
+    by None e = ap (λ o. g (option_to_list o)) e ∙ sym (looks.absent args (none_has attr args e))
+    by (Some a) e = ap (λ o. g (option_to_list o)) e ∙ sym (looks.there args a e)
+
+told_of_rule : (attr : List ℕ) (g : List Segment → Done) (s : Statement) (r : Rule) → rule_of s.nodes ≡ Some r → g (first_args attr s) ≡ g r.args → slot_done g (Some s) ≡ g (first_args attr s)
+told_of_rule attr g s r at told = ap (λ x0. map_or (done None false) (λ r. g r.args) x0) at ∙ sym told
+
+args_told : (command : Command) (attr name : List ℕ) (home : Package) (s : Statement) → one_attribute command ≡ Some attr → HasName (Some name) s → done_of command home (Some s) ≡ args_done command home (first_args attr s)
+args_told command attr name home s one named =
+    let law = local command home attr one in
+    let rule = named_rule s name named in
+    law.done s ∙ told_of_rule attr (args_done command home) s rule.0 rule.1
+    (ap (λ o. args_done command home (option_to_list (first_named attr (rule_args o)))) rule.1 ∙ told_first attr (args_done command home) rule.0.args law.told)
+
+pub argument_stays : (depth : ℕ) (command : Command) (attr name : List ℕ) (home : Package) (s : Statement) (place : Between) → one_attribute command ≡ Some attr → HasName (Some name) s → HasPlace depth attr s place
+    → EditsLines depth command home place.lines Unchanged → Makes command home s s (told_line false None)
+argument_stays depth command attr name home s place one named has stays = stays_by command home s (args_told command attr name home s one named ∙ stays (first_args attr s) has.lines has.reads)
+
+pub argument_changes : (depth : ℕ) (command : Command) (attr name : List ℕ) (home : Package) (s : Statement) (place : Between) (lines : List ℕ) → one_attribute command ≡ Some attr → HasName (Some name) s → HasPlace depth attr s place
+    → ((args : List Segment) → place.lines ≡ argument_lines args → AreReadAlone depth args → ChangesArgs command home args lines)
+    → Makes command home s (with_args (args_after command home) s) (told_line true None) × (layout_text (with_args (args_after command home) s) ≡ place.before ++ (lines ++ place.after))
+argument_changes depth command attr name home s place lines one named has changes =
+    let law = local command home attr one in
+    let made = changes (first_args attr s) has.lines has.reads in (
+      record { after_is = law.slot s; done = args_told command attr name home s one named ∙ made.told },
+      has.takes (args_after command home) law.args made.some ∙ ap (λ (t : List ℕ). place.before ++ (t ++ place.after)) (sym made.lines_are),
+    )

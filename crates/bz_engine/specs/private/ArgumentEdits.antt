@@ -1,0 +1,50 @@
+-- What a command makes of the lines of an argument, for private clauses.
+use Rattle.std.specs.Prelude.{◌≡◌, ℕ, List, [], Bool, false, true, Option, None, Some}
+use Rattle.bz_tree.specs.Tree.{Segment, Statement}
+use Rattle.bz_layout.specs.Layout.{layout_text}
+use Rattle.bz_attribute.specs.declared.done.Done.{Done}
+use Rattle.bz_command.specs.declared.arguments.Setting.TheVariants.{ToValues}
+use Rattle.bz_command.specs.Labels.{Package}
+use Rattle.bz_canonical.specs.Canonical.{AreReadAlone, argument_lines, small_text}
+use Rattle.bz_rule.specs.Commands.{Command, args_after, args_done}
+use Rattle.bz_rule.specs.declared.command.Action.TheVariants.{Set, SetIfAbsent}
+use Rattle.bz_engine.specs.declared.argument.EditedArgument.{EditedArgument}
+use Rattle.bz_engine.specs.declared.argument.EditedArgument.TheVariants.{Unchanged, Lines}
+use Rattle.bz_engine.specs.declared.argument.NewArgument.{NewArgument}
+use Rattle.bz_engine.specs.private.Found.{told_line}
+use Rattle.bz_token.specs.Common.{is_empty}
+
+-- an attribute and its words
+pub record Setting : Type 0 where
+  pub attr : List ℕ
+  pub words : List (List ℕ)
+
+-- the argument that a command adds to a rule that has none of its name
+abbrev pub set_by : Command → Option Setting
+set_by (Set (ToValues attr words)) = Some (record { attr = attr; words = words })
+set_by (SetIfAbsent attr words) = Some (record { attr = attr; words = words })
+set_by _ = None
+
+abbrev pub new_of : NewArgument → Setting
+new_of new = record { attr = new.attr.now; words = new.values.now }
+
+-- The command changes these arguments into some that have these lines.
+pub record ChangesArgs (command : Command) (home : Package) (args : List Segment) (lines : List ℕ) : Type 0 where
+  pub told : args_done command home args ≡ told_line true None
+  pub some : is_empty (args_after command home args) ≡ false
+  pub lines_are : lines ≡ argument_lines (args_after command home args)
+
+-- It adds an argument to those of which none has its name.
+abbrev pub AddsArgument : Command → List ℕ → Type 0
+AddsArgument command lines = (home : Package) → ChangesArgs command home [] lines
+
+-- what the command makes of the arguments that have these lines, and are read of them alone
+abbrev pub EditsLines : ℕ → Command → Package → List ℕ → EditedArgument → Type 0
+EditsLines depth command home lines Unchanged = (args : List Segment) → lines ≡ argument_lines args → AreReadAlone depth args → args_done command home args ≡ told_line false None
+EditsLines depth command home lines (Lines new) = (args : List Segment) → lines ≡ argument_lines args → AreReadAlone depth args → ChangesArgs command home args new.items
+
+-- what stands in the small rule, where this was told
+abbrev pub AreLinesAfter : Done → Option Statement → EditedArgument → Type 0
+AreLinesAfter done slot Unchanged = done ≡ told_line false None
+AreLinesAfter done slot (Lines new) = (done ≡ told_line true None) × (new.items ≡ [] → ⊥)
+    × ((s : Statement) (args : List Segment) → slot ≡ Some s → layout_text s ≡ small_text (argument_lines args) → new.items ≡ argument_lines args)
