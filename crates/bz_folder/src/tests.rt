@@ -8,7 +8,6 @@ use crate::trouble::Trouble;
 use bz_devices::device::{Failed, Sink};
 use bz_devices::output::write_all;
 use bz_devices::std_device::FromRead;
-use bz_memory::NoMemory;
 use std::alloc::Global;
 use std::io::Empty;
 use std::test::Fail;
@@ -116,7 +115,7 @@ fn replaced(
     len: usize,
     answer: Result<bool, Failed>,
     fails: usize,
-) -> Result<(Result<bool, Trouble>, [u8; MOST]), NoMemory> {
+) -> Result<(Result<bool, Trouble>, [u8; MOST]), Fail> {
     let text = vec![in alloc; b'x'; len]?;
     let mut author = Fixed { text, answer };
     let mut draft = Draft::new(alloc, Notes::new(fails))?;
