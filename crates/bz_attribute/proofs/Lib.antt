@@ -24,7 +24,6 @@ pub mod Locals
 pub mod Mapped
 pub mod NameTexts
 pub mod NextArguments
-pub mod NextPart
 pub mod OnlyLists
 pub mod Passed
 pub mod PlaceFound

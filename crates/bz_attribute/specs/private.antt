@@ -2,5 +2,4 @@ pub mod ElementSets
 pub mod Ends
 pub mod HeadParts
 pub mod ListParts
-pub mod NextPart
 pub mod Places

@@ -14,7 +14,6 @@ mod finder;
 mod head;
 mod head_parts;
 mod lists;
-mod make;
 mod next_argument;
 mod place;
 mod row_args;
@@ -35,10 +34,7 @@ pub use elements::{
 pub use env::Env;
 pub use finder::find_argument;
 pub use head::Head;
-pub use lists::{elements_at, first_part, is_attribute, is_list, next_part};
-pub use make::{
-    argument, list, literal, push_argument, push_string, segment, string, strings, token,
-};
+pub use lists::{elements_at, is_attribute, is_list};
 pub use next_argument::next_place;
 pub use place::{Place, all_arguments, new_place, place_of};
 pub use row_args::{Parts, push_stmt, read_arguments};

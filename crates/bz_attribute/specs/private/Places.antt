@@ -1,4 +1,4 @@
--- For private clauses alone: where an argument, a list part and the call of a rule stand, and what becomes of the whole where
+-- For private clauses alone: where an argument and the call of a rule stand, and what becomes of the whole where
 -- they are edited.
 use Rattle.std.specs.Prelude.{◌≡◌, ℕ, ◌<◌, ◌≤◌, List, [], ◌∷◌, length, get_or, set, true, false, remove, Option, Some, None, is_some}
 use Rattle.bz_tree.specs.declared.stmt.Seg.{Seg}
@@ -32,21 +32,3 @@ pub record IsCallAt (nodes : List Node) (i : ℕ) : Type 0 where
   pub put : (f : List Segment → List Segment) (m d : Node) → node_view m ≡ edit_list f (node_view (get_or nodes i d)) → nodes_view (set nodes i m) ≡ nodes_after f (nodes_view nodes) (rule_of (nodes_view nodes))
   pub same : (m d : Node) → node_view m ≡ node_view (get_or nodes i d) → nodes_view (set nodes i m) ≡ nodes_view nodes
   pub read : (g : List Segment → Done) (d : Node) → map_or (done None false) (λ r. g r.args) (rule_of (nodes_view nodes)) ≡ g (elements (node_view (get_or nodes i d)))
-
--- the elements of the first list part
-abbrev pub first_list : List (List Segment) → List Segment
-first_list [] = []
-first_list (ss ∷ lists) = ss
-
--- how many elements stand in the first list part
-abbrev pub first_length : Option Segment → ℕ
-first_length None = 0
-first_length (Some a) = length (first_list (parts (value a)))
-
--- the first list part of a value
-pub record IsFirstPart (value : List Node) (i : ℕ) : Type 0 where
-  pub within : i < length value
-  pub some : is_empty (parts (nodes_view value)) ≡ false
-  pub list : (d : Node) → first_list (parts (nodes_view value)) ≡ elements (node_view (get_or value i d))
-  pub put : (f : List Segment → List Segment) (m d : Node) → node_view m ≡ edit_list f (node_view (get_or value i d)) → nodes_view (set value i m) ≡ edit_first_part f (nodes_view value)
-  pub same : (m d : Node) → node_view m ≡ node_view (get_or value i d) → nodes_view (set value i m) ≡ nodes_view value
