@@ -173,7 +173,7 @@ on_args c home s t tells again once calm h =
 -- no note at all
 no_note : (p : List Segment → Bool) (slot : Option Statement) → fails (slot_done (λ args. done None (p args)) slot).note ≡ false
 no_note p None = refl
-no_note p (Some s) = elim (rule_of s.nodes) as (λ o. fails (map_or (done None false) (λ r. (λ args. done None (p args)) r.args) o).note ≡ false) [ None ↦ refl | Some r ↦ refl ]
+no_note p (Some s) = elim (rule_of s.nodes) as (λ o. fails (map_or (done None false) (λ r. done None (p r.args)) o).note ≡ false) [ None ↦ refl | Some r ↦ refl ]
 
 kind_calm : (kind : List ℕ) (slot : Option Statement) → fails (sets_kind_of kind slot).note ≡ false
 kind_calm kind None = refl

@@ -23,7 +23,7 @@ loop-index-preserved c =
     let read : Ok c.in-Ok.steps.items ≡ line_steps (c.in-Some.index + 1) c.without_return.result.now = c.in-Ok.ensures (λ e. cc) in
     let read_at : Ok c.in-Ok.steps.items ≡ line_steps (n + 1) (strip_carriage_return c.in-Some.line.now) =
     read ∙ ap (λ (i : ℕ). line_steps (i + 1) c.without_return.result.now) now.counted ∙ ap (line_steps (n + 1)) c.without_return.ensures in
-    ap (λ (i : ℕ). steps_at lines c.append.new.self.items i) (length_push c.loop-index.yielded (c.in-Some.index, c.in-Some.line))
+    ap (λ (i : ℕ). steps_at lines c.append.new.list.items i) (length_push c.loop-index.yielded (c.in-Some.index, c.in-Some.line))
     ∙ ap (λ (steps : List Step). steps_at lines steps (n + 1)) c.in_ok-append-in-Ok.ensures.items
     ∙ turn_ok lines c.loop-index.script.items c.in-Ok.steps.items n c.in-Some.line.now now.more now.is read_at
     ∙ c.loop-index.invariant
