@@ -320,9 +320,7 @@ impl Session {
         ensures first { IfOk result (IsFirstNext self.old self.new text.old.items text.new.items) }
     {
         // The lists of the last chunk are given up.
-        if self.bump.reset().is_err() {
-            self.bump = Bump::new(self.alloc);
-        }
+        clear(self.alloc, &mut self.bump);
         let max_statement = self.options.max_statement;
         let script = ScriptRun {
             alloc: self.alloc,
@@ -439,5 +437,13 @@ fn fault_at(fault: ChunkFault, line: u64) -> RunFault
         ChunkFault::ReadFailed => RunFault::ReadFailed,
         ChunkFault::InputTooLong => RunFault::InputTooLong,
         ChunkFault::StatementTooLong => RunFault::StatementTooLong { line },
+    }
+}
+
+/// Gives up what an arena holds.
+fn clear(alloc: Global, bump: &mut Bump) {
+    if bump.reset().is_err() {
+        // Something in it was forgotten and holds it: so another takes its place.
+        *bump = Bump::new(alloc);
     }
 }

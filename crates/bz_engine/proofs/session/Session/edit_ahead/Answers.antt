@@ -5,4 +5,4 @@ use Rattle.bz_engine.proofs.session.Session.edit_ahead.Goals as goal
 
 pub edit_first-requires-clause-lines : goal.edit_first-requires-clause-lines
 edit_first-requires-clause-lines c =
-    lines_ahead _ (subst CanTake (sym (c.if-is_err.self-inside.view_is ∙ ?)) c.requires.ready) c.if-is_err.self-inside.invariant.made c.if-is_err.self-inside.invariant.limit
+    lines_ahead _ (subst CanTake (sym c.self.view_is) c.requires.ready) c.self.invariant.made c.self.invariant.limit
