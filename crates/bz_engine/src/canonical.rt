@@ -18,8 +18,8 @@ ghost use Rattle.bz_engine.specs.private.NextChunks.{IsFirstEdited};
 ghost use Rattle.bz_engine.specs.private.Rows.{HasKey};
 
 use crate::answer::{is_answerable, marks_name, unchanged_by_text};
-use crate::edit::{Edited, ScriptRun, put_gap};
 use crate::argument::{EditedArgument, edit_lines};
+use crate::edit::{Edited, ScriptRun, put_gap};
 use crate::next_chunk::NextChunk;
 use crate::progress::Progress;
 use crate::rule_passes::OnePass;
