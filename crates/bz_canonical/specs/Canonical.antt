@@ -10,7 +10,7 @@ use Rattle.bz_tree.specs.Tree.{Segment, Statement, group, leaf, segs_of}
 use Rattle.bz_layout.specs.declared.broken.Style.TheVariants.{Broken}
 use Rattle.bz_layout.specs.Layout.{broken_segs, layout_text}
 use Rattle.bz_layout.specs.Pieces.{bytes_of}
-use Rattle.bz_canonical.specs.declared.chunk.Place.{Place}
+use Rattle.bz_canonical.specs.declared.chunk.ArgumentPlace.{ArgumentPlace}
 use Rattle.bz_layout_laws.specs.Lineless.{lineless}
 use Rattle.bz_attribute.specs.Effects.{with_args}
 use Rattle.bz_attribute.specs.RowPlaces.{IsLocal}
@@ -68,7 +68,7 @@ pub record Between : Type 0 where
   pub lines : List ℕ
   pub after : List ℕ
 
-abbrev pub between : Place → Between
+abbrev pub between : ArgumentPlace → Between
 between place = record { before = place.before.now; lines = place.lines.now; after = place.after.now }
 
 -- The lines are those of the first argument of this name, or there is none. An edit that looks at it alone changes them alone.

@@ -21,13 +21,13 @@ pub struct CanonicalChunk<'t> {
     /// The name of a rule. None: it is no rule, or has no name.
     pub name: Option<&'t str>,
     /// Where the argument that is asked for stands, or would stand. None: it is not known.
-    pub place: Option<Place<'t>>,
+    pub place: Option<ArgumentPlace<'t>>,
 }
 
 /// The lines of the first argument of a name in the text of a rule. There are none where it has no such argument: then
 /// this is the place after all others.
 #[derive(Clone, Copy)]
-pub struct Place<'t> {
+pub struct ArgumentPlace<'t> {
     pub before: &'t str,
     pub lines: &'t str,
     pub after: &'t str,
@@ -73,7 +73,11 @@ pub fn canonical<'t>(text: &'t str, attr: &str, max_depth: u8) -> Option<Canonic
 }
 
 /// The place of these lines of the text, in what is written of it.
-fn place_in<'t>(text: &'t str, written: &'t str, lines: Option<Lines<'_>>) -> Option<Place<'t>>
+fn place_in<'t>(
+    text: &'t str,
+    written: &'t str,
+    lines: Option<Lines<'_>>,
+) -> Option<ArgumentPlace<'t>>
     ensures { IsPlaceIn text.now written.now (option_map ends_of lines.entry) (option_map between result) }
 {
     let Lines { from, to } = lines?;
@@ -81,7 +85,7 @@ fn place_in<'t>(text: &'t str, written: &'t str, lines: Option<Lines<'_>>) -> Op
     let front = without(text, to.len())?;
     let (_, lines) = front.split_at_checked(before.len())?;
     let (_, after) = written.split_at_checked(front.len())?;
-    Some(Place {
+    Some(ArgumentPlace {
         before,
         lines,
         after,

@@ -18,4 +18,4 @@ mod segments;
 mod statement;
 mod value;
 
-pub use chunk::{CanonicalChunk, Place, canonical};
+pub use chunk::{ArgumentPlace, CanonicalChunk, canonical};

@@ -25,7 +25,7 @@ use crate::progress::Progress;
 use crate::rule_passes::OnePass;
 use crate::rules::Rules;
 use bz_attribute::Env;
-use bz_canonical::{CanonicalChunk, Place, canonical};
+use bz_canonical::{ArgumentPlace, CanonicalChunk, canonical};
 use bz_devices::ahead::Ahead;
 use bz_memory::{NoMemory, extend_from_slice};
 use bz_passes::index::Key;
@@ -219,7 +219,7 @@ fn edit_argument(
 }
 
 /// The place of the argument that the command looks at alone.
-fn place_for<'a>(command: &Command, found: Found<'a>) -> Option<Place<'a>>
+fn place_for<'a>(command: &Command, found: Found<'a>) -> Option<ArgumentPlace<'a>>
     ensures { IfSome result (λ place. (one_attribute command.now ≡ Some found.entry.attr.now)
         × (found.entry.chunk.place ≡ Some place)) }
 {
@@ -291,7 +291,7 @@ fn put_canonical(
 #[derive(Clone, Copy)]
 struct Changed<'t> {
     class: Class,
-    place: Place<'t>,
+    place: ArgumentPlace<'t>,
     lines: &'t [u8],
 }
 

@@ -2,7 +2,7 @@ use Rattle.std.proofs.Common.{ℕ, List, true, ◌++◌, ◌∙◌, sym, ap, sub
 use Rattle.std.specs.Prelude.{Option, None, Some, IfSome, option_map}
 use Rattle.bz_attribute.specs.Effects.{with_args}
 use Rattle.bz_canonical.specs.Canonical.{HasName, HasPlace, between}
-use Rattle.bz_canonical.specs.declared.chunk.Place.{Place}
+use Rattle.bz_canonical.specs.declared.chunk.ArgumentPlace.{ArgumentPlace}
 use Rattle.bz_rule.specs.Commands.{args_after}
 use Rattle.bz_passes.specs.Exchange.{Fits}
 use Rattle.bz_engine.specs.Progress.{Progress}
@@ -35,7 +35,7 @@ returns-in_ok-put_canonical-in-Some-Unchanged-clause-done c = λ done s is.
     let place = c.in-Some.place in
     let marked = c.requires.marked in
     let named : HasName (Some marked.name) s = subst (λ (o : Option (List ℕ)). HasName o s) marked.named is.named in
-    let has : HasPlace depth attr s (between place) = subst (λ (o : Option Place). IfSome (option_map between o) (HasPlace depth attr s)) c.in-Some.ensures.1 is.has in
+    let has : HasPlace depth attr s (between place) = subst (λ (o : Option ArgumentPlace). IfSome (option_map between o) (HasPlace depth attr s)) c.in-Some.ensures.1 is.has in
     let told = subst (EditsLines depth command home place.lines.now) c.in-Some-Unchanged.field-0-is
     (subst (λ (o : Option EditedArgument). IfSome o (EditsLines depth command home place.lines.now)) c.in-Some-Unchanged.is c.in_ok-edit_lines.ensures) in
     let makes = argument_stays depth command attr marked.name home s (between place) c.in-Some.ensures.0 named has told in
@@ -60,7 +60,7 @@ returns-in_ok-put_changed-in-Some-Lines-clause-done c = λ done s is.
     let lines = c.in-Some-Lines.lines in
     let marked = c.requires.marked in
     let named : HasName (Some marked.name) s = subst (λ (o : Option (List ℕ)). HasName o s) marked.named is.named in
-    let has : HasPlace depth attr s (between place) = subst (λ (o : Option Place). IfSome (option_map between o) (HasPlace depth attr s)) c.in-Some.ensures.1 is.has in
+    let has : HasPlace depth attr s (between place) = subst (λ (o : Option ArgumentPlace). IfSome (option_map between o) (HasPlace depth attr s)) c.in-Some.ensures.1 is.has in
     let told = subst (EditsLines depth command home place.lines.now) c.in-Some-Lines.field-0-is
     (subst (λ (o : Option EditedArgument). IfSome o (EditsLines depth command home place.lines.now)) c.in-Some-Lines.is c.in_ok-edit_lines.ensures) in
     let changed = argument_changes depth command attr marked.name home s (between place) lines.items c.in-Some.ensures.0 named has told in
