@@ -6,7 +6,7 @@ use Rattle.std.specs.Str.{IsUtf8, IsCharBoundary}
 use Rattle.std.proofs.lemmas.Bool.{cases_Bool, and_parts, or_left, or_right, ltb-true}
 use Rattle.std.proofs.lemmas.List.{drop-drop, take_more, get_or-drop, length-drop}
 use Rattle.std.proofs.lemmas.Str.{IsCharBoundary-after_ascii, IsCharBoundary-before_ascii}
-use Rattle.bz_command.specs.Values.{escapes, meant, unit_value, is_newline, and_then}
+use Rattle.bz_command.specs.Values.{escapes, meant, unit_value, is_newline}
 use Rattle.bz_command.specs.private.ValueSteps.{first_len, value_in, taken}
 use Rattle.bz_command.proofs.Literals.{taken_is}
 
@@ -32,7 +32,7 @@ after_more : (a b : List ℕ) (o : Option (List ℕ)) → after a (after b o) �
 after_more a b None = refl
 after_more a b (Some v) = ap (λ (x : List ℕ). Some x) (sym (append_assoc a b v))
 
-after_one : (v : ℕ) (o : Option (List ℕ)) → and_then (Some v) o ≡ after (v ∷ []) o
+after_one : (v : ℕ) (o : Option (List ℕ)) → option_map (λ bs. v ∷ bs) o ≡ after (v ∷ []) o
 after_one v None = refl
 after_one v (Some w) = refl
 
@@ -177,7 +177,7 @@ left_in run rest more n fits place is e shorter =
     sym is ∙ ap (drop n) place ∙ drop-drop n (length run - length rest) run ∙ ap (λ k. drop k run) all
 
 -- what one value more says
-one_more : (whole o o' : Option (List ℕ)) (w : List ℕ) (b : ℕ) → after w o ≡ whole → o ≡ and_then (Some b) o' → after (w ++ b ∷ []) o' ≡ whole
+one_more : (whole o o' : Option (List ℕ)) (w : List ℕ) (b : ℕ) → after w o ≡ whole → o ≡ option_map (λ bs. b ∷ bs) o' → after (w ++ b ∷ []) o' ≡ whole
 one_more whole o o' w b h e = sym (after_more w (b ∷ []) o') ∙ ap (after w) (sym (e ∙ after_one b o')) ∙ h
 
 in_run : (run rest : List ℕ) (i : ℕ) → length rest ≤ length run → rest ≡ drop (length run - length rest) run → get_or rest i 0 ≡ get_or run (length run - length rest + i) 0
@@ -197,7 +197,7 @@ after_escape run rest more b utf8 fits place long a =
     boundary_after run (length run - length rest + (length rest - length more - 1)) (length run - length more) utf8 (omega (arith, fits, long)) last (omega (arith, fits, long))
 
 -- an escape is written, and a new run begins after it
-pub past_escape : (raw short : Bool) (whole o o' : Option (List ℕ)) (done new run next rest more : List ℕ) (b : ℕ) → Decoded whole done run rest o → taken raw short rest ≡ Some (b, more) → length more < length rest → o ≡ and_then (Some b) o'
+pub past_escape : (raw short : Bool) (whole o o' : Option (List ℕ)) (done new run next rest more : List ℕ) (b : ℕ) → Decoded whole done run rest o → taken raw short rest ≡ Some (b, more) → length more < length rest → o ≡ option_map (λ bs. b ∷ bs) o'
     → IsUtf8 next → next ≡ drop (length run - length more) run → new ≡ done ++ read run rest ++ b ∷ [] → Decoded whole new next more o'
 past_escape raw short whole o o' done new run next rest more b d e shorter is utf8 from written =
     let taken = taken_is raw short rest more b e in
@@ -214,7 +214,7 @@ past_escape raw short whole o o' done new run next rest more b d e shorter is ut
     })
 
 -- a byte that stands for itself joins the run
-pub past_byte : (raw short : Bool) (whole o o' : Option (List ℕ)) (done run rest more : List ℕ) (b : ℕ) → Decoded whole done run rest o → taken raw short rest ≡ Some (b, more) → length more < length rest → length rest - length more ≤ 1 → o ≡ and_then (Some b) o'
+pub past_byte : (raw short : Bool) (whole o o' : Option (List ℕ)) (done run rest more : List ℕ) (b : ℕ) → Decoded whole done run rest o → taken raw short rest ≡ Some (b, more) → length more < length rest → length rest - length more ≤ 1 → o ≡ option_map (λ bs. b ∷ bs) o'
     → Decoded whole done run more o'
 past_byte raw short whole o o' done run rest more b d e shorter short_ is =
     let taken = taken_is raw short rest more b e in

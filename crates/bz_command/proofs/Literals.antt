@@ -6,21 +6,23 @@ use Rattle.std.proofs.lemmas.Bool.{cases_Bool, and_parts, or_parts, eq-eqb, ne_e
 use Rattle.std.proofs.lemmas.List.{take_all, take_at, get_or_at, length-append}
 use Rattle.std.proofs.Math.Bool.{and_assoc}
 use Rattle.std.proofs.lemmas.Slice.Eq.{bytes_eq-Decides}
+use Rattle.bz_token.specs.Groups.{grouped_from}
 use Rattle.bz_token.specs.Pieces.{is_quote}
-use Rattle.bz_command.specs.Values.{is_plain, IsQuoted, IsPlain, grouped_from, takes, units, content, is_newline, unit_value, and_then, prefix_of, inner_of, value_of, values}
+use Rattle.bz_token.proofs.CutStrings.{grouped_joins, grouped_apart}
+use Rattle.bz_command.specs.Values.{is_plain, IsQuoted, IsPlain, takes, units, content, is_newline, unit_value, prefix_of, inner_of, value_of, values}
 use Rattle.bz_command.specs.private.ValueSteps.{plain_too, first_len, is_value, inner_value, value_in, taken, opened_value}
 
 -- nothing more joins a group
 apart : (g xs : List ℕ) → ((x : ℕ) → takes g x ≡ false) → grouped_from takes g xs ≡ g ∷ units xs
 apart g [] h = refl
-apart g (x ∷ xs) h = rw (h x) refl
+apart g (x ∷ xs) h = grouped_apart takes g x xs (h x)
 
 -- the next byte does not join a group
 apart_at : (g : List ℕ) (x : ℕ) (xs : List ℕ) → takes g x ≡ false → grouped_from takes g (x ∷ xs) ≡ g ∷ units (x ∷ xs)
-apart_at g x xs h = rw h refl
+apart_at g x xs h = grouped_apart takes g x xs h
 
 joins_at : (g : List ℕ) (x : ℕ) (xs : List ℕ) → takes g x ≡ true → grouped_from takes g (x ∷ xs) ≡ grouped_from takes (g ++ x ∷ []) xs
-joins_at g x xs h = rw h refl
+joins_at g x xs h = grouped_joins takes g x xs h
 
 -- an escape of two bytes takes no third
 escape_apart : (c d : ℕ) → c == 13 && d == 10 ≡ false → takes (92 ∷ c ∷ []) d ≡ false
@@ -48,7 +50,7 @@ escape_first c d bs = elim (cases_Bool (c == 13 && d == 10)) [
       let e : c ≡ 13 = eqb-true c 13 parts.0 in
       let f : d ≡ 10 = eqb-true d 10 parts.1 in
       rw (e, f) (apart (92 ∷ 13 ∷ 10 ∷ []) bs (λ x. refl))
-  | inr other ↦ rw (escape_apart c d other, other) refl
+  | inr other ↦ rw other (apart_at (92 ∷ c ∷ []) d bs (escape_apart c d other))
 ]
 
 pair_first : (b c : ℕ) → b == 92 || b == 13 && c == 10 ≡ true → takes (b ∷ []) c ≡ true
@@ -63,8 +65,8 @@ pair_first b c h = elim (cases_Bool (b == 92)) [
 pub units_first : (b : ℕ) (bs : List ℕ) → IsFirst (b ∷ bs)
 units_first b [] = refl
 units_first b (c ∷ []) = elim (cases_Bool (b == 92 || b == 13 && c == 10)) [
-  | inl is ↦ rw (pair_first b c is, is) refl
-  | inr other ↦ let parts = or_parts (b == 92) (b == 13 && c == 10) other in rw (byte_apart b c parts.0 parts.1, other) refl
+  | inl is ↦ rw is (joins_at (b ∷ []) c [] (pair_first b c is))
+  | inr other ↦ let parts = or_parts (b == 92) (b == 13 && c == 10) other in rw other (apart_at (b ∷ []) c [] (byte_apart b c parts.0 parts.1))
 ]
 units_first b (c ∷ d ∷ bs) = elim (cases_Bool (b == 92)) [
   | inl is ↦ let e : b ≡ 92 = eqb-true b 92 is in rw e (escape_first c d bs)
@@ -74,7 +76,7 @@ units_first b (c ∷ d ∷ bs) = elim (cases_Bool (b == 92)) [
         let e : b ≡ 13 = eqb-true b 13 parts.0 in
         let f : c ≡ 10 = eqb-true c 10 parts.1 in
         rw (e, f) refl
-    | inr single ↦ rw (byte_apart b c other single, other, single) refl
+    | inr single ↦ rw (other, single) (apart_at (b ∷ []) c (d ∷ bs) (byte_apart b c other single))
   ]
 ]
 
@@ -103,13 +105,13 @@ content_first quotes b bs =
     ap (content quotes) (units_first b bs)
     ∙ content_of quotes (b ∷ bs) (take (first_len (b ∷ bs)) (b ∷ bs)) (units (drop (first_len (b ∷ bs)) (b ∷ bs))) (ap concat (sym (units_first b bs)) ∙ units_joined (b ∷ bs))
 
-values_more : (raw : Bool) (u : List ℕ) (o : Option (List (List ℕ))) → option_and_then (values raw) (option_map (λ inner. u ∷ inner) o) ≡ and_then (unit_value raw u) (option_and_then (values raw) o)
-values_more raw u None = elim (unit_value raw u) as (λ v. None ≡ and_then v None) [ None ↦ refl | Some b ↦ refl ]
+values_more : (raw : Bool) (u : List ℕ) (o : Option (List (List ℕ))) → option_and_then (values raw) (option_map (λ inner. u ∷ inner) o) ≡ option_and_then (λ b. option_map (λ bs. b ∷ bs) (option_and_then (values raw) o)) (unit_value raw u)
+values_more raw u None = elim (unit_value raw u) as (λ v. None ≡ option_and_then (λ b. option_map (λ bs. b ∷ bs) None) v) [ None ↦ refl | Some b ↦ refl ]
 values_more raw u (Some us) = refl
 
 -- a step over the first unit
 pub step : (raw : Bool) (quotes rest : List ℕ) → 0 < length rest → starts_with nat_eq rest quotes ≡ false
-    → inner_value raw quotes rest ≡ and_then (value_in raw (length quotes == 1) (take (first_len rest) rest)) (inner_value raw quotes (drop (first_len rest) rest))
+    → inner_value raw quotes rest ≡ option_and_then (λ b. option_map (λ bs. b ∷ bs) (inner_value raw quotes (drop (first_len rest) rest))) (value_in raw (length quotes == 1) (take (first_len rest) rest))
 step raw quotes [] some h = absurd (omega arith)
 step raw quotes (b ∷ bs) some h =
     let u : List ℕ = take (first_len (b ∷ bs)) (b ∷ bs) in
@@ -152,7 +154,7 @@ faulty raw quotes (b ∷ bs) h none =
     ∙ nothing (value_in raw (length quotes == 1) (take (first_len (b ∷ bs)) (b ∷ bs))) (drop (first_len (b ∷ bs)) (b ∷ bs)) (inner_value raw quotes (drop (first_len (b ∷ bs)) (b ∷ bs))) none
     ∙ rw (differ, more) refl
   where
-    nothing : (x : Option ℕ) (rest : List ℕ) (o : Option (List ℕ)) → option_map {U = ℕ × List ℕ} (λ b. (b, rest)) x ≡ None → and_then x o ≡ None
+    nothing : (x : Option ℕ) (rest : List ℕ) (o : Option (List ℕ)) → option_map {U = ℕ × List ℕ} (λ b. (b, rest)) x ≡ None → option_and_then (λ b. option_map (λ bs. b ∷ bs) o) x ≡ None
     nothing None rest o e = refl
     nothing (Some b) rest o e = absurd (cc)
 
@@ -164,22 +166,22 @@ taken_is raw short rest after b h = parts (value_in raw short (take (first_len r
     parts None rest e = absurd (cc)
     parts (Some c) rest e = let same : (c, rest) ≡ (b, after) = cc in (ap (λ (p : ℕ × List ℕ). Some p.0) same, ap (λ (p : ℕ × List ℕ). p.1) same)
 
-pub past : (raw : Bool) (quotes rest after : List ℕ) (b : ℕ) → starts_with nat_eq rest quotes ≡ false → 0 < length rest → taken raw (length quotes == 1) rest ≡ Some (b, after) → inner_value raw quotes rest ≡ and_then (Some b) (inner_value raw quotes after)
+pub past : (raw : Bool) (quotes rest after : List ℕ) (b : ℕ) → starts_with nat_eq rest quotes ≡ false → 0 < length rest → taken raw (length quotes == 1) rest ≡ Some (b, after) → inner_value raw quotes rest ≡ option_map (λ bs. b ∷ bs) (inner_value raw quotes after)
 past raw quotes rest after b h some e =
     let is = taken_is raw (length quotes == 1) rest after b e in
     step raw quotes rest some h
-    ∙ ap₂ (λ (x : Option ℕ) (bs : List ℕ). and_then x (inner_value raw quotes bs)) is.0 is.1
+    ∙ ap₂ (λ (x : Option ℕ) (bs : List ℕ). option_and_then (λ b. option_map (λ bs. b ∷ bs) (inner_value raw quotes bs)) x) is.0 is.1
 
-value_more : (v : List ℕ) (b c : ℕ) (o : Option (List ℕ)) → is_value (b ∷ v) (and_then (Some c) o) ≡ (b == c) && is_value v o
+value_more : (v : List ℕ) (b c : ℕ) (o : Option (List ℕ)) → is_value (b ∷ v) (option_map (λ bs. c ∷ bs) o) ≡ (b == c) && is_value v o
 value_more v b c None = elim (b == c) as (λ t. false ≡ (t && false)) [ true ↦ refl | false ↦ refl ]
 value_more v b c (Some w) = refl
 
 -- the first byte of a value is that of the first unit, and the rest goes on
-pub value_same : (v rest : List ℕ) (b : ℕ) (o : Option (List ℕ)) → bytes_eq (take 1 v) (b ∷ []) ≡ true → rest ≡ drop 1 v → is_value rest o ≡ is_value v (and_then (Some b) o)
+pub value_same : (v rest : List ℕ) (b : ℕ) (o : Option (List ℕ)) → bytes_eq (take 1 v) (b ∷ []) ≡ true → rest ≡ drop 1 v → is_value rest o ≡ is_value v (option_map (λ bs. b ∷ bs) o)
 value_same [] rest b o same e = absurd (cc)
 value_same (c ∷ v) rest b o same e = ap (λ (w : List ℕ). is_value w o) e ∙ sym (value_more v c b o ∙ rw ((and_parts (c == b) true same).0) refl)
 
-pub value_differs : (v : List ℕ) (b : ℕ) (o : Option (List ℕ)) → bytes_eq (take 1 v) (b ∷ []) ≡ false → is_value v (and_then (Some b) o) ≡ false
+pub value_differs : (v : List ℕ) (b : ℕ) (o : Option (List ℕ)) → bytes_eq (take 1 v) (b ∷ []) ≡ false → is_value v (option_map (λ bs. b ∷ bs) o) ≡ false
 value_differs [] b None h = refl
 value_differs [] b (Some w) h = refl
 value_differs (c ∷ v) b o h = elim (cases_Bool (c == b)) [
@@ -240,7 +242,7 @@ one_alone b (c ∷ []) h k = rw (h, k) refl
 one_alone b (c ∷ d ∷ bs) h k = rw (h, k) refl
 
 -- a byte that stands for itself is the first of the value
-plain_first : (raw : Bool) (q b : ℕ) (bs : List ℕ) → is_plain q b ≡ true → inner_value raw (q ∷ []) (b ∷ bs) ≡ and_then (Some b) (inner_value raw (q ∷ []) bs)
+plain_first : (raw : Bool) (q b : ℕ) (bs : List ℕ) → is_plain q b ≡ true → inner_value raw (q ∷ []) (b ∷ bs) ≡ option_map (λ bs. b ∷ bs) (inner_value raw (q ∷ []) bs)
 plain_first raw q b bs h =
     let quote = and_parts (not (q == b)) (not (b == 92) && (not (b == 13) && not (b == 10))) h in
     let escape = and_parts (not (b == 92)) (not (b == 13) && not (b == 10)) quote.1 in
@@ -263,7 +265,7 @@ plain_value raw q [] h =
     shut raw (q ∷ []) (q ∷ []) shut_ ∙ rw (eq-eqb q) refl
 plain_value raw q (b ∷ bs) h =
     let both = and_parts (is_plain q b) (list_all (is_plain q) bs) h in
-    plain_first raw q b (bs ++ q ∷ []) both.0 ∙ ap (and_then (Some b)) (plain_value raw q bs both.1)
+    plain_first raw q b (bs ++ q ∷ []) both.0 ∙ ap (option_map (λ bs. b ∷ bs)) (plain_value raw q bs both.1)
 
 -- the closing quote of a plain value and what stands before it are no two quotes
 not_twice : (q : ℕ) (value : List ℕ) → list_all (is_plain q) value ≡ true → starts_with nat_eq (value ++ q ∷ []) (q ∷ q ∷ []) ≡ false

@@ -112,8 +112,6 @@ IsRead (Line line) = line < 2 ^ 64
 
 -- a target that is to mark something
 abbrev pub must_mark : Target → Bool
-must_mark (Name name) = true
-must_mark Pkg = true
 must_mark All = false
 must_mark (Kind kind) = false
-must_mark (Line line) = true
+must_mark _ = true

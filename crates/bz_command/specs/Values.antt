@@ -4,12 +4,8 @@ use Rattle.std.specs.List.{before_first, starts_with, list_any, list_all, flat_m
 use Rattle.bz_token.specs.declared.token.Kind.{Kind}
 use Rattle.bz_token.specs.declared.token.Kind.TheVariants.{String}
 use Rattle.bz_token.specs.declared.token.Token.{Token}
+use Rattle.bz_token.specs.Groups.{grouped}
 use Rattle.bz_token.specs.Pieces.{is_quote}
-
--- A list in groups: an element joins the group before it where the test holds of both.
-abbrev pub grouped_from : (List ℕ → ℕ → Bool) → List ℕ → List ℕ → List (List ℕ)
-grouped_from joins group [] = group ∷ []
-grouped_from joins group (x ∷ xs) = if joins group x then grouped_from joins (group ++ x ∷ []) xs else group ∷ grouped_from joins (x ∷ []) xs
 
 -- What stands between a literal's quotes is units. An escape is one: a backslash takes the byte after it, and a carriage
 -- return also the newline after that. A carriage return and a newline are one. Any other byte is one.
@@ -17,8 +13,7 @@ abbrev pub takes : List ℕ → ℕ → Bool
 takes unit b = bytes_eq unit (92 ∷ []) || (bytes_eq unit (92 ∷ 13 ∷ []) || bytes_eq unit (13 ∷ [])) && b == 10
 
 abbrev pub units : List ℕ → List (List ℕ)
-units [] = []
-units (b ∷ bs) = grouped_from takes (b ∷ []) bs
+units bytes = grouped takes bytes
 
 -- a newline that no backslash escapes
 abbrev pub is_newline : List ℕ → Bool
@@ -67,13 +62,10 @@ unit_value raw (b ∷ []) = if b == 92 then None else Some b
 unit_value raw (b ∷ c ∷ []) = if b == 92 then (if raw then None else meant c escapes) else Some c
 unit_value raw (b ∷ c ∷ d ∷ bs) = None
 
-abbrev pub and_then : Option ℕ → Option (List ℕ) → Option (List ℕ)
-and_then None rest = None
-and_then (Some b) rest = option_map (λ bs. b ∷ bs) rest
-
+-- each unit has one
 abbrev pub values : Bool → List (List ℕ) → Option (List ℕ)
 values raw [] = Some []
-values raw (u ∷ us) = and_then (unit_value raw u) (values raw us)
+values raw (u ∷ us) = option_and_then (λ b. option_map (λ bs. b ∷ bs) (values raw us)) (unit_value raw u)
 
 -- The value of a text. One that is no whole literal has none, and no bytes literal has one.
 abbrev pub value_of : List ℕ → Option (List ℕ)

@@ -1,6 +1,6 @@
 //! A string literal, opened and read byte by byte: the one reader of its escapes.
 
-ghost use Rattle.std.specs.Prelude.{◌≡◌, ◌<◌, ◌++◌, ℕ, List, MatchOption, IfSome, IfNone, Some, length, take, option_map, true};
+ghost use Rattle.std.specs.Prelude.{◌≡◌, ◌<◌, ◌++◌, ◌∷◌, ℕ, List, MatchOption, IfSome, IfNone, Some, length, take, option_map, true};
 ghost use Rattle.std.specs.List.{fold};
 ghost use Rattle.bz_command.specs.Values as spec;
 ghost use Rattle.bz_command.specs.Values.{is_plain, IsQuoted, IsPlain};
@@ -47,7 +47,7 @@ fn open_quotes(raw: bool, literal: &[u8]) -> Option<Literal<'_>>
 /// The next byte of the value and what is left after it; `None` at the closing quotes, or where there is no value.
 pub(crate) fn next_in<'a>(literal: Literal<'a>) -> Option<(u8, Literal<'a>)>
     ensures next { MatchOption result (inner_of literal.entry ≡ ended literal.entry)
-        (λ p. inner_of literal.entry ≡ spec.and_then (Some p.0) (inner_of p.1)) }
+        (λ p. inner_of literal.entry ≡ option_map (λ bs. p.0 ∷ bs) (inner_of p.1)) }
     ensures unit { IfSome result (λ p. taken_of literal.entry ≡ Some (p.0, p.1.rest.now)) }
     ensures quotes { IfSome result (λ p. p.1.quotes ≡ literal.entry.quotes) }
     ensures shorter { IfSome result (λ p. length p.1.rest.now < length literal.entry.rest.now) }

@@ -1,5 +1,5 @@
 -- For private clauses alone: a literal read unit by unit.
-use Rattle.std.specs.Prelude.{ℕ, ◌==◌, List, [], ◌∷◌, Bool, false, not, ◌&&◌, ◌||◌, if◌then◌else◌, Option, Some, None, bytes_eq, drop, take, option_map, option_and_then}
+use Rattle.std.specs.Prelude.{ℕ, ◌==◌, List, [], ◌∷◌, Bool, false, ◌&&◌, ◌||◌, if◌then◌else◌, Option, Some, None, bytes_eq, drop, take, option_map, option_and_then}
 use Rattle.bz_token.specs.Pieces.{is_quote}
 use Rattle.bz_command.specs.Values.{is_plain, units, content, unit_value, is_newline, inner_of, values}
 
