@@ -1,15 +1,13 @@
 -- The call of a rule, at the end of the nodes.
-use Rattle.std.proofs.Common.{◌≡◌, ℕ, ◌+◌, ◌-◌, ◌≤◌, List, [], ◌∷◌, ◌++◌, true, false, length, get_or, take, refl, ap, sym, ◌∙◌, arith, Some, None, append_assoc, append-nil}
+use Rattle.std.proofs.Common.{◌≡◌, ℕ, ◌+◌, ◌-◌, ◌≤◌, List, [], ◌∷◌, ◌++◌, true, false, length, get_or, take, refl, ap, sym, ◌∙◌, arith, Some, None, append_assoc, append-nil, Bool}
 use Rattle.std.proofs.lemmas.List.{take_more, take_all, map-append}
-use Rattle.std.proofs.lemmas.Bool.{and_right}
 use Rattle.bz_tree.specs.declared.stmt.Node.{Node, Group}
 use Rattle.bz_tree.specs.declared.stmt.GroupKind.TheVariants.{RuleCall}
-use Rattle.bz_tree.specs.Tree.{Item, group, segs_of}
+use Rattle.bz_tree.specs.Tree.{Item, leaf, group, segs_of}
 use Rattle.bz_attribute.proofs.Views.{segments_of, view_of_group}
 use Rattle.bz_tree.specs.View.{node_view, nodes_view, segs_view, texts}
 use Rattle.bz_tree.specs.declared.stmt.Group.{Group as GroupValue, out-Group}
-use Rattle.bz_attribute.specs.RuleViews.{IsCall}
-use Rattle.bz_attribute.specs.Rules.{rule_of, rule_from, call_at, is_call, dotted, elements, comma_of, end_of}
+use Rattle.bz_attribute.specs.Rules.{rule_of, rule_from, call_at, dotted}
 
 rule_from_more : (kind : List Item) (y : Item) (ys : List Item) (x : Item) → rule_from kind (y ∷ (ys ++ x ∷ [])) ≡ rule_from (kind ++ y ∷ []) (ys ++ x ∷ [])
 rule_from_more kind y [] x = refl
@@ -29,34 +27,40 @@ views_split ns d i h = ap nodes_view (last_split ns d i h) ∙ map-append node_v
 pub rule_at : (ns : List Node) (d : Node) (i : ℕ) → i + 1 ≡ length ns → rule_of (nodes_view ns) ≡ call_at (nodes_view (take i ns)) (node_view (get_or ns i d))
 rule_at ns d i h = ap rule_of (views_split ns d i h) ∙ rule_from_end [] (nodes_view (take i ns)) (node_view (get_or ns i d))
 
-pub no_call : (kind : List Item) (x : Item) → is_call x ≡ false → call_at kind x ≡ None
-no_call kind x a = rw a refl
+-- the call of a rule
+abbrev pub is_rule_call : Item → Bool
+is_rule_call (group RuleCall segs one_comma end) = true
+is_rule_call _ = false
+
+pub no_call : (kind : List Item) (x : Item) → is_rule_call x ≡ false → call_at kind x ≡ None
+no_call kind (leaf k text) h = refl
+no_call kind (group RuleCall segs one_comma end) h = absurd cc
+no_call kind (group _ segs one_comma end) h = refl
 
 pub no_dots : (kind : List Item) (x : Item) → dotted true kind ≡ false → call_at kind x ≡ None
-no_dots kind x a = rw (and_right (is_call x) (dotted true kind) a) refl
+no_dots kind (leaf k text) h = refl
+no_dots kind (group RuleCall segs one_comma end) h = rw h refl
+no_dots kind (group _ segs one_comma end) h = refl
+
+-- the call that a group is
+abbrev call_of : GroupValue → Item
+call_of g = group RuleCall (segs_of (segs_view (out-Group g).segs.items)) (out-Group g).one_comma (texts (out-Group g).end.items)
 
 -- a call after a kind is a rule
-pub a_rule : (kind : List Item) (x : Item) (g : GroupValue) → IsCall x g → dotted true kind ≡ true
+pub a_rule : (kind : List Item) (x : Item) (g : GroupValue) → x ≡ call_of g → dotted true kind ≡ true
     → call_at kind x ≡ Some (record { kind = kind; args = segs_view (out-Group g).segs.items; one_comma = (out-Group g).one_comma; end = texts (out-Group g).end.items })
-a_rule kind x g call dots = rw (call.is, dots, call.args, call.comma, call.end) refl
+a_rule kind x g is dots = ap (call_at kind) is ∙ rw (dots, segments_of (segs_view (out-Group g).segs.items)) refl
 
 pub rule_last : (ns : List Node) (x : Node) → 1 ≤ length ns → x ≡ get_or ns (length ns - 1) x → rule_of (nodes_view ns) ≡ call_at (nodes_view (take (length ns - 1) ns)) (node_view x)
 rule_last ns x some is =
     rule_at ns x (length ns - 1) (omega arith) ∙ ap (λ (z : Node). call_at (nodes_view (take (length ns - 1) ns)) (node_view z)) (sym is)
 
 -- a group whose kind is that of a rule's call
-pub group_call : (x : Node) (g : GroupValue) → x ≡ Group g → (out-Group g).kind ≡ RuleCall → IsCall (node_view x) g
-group_call x g is kind =
-    let seen : node_view x ≡ group RuleCall (segs_of (segs_view (out-Group g).segs.items)) (out-Group g).one_comma (texts (out-Group g).end.items) = ap node_view is ∙ view_of_group g ∙ rw kind refl in
-    record {
-      is = ap is_call seen;
-      args = ap elements seen ∙ segments_of (segs_view (out-Group g).segs.items);
-      comma = ap comma_of seen;
-      end = ap end_of seen;
-    }
+pub group_call : (x : Node) (g : GroupValue) → x ≡ Group g → (out-Group g).kind ≡ RuleCall → node_view x ≡ call_of g
+group_call x g is kind = ap node_view is ∙ view_of_group g ∙ rw kind refl
 
 -- what the last node and the nodes before it say of all
-pub rule_without_call : (ns : List Node) (x : Node) → 1 ≤ length ns → x ≡ get_or ns (length ns - 1) x → is_call (node_view x) ≡ false → rule_of (nodes_view ns) ≡ None
+pub rule_without_call : (ns : List Node) (x : Node) → 1 ≤ length ns → x ≡ get_or ns (length ns - 1) x → is_rule_call (node_view x) ≡ false → rule_of (nodes_view ns) ≡ None
 rule_without_call ns x some is none = rule_last ns x some is ∙ no_call (nodes_view (take (length ns - 1) ns)) (node_view x) none
 
 pub rule_without_dots : (ns : List Node) (x : Node) → 1 ≤ length ns → x ≡ get_or ns (length ns - 1) x → dotted true (nodes_view (take (length ns - 1) ns)) ≡ false → rule_of (nodes_view ns) ≡ None

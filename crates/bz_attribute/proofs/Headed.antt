@@ -10,9 +10,9 @@ use Rattle.bz_tree.specs.declared.stmt.Class.TheVariants.{Rule as RuleClass, Blo
 use Rattle.bz_tree.specs.Tree.{Item, leaf, group, Segs, Statement, items_of, segments, segs_of}
 use Rattle.bz_tree.specs.Statement.{class_of, is_assign_operator, is_rule, is_rule_after, is_kept, is_load_word, is_call as is_call_kind, is_assign}
 use Rattle.bz_tree.specs.Rows.{RowPart, opening, closing, above, beside_part, item_parts, items_parts, segs_parts, parts_of}
-use Rattle.bz_attribute.specs.Rules.{Rule, rule_of, call_at, kind_text, dotted, is_call}
+use Rattle.bz_attribute.specs.Rules.{Rule, rule_of, call_at, kind_text, dotted}
 use Rattle.bz_attribute.specs.private.HeadParts.{after_comments, after_tokens, token_texts, in_call, IsInCall}
-use Rattle.bz_attribute.proofs.Calls.{rule_from_end, no_call}
+use Rattle.bz_attribute.proofs.Calls.{rule_from_end, no_call, is_rule_call}
 use Rattle.bz_attribute.proofs.RuleNodes.{rule_nodes, segs_back}
 use Rattle.bz_attribute.proofs.RuleParts.{rule_dotted, with_last}
 use Rattle.bz_token.specs.Common.{is_empty}
@@ -158,7 +158,7 @@ opened : (k : GroupKind) (rest qs : List RowPart) → in_call (opening k ∷ res
 opened RuleCall rest qs h = (refl, cc)
 opened _ rest qs h = absurd cc
 
-unopened : (k : GroupKind) (rest : List RowPart) (segs : Segs) (one_comma : Bool) (end : List (List ℕ)) → in_call (opening k ∷ rest) ≡ None → is_call (group k segs one_comma end) ≡ false
+unopened : (k : GroupKind) (rest : List RowPart) (segs : Segs) (one_comma : Bool) (end : List (List ℕ)) → in_call (opening k ∷ rest) ≡ None → is_rule_call (group k segs one_comma end) ≡ false
 unopened RuleCall rest segs one_comma end h = absurd cc
 unopened _ rest segs one_comma end h = refl
 

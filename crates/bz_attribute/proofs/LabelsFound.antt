@@ -1,6 +1,6 @@
 -- The labels of elements, found one by one.
 use Rattle.std.proofs.Common.{◌≡◌, ℕ, List, [], ◌∷◌, Bool, true, false, ◌&&◌, ◌||◌, if◌then◌else◌, Option, Some, None, drop, refl, ap, sym, ◌∙◌, option_and_then}
-use Rattle.std.specs.List.{list_any}
+use Rattle.std.specs.List.{list_any, flat_map}
 use Rattle.std.proofs.lemmas.List.Folds.{list_any-append}
 use Rattle.bz_tree.specs.Rows.{RowPart}
 use Rattle.bz_tree.specs.Tree.{Segment}
@@ -12,7 +12,6 @@ use Rattle.bz_command.specs.declared.label_set.LabelSet.{LabelSet}
 use Rattle.bz_attribute.specs.Effects.{is_chosen}
 use Rattle.bz_attribute.specs.Elements.{AreListsAt, IsNextElement, ListRest, elements_left, rest_parts}
 use Rattle.bz_attribute.specs.Lists.{same}
-use Rattle.bz_attribute.specs.Move.{joined}
 use Rattle.bz_attribute.specs.Rules.{string_value}
 use Rattle.bz_attribute.specs.private.ElementSets.{HaveLabels, chooses, is_among, is_in, kept}
 use Rattle.bz_attribute.proofs.LabelSets.{or_false, or_swap, same_back}
@@ -89,15 +88,15 @@ all_labelled home choice ps from at set l after have none read text =
     ap (λ (ss : List Segment). is_among home choice ss text || has set text) (sym (none h.left after h.read)) ∙ h.same text
 
 -- of all lists
-in_joined : (home : Package) (choice : Moved) (lists : List (List Segment)) (text : List ℕ) → is_among home choice (joined lists) text ≡ is_in home choice lists text
+in_joined : (home : Package) (choice : Moved) (lists : List (List Segment)) (text : List ℕ) → is_among home choice (flat_map (λ ss. ss) lists) text ≡ is_in home choice lists text
 in_joined home choice [] text = refl
 in_joined home choice (ss ∷ lists) text =
-    list_any-append (λ s. is_chosen home choice s && is_chosen home (Values (text ∷ [])) s) ss (joined lists) ∙ ap (λ (b : Bool). is_among home choice ss text || b) (in_joined home choice lists text)
+    list_any-append (λ s. is_chosen home choice s && is_chosen home (Values (text ∷ [])) s) ss (flat_map (λ ss. ss) lists) ∙ ap (λ (b : Bool). is_among home choice ss text || b) (in_joined home choice lists text)
 
 pub lists_labelled : (home : Package) (choice : Moved) (ps : List RowPart) (from : ℕ) (set : LabelSet) → ((l : ListRest) (after : List RowPart) → drop from ps ≡ rest_parts l after → (text : List ℕ) → has set text ≡ is_among home choice (elements_left l) text)
     → (lists : List (List Segment)) → AreListsAt ps from lists → (text : List ℕ) → has set text ≡ is_in home choice lists text
 lists_labelled home choice ps from set have lists are text =
-    have are.rest are.after are.read text ∙ ap (λ (ls : List (List Segment)). is_among home choice (joined ls) text) (sym are.are) ∙ in_joined home choice lists text
+    have are.rest are.after are.read text ∙ ap (λ (ls : List (List Segment)). is_among home choice (flat_map (λ ss. ss) ls) text) (sym are.are) ∙ in_joined home choice lists text
 
 pub no_lists : (home : Package) (choice : Moved) (set : LabelSet) (lists : List (List Segment)) → lists ≡ [] → ((text : List ℕ) → has set text ≡ false) → (text : List ℕ) → has set text ≡ is_in home choice lists text
 no_lists home choice set lists none empty text = empty text ∙ ap (λ (ls : List (List Segment)). is_in home choice ls text) (sym none)

@@ -7,7 +7,7 @@ use Rattle.std.specs.Prelude.{codes}
 use Rattle.bz_tree.specs.declared.stmt.GroupKind.{GroupKind}
 use Rattle.bz_tree.specs.Tree.{Item, leaf, group, Segment, Statement, items_of, segs_of}
 use Rattle.bz_tree.specs.Rows.{RowPart, a_token, opening, closing, segment_end, above, beside_part, items_parts, segs_parts}
-use Rattle.bz_token.specs.declared.token.Kind.TheVariants.{Identifier, Operator}
+use Rattle.bz_token.specs.declared.token.Kind.TheVariants.{Identifier, Operator, String}
 use Rattle.bz_attribute.specs.Elements.{IsElementOf, IsValueAt, ListRest, rest_parts, value_parts}
 use Rattle.bz_attribute.specs.Effects.{edit_first, with_args, nodes_after, nodes_of}
 use Rattle.bz_attribute.specs.Finder.{find_from}
@@ -89,8 +89,10 @@ text_told : (xs : List Item) (qs : List RowPart) → string_in (items_parts (ite
 text_told [] [] = refl
 text_told [] (q ∷ qs) = elim (is_end q) as (λ b. (if◌then◌else◌ {A = Option (List ℕ)} b None None) ≡ None) [ true ↦ refl | false ↦ refl ]
 text_told (leaf kind text ∷ []) qs = refl
-text_told (leaf kind text ∷ leaf k t ∷ xs) qs = refl
-text_told (leaf kind text ∷ group k segs one_comma end ∷ xs) qs = refl
+text_told (leaf String text ∷ leaf k t ∷ xs) qs = refl
+text_told (leaf _ text ∷ leaf k t ∷ xs) qs = refl
+text_told (leaf String text ∷ group k segs one_comma end ∷ xs) qs = refl
+text_told (leaf _ text ∷ group k segs one_comma end ∷ xs) qs = refl
 text_told (group kind segs one_comma end ∷ []) qs = no_text kind _
 text_told (group kind segs one_comma end ∷ y ∷ xs) qs = no_text kind _
 

@@ -3,7 +3,7 @@ use Rattle.std.proofs.Common.{◌≡◌, ℕ, List, [], ◌∷◌, ◌++◌, Boo
 use Rattle.std.specs.Prelude.{codes}
 use Rattle.std.proofs.lemmas.Bool.{false≢true, and_parts}
 use Rattle.std.proofs.lemmas.Slice.Eq.{bytes_eq-Decides}
-use Rattle.bz_token.specs.declared.token.Kind.TheVariants.{Identifier, Operator}
+use Rattle.bz_token.specs.declared.token.Kind.TheVariants.{Identifier, Operator, String}
 use Rattle.bz_tree.specs.Tree.{Item, leaf, group, Statement, items_of}
 use Rattle.bz_tree.specs.Rows.{RowPart, a_token, opening, closing, above, segment_end, items_parts, segs_parts}
 use Rattle.bz_attribute.specs.Rules.{Rule, rule_of, is_text, ident_of, is_operator_item, name_of, name_in, only_text, string_value, value}
@@ -56,8 +56,10 @@ no_string p qs h = no_text (a_token Identifier (codes "name")) (a_token Operator
 value_read : (value : List Item) (more : List RowPart) → name_literal (after_equals (items_parts (items_of value) ++ segment_end ∷ more)) ≡ only_text value
 value_read [] more = no_string segment_end more refl
 value_read (leaf k text ∷ []) more = refl
-value_read (leaf k text ∷ leaf l other ∷ xs) more = refl
-value_read (leaf k text ∷ group l segs one_comma end ∷ xs) more = refl
+value_read (leaf String text ∷ leaf l other ∷ xs) more = refl
+value_read (leaf _ text ∷ leaf l other ∷ xs) more = refl
+value_read (leaf String text ∷ group l segs one_comma end ∷ xs) more = refl
+value_read (leaf _ text ∷ group l segs one_comma end ∷ xs) more = refl
 value_read (group k segs one_comma end ∷ []) more = no_string (opening k) (((segs_parts segs ++ (map above end ++ closing one_comma ∷ [])) ++ []) ++ segment_end ∷ more) refl
 value_read (group k segs one_comma end ∷ y ∷ xs) more = no_string (opening k) (((segs_parts segs ++ (map above end ++ closing one_comma ∷ [])) ++ items_parts (items_of (y ∷ xs))) ++ segment_end ∷ more) refl
 

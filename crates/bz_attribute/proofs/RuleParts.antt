@@ -1,11 +1,11 @@
 -- The parts of a rule: before its arguments, of these, and after them.
-use Rattle.std.proofs.Common.{◌≡◌, ℕ, ◌+◌, List, [], ◌∷◌, ◌++◌, Bool, true, false, ◌&&◌, if◌then◌else◌, Some, None, length, map, option_map, refl, ap, sym, ◌∙◌, append_assoc, append-nil}
+use Rattle.std.proofs.Common.{◌≡◌, ℕ, ◌+◌, List, [], ◌∷◌, ◌++◌, Bool, true, false, if◌then◌else◌, Some, None, length, map, option_map, refl, ap, sym, ◌∙◌, append_assoc, append-nil}
 use Rattle.std.proofs.lemmas.Bool.{false≢true, and_parts}
 use Rattle.bz_token.specs.declared.token.Kind.TheVariants.{Identifier}
 use Rattle.bz_tree.specs.declared.stmt.GroupKind.TheVariants.{RuleCall}
-use Rattle.bz_tree.specs.Tree.{Item, leaf, group, Statement, items_of, segs_of}
+use Rattle.bz_tree.specs.Tree.{Item, leaf, group, Statement, items_of, segs_of, segments}
 use Rattle.bz_tree.specs.Rows.{RowPart, a_token, opening, closing, above, beside_part, item_parts, items_parts, segs_parts, parts_of}
-use Rattle.bz_attribute.specs.Rules.{Rule, rule_of, rule_from, call_at, is_call, dotted, elements, comma_of, end_of}
+use Rattle.bz_attribute.specs.Rules.{Rule, rule_of, rule_from, call_at, dotted}
 use Rattle.bz_attribute.specs.Effects.{nodes_of}
 use Rattle.bz_attribute.proofs.RuleNodes.{rule_nodes}
 use Rattle.bz_attribute.specs.Finder.{find_from}
@@ -37,13 +37,15 @@ is_after s r = record { end = r.end; one_comma = r.one_comma; suffix = s.suffix;
 
 -- a kind is tokens
 call_dotted : (kind : List Item) (x : Item) (r : Rule) → call_at kind x ≡ Some r → dotted true r.kind ≡ true
-call_dotted kind x r h =
-    elim (is_call x && dotted true kind) as (λ b. (is_call x && dotted true kind) ≡ b → (if b then Some (record { kind = kind; args = elements x; one_comma = comma_of x; end = end_of x }) else None) ≡ Some r → dotted true r.kind ≡ true) [
+call_dotted kind (leaf k text) r h = absurd cc
+call_dotted kind (group RuleCall segs one_comma end) r h =
+    elim (dotted true kind) as (λ b. dotted true kind ≡ b → (if b then Some (record { kind = kind; args = segments segs; one_comma = one_comma; end = end }) else None) ≡ Some r → dotted true r.kind ≡ true) [
       | true ↦ λ e k.
-          let is : record { kind = kind; args = elements x; one_comma = comma_of x; end = end_of x } ≡ r = cc in
-          sym (ap (λ (z : Rule). dotted true z.kind) is) ∙ (and_parts (is_call x) (dotted true kind) e).1
+          let is : record { kind = kind; args = segments segs; one_comma = one_comma; end = end } ≡ r = cc in
+          sym (ap (λ (z : Rule). dotted true z.kind) is) ∙ e
       | false ↦ λ e k. absurd cc
     ] refl h
+call_dotted kind (group _ segs one_comma end) r h = absurd cc
 
 pub rule_dotted : (kind nodes : List Item) (r : Rule) → rule_from kind nodes ≡ Some r → dotted true r.kind ≡ true
 rule_dotted kind [] r h = absurd cc

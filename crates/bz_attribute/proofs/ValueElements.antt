@@ -1,7 +1,7 @@
 -- A walk over all elements of a value.
 use Rattle.std.proofs.Common.{◌≡◌, ℕ, ◌+◌, ◌-◌, List, [], ◌∷◌, ◌++◌, Bool, true, false, ◌||◌, if◌then◌else◌, Option, None, Some, is_some, map, length, take, drop, refl, ap, sym, ◌∙◌, arith, append_assoc, append-nil, length-append, drop-drop, take-add}
 use Rattle.std.specs.Prelude.{IfNone}
-use Rattle.std.specs.List.{list_any}
+use Rattle.std.specs.List.{list_any, flat_map}
 use Rattle.std.proofs.lemmas.List.{length-map, map-append}
 use Rattle.std.proofs.Math.Seq.{drop-append_seam, take-append_seam}
 use Rattle.bz_tree.specs.Tree.{Item, Segment, items_of, segs_of}
@@ -10,7 +10,6 @@ use Rattle.bz_attribute.specs.Comment.{edit_element_from, with_comment}
 use Rattle.bz_attribute.specs.Effects.{edit_first}
 use Rattle.bz_attribute.specs.Elements.{AreElementsTo, HasNoList, IsElementOf, IsListIn, IsNextElement, ListRest, elements_left, found_rest, rest_parts, value_parts}
 use Rattle.bz_attribute.specs.Lists.{parts_from}
-use Rattle.bz_attribute.specs.Move.{joined}
 use Rattle.bz_attribute.specs.private.ListParts.{HasEmptied, HasPassedTo}
 use Rattle.bz_attribute.proofs.EditedAt.{segs_join}
 use Rattle.bz_attribute.proofs.ListEdits.{ended, long_opened, opened}
@@ -75,7 +74,7 @@ abbrev HasNext : List RowPart → ℕ → ℕ → Type 0
 HasNext ps end from = (rest : ListRest) (after : List RowPart) → rest.elements ≡ [] → drop end ps ≡ rest_parts rest after → IsListIn false rest.items after ps (end + length rest.end + 1) from
 
 next_left : (l m : ListRest) (lists : List (List Segment)) → l.elements ≡ [] → parts_from false l.items ≡ m.elements ∷ parts_from false m.items → elements_left l ≡ elements_left m
-next_left l m lists none are = (λ i. none i ++ joined (are i))
+next_left l m lists none are = (λ i. none i ++ flat_map (λ ss. ss) (are i))
 
 pub next_emptied : (ps : List RowPart) (at end from : ℕ) → HasEmptied ps at end → HasNext ps end from → ((rest : ListRest) (after : List RowPart) → drop from ps ≡ rest_parts rest after → rest.elements ≡ []) → HasEmptied ps at from
 next_emptied ps at end from emptied next none = λ l after read.
@@ -93,7 +92,7 @@ pub none_in_value : (ps : List RowPart) (at end : ℕ) (l : ListRest) (after : L
     → ((rest : ListRest) (after : List RowPart) → rest.elements ≡ [] → drop end ps ≡ rest_parts rest after → HasNoList false rest.items) → drop at ps ≡ rest_parts l after → elements_left l ≡ []
 none_in_value ps at end l after emptied last read =
     let m = emptied l after read in
-    m.same ∙ (λ i. m.none i ++ joined ((last m.left after m.none m.read).none i))
+    m.same ∙ (λ i. m.none i ++ flat_map (λ ss. ss) ((last m.left after m.none m.read).none i))
 
 -- the first element that is left passes, or not
 parts_split : (s : Segment) (ss : List Segment) (qs : List RowPart) → segs_parts (segs_of (s ∷ ss)) ++ qs ≡ segs_parts (segs_of (s ∷ [])) ++ (segs_parts (segs_of ss) ++ qs)
@@ -143,7 +142,7 @@ element_next l after ps at from token to string begins read e =
     record {
       element = s;
       left = record l { elements = e.others };
-      are = ap (λ (ss : List Segment). ss ++ joined (parts_from false l.items)) e.are;
+      are = ap (λ (ss : List Segment). ss ++ flat_map (λ ss. ss) (parts_from false l.items)) e.are;
       own =
           let size : to - from ≡ length own = omega (arith, begins, e.ends) in
           (λ i. take (size i) (drop (begins i) ps)) ∙ ap (take (length own)) e.own ∙ take-append_seam own (drop to ps);

@@ -5,7 +5,7 @@ use Rattle.bz_tree.specs.Tree.{Item, Segment, Statement}
 use Rattle.bz_command.specs.Labels.{Package}
 use Rattle.bz_command.specs.declared.arguments.Commented.{Commented}
 use Rattle.bz_command.specs.declared.arguments.Commented.TheVariants.{Rule as OfRule, Attribute, Value}
-use Rattle.bz_attribute.specs.Rules.{Rule, rule_of, is_named, first_named, value, elements}
+use Rattle.bz_attribute.specs.Rules.{rule_of, is_named, first_named, value, elements}
 use Rattle.bz_attribute.specs.Lists.{with_value, parts, edit_list, is_part, is_plus, is_joint, equals}
 use Rattle.bz_attribute.specs.Effects.{done, edit_first, has, is_absent, not_a_list}
 use Rattle.bz_attribute.specs.declared.done.Done.{Done}

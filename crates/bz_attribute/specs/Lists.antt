@@ -1,12 +1,12 @@
 -- The list parts of a value, and which elements equal a word (this project's own rule).
-use Rattle.std.specs.Prelude.{ℕ, List, [], ◌∷◌, ◌++◌, Bool, true, false, ◌&&◌, ◌||◌, not, if◌then◌else◌, Option, Some, None, codes, filter, take, is_some, bytes_eq}
+use Rattle.std.specs.Prelude.{ℕ, List, [], ◌∷◌, ◌++◌, Bool, true, false, ◌&&◌, ◌||◌, not, if◌then◌else◌, codes, filter, take, is_some, bytes_eq}
 use Rattle.std.specs.List.{list_any, list_all}
 use Rattle.bz_token.specs.declared.token.Kind.TheVariants.{Keyword, Operator}
 use Rattle.bz_tree.specs.declared.stmt.GroupKind.TheVariants.{List as ListKind}
 use Rattle.bz_tree.specs.Tree.{Item, leaf, group, Segment, segs_of, segments}
 use Rattle.bz_command.specs.Labels.{Package}
 use Rattle.bz_command.specs.Same.{completed}
-use Rattle.bz_attribute.specs.Rules.{is_operator_item, elements, value, name_of, string_value}
+use Rattle.bz_attribute.specs.Rules.{is_operator_item, elements, name_of, string_value}
 use Rattle.bz_token.specs.Common.{map_or}
 
 -- the two are the same label

@@ -1,5 +1,5 @@
 -- Which statements a target marks (buildozer README, targets).
-use Rattle.std.specs.Prelude.{ℕ, ◌==◌, Bool, true, false, Option, Some, None, codes, bytes_eq}
+use Rattle.std.specs.Prelude.{ℕ, ◌==◌, Bool, true, false, codes, bytes_eq}
 use Rattle.bz_tree.specs.Tree.{Statement}
 use Rattle.bz_command.specs.Labels.{Target, Name, Pkg, All, Kind, Line}
 use Rattle.bz_attribute.specs.Rules.{Rule, rule_of, kind_text, name_in, is_text}

@@ -1,6 +1,6 @@
 -- What `move` does (buildozer README, edit commands; the failures and what becomes of repeats are this project's own rule).
-use Rattle.std.specs.Prelude.{ℕ, List, [], ◌∷◌, ◌++◌, Bool, false, if◌then◌else◌, Option, Some, None, is_some, filter}
-use Rattle.std.specs.List.{list_any}
+use Rattle.std.specs.Prelude.{ℕ, List, [], ◌∷◌, ◌++◌, Bool, false, if◌then◌else◌, Option, is_some, filter}
+use Rattle.std.specs.List.{list_any, flat_map}
 use Rattle.bz_tree.specs.Tree.{Segment}
 use Rattle.bz_command.specs.Labels.{Package}
 use Rattle.bz_command.specs.declared.arguments.Moved.{Moved}
@@ -15,13 +15,9 @@ use Rattle.std.specs.Option.{option_or}
 abbrev pub move_note : List ℕ → List ℕ → List Segment → Option Note
 move_note old new args = option_or (is_absent old args) (option_or (not_a_list old (first_named old args)) (not_a_list new (first_named new args)))
 
--- the elements of all lists, one after another
-abbrev pub joined : List (List Segment) → List Segment
-joined [] = []
-joined (ss ∷ lists) = ss ++ joined lists
-
+-- the elements of all list parts, one after another
 abbrev pub elements_of : Option Segment → List Segment
-elements_of arg = map_or [] (λ a. joined (parts (value a))) arg
+elements_of arg = map_or [] (λ a. flat_map (λ ss. ss) (parts (value a))) arg
 
 -- Of the elements that leave, those that arrive, where `there` are the elements of the new list: a string that is there
 -- already, or has just arrived, does not.

@@ -32,13 +32,9 @@ is_named name s = is_text name (name_of s.nodes)
 abbrev pub value : Segment → List Item
 value s = drop 2 s.nodes
 
-abbrev pub text_of : Item → Option (List ℕ)
-text_of (leaf String text) = Some text
-text_of _ = None
-
 -- the text of what is one string token
 abbrev pub only_text : List Item → Option (List ℕ)
-only_text (x ∷ []) = text_of x
+only_text (leaf String text ∷ []) = Some text
 only_text _ = None
 
 -- the value of what is one string token with a value
@@ -60,25 +56,15 @@ dotted true (leaf Identifier text ∷ xs) = dotted false xs
 dotted true (x ∷ xs) = false
 dotted false (x ∷ xs) = is_operator_item (codes ".") x && dotted true xs
 
-abbrev pub is_call : Item → Bool
-is_call (group RuleCall segs one_comma end) = true
-is_call _ = false
-
 abbrev pub elements : Item → List Segment
 elements (leaf kind text) = []
 elements (group kind segs one_comma end) = segments segs
 
-abbrev pub comma_of : Item → Bool
-comma_of (leaf kind text) = false
-comma_of (group kind segs one_comma end) = one_comma
-
-abbrev pub end_of : Item → List (List ℕ)
-end_of (leaf kind text) = []
-end_of (group kind segs one_comma end) = end
-
--- the nodes `kind` and then x
+-- a kind, and the call after it
 abbrev pub call_at : List Item → Item → Option Rule
-call_at kind x = if is_call x && dotted true kind then Some (record { kind = kind; args = elements x; one_comma = comma_of x; end = end_of x }) else None
+call_at kind (group RuleCall segs one_comma end) =
+    if dotted true kind then Some (record { kind = kind; args = segments segs; one_comma = one_comma; end = end }) else None
+call_at kind _ = None
 
 -- `kind` was read, and xs comes
 abbrev pub rule_from : List Item → List Item → Option Rule

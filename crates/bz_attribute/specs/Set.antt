@@ -1,5 +1,5 @@
 -- What `set` and `set_if_absent` do (buildozer README, edit commands; what a word stands for is this project's own rule).
-use Rattle.std.specs.Prelude.{ℕ, ◌==◌, List, [], ◌∷◌, ◌++◌, Bool, true, false, ◌&&◌, ◌||◌, not, if◌then◌else◌, Option, Some, None, map, codes, nat_le, bytes_eq}
+use Rattle.std.specs.Prelude.{ℕ, ◌==◌, List, [], ◌∷◌, ◌++◌, Bool, true, false, ◌&&◌, ◌||◌, not, if◌then◌else◌, Option, Some, None, map, codes, bytes_eq}
 use Rattle.std.specs.List.{list_any, list_all, slice_split}
 use Rattle.bz_token.specs.declared.token.Kind.TheVariants.{Identifier, Integer, Operator}
 use Rattle.bz_tree.specs.Tree.{Item, leaf, Segment, Statement}
@@ -64,20 +64,13 @@ are_strings [] [] = true
 are_strings (word ∷ words) (s ∷ ss) = is_text word (string_value s.nodes) && are_strings words ss
 are_strings _ _ = false
 
-abbrev pub is_int : List ℕ → Item → Bool
-is_int digits (leaf Integer text) = bytes_eq text digits
-is_int digits _ = false
-
-abbrev pub is_ident : List ℕ → Item → Bool
-is_ident name (leaf Identifier text) = bytes_eq text name
-is_ident name _ = false
-
 -- A value is these nodes already: comments do not count, and strings are compared by their values.
 abbrev pub is_value : New → List Item → Bool
 is_value (NewString word) nodes = is_text word (string_value nodes)
-is_value (NewNumber digits) nodes = is_only (is_int digits) nodes
-is_value (NewConstant name) nodes = is_only (is_ident name) nodes
-is_value (NewStrings words) nodes = is_only (λ x. is_list x && are_strings words (elements x)) nodes
+is_value (NewNumber digits) (leaf Integer text ∷ []) = bytes_eq text digits
+is_value (NewConstant name) (leaf Identifier text ∷ []) = bytes_eq text name
+is_value (NewStrings words) (x ∷ []) = is_list x && are_strings words (elements x)
+is_value _ _ = false
 
 abbrev pub set_in : New → Segment → Segment
 set_in new a = if is_value new (value a) then a else with_value (new_value new) a

@@ -1,9 +1,9 @@
 -- How labels and rules are shown (this project's own rule).
-use Rattle.std.specs.Prelude.{ℕ, List, [], ◌∷◌, ◌++◌, Option, Some, None, codes}
+use Rattle.std.specs.Prelude.{ℕ, List, [], ◌∷◌, ◌++◌, Some, None, codes, unwrap_or}
 use Rattle.std.specs.Fmt.{decimal}
-use Rattle.bz_tree.specs.Tree.{Statement, Item}
+use Rattle.bz_tree.specs.Tree.{Statement}
 use Rattle.bz_command.specs.Labels.{Package, Target, Name, Pkg, All, Kind, Line}
-use Rattle.bz_attribute.specs.Rules.{Rule, rule_of, kind_text, name_in}
+use Rattle.bz_attribute.specs.Rules.{rule_of, kind_text, name_in}
 use Rattle.bz_token.specs.Common.{map_or}
 
 -- a package and the colon after it
@@ -18,11 +18,6 @@ target_text All = codes "*"
 target_text (Kind kind) = 37 ∷ kind
 target_text (Line line) = 37 ∷ decimal line
 
--- a rule by its name, or by its kind
-abbrev pub name_or_kind : Option (List ℕ) → List Item → List ℕ
-name_or_kind (Some name) kind = name
-name_or_kind None kind = 37 ∷ kind_text kind
-
--- what is no rule is not shown
+-- a rule by its name, or by its kind; what is no rule is not shown
 abbrev pub shown_text : Package → Statement → List ℕ
-shown_text home s = map_or [] (λ r. home_text home ++ name_or_kind (name_in r.args) r.kind) (rule_of s.nodes)
+shown_text home s = map_or [] (λ r. home_text home ++ unwrap_or (name_in r.args) (37 ∷ kind_text r.kind)) (rule_of s.nodes)

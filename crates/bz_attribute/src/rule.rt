@@ -1,6 +1,6 @@
 //! The view of a statement as a rule: reading only, no memory.
 
-ghost use Rattle.std.specs.Prelude.{◌≡◌, option_map, true, IfNone, IfSome, None};
+ghost use Rattle.std.specs.Prelude.{◌≡◌, ◌∷◌, [], option_map, true, IfNone, IfSome, None};
 ghost use Rattle.bz_tree.specs.View.{node_view, nodes_view, seg_view, segs_view};
 ghost use Rattle.bz_attribute.specs.RuleViews.{rule_view};
 ghost use Rattle.bz_attribute.specs.private.Places.{IsFirst, IsAbsent, IsCallAt};
@@ -127,7 +127,7 @@ pub fn only_text<'n>(nodes: &'n [Node<'_>]) -> Option<&'n str>
 
 #[inline(always)]
 fn text_of<'n>(node: &'n Node<'_>) -> Option<&'n str>
-    ensures { option_map (λ text. text.now) result ≡ spec.text_of (node_view node.now) }
+    ensures { option_map (λ text. text.now) result ≡ spec.only_text (node_view node.now ∷ []) }
 {
     match node {
         Node::Token(leaf) if matches!(leaf.kind, Kind::String) => Some(leaf.text.as_str()),

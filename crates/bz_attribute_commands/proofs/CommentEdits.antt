@@ -1,6 +1,6 @@
 -- Steps to a comment: the line without the blanks at its end, and the element that it goes to.
 use Rattle.std.proofs.Common.{◌≡◌, ℕ, ◌+◌, ◌-◌, ◌<◌, List, [], ◌∷◌, ◌++◌, Bool, true, false, ◌&&◌, ◌||◌, if◌then◌else◌, is_some, length, get_or, take, drop, refl, ap, sym, ◌∙◌, arith, Option, Some, None}
-use Rattle.std.specs.List.{list_all, list_any}
+use Rattle.std.specs.List.{list_all, list_any, flat_map}
 use Rattle.std.proofs.lemmas.List.{take_more, take_all}
 use Rattle.std.proofs.lemmas.Bool.Decides.{nat_tests}
 use Rattle.bz_tree.specs.Rows.{RowPart, above, parts_of}
@@ -10,7 +10,6 @@ use Rattle.bz_attribute.specs.Comment.{comment_element, comment_line, comment_no
 use Rattle.bz_attribute.specs.Effects.{done, edit_first, has, with_args}
 use Rattle.bz_attribute.specs.Elements.{IsFirstEqual, IsListIn, IsValueAt, ListRest, elements_left, value_parts}
 use Rattle.bz_attribute.specs.Lists.{equals, parts}
-use Rattle.bz_attribute.specs.Move.{joined}
 use Rattle.bz_attribute.specs.RowPlaces.{IsRuleRow}
 use Rattle.bz_attribute.specs.Rules.{Rule, first_named, is_named, value}
 use Rattle.bz_attribute.specs.declared.done.Note.{Note}
@@ -71,7 +70,7 @@ no_list_told home attr v args a first none = rw (is_there attr args a first, fir
 
 -- the elements of the list parts are those that are left of the first on
 in_parts : (home : Package) (v : List ℕ) (nodes : List Item) (after ps : List RowPart) (at list : ℕ) (b : Bool) → (l : IsListIn true nodes after ps at list) → list_any (equals home v) (elements_left l.list) ≡ b → list_any (list_any (equals home v)) (parts nodes) ≡ b
-in_parts home v nodes after ps at list b l is = sym (in_all home v (parts nodes)) ∙ ap (λ (lists : List (List Segment)). list_any (equals home v) (joined lists)) l.lists ∙ is
+in_parts home v nodes after ps at list b l is = sym (in_all home v (parts nodes)) ∙ ap (λ (lists : List (List Segment)). list_any (equals home v) (flat_map (λ ss. ss) lists)) l.lists ∙ is
 
 pub no_value_told : (home : Package) (attr v : List ℕ) (args : List Segment) (a : Segment) (after ps : List RowPart) (at list : ℕ) → first_named attr args ≡ Some a → (l : IsListIn true (value a) after ps at list)
     → list_any (equals home v) (elements_left l.list) ≡ false → done (Some (NoValue attr v)) false ≡ done (comment_note home attr v args) true

@@ -1,7 +1,7 @@
 -- Elements that arrive, told by a set of labels.
 use Rattle.std.proofs.Common.{◌≡◌, ℕ, ◌+◌, ◌-◌, ◌<◌, length, get_or, List, [], ◌∷◌, ◌++◌, Bool, true, false, not, ◌||◌, ◌&&◌, Option, None, Some, map, take, drop, refl, ap, sym, ◌∙◌, append_assoc, append-nil, cond, if◌then◌else◌, inl, inr, bytes_eq, option_and_then}
 use Rattle.std.specs.Prelude.{filter}
-use Rattle.std.specs.List.{list_any}
+use Rattle.std.specs.List.{list_any, flat_map}
 use Rattle.std.proofs.lemmas.Bool.{cases_Bool}
 use Rattle.std.proofs.lemmas.Grind.{flat_map-append}
 use Rattle.std.proofs.lemmas.List.{map-append, take_more}
@@ -13,7 +13,7 @@ use Rattle.bz_tree.specs.Tree.{Segment, segs_of}
 use Rattle.bz_command.specs.Labels.{Package}
 use Rattle.bz_command.specs.declared.arguments.Moved.TheVariants.{All, Values}
 use Rattle.bz_attribute.specs.Lists.{equals, same}
-use Rattle.bz_attribute.specs.Move.{arrivals, joined}
+use Rattle.bz_attribute.specs.Move.{arrivals}
 use Rattle.bz_attribute.specs.Rules.{string_value}
 use Rattle.bz_attribute.proofs.LabelSets.{or_false}
 use Rattle.bz_list_commands.specs.private.MoveSteps.{AreArriving, HaveArrivals, arrivals_by, has_value, parts_at}
@@ -92,11 +92,11 @@ told home p known there (s ∷ ss) h =
     ]
 
 -- all labels of the elements that are there
-pub any_joined : (p : Segment → Bool) (lists : List (List Segment)) → list_any p (joined lists) ≡ list_any (list_any p) lists
+pub any_joined : (p : Segment → Bool) (lists : List (List Segment)) → list_any p (flat_map (λ ss. ss) lists) ≡ list_any (list_any p) lists
 any_joined p [] = refl
-any_joined p (ss ∷ lists) = list_any-append p ss (joined lists) ∙ ap (λ (b : Bool). list_any p ss || b) (any_joined p lists)
+any_joined p (ss ∷ lists) = list_any-append p ss (flat_map (λ ss. ss) lists) ∙ ap (λ (b : Bool). list_any p ss || b) (any_joined p lists)
 
-in_joined : (home : Package) (lists : List (List Segment)) (text : List ℕ) → is_in home All lists text ≡ list_any (equals home text) (joined lists)
+in_joined : (home : Package) (lists : List (List Segment)) (text : List ℕ) → is_in home All lists text ≡ list_any (equals home text) (flat_map (λ ss. ss) lists)
 in_joined home lists text = (λ j. list_any (list_any (λ (s : Segment). or_false (equals home text s) j)) lists) ∙ sym (any_joined (equals home text) lists)
 
 -- element by element
@@ -107,7 +107,7 @@ none_arrived home p at ps set all = λ l after lists read are. record {
   made = [];
   read = read;
   parts = refl;
-  arrived = told home p (has set) (joined lists) (elements_left l) (λ text. all lists are text ∙ in_joined home lists text);
+  arrived = told home p (has set) (flat_map (λ ss. ss) lists) (elements_left l) (λ text. all lists are text ∙ in_joined home lists text);
 }
 
 abbrev HasNext : List RowPart → ℕ → ℕ → ℕ → ℕ → Option (List ℕ) → Type 0
@@ -146,7 +146,7 @@ pub all_arrived : (home : Package) (p : Option (List ℕ) → Bool) (at : Lists)
     → ((l : ListRest) (after : List RowPart) → drop k ps ≡ rest_parts l after → elements_left l ≡ []) → HaveArrivals home p at ps places
 all_arrived home p at ps k set places so_far none = λ l after lists read are.
     let h = so_far l after lists read are in
-    let whole : h.made ≡ arrivals home (joined lists) (filter (is_meant p) (elements_left l)) =
+    let whole : h.made ≡ arrivals home (flat_map (λ ss. ss) lists) (filter (is_meant p) (elements_left l)) =
     sym (append-nil h.made) ∙ ap (λ (ss : List Segment). h.made ++ arrivals_by home p (has set) ss) (sym (none h.left after h.read)) ∙ h.arrived in
     h.parts ∙ ap (λ (ss : List Segment). segs_parts (segs_of ss)) whole
 

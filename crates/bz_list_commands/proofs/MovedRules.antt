@@ -1,6 +1,6 @@
 -- What `move` makes of a rule: elements go, and then come to another list.
 use Rattle.std.proofs.Common.{◌≡◌, ℕ, List, [], ◌∷◌, ◌++◌, Bool, true, false, if◌then◌else◌, Option, Some, None, is_some, filter, length, take, refl, ap, sym, ◌∙◌, arith, append-nil, take-append-drop}
-use Rattle.std.specs.List.{list_all}
+use Rattle.std.specs.List.{list_all, flat_map}
 use Rattle.std.proofs.lemmas.List.{drop_all}
 use Rattle.bz_tree.specs.Rows.{RowPart, parts_of, segs_parts}
 use Rattle.bz_tree.specs.Tree.{Item, Segment, Statement, segs_of}
@@ -9,7 +9,7 @@ use Rattle.bz_command.specs.declared.arguments.Moved.{Moved}
 use Rattle.bz_attribute.specs.Effects.{done, edit_first, filtered, has, is_chosen, not_a_list, with_args}
 use Rattle.bz_attribute.specs.Elements.{AreLists, elements_left}
 use Rattle.bz_attribute.specs.Lists.{edit_first_part, edit_list, edit_one_from, is_joint, is_part, is_plus, parts, parts_from, with_value}
-use Rattle.bz_attribute.specs.Move.{arrivals, elements_of, joined, move, move_note, moved, moves, put_in}
+use Rattle.bz_attribute.specs.Move.{arrivals, elements_of, move, move_note, moved, moves, put_in}
 use Rattle.bz_attribute.specs.RowEdits.{IsRowEdit, replaced_at}
 use Rattle.bz_attribute.specs.RowPlaces.{IsRuleRow}
 use Rattle.bz_attribute.specs.Rules.{Rule, elements, first_named, is_named, value}
@@ -53,12 +53,12 @@ put_nowhere name ss s r ps h lack =
 
 -- the elements of the lists
 elements_there : (name : List ℕ) (s : Statement) (r : Rule) (ps : List RowPart) (from : ℕ) → (l : IsListAt name s r ps from) → elements_left l.list.list ≡ elements_of (first_named name r.args)
-elements_there name s r ps from l = sym (ap elements_of l.there.first ∙ ap joined l.list.lists)
+elements_there name s r ps from l = sym (ap elements_of l.there.first ∙ ap (flat_map (λ ss. ss)) l.list.lists)
 
 record AreOfTarget (name : List ℕ) (r : Rule) (ps : List RowPart) (to : Option ℕ) : Type 0 where
   lists : List (List Segment)
   are : AreLists ps to lists
-  same : joined lists ≡ elements_of (first_named name r.args)
+  same : flat_map (λ ss. ss) lists ≡ elements_of (first_named name r.args)
 
 of_target : (name : List ℕ) (s : Statement) (r : Rule) (ps : List RowPart) (to : Option ℕ) → IsTarget name s r ps to → AreOfTarget name r ps to
 of_target name s r ps None none = record { lists = []; are = refl; same = sym (ap elements_of (none_first name r.args none)) }

@@ -1,6 +1,6 @@
 -- `add` of one value, which is compared with each element.
 use Rattle.std.proofs.Common.{◌≡◌, ℕ, List, [], ◌∷◌, Bool, true, false, ◌||◌, not, Option, drop, refl, ap, sym, ◌∙◌, option_and_then}
-use Rattle.std.specs.List.{list_any}
+use Rattle.std.specs.List.{list_any, flat_map}
 use Rattle.std.proofs.lemmas.List.Folds.{list_any-append}
 use Rattle.bz_tree.specs.Rows.{RowPart}
 use Rattle.bz_tree.specs.Tree.{Segment}
@@ -10,7 +10,6 @@ use Rattle.bz_attribute.specs.Add.{is_fresh, new_elements}
 use Rattle.bz_attribute.specs.Effects.{is_chosen, string}
 use Rattle.bz_attribute.specs.Elements.{AreListsAt, ListRest, elements_left, rest_parts}
 use Rattle.bz_attribute.specs.Lists.{equals}
-use Rattle.bz_attribute.specs.Move.{joined}
 use Rattle.bz_attribute.proofs.ElementSearch.{in_all}
 use Rattle.bz_attribute.proofs.LabelSets.{or_false}
 
@@ -18,7 +17,7 @@ use Rattle.bz_attribute.proofs.LabelSets.{or_false}
 pub lists_sought : (home : Package) (word : List ℕ) (ps : List RowPart) (from : ℕ) (b : Bool) → ((l : ListRest) (after : List RowPart) → drop from ps ≡ rest_parts l after → b ≡ list_any (equals home word) (elements_left l))
     → (lists : List (List Segment)) → AreListsAt ps from lists → b ≡ list_any (list_any (equals home word)) lists
 lists_sought home word ps from b sought lists are =
-    sought are.rest are.after are.read ∙ ap (λ (ls : List (List Segment)). list_any (equals home word) (joined ls)) (sym are.are) ∙ in_all home word lists
+    sought are.rest are.after are.read ∙ ap (λ (ls : List (List Segment)). list_any (equals home word) (flat_map (λ ss. ss) ls)) (sym are.are) ∙ in_all home word lists
 
 -- what is new
 one_fresh : (home : Package) (lists : List (List Segment)) (word : List ℕ) (b : Bool) → b ≡ list_any (list_any (equals home word)) lists → is_fresh home lists [] word ≡ not b

@@ -11,7 +11,7 @@ use Rattle.bz_rule.specs.declared.command.Action.TheVariants.{Move}
 use Rattle.bz_attribute.specs.Rules.{first_named, is_named, is_text as is_word, name_of, value, string_value}
 use Rattle.bz_attribute.specs.Lists.{edit_first_part, edit_parts, with_value, is_attribute, parts, equals}
 use Rattle.bz_attribute.specs.Effects.{argument, edit_first, filtered, has, list_item, loses_all, unchosen, is_chosen, chooses}
-use Rattle.bz_attribute.specs.Move.{arrivals, elements_of, move, move_note, moved, moves, put_in, joined}
+use Rattle.bz_attribute.specs.Move.{arrivals, elements_of, move, move_note, moved, moves, put_in}
 use Rattle.bz_rule.proofs.Arguments.{attribute_named, is_first_named, name_put}
 use Rattle.bz_token.proofs.Classes.{same_bytes}
 use Rattle.std.proofs.lemmas.List.Elements.{filter-append}
@@ -21,7 +21,7 @@ use Rattle.std.specs.Prelude.{not, ◌&&◌}
 use Rattle.bz_rule.proofs.Lawful.{Lawful, done_changed, guarded_same, note_unchanged, on_arguments}
 use Rattle.bz_rule.proofs.NamesKept.{KeepsEach, Leaves, append_kept, edit_kept, edit_one_kept, first_kept, has_kept, put_kept, taken}
 use Rattle.bz_rule.proofs.Aside.{leaves_both}
-use Rattle.std.specs.List.{AllByRecursion, list_all, list_any}
+use Rattle.std.specs.List.{AllByRecursion, list_all, list_any, flat_map}
 use Rattle.bz_rule.proofs.ArgumentValues.{good_value, good_with}
 use Rattle.bz_rule.proofs.GoodArguments.{appended_good, argument_good, filtered_good, first_good}
 use Rattle.bz_rule.proofs.ListParts.{edited_first_part_good, list_value, parts_good}
@@ -151,9 +151,9 @@ move_aside g names home old new chosen leaves_old leaves_new args =
 -- what it leaves is well formed, and passes a test
 
 -- the elements that leave
-joined_formed : (depth : ℕ) (lists : List (List Segment)) → AllByRecursion (AreFormed IsTest depth) lists → AreFormed IsTest depth (joined lists)
+joined_formed : (depth : ℕ) (lists : List (List Segment)) → AllByRecursion (AreFormed IsTest depth) lists → AreFormed IsTest depth (flat_map (λ ss. ss) lists)
 joined_formed depth [] h = tt
-joined_formed depth (ss ∷ lists) h = all_appended (IsFormed IsTest depth) ss (joined lists) h.0 (joined_formed depth lists h.1)
+joined_formed depth (ss ∷ lists) h = all_appended (IsFormed IsTest depth) ss (flat_map (λ ss. ss) lists) h.0 (joined_formed depth lists h.1)
 
 elements_formed : (depth : ℕ) (attr : List ℕ) (args : List Segment) → AreFormed IsArg (suc depth) args → AreFormed IsTest depth (elements_of (first_named attr args))
 elements_formed depth attr [] h = tt
@@ -196,9 +196,9 @@ move_formed depth home old new chosen args name h =
     (either_way (AreFormed IsArg (suc depth)) (moves home old chosen args) (moved_formed depth home old new chosen args name h) h)
 
 -- elements that are moved
-joined_passes : (q : List ℕ → Bool) (lists : List (List Segment)) → AllByRecursion (SegmentsPass q) lists → SegmentsPass q (joined lists)
+joined_passes : (q : List ℕ → Bool) (lists : List (List Segment)) → AllByRecursion (SegmentsPass q) lists → SegmentsPass q (flat_map (λ ss. ss) lists)
 joined_passes q [] h = tt
-joined_passes q (ss ∷ lists) h = all_appended (SegmentPasses q) ss (joined lists) h.0 (joined_passes q lists h.1)
+joined_passes q (ss ∷ lists) h = all_appended (SegmentPasses q) ss (flat_map (λ ss. ss) lists) h.0 (joined_passes q lists h.1)
 
 elements_of_pass : (q : List ℕ → Bool) (argument : Option Segment) → ArgumentPasses q argument → SegmentsPass q (elements_of argument)
 elements_of_pass q None h = tt

@@ -39,7 +39,7 @@ is_operator_item operator (a_token kind text) = rules.is_operator_item operator 
 is_operator_item operator _ = false
 
 abbrev pub text_of : RowPart → Option (List ℕ)
-text_of (a_token kind text) = rules.text_of (leaf kind text)
+text_of (a_token kind text) = rules.only_text (leaf kind text ∷ [])
 text_of _ = None
 
 abbrev pub is_end : RowPart → Bool

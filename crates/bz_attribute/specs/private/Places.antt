@@ -1,15 +1,15 @@
 -- For private clauses alone: where an argument and the call of a rule stand, and what becomes of the whole where
 -- they are edited.
-use Rattle.std.specs.Prelude.{◌≡◌, ℕ, ◌<◌, ◌≤◌, List, [], ◌∷◌, length, get_or, set, true, false, remove, Option, Some, None, is_some}
+use Rattle.std.specs.Prelude.{◌≡◌, ℕ, ◌<◌, ◌≤◌, List, [], ◌∷◌, length, get_or, set, true, false, remove, Some, None, is_some}
 use Rattle.bz_tree.specs.declared.stmt.Seg.{Seg}
 use Rattle.bz_tree.specs.declared.stmt.Node.{Node}
 use Rattle.bz_tree.specs.Tree.{Segment}
 use Rattle.bz_tree.specs.View.{seg_view, segs_view, node_view, nodes_view}
-use Rattle.bz_attribute.specs.Rules.{is_named, first_named, rule_of, elements, value}
-use Rattle.bz_attribute.specs.Lists.{edit_list, edit_first_part, parts}
+use Rattle.bz_attribute.specs.Rules.{is_named, first_named, rule_of, elements}
+use Rattle.bz_attribute.specs.Lists.{edit_list}
 use Rattle.bz_attribute.specs.declared.done.Done.{Done}
 use Rattle.bz_attribute.specs.Effects.{edit_first, has, nodes_after, done}
-use Rattle.bz_token.specs.Common.{is_empty, map_or}
+use Rattle.bz_token.specs.Common.{map_or}
 
 pub record IsFirst (name : List ℕ) (args : List Seg) (i : ℕ) : Type 0 where
   pub within : i < length args

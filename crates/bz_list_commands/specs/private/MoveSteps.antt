@@ -8,7 +8,7 @@ use Rattle.bz_command.specs.LabelSetViews.{has}
 use Rattle.bz_command.specs.declared.label_set.LabelSet.{LabelSet}
 use Rattle.bz_attribute.specs.Elements.{AreLists, ListRest, elements_left, rest_parts}
 use Rattle.bz_attribute.specs.Lists.{equals}
-use Rattle.bz_attribute.specs.Move.{arrivals, joined}
+use Rattle.bz_attribute.specs.Move.{arrivals}
 use Rattle.bz_attribute.specs.Rules.{string_value}
 use Rattle.bz_attribute.specs.declared.place.Place.{Place}
 use Rattle.bz_list_commands.specs.private.StringEdits.{is_meant}
@@ -44,10 +44,10 @@ pub record IsArriving (home : Package) (p : Option (List ℕ) → Bool) (l : Lis
 
 abbrev pub AreArriving : Package → (Option (List ℕ) → Bool) → Lists → List RowPart → ℕ → LabelSet → List Place → Type 0
 AreArriving home p at ps k set places =
-    (l : ListRest) (after : List RowPart) (lists : List (List Segment)) → drop at.from ps ≡ rest_parts l after → AreLists ps at.to lists → IsArriving home p l (joined lists) after ps k set places
+    (l : ListRest) (after : List RowPart) (lists : List (List Segment)) → drop at.from ps ≡ rest_parts l after → AreLists ps at.to lists → IsArriving home p l (flat_map (λ ss. ss) lists) after ps k set places
 
 -- all of them
 abbrev pub HaveArrivals : Package → (Option (List ℕ) → Bool) → Lists → List RowPart → List Place → Type 0
 HaveArrivals home p at ps places =
     (l : ListRest) (after : List RowPart) (lists : List (List Segment)) → drop at.from ps ≡ rest_parts l after → AreLists ps at.to lists
-    → parts_at ps places ≡ segs_parts (segs_of (arrivals home (joined lists) (filter (is_meant p) (elements_left l))))
+    → parts_at ps places ≡ segs_parts (segs_of (arrivals home (flat_map (λ ss. ss) lists) (filter (is_meant p) (elements_left l))))
