@@ -8,7 +8,6 @@ use crate::file_run::{Ended, FileRun};
 use crate::run::Asked;
 use bz_engine::{Report, RunFault};
 use bz_folder::{Draft, Folder, Opened, Trouble, replace_file};
-use std::alloc::Global;
 
 /// Why a file was not edited.
 #[derive(Clone, Copy)]
@@ -24,7 +23,6 @@ pub enum FileFault {
 /// At each moment the file has its old bytes, or the whole text of the run if that is kept: of a run over what was read
 /// of the file itself.
 pub fn edit_file<D: Folder>(
-    alloc: Global,
     asked: Asked,
     opened: Opened<D::File>,
     draft: &mut Draft<D>,
@@ -37,7 +35,7 @@ pub fn edit_file<D: Folder>(
         → SafeRun D.did spec.MayHoldNothing draft.old.folder draft.new.folder) }
 {
     // The author owns the source, so no other run replaces the file before this one is done with it.
-    let mut author = FileRun::new(alloc, opened.source, asked);
+    let mut author = FileRun::new(opened.source, asked);
     let replaced = replace_file(draft, &opened.path, opened.mode, &mut author);
     match author.ended() {
         Ended::Told(report) => told(report, replaced),

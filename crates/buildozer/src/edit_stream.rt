@@ -7,12 +7,10 @@ ghost use Rattle.buildozer.specs.Streams as spec;
 use crate::console::Console;
 use crate::run::Asked;
 use bz_engine::{RunFault, Sink, Source};
-use std::alloc::Global;
 
 /// Edits what a source gives: the text goes to standard output, the printed lines after it, and the messages to
 /// standard error, each after the name of the file. Gives the exit status.
 pub fn edit_stream<S: Source, O: Sink, E: Sink>(
-    alloc: Global,
     asked: Asked,
     file: &str,
     source: &mut S,
@@ -24,7 +22,7 @@ pub fn edit_stream<S: Source, O: Sink, E: Sink>(
     ensures devices { (read : List (List ℕ)) × (shown : List ℕ) × (told : List ℕ)
         × S.gave source.old read source.new × Shows O.took E.took console.old shown told console.new }
 {
-    let report = asked.run(alloc, source, &mut console.out)?;
+    let report = asked.run(source, &mut console.out)?;
     console.put_report(file, &report);
     Ok(report.status())
 }

@@ -6,7 +6,6 @@ ghost use Rattle.buildozer.specs.FileRuns as spec;
 use crate::run::{Asked, is_kept};
 use bz_engine::{Failed, Report, RunFault, Sink, Source};
 use bz_folder::Author;
-use std::alloc::Global;
 
 /// How a run ended.
 #[derive(Drop)]
@@ -20,7 +19,6 @@ pub enum Ended {
 /// A run that writes the new text of a file: it is asked for once, and then tells how it ended.
 #[derive(Drop)]
 pub struct FileRun<S> {
-    alloc: Global,
     source: S,
     /// What is asked, until the run begins.
     asked: Option<Asked>,
@@ -29,11 +27,10 @@ pub struct FileRun<S> {
 
 impl<S> FileRun<S> {
     /// A run over this source, which has not begun.
-    pub fn new(alloc: Global, source: S, asked: Asked) -> FileRun<S>
+    pub fn new(source: S, asked: Asked) -> FileRun<S>
         ensures { (result.asked ≡ Some asked) × (result.ended ≡ Ended.NotYet) × (result.source ≡ source) }
     {
         FileRun {
-            alloc,
             source,
             asked: Some(asked),
             ended: Ended::NotYet,
@@ -60,7 +57,7 @@ impl<S: Source> Author for FileRun<S> {
             return Err(Failed);
         };
         let keep_going = asked.keep_going;
-        match asked.run(self.alloc, &mut self.source, sink) {
+        match asked.run(&mut self.source, sink) {
             Ok(report) => {
                 let kept = is_kept(&report, keep_going);
                 self.ended = Ended::Told(report);

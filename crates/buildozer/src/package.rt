@@ -95,7 +95,7 @@ fn edit_shown<S: Source, O: Sink, E: Sink>(
 ) -> u8
     ensures { IsStatusOver S.gave asked source.old source.new result }
 {
-    match edit_stream(alloc, asked, name, source, console) {
+    match edit_stream(asked, name, source, console) {
         Ok(status) => status,
         Err(fault) => put_fault(alloc, name, fault, console),
     }
@@ -194,7 +194,7 @@ fn edit_opened<D: Folder, S, O: Sink, E: Sink>(
         let mut source = opened.source;
         return edit_shown(alloc, asked, name, &mut source, &mut devices.console);
     }
-    match edit_file(alloc, asked, opened, &mut devices.draft) {
+    match edit_file(asked, opened, &mut devices.draft) {
         Ok((report, replaced)) => {
             if replaced && !flags.quiet {
                 devices.console.put_fixed(name);

@@ -6,7 +6,6 @@ ghost use Rattle.buildozer.specs.Runs as spec;
 
 use bz_engine::{End, Options, Pass, Report, RunFault, Sink, Source, run};
 use bz_rule::{Command, Package, Target};
-use std::alloc::Global;
 use std::marker::Model;
 
 /// The most bytes of a statement.
@@ -39,7 +38,6 @@ impl Asked {
     /// Makes the passes over the statements of the source, one pass after another, and writes what they leave.
     pub fn run<S: Source, W: Sink>(
         self,
-        alloc: Global,
         source: &mut S,
         sink: &mut W,
     ) -> Result<Report, RunFault>
@@ -60,7 +58,7 @@ impl Asked {
             max_depth: MAX_DEPTH,
             max_reads: MAX_READS,
         };
-        run(alloc, self.home, self.passes, options, source, sink)
+        run(self.home, self.passes, options, source, sink)
     }
 }
 

@@ -7,7 +7,7 @@ use Rattle.std.proofs.lemmas.Bool.{cases_Bool}
 use Rattle.std.proofs.lemmas.List.{take_more}
 use Rattle.bz_token.proofs.Classes.{same_bytes}
 use Rattle.bz_command.specs.Labels.{Package, is_colon, is_slash, last_of, parts_of}
-use Rattle.bz_command.specs.Same.{completed, in_package, is_local, with_colon, with_name, with_path}
+use Rattle.bz_command.specs.Same.{completed, in_package, is_local, with_name}
 use Rattle.bz_command.proofs.Cuts.{last_cons, some_part}
 
 record EndsIn (bs : List ℕ) (x : ℕ) : Type 0 where
@@ -42,14 +42,14 @@ last_part_ends : (text : List ℕ) (x : ℕ) → is_slash x ≡ false → EndsIn
 last_part_ends text x h ends = subst (λ (zs : List ℕ). EndsIn (last_of (parts_of zs)) x) (sym ends.is) (last_ends ends.front x h)
 
 -- a label in full
-colon_ends : (text : List ℕ) (x : ℕ) → EndsIn text x → EndsIn (with_colon text) x
+colon_ends : (text : List ℕ) (x : ℕ) → EndsIn text x → EndsIn (if is_local text then 58 ∷ text else text) x
 colon_ends text x h = one_of (is_local text) (58 ∷ text) text x (after (58 ∷ []) text x h) h
 
 package_ends : (home : Package) (text : List ℕ) (x : ℕ) → EndsIn text x → EndsIn (in_package home text) x
 package_ends None text x h = h
 package_ends (Some path) text x h = after (47 ∷ 47 ∷ []) (path ++ text) x (after path text x h)
 
-path_ends : (home : Package) (text : List ℕ) (x : ℕ) → EndsIn text x → EndsIn (with_path home text) x
+path_ends : (home : Package) (text : List ℕ) (x : ℕ) → EndsIn text x → EndsIn (if starts_with nat_eq text (codes ":") then in_package home text else text) x
 path_ends home text x h = one_of (starts_with nat_eq text (codes ":")) (in_package home text) text x (package_ends home text x h) h
 
 named_ends : (path name : List ℕ) (x : ℕ) → EndsIn path x → EndsIn name x → EndsIn (if bytes_eq name [] then path else path ++ 58 ∷ name) x
@@ -60,7 +60,10 @@ name_ends text x slash h =
     one_of (starts_with nat_eq text (codes "//") && not (list_any is_colon text)) (if bytes_eq (last_of (parts_of text)) [] then text else text ++ 58 ∷ (last_of (parts_of text))) text x (named_ends text (last_of (parts_of text)) x h (last_part_ends text x slash h)) h
 
 completed_ends : (home : Package) (text : List ℕ) (x : ℕ) → is_slash x ≡ false → EndsIn text x → EndsIn (completed home text) x
-completed_ends home text x slash h = name_ends (with_path home (with_colon text)) x slash (path_ends home (with_colon text) x (colon_ends text x h))
+completed_ends home text x slash h =
+    let target = if is_local text then 58 ∷ text else text in
+    let full = if starts_with nat_eq target (codes ":") then in_package home target else target in
+    name_ends full x slash (path_ends home target x (colon_ends text x h))
 
 -- what two texts end in
 final : ℕ → List ℕ → ℕ

@@ -81,8 +81,7 @@ nodes_of r = r.kind ++ group RuleCall (segs_of r.args) r.one_comma r.end ∷ []
 
 -- what is no rule stays, and so does the rest of a rule
 abbrev pub nodes_after : (List Segment → List Segment) → List Item → Option Rule → List Item
-nodes_after f nodes None = nodes
-nodes_after f nodes (Some r) = nodes_of (record r { args = f r.args })
+nodes_after f nodes rule = map_or nodes (λ r. nodes_of (record r { args = f r.args })) rule
 
 abbrev pub with_args : (List Segment → List Segment) → Statement → Statement
 with_args f s = record s { nodes = nodes_after f s.nodes (rule_of s.nodes) }

@@ -8,8 +8,7 @@ use Rattle.bz_token.specs.Common.{map_or}
 
 -- a package and the colon after it
 abbrev pub home_text : Package → List ℕ
-home_text None = codes "-:"
-home_text (Some path) = 47 ∷ 47 ∷ (path ++ 58 ∷ [])
+home_text home = map_or (codes "-:") (λ path. 47 ∷ 47 ∷ (path ++ 58 ∷ [])) home
 
 abbrev pub target_text : Target → List ℕ
 target_text (Name name) = name

@@ -1,5 +1,6 @@
 -- The first argument of a name among the parts of its rule: renamed, and with one comment line more.
 use Rattle.std.proofs.Common.{◌≡◌, ℕ, ◌+◌, List, [], ◌∷◌, ◌++◌, Bool, true, false, ◌||◌, if◌then◌else◌, Option, Some, None, is_some, length, map, set, take, drop, option_map, refl, ap, sym, ◌∙◌, arith, append_assoc, length-append, Result, Ok, Err, IfOk}
+use Rattle.std.specs.Prelude.{drop}
 use Rattle.std.specs.List.{list_any}
 use Rattle.std.proofs.lemmas.Bool.{false≢true}
 use Rattle.std.proofs.lemmas.List.{map-append}
@@ -10,7 +11,7 @@ use Rattle.bz_tree.specs.Rows.{RowPart, a_token, segment_end, above, beside_part
 use Rattle.bz_attribute.specs.Rules.{Rule, is_named, is_text, name_of}
 use Rattle.bz_attribute.specs.Effects.{edit_first, has, is_absent, nodes_after, nodes_of, with_args}
 use Rattle.bz_attribute.specs.Comment.{comment_attribute, comment_line, with_comment}
-use Rattle.bz_attribute.specs.Rename.{rename, rename_note, rename_to, renamed}
+use Rattle.bz_attribute.specs.Rename.{rename, rename_note, rename_to}
 use Rattle.bz_attribute.specs.declared.done.Note.{Note}
 use Rattle.bz_attribute.specs.declared.done.Note.TheVariants.{AttributeExists, NoAttribute}
 use Rattle.bz_attribute.specs.Finder.{find_from}
@@ -126,7 +127,7 @@ record BeginsWith (xs : List Item) : Type 0 where
   token : RowPart
   after : List RowPart
   are : items_parts (items_of xs) ≡ token ∷ after
-  put : (new : List ℕ) → items_parts (items_of (renamed new xs)) ≡ a_token Identifier new ∷ after
+  put : (new : List ℕ) → items_parts (items_of (leaf Identifier new ∷ drop 1 xs)) ≡ a_token Identifier new ∷ after
 
 no_text : (name : List ℕ) (o : Option (List ℕ)) → o ≡ None → is_text name o ≡ true → ⊥
 no_text name o none h = false≢true (sym (ap (is_text name) none) ∙ h)

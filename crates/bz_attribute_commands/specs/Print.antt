@@ -16,12 +16,11 @@ use Rattle.bz_attribute.specs.Effects.{done}
 use Rattle.bz_attribute.specs.declared.done.Done.{Done}
 use Rattle.bz_attribute.specs.declared.done.Note.{Note}
 use Rattle.bz_attribute.specs.declared.done.Note.TheVariants.{Missing}
-use Rattle.bz_token.specs.Common.{map_or}
+use Rattle.bz_token.specs.Common.{map_or, is_empty}
 
 -- no quote, no space and no byte below it
 abbrev pub is_plain : List ℕ → Bool
-is_plain [] = false
-is_plain (b ∷ bs) = not (list_any (λ b. b == 34 || nat_le b 32) (b ∷ bs))
+is_plain v = not (is_empty v) && not (list_any (λ b. b == 34 || nat_le b 32) v)
 
 -- a value as a word
 abbrev pub word_form : List ℕ → List ℕ
@@ -30,17 +29,14 @@ word_form v = if is_plain v then v else quoted v
 abbrev pub words_text : List Segment → List ℕ
 words_text ss = codes "[" ++ join_with_byte 32 (map (λ s. map_or [] word_form (string_value s.nodes)) ss) ++ codes "]"
 
--- the whole value is one list of strings with values
-abbrev pub is_words : List Item → Bool
-is_words nodes = is_only (λ x. is_list x && list_all (λ s. is_some (string_value s.nodes)) (elements x)) nodes
+-- a list of strings with values
+abbrev pub is_words : Item → Bool
+is_words x = is_list x && list_all (λ s. is_some (string_value s.nodes)) (elements x)
 
-abbrev pub first_elements : List Item → List Segment
-first_elements [] = []
-first_elements (x ∷ xs) = elements x
-
--- a list of strings in brackets; anything else but a string is its text on one line
+-- one list of strings in brackets; anything else but a string is its text on one line
 abbrev pub list_text : List Item → List ℕ
-list_text nodes = if is_words nodes then words_text (first_elements nodes) else flat_text (Some RuleCall) nodes
+list_text (x ∷ []) = if is_words x then words_text (elements x) else flat_text (Some RuleCall) (x ∷ [])
+list_text nodes = flat_text (Some RuleCall) nodes
 
 abbrev pub value_text : List Item → List ℕ
 value_text nodes = map_or (list_text nodes) word_form (string_value nodes)
@@ -55,8 +51,7 @@ field_text home s r (ValueOf attr) = option_map (λ a. value_text (value a)) (fi
 
 -- without fields the name and the kind
 abbrev pub fields_of : List Field → List Field
-fields_of [] = ValueOf (codes "name") ∷ Kind ∷ []
-fields_of (field ∷ fields) = field ∷ fields
+fields_of fields = if is_empty fields then ValueOf (codes "name") ∷ Kind ∷ [] else fields
 
 abbrev pub line_of : Package → Statement → Rule → List Field → List ℕ
 line_of home s r fields = join_with_byte 32 (map (λ field. map_or (codes "(missing)") (λ text. text) (field_text home s r field)) fields)

@@ -1,5 +1,6 @@
 -- A statement without its comments, by what was read of it.
 use Rattle.std.proofs.Common.{◌≡◌, ℕ, suc, List, [], ◌∷◌, ◌++◌, Bool, true, false, ◌||◌, ◌&&◌, refl, sym, ap, ◌∙◌, arith, append_assoc, append-nil, subst}
+use Rattle.bz_attribute.proofs.Calls.{no_dots}
 use Rattle.std.specs.Prelude.{codes, if◌then◌else◌, Option, None, map, nat_le, ◌≤◌, bytes_eq}
 use Rattle.std.proofs.lemmas.Bool.{false≢true}
 use Rattle.bz_token.specs.declared.token.Kind.TheVariants.{Identifier, Keyword, Operator, String}
@@ -29,7 +30,7 @@ use Rattle.bz_layout_laws.specs.Spelled.{spelled, spelled_items}
 use Rattle.bz_layout_laws.specs.TextsOfKinds.{HaveTexts}
 use Rattle.bz_layout_laws.proofs.ParsedRead.{plain_same}
 use Rattle.bz_layout_laws.proofs.SameInside.{items_same}
-use Rattle.bz_attribute.specs.Rules.{first_named, is_call, rule_from}
+use Rattle.bz_attribute.specs.Rules.{first_named, rule_from}
 use Rattle.bz_canonical.specs.Canonical.{HasArgumentName, rule_args, rule_name}
 use Rattle.bz_canonical.specs.private.Arguments.{Ends}
 use Rattle.bz_canonical.specs.private.Fronts.{IsTokenFront}
@@ -173,7 +174,7 @@ assign_word false = record { text = assign_text false; mark = refl; dot = refl; 
 -- what begins with a name and another operator than a dot is no rule
 no_rule : (name o : List ℕ) (kind ys : List Item) → bytes_eq o (codes ".") ≡ false → rule_from (leaf Identifier name ∷ leaf Operator o ∷ kind) ys ≡ None
 no_rule name o kind [] other = refl
-no_rule name o kind (x ∷ []) other = rw (other, and_no (is_call x)) refl
+no_rule name o kind (x ∷ []) other = no_dots (leaf Identifier name ∷ leaf Operator o ∷ kind) x (rw other refl)
 no_rule name o kind (x ∷ y ∷ ys) other = no_rule name o (kind ++ x ∷ []) (y ∷ ys) other
 
 listed : (xs : Items) → map spelled (list_of xs) ≡ list_of (spelled_items xs)

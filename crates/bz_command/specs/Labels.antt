@@ -1,6 +1,6 @@
 -- Labels: a package and what is meant in it (buildozer README, targets; what it leaves open is this project's own rule).
-use Rattle.std.specs.Prelude.{ℕ, nat_lt, nat_eq, ◌==◌, ◌<◌, ◌^◌, List, [], ◌∷◌, Bool, true, false, ◌&&◌, ◌||◌, not, if◌then◌else◌, IsTrue, Option, None, Some, Result, Ok, Err, codes, length, drop, bytes_eq}
-use Rattle.std.specs.List.{position_or_len, list_all, list_any, before_first, after_first, starts_with, slice_split}
+use Rattle.std.specs.Prelude.{ℕ, nat_lt, nat_eq, ◌==◌, ◌<◌, ◌^◌, List, [], ◌∷◌, Bool, true, false, ◌&&◌, ◌||◌, not, if◌then◌else◌, IsTrue, Option, None, Some, Result, Ok, Err, codes, length, drop, bytes_eq, unwrap_or}
+use Rattle.std.specs.List.{position_or_len, list_all, list_any, before_first, after_first, starts_with, slice_split, last_or}
 use Rattle.std.specs.Char.{is_ascii_digit}
 use Rattle.std.specs.Str.Parse.{digits_value}
 use Rattle.bz_command.specs.declared.labels.LabelFault.{LabelFault}
@@ -82,9 +82,7 @@ pair_of (Ok package_) (Err fault) = Err fault
 pair_of (Ok package_) (Ok target) = Ok (package_, target)
 
 abbrev pub last_of : List (List ℕ) → List ℕ
-last_of [] = []
-last_of (x ∷ []) = x
-last_of (x ∷ y ∷ ys) = last_of (y ∷ ys)
+last_of parts = unwrap_or (last_or None parts) []
 
 -- without a colon the last part of the path is the name; the root and standard input have none
 abbrev pub named_of : Result Package LabelFault → Result (Package × Target) LabelFault

@@ -7,16 +7,10 @@ use Rattle.bz_command.specs.Labels.{Package, is_colon, parts_of, last_of}
 abbrev pub is_local : List ℕ → Bool
 is_local text = not (bytes_eq text []) && not (list_any is_colon text) && not (starts_with nat_eq text (codes "/")) && not (starts_with nat_eq text (codes "@"))
 
-abbrev pub with_colon : List ℕ → List ℕ
-with_colon text = if is_local text then 58 ∷ text else text
-
 -- the path of a package before `:name`; standard input has none
 abbrev pub in_package : Package → List ℕ → List ℕ
 in_package None text = text
 in_package (Some path) text = 47 ∷ 47 ∷ (path ++ text)
-
-abbrev pub with_path : Package → List ℕ → List ℕ
-with_path package_ text = if starts_with nat_eq text (codes ":") then in_package package_ text else text
 
 -- the last part of a path is its name, where it is not empty
 abbrev pub with_name : List ℕ → List ℕ
@@ -24,9 +18,11 @@ with_name text =
     if starts_with nat_eq text (codes "//") && not (list_any is_colon text)
     then (let name = last_of (parts_of text) in if bytes_eq name [] then text else text ++ 58 ∷ name) else text
 
--- a label in full
+-- a label in full: a name alone gets its colon, a target of the package the path before it, and a path its name
 abbrev pub completed : Package → List ℕ → List ℕ
-completed package_ text = with_name (with_path package_ (with_colon text))
+completed package_ text =
+    let target = if is_local text then 58 ∷ text else text in
+    with_name (if starts_with nat_eq target (codes ":") then in_package package_ target else target)
 
 -- Two texts are the same label in a package if they are equal in full.
 abbrev pub IsSame : Package → List ℕ → List ℕ → Type 0

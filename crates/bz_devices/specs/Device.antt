@@ -1,19 +1,16 @@
 -- Devices: what a source gave and what a sink took. One piece stands for one read; an empty one is the end of the input.
 use Rattle.std.specs.Prelude.{◌≡◌, ℕ, ◌+◌, ◌<◌, ◌≤◌, ◌-◌, ◌^◌, Bool, true, false, IsTrue, List, [], ◌∷◌, ◌++◌, Option, None, Some, ⊤}
+use Rattle.bz_token.specs.Common.{is_empty, map_or}
 use Rattle.std.specs.Prelude.{length}
-use Rattle.std.specs.List.{flat_map, concat}
+use Rattle.std.specs.List.{flat_map, concat, last_or, AllByRecursion}
 
 -- whether the last of these reads gave no byte, and so met the end of the input
 abbrev pub ends : List (List ℕ) → Bool
-ends [] = false
-ends ([] ∷ []) = true
-ends ((x ∷ xs) ∷ []) = false
-ends (piece ∷ (next ∷ pieces)) = ends (next ∷ pieces)
+ends pieces = map_or false is_empty (last_or None pieces)
 
 -- none of these reads met the end of the input
 abbrev pub NoneEnds : List (List ℕ) → Type 0
-NoneEnds [] = ⊤
-NoneEnds (piece ∷ pieces) = (0 < length piece) × NoneEnds pieces
+NoneEnds pieces = AllByRecursion (λ piece. 0 < length piece) pieces
 
 -- none of these reads was made after one that met the end
 abbrev pub NoneAfterEnd : List (List ℕ) → Type 0

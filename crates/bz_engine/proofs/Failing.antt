@@ -1,6 +1,7 @@
 -- Where an execution fails, and failures end the run.
 use Rattle.std.proofs.Common.{◌≡◌, ℕ, Bool, true, false, ◌||◌, List, [], ◌∷◌, ◌++◌, refl, sym, ◌∙◌, ap, take}
-use Rattle.std.specs.Prelude.{Option, None, Some, option_to_list}
+use Rattle.bz_passes.specs.declared.entry.Entry.TheVariants.{Line}
+use Rattle.std.specs.Prelude.{Option, None, Some, option_to_list, map}
 use Rattle.std.specs.List.{flat_map}
 use Rattle.std.proofs.lemmas.Bool.{false≢true}
 use Rattle.bz_tree.specs.Tree.{Statement}
@@ -12,7 +13,7 @@ use Rattle.bz_attribute.specs.declared.done.Note.TheVariants.{Missing, NoAttribu
 use Rattle.bz_passes.specs.declared.entry.Entry.{Entry}
 use Rattle.bz_command.specs.Passes.{Slot}
 use Rattle.bz_passes.specs.Exchange.{Kept, IsLeftBy, log_alone, some_alone}
-use Rattle.bz_engine.specs.Meaning.{meaning, changes, fails_on, line_told, note_told}
+use Rattle.bz_engine.specs.Meaning.{meaning, changes, fails_on, note_told}
 use Rattle.bz_engine.specs.Outcome.{Run}
 use Rattle.bz_passes.specs.Entries.{failure_text}
 use Rattle.bz_engine.specs.Progress.{Progress}
@@ -23,7 +24,7 @@ use Rattle.bz_attribute.specs.Texts.{shown_text}
 use Rattle.bz_token.specs.Common.{map_or}
 
 -- a note that is no failure tells of none
-no_failure : (rule : List ℕ) (line : Option (List ℕ)) (note : Option Note) → fails note ≡ false → flat_map failure_text (line_told line ++ note_told rule note) ≡ []
+no_failure : (rule : List ℕ) (line : Option (List ℕ)) (note : Option Note) → fails note ≡ false → flat_map failure_text (map Line (option_to_list line) ++ note_told rule note) ≡ []
 no_failure rule None None h = refl
 no_failure rule (Some line) None h = refl
 no_failure rule None (Some (Missing field)) h = refl

@@ -4,7 +4,7 @@ use Rattle.std.specs.Prelude.{Option, None, Some, if◌then◌else◌}
 use Rattle.bz_tree.specs.Tree.{Statement}
 use Rattle.bz_tree.specs.declared.stmt.Class.{Class}
 use Rattle.bz_layout.specs.Layout.{layout_text}
-use Rattle.bz_layout.specs.Gaps.{gap_between, blank_between}
+use Rattle.bz_layout.specs.Gaps.{lines_between, lines_before, gap_text}
 use Rattle.bz_command.specs.Labels.{Package}
 use Rattle.bz_command.specs.Passes.{Slot, slots_after}
 use Rattle.bz_passes.specs.Exchange.{slot_after}
@@ -19,7 +19,7 @@ text_more : (last : Option Class) (xs : List (Slot Statement)) (x : Slot Stateme
 text_more last [] x = refl
 text_more last (None ∷ xs) x = text_more last xs x
 text_more last (Some s ∷ xs) x =
-    let gap = if (blank_between last s.class) then codes "\n" else [] in
+    let gap = gap_text (lines_before last s.class) in
     let more = text_following (last_class (Some s.class) xs) (x ∷ []) in
     ap (λ l. gap ++ (layout_text s ++ l)) (text_more (Some s.class) xs x)
     ∙ ap (λ l. gap ++ l) (sym (append_assoc (layout_text s) (text_following (Some s.class) xs) more))
@@ -35,7 +35,7 @@ last_more last (Some s ∷ xs) x = last_more (Some s.class) xs x
 text_after_some : (s : Statement) (slots : List (Slot Statement)) → layout_text s ++ text_following (Some s.class) slots ≡ text_of (s ∷ left_in slots)
 text_after_some s [] = append-nil (layout_text s)
 text_after_some s (None ∷ slots) = text_after_some s slots
-text_after_some s (Some t ∷ slots) = ap (λ l. layout_text s ++ ((if (gap_between s.class t.class) then codes "\n" else []) ++ l)) (text_after_some t slots)
+text_after_some s (Some t ∷ slots) = ap (λ l. layout_text s ++ (gap_text (lines_between s.class t.class) ++ l)) (text_after_some t slots)
 
 pub text_by_neighbours : (slots : List (Slot Statement)) → text_following None slots ≡ text_of (left_in slots)
 text_by_neighbours [] = refl

@@ -1,5 +1,7 @@
 -- Where a command has a note, it leaves what it found: so the rule of the note can be shown after the command.
 use Rattle.std.proofs.Common.{◌≡◌, List, ◌++◌, true, Option, None, Some, is_some, refl, sym, ap, ◌∙◌, []}
+use Rattle.bz_passes.specs.declared.entry.Entry.TheVariants.{Line}
+use Rattle.std.specs.Prelude.{map, option_to_list}
 use Rattle.bz_tree.specs.Tree.{Statement}
 use Rattle.bz_command.specs.Labels.{Package}
 use Rattle.bz_rule.specs.Commands.{Command, after, done_of}
@@ -7,7 +9,7 @@ use Rattle.bz_attribute.specs.declared.done.Done.{Done}
 use Rattle.bz_attribute.specs.declared.done.Note.{Note}
 use Rattle.bz_rule.proofs.Commands.{noted_stays}
 use Rattle.bz_passes.specs.declared.entry.Entry.{Entry}
-use Rattle.bz_engine.specs.Meaning.{line_told, note_told, meaning}
+use Rattle.bz_engine.specs.Meaning.{note_told, meaning}
 use Rattle.bz_attribute.specs.Texts.{shown_text}
 use Rattle.bz_token.specs.Common.{map_or}
 
@@ -17,6 +19,6 @@ note_found home old new told None stays = refl
 note_found home old new told (Some n) stays = ap (λ (slot : Option Statement). told ++ note_told (map_or [] (shown_text home) slot) (Some n)) (stays refl)
 
 -- a command tells of the slot that it leaves what it says of the one that it finds
-pub says_found : (c : Command) (home : Package) (old new : Option Statement) (d : Done) → new ≡ after c home old → d ≡ done_of c home old → (line_told d.line ++ note_told (map_or [] (shown_text home) new) d.note) ≡ (meaning home).says c old
+pub says_found : (c : Command) (home : Package) (old new : Option Statement) (d : Done) → new ≡ after c home old → d ≡ done_of c home old → (map Line (option_to_list d.line) ++ note_told (map_or [] (shown_text home) new) d.note) ≡ (meaning home).says c old
 says_found c home old new d is told =
-    note_found home old new (line_told d.line) d.note (λ h. is ∙ noted_stays c home old (ap (λ (z : Done). is_some z.note) (sym told) ∙ h)) ∙ ap (λ x0. line_told x0.line ++ note_told (map_or [] (shown_text home) old) x0.note) told
+    note_found home old new (map Line (option_to_list d.line)) d.note (λ h. is ∙ noted_stays c home old (ap (λ (z : Done). is_some z.note) (sym told) ∙ h)) ∙ ap (λ x0. map Line (option_to_list x0.line) ++ note_told (map_or [] (shown_text home) old) x0.note) told

@@ -1,6 +1,7 @@
 -- The script of one pass with one command on a statement that it marks.
 use Rattle.std.proofs.Common.{◌≡◌, ℕ, Bool, true, false, ◌||◌, List, [], ◌∷◌, ◌++◌, length, refl, sym, ◌∙◌, ap, subst, append-nil}
-use Rattle.std.specs.Prelude.{Option, None, Some, if◌then◌else◌}
+use Rattle.bz_passes.specs.declared.entry.Entry.TheVariants.{Line}
+use Rattle.std.specs.Prelude.{Option, None, Some, if◌then◌else◌, map, option_to_list}
 use Rattle.std.proofs.lemmas.Bool.{false≢true}
 use Rattle.bz_tree.specs.declared.stmt.Class.{Class}
 use Rattle.bz_tree.specs.declared.stmt.Class.TheVariants.{Rule as RuleClass}
@@ -19,7 +20,7 @@ use Rattle.bz_passes.specs.Exchange.{Fits, IsLeftBy, IsPassedBy, Kept, kept_alon
 use Rattle.bz_passes.specs.declared.entry.Entry.{Entry}
 use Rattle.bz_passes.proofs.ExchangeLaw.{left_more}
 use Rattle.bz_passes.proofs.PassedBy.{unmarked_passed}
-use Rattle.bz_engine.specs.Meaning.{meaning, changes, fails_on, line_told, note_told}
+use Rattle.bz_engine.specs.Meaning.{meaning, changes, fails_on, note_told}
 use Rattle.bz_engine.specs.Outcome.{Run, Script, is_query}
 use Rattle.bz_engine.specs.Progress.{Progress, last_class, text_following}
 use Rattle.bz_engine.specs.private.Edits.{IsLaidOut}
@@ -61,7 +62,7 @@ pub told_fits : (kept : List (Kept Entry)) (passes : Script) (target : Target) (
 told_fits kept passes target command line is fits =
     let h : HasOneLog kept = one_log kept passes target command is fits in
     subst (λ (ks : List (Kept Entry)). Fits (kept_and ks (one_told line)) passes) (sym h.2)
-    (subst (Fits (kept_and (h.0 ∷ []) (one_told line))) (sym is) (ap (λ (logs : List (List Entry)). length (logs_and logs (line_told line ∷ []))) h.3, tt))
+    (subst (Fits (kept_and (h.0 ∷ []) (one_told line))) (sym is) (ap (λ (logs : List (List Entry)). length (logs_and logs (map Line (option_to_list line) ∷ []))) h.3, tt))
 
 -- what the pass makes of a statement that it marks, and what is kept of it
 slot_of_one : (home : Package) (target : Target) (command : Command) (s : Statement) (t : Slot Statement) → marks target s ≡ true → after command home (Some s) ≡ t
@@ -74,8 +75,8 @@ kept_by found log = record { found = found; logs = log ∷ [] } ∷ []
 kept_of_one : (home : Package) (target : Target) (command : Command) (s : Statement) (d : Done) → marks target s ≡ true → done_of command home (Some s) ≡ d → d.note ≡ None
     → kept_alone (meaning home) (one_pass target command) (Some s) ≡ one_told d.line
 kept_of_one home target command s d met told quiet =
-    let said : (meaning home).says command (Some s) ≡ line_told d.line =
-    ap (λ x0. line_told x0.line ++ note_told (map_or [] (shown_text home) (Some s)) x0.note) told ∙ ap (λ n. line_told d.line ++ note_told (map_or [] (shown_text home) (Some s)) n) quiet ∙ append-nil (line_told d.line) in
+    let said : (meaning home).says command (Some s) ≡ map Line (option_to_list d.line) =
+    ap (λ x0. map Line (option_to_list x0.line) ++ note_told (map_or [] (shown_text home) (Some s)) x0.note) told ∙ ap (λ n. map Line (option_to_list d.line) ++ note_told (map_or [] (shown_text home) (Some s)) n) quiet ∙ append-nil (map Line (option_to_list d.line)) in
     ap (λ b. kept_by b (if b then (meaning home).says command (Some s) else [])) met ∙ ap (kept_by true) said
 
 or_nothing : (b : Bool) → ((b || false) || false) ≡ b

@@ -1,5 +1,5 @@
 -- What targets mark and what commands do to the statement in a slot, and what is told of it: the language of passes over BUILD files.
-use Rattle.std.specs.Prelude.{ℕ, Bool, false, List, [], ◌∷◌, ◌++◌, Option, None, Some}
+use Rattle.std.specs.Prelude.{ℕ, Bool, false, List, [], ◌∷◌, ◌++◌, Option, None, Some, map, option_to_list}
 use Rattle.bz_token.specs.Common.{map_or}
 use Rattle.bz_tree.specs.Tree.{Statement}
 use Rattle.bz_command.specs.Labels.{Package, Target, must_mark}
@@ -15,11 +15,6 @@ use Rattle.bz_passes.specs.declared.entry.Entry.TheVariants.{Line, Warning, Fail
 use Rattle.bz_engine.specs.Messages.{not_found_text, note_text}
 use Rattle.bz_command.specs.Passes.{Meaning, Slot}
 
--- what is printed of a rule
-abbrev pub line_told : Option (List ℕ) → List Entry
-line_told None = []
-line_told (Some line) = Line line ∷ []
-
 -- a missing field is a warning, each other note a failure
 abbrev pub note_told : List ℕ → Option Note → List Entry
 note_told rule None = []
@@ -34,7 +29,8 @@ meaning home = record {
   not_found = λ target. Failure (not_found_text home target);
   after = λ command slot. after command home slot;
   says = λ command slot.
-      let done = done_of command home slot in line_told done.line ++ note_told (map_or [] (shown_text home) slot) done.note;
+      let done = done_of command home slot in
+      map Line (option_to_list done.line) ++ note_told (map_or [] (shown_text home) slot) done.note;
 }
 
 -- whether the command makes the slot another than it was

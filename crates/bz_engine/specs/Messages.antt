@@ -42,12 +42,9 @@ lex_text (OpenBracket line col) = placed line col (codes "bracket is not closed"
 lex_text (TooDeep line col) = placed line col (codes "brackets too deep")
 lex_text (BadBackslash line col) = placed line col (codes "bad backslash")
 
-abbrev pub parse_text : ParseFault → List ℕ
-parse_text (parse.OutOfMemory _) = codes "out of memory"
-parse_text (parse.Lex fault) = lex_text fault
-parse_text (parse.Indented line) = lined line (codes "indented statement")
-parse_text (parse.NotAStatement line) = lined line (codes "not a statement")
-
 abbrev pub fault_text : SyntaxFault → List ℕ
 fault_text (NotUtf8 line col) = placed line col (codes "not UTF-8")
-fault_text (Parse fault) = parse_text fault
+fault_text (Parse (parse.OutOfMemory _)) = codes "out of memory"
+fault_text (Parse (parse.Lex fault)) = lex_text fault
+fault_text (Parse (parse.Indented line)) = lined line (codes "indented statement")
+fault_text (Parse (parse.NotAStatement line)) = lined line (codes "not a statement")

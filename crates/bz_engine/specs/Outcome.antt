@@ -1,10 +1,10 @@
 -- What a run over a file gives: the passes one after another on the whole list of its statements, and the result laid out.
-use Rattle.std.specs.Prelude.{◌≡◌, ◌⊎◌, ℕ, Bool, true, false, ◌||◌, if◌then◌else◌, List, [], ◌∷◌, ◌++◌, map, Option, None, Some, codes, take}
+use Rattle.std.specs.Prelude.{◌≡◌, ◌⊎◌, ℕ, Bool, true, false, ◌||◌, if◌then◌else◌, List, [], ◌∷◌, ◌++◌, map, Option, None, Some, codes, take, filter_map}
 use Rattle.std.specs.List.{list_all, flat_map}
 use Rattle.bz_token.specs.Chunks.{chunks}
 use Rattle.bz_tree.specs.Tree.{Statement}
 use Rattle.bz_layout.specs.Layout.{layout_text}
-use Rattle.bz_layout.specs.Gaps.{gap_between}
+use Rattle.bz_layout.specs.Gaps.{lines_between, gap_text}
 use Rattle.bz_command.specs.Labels.{Package, Target}
 use Rattle.bz_rule.specs.Commands.{Command, is_print}
 use Rattle.bz_passes.specs.Entries.{line_text, message_text, failure_text}
@@ -41,15 +41,13 @@ slots_of statements = map Some statements
 
 -- the statements that are left in slots
 abbrev pub left_in : {S : Type 0} → List (Slot S) → List S
-left_in [] = []
-left_in (None ∷ slots) = left_in slots
-left_in (Some s ∷ slots) = s ∷ left_in slots
+left_in slots = filter_map (λ slot. slot) slots
 
 -- The text of statements one after another: between two neighbours an empty line, where their classes ask for one.
 abbrev pub text_of : List Statement → List ℕ
 text_of [] = []
 text_of (s ∷ []) = layout_text s
-text_of (s ∷ t ∷ ss) = layout_text s ++ ((if (gap_between s.class t.class) then codes "\n" else []) ++ text_of (t ∷ ss))
+text_of (s ∷ t ∷ ss) = layout_text s ++ (gap_text (lines_between s.class t.class) ++ text_of (t ∷ ss))
 
 -- the text of the statements as the script left them; none for a query
 abbrev pub text_after : Package → Script → List Statement → List ℕ
@@ -70,22 +68,20 @@ some_change home passes statements = some_execution (meaning home) (changes home
 abbrev pub some_failure : Package → Script → List Statement → Bool
 some_failure home passes statements = some_execution (meaning home) (fails_on home) passes (slots_of statements)
 
+-- what is told of a run that a fault or a failure ended: only these messages, and no line
+abbrev pub cut_short : List (List ℕ) → Bool → End → Told
+cut_short messages changed end = record { lines = []; messages = messages; changed = changed; failed = true; end = end }
+
 -- what is told of a file without fault: the whole log; a fault of the file is the only message
 abbrev pub told_of : Package → Script → List Statement → Option SyntaxFault → Told
-told_of home passes statements None = record {
-  lines = flat_map line_text (log_of (meaning home) passes (slots_of statements));
-  messages = flat_map message_text (log_of (meaning home) passes (slots_of statements));
-  changed = some_change home passes statements;
-  failed = some_failure home passes statements || some_missing (meaning home) passes (slots_of statements);
+told_of home passes ss None = record {
+  lines = flat_map line_text (log_of (meaning home) passes (slots_of ss));
+  messages = flat_map message_text (log_of (meaning home) passes (slots_of ss));
+  changed = some_change home passes ss;
+  failed = some_failure home passes ss || some_missing (meaning home) passes (slots_of ss);
   end = Whole;
 }
-told_of home passes statements (Some fault) = record {
-  lines = [];
-  messages = fault_text fault ∷ [];
-  changed = some_change home passes statements;
-  failed = true;
-  end = Syntax fault;
-}
+told_of home passes ss (Some fault) = cut_short (fault_text fault ∷ []) (some_change home passes ss) (Syntax fault)
 
 -- what the commands say, without what is said of a target that marks nothing
 abbrev pub said : {S T C M : Type 0} → Meaning S T C M → List (Pass T C) → List (Slot S) → List M
@@ -94,13 +90,9 @@ said m (p ∷ ps) slots = log_of_commands m p.commands (map (marked m p.target) 
 
 -- what is told where the run ends at a statement: the first failure there, in pass and command order, is the only message
 abbrev pub told_of_failure : Package → Script → List Statement → Statement → Told
-told_of_failure home passes before s = record {
-  lines = [];
-  messages = take 1 (flat_map failure_text (said (meaning home) passes (slots_of (s ∷ []))));
-  changed = some_change home passes before;
-  failed = true;
-  end = FirstFailure;
-}
+told_of_failure home passes before s =
+    let failures = flat_map failure_text (said (meaning home) passes (slots_of (s ∷ []))) in
+    cut_short (take 1 failures) (some_change home passes before) FirstFailure
 
 abbrev pub told_by : Report → Told
 told_by r = record { lines = r.lines; messages = r.messages; changed = r.changed; failed = r.failed; end = r.end }

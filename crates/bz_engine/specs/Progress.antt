@@ -4,7 +4,7 @@ use Rattle.std.specs.List.{concat}
 use Rattle.bz_token.specs.Places.{line_at}
 use Rattle.bz_tree.specs.Tree.{Statement}
 use Rattle.bz_tree.specs.declared.stmt.Class.{Class}
-use Rattle.bz_layout.specs.Gaps.{blank_between}
+use Rattle.bz_layout.specs.Gaps.{lines_before, gap_text}
 use Rattle.bz_layout.specs.Layout.{layout_text}
 use Rattle.bz_command.specs.Labels.{Package}
 use Rattle.bz_passes.specs.declared.entry.Entry.{Entry}
@@ -40,7 +40,8 @@ pub record IsKeptOf (run : Run) (cs : List (List ℕ)) (statements : List Statem
 abbrev pub text_following : Option Class → List (Slot Statement) → List ℕ
 text_following last [] = []
 text_following last (None ∷ slots) = text_following last slots
-text_following last (Some s ∷ slots) = (if (blank_between last s.class) then codes "\n" else []) ++ (layout_text s ++ text_following (Some s.class) slots)
+text_following last (Some s ∷ slots) =
+    gap_text (lines_before last s.class) ++ (layout_text s ++ text_following (Some s.class) slots)
 
 -- what one statement more, as the script leaves it, adds to the text
 abbrev pub added : Package → Script → Option Class → List Statement → List ℕ

@@ -19,7 +19,7 @@ ghost use Rattle.bz_engine.specs.private.Rows.{HasKey};
 
 use crate::answer::{is_answerable, marks_name, unchanged_by_text};
 use crate::argument::{EditedArgument, edit_lines};
-use crate::edit::{Edited, ScriptRun, put_gap};
+use crate::edit::{Edited, ScriptRun};
 use crate::next_chunk::NextChunk;
 use crate::progress::Progress;
 use crate::rule_passes::OnePass;
@@ -27,6 +27,7 @@ use crate::rules::Rules;
 use bz_attribute::Env;
 use bz_canonical::{ArgumentPlace, CanonicalChunk, canonical};
 use bz_devices::ahead::Ahead;
+use bz_layout::put_gap;
 use bz_memory::{NoMemory, extend_from_slice};
 use bz_passes::index::Key;
 use bz_passes::script::passes_by;

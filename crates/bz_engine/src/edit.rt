@@ -5,7 +5,7 @@ ghost use Rattle.std.specs.List.{flat_map};
 ghost use Rattle.bz_tree.specs.Rows.{IsRowOf};
 ghost use Rattle.bz_tree.specs.Statement.{class_of};
 ghost use Rattle.bz_tree.specs.Tree.{Statement};
-ghost use Rattle.bz_layout.specs.Gaps.{blank_between as is_gap};
+ghost use Rattle.bz_layout.specs.Gaps.{lines_before, gap_text};
 ghost use Rattle.bz_layout.specs.Layout.{layout_text};
 ghost use Rattle.bz_passes.specs.Exchange.{Fits, log_alone};
 ghost use Rattle.bz_engine.specs.Outcome.{is_query};
@@ -21,8 +21,8 @@ use crate::rule_passes::RulePasses;
 use crate::rules::Rules;
 use bumpalo::Bump;
 use bz_attribute::Head;
-use bz_layout::{blank_between, put_row};
-use bz_memory::{NoMemory, push};
+use bz_layout::{put_gap, put_row};
+use bz_memory::NoMemory;
 use bz_passes::kept::Kept;
 use bz_passes::language::Facts;
 use bz_passes::script::run_script;
@@ -215,20 +215,10 @@ fn put_after(
     text: &mut Vec<u8>,
 ) -> Result<(), NoMemory>
     ensures { OnOk result (text.new.items ≡ text.old.items
-        ++ ((if (is_gap last stmt.now.class) then codes "\n" else []) ++ layout_text stmt.now)) }
+        ++ (gap_text (lines_before last stmt.now.class) ++ layout_text stmt.now)) }
 {
     put_gap(last, stmt.class(), text)?;
     stmt.put(alloc, text)
-}
-
-/// Writes what stands between two statements of these classes.
-pub(crate) fn put_gap(last: Option<Class>, class: Class, text: &mut Vec<u8>) -> Result<(), NoMemory>
-    ensures { OnOk result (text.new.items ≡ text.old.items ++ (if (is_gap last class) then codes "\n" else [])) }
-{
-    if blank_between(last, class) {
-        push(text, b'\n')?;
-    }
-    Ok(())
 }
 
 /// The message of the first failure that was told, by pass and command.

@@ -1,7 +1,8 @@
 //! The texts of messages.
 
 ghost use Rattle.std.specs.Prelude.{◌≡◌, ◌++◌, IfOk};
-ghost use Rattle.bz_engine.specs.Messages.{not_found_text, note_text, lex_text, parse_text, fault_text, placed, lined};
+ghost use Rattle.bz_engine.specs.declared.report.SyntaxFault.TheVariants.{Parse};
+ghost use Rattle.bz_engine.specs.Messages.{not_found_text, note_text, lex_text, fault_text, placed, lined};
 
 use crate::report::SyntaxFault;
 use bz_memory::{NoMemory, from_str, push_number, push_str};
@@ -115,7 +116,7 @@ fn lex_text(alloc: Global, fault: LexFault) -> Result<Text, NoMemory>
 }
 
 fn parse_text(alloc: Global, fault: ParseFault) -> Result<Text, NoMemory>
-    ensures { IfOk result (λ t. t ≡ parse_text fault) }
+    ensures { IfOk result (λ t. t ≡ fault_text (Parse fault)) }
 {
     match fault {
         ParseFault::OutOfMemory(_) => Text::from_str(alloc, "out of memory"),

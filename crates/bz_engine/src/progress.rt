@@ -1,9 +1,9 @@
 //! What a run keeps of the chunks that are done.
 
-ghost use Rattle.std.specs.Prelude.{◌≡◌, ◌+◌, ◌<◌, ◌^◌, ◌∷◌, [], length, OnOk, true};
+ghost use Rattle.std.specs.Prelude.{◌≡◌, ◌+◌, ◌<◌, ◌^◌, ◌∷◌, [], length, map, option_to_list, OnOk, true};
+ghost use Rattle.bz_passes.specs.declared.entry.Entry.TheVariants.{Line};
 ghost use Rattle.bz_token.specs.Places.{line_at};
 ghost use Rattle.bz_passes.specs.Exchange.{kept_and, pass_and};
-ghost use Rattle.bz_engine.specs.Meaning.{line_told};
 ghost use Rattle.bz_engine.specs.private.Found.{HasOneLog, one_told};
 
 use crate::chunk::newlines;
@@ -84,7 +84,8 @@ impl Progress {
 /// The one command of a pass ran on one statement more, which the pass marked, and this line was told of it.
 fn keep_line(kept: &mut Kept, line: Option<Text>) -> Result<(), NoMemory>
     requires { length kept.old.logs ≡ 1 }
-    ensures { OnOk result (kept.new ≡ pass_and kept.old (record { found = true; logs = line_told line ∷ [] })) }
+    ensures { OnOk result (kept.new
+        ≡ pass_and kept.old (record { found = true; logs = map Line (option_to_list line) ∷ [] })) }
 {
     kept.found = true;
     tell_line(line, &mut kept.logs[0])

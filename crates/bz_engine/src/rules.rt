@@ -1,9 +1,10 @@
 //! The language of passes over BUILD files: targets and commands on the rules of a package.
 
-ghost use Rattle.std.specs.Prelude.{◌≡◌, [], ◌∷◌, ◌++◌, Some, Option, IfOk, OnOk, string_bytes};
+ghost use Rattle.std.specs.Prelude.{◌≡◌, [], ◌∷◌, ◌++◌, map, Some, Option, option_to_list, IfOk, OnOk, string_bytes};
 ghost use Rattle.bz_tree.specs.Tree.{Statement};
 ghost use Rattle.bz_attribute.specs.Effects.{fails};
-ghost use Rattle.bz_engine.specs.Meaning.{line_told, note_told};
+ghost use Rattle.bz_engine.specs.Meaning.{note_told};
+ghost use Rattle.bz_passes.specs.declared.entry.Entry.TheVariants.{Line};
 ghost use Rattle.bz_attribute.specs.Texts.{shown_text};
 ghost use Rattle.bz_token.specs.Common.{map_or};
 
@@ -114,7 +115,8 @@ fn tell_done(
     done: &mut Done,
     log: &mut Log,
 ) -> Result<Facts, NoMemory>
-    ensures told { OnOk result (log.new ≡ log.old ++ (line_told done.old.line ++ note_told (map_or [] (shown_text home.now) slot.now) done.old.note)) }
+    ensures told { OnOk result (log.new ≡ log.old ++ (map Line (option_to_list done.old.line)
+        ++ note_told (map_or [] (shown_text home.now) slot.now) done.old.note)) }
     ensures changed { IfOk result (λ facts. facts.changed ≡ done.old.changed) }
     ensures failed { IfOk result (λ facts. facts.failed ≡ fails done.old.note) }
 {
@@ -125,7 +127,7 @@ fn tell_done(
 }
 
 pub(crate) fn tell_line(line: Option<Text>, log: &mut Log) -> Result<(), NoMemory>
-    ensures { OnOk result (log.new ≡ log.old ++ line_told line) }
+    ensures { OnOk result (log.new ≡ log.old ++ map Line (option_to_list line)) }
 {
     if let Some(text) = line {
         log.push(Entry::Line(text))?;

@@ -75,7 +75,7 @@ fn reads_and_writes_much_at_once(rt: HostRuntime) -> Result<(), Fail> {
     let mut source = FromRead::new(&mut spring);
     let mut drip = Drip::new(alloc, 99, None);
     let (home, passes) = read_script(alloc, "set n 7 ! -:*")?;
-    let report = run(alloc, home, passes, program(true), &mut source, &mut drip)?;
+    let report = run(home, passes, program(true), &mut source, &mut drip)?;
     assert_eq!(rt; report.status(), 3);
     assert_eq!(rt; (spring.reads, spring.fewest), (4, 8192));
 
@@ -83,7 +83,7 @@ fn reads_and_writes_much_at_once(rt: HostRuntime) -> Result<(), Fail> {
     let mut sink = ToWrite::new(&mut basin);
     let mut source = FromRead::new(b"f()\n".as_slice());
     let (home, passes) = read_script(alloc, "set n 7 ! -:*")?;
-    let report = run(alloc, home, passes, program(true), &mut source, &mut sink)?;
+    let report = run(home, passes, program(true), &mut source, &mut sink)?;
     assert_eq!(rt; report.status(), 0);
     assert_eq!(rt; (basin.writes, basin.bytes), (1, 9));
     Ok(())

@@ -240,7 +240,7 @@ fn run_all(alloc: Global, script: &str, input: &[u8], most: usize) -> Result<Out
     let mut feed = Feed::new(Input::Bytes(input), Piece::AtMost(most), None);
     let mut drip = Drip::new(alloc, most, None);
     let (home, passes) = read_script(alloc, script)?;
-    let report = run(alloc, home, passes, program(true), &mut feed, &mut drip)?;
+    let report = run(home, passes, program(true), &mut feed, &mut drip)?;
     Ok(Outcome {
         text: drip.taken,
         report,
@@ -350,7 +350,7 @@ fn without_passes(rt: HostRuntime) -> Result<(), Fail> {
         let mut drip = Drip::new(alloc, 9000, None);
         let (home, _) = read_script(alloc, "print name ! -:*")?;
         let passes = Vec::new(alloc);
-        let report = run(alloc, home, passes, program(true), &mut feed, &mut drip)?;
+        let report = run(home, passes, program(true), &mut feed, &mut drip)?;
         assert!(rt; drip.taken.is_empty(), "{input}");
         let told = told(alloc, &report)?;
         assert_eq!(rt; told.as_str(), wanted, "{input}");

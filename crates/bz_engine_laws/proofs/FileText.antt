@@ -1,16 +1,18 @@
 -- The text of statements is read as a file.
 use Rattle.std.proofs.Common.{◌≡◌, ℕ, List, [], ◌∷◌, ◌++◌, map, Bool, true, false, refl, sym, ap, append-nil, subst, ◌∙◌, inl, inr, arith}
-use Rattle.std.specs.Prelude.{codes, Option, None, Some, Ok, if◌then◌else◌}
+use Rattle.bz_tree.specs.declared.stmt.Class.TheVariants.{Comment, Block}
+use Rattle.bz_tree.specs.declared.stmt.Class.{Class}
+use Rattle.std.specs.Prelude.{codes, Option, None, Some, Ok, if◌then◌else◌, zero, suc, replicate}
 use Rattle.std.specs.List.{AllByRecursion}
 use Rattle.std.specs.Str.{IsUtf8}
-use Rattle.std.proofs.lemmas.Str.{IsUtf8-append}
+use Rattle.std.proofs.lemmas.Str.{IsUtf8-append, IsUtf8-nil}
 use Rattle.bz_token.specs.Places.{line_at}
 use Rattle.bz_token.specs.Chunks.{chunks}
 use Rattle.bz_tree.specs.Tree.{Statement}
-use Rattle.bz_layout.specs.Gaps.{gap_between}
+use Rattle.bz_layout.specs.Gaps.{lines_between, gap_text}
 use Rattle.bz_layout.specs.Layout.{layout_text}
 use Rattle.bz_layout_laws.specs.FileRead.{IsFound, AreFound, AreStatementsIn}
-use Rattle.bz_layout_laws.specs.FileText.{gap_text, text_from, takes_line, blank_after, own_chunks, chunks_from}
+use Rattle.bz_layout_laws.specs.FileText.{text_from, takes_line, lines_after, own_chunks, chunks_from, own_text, lines_left}
 use Rattle.bz_layout_laws.specs.ReadBack.{IsReadBack}
 use Rattle.bz_layout_laws.specs.Spelled.{spelled_statement}
 use Rattle.bz_layout_laws.specs.Lineless.{lineless}
@@ -28,7 +30,7 @@ use Rattle.bz_engine_laws.specs.Sound.{IsSound}
 -- between neighbours an empty line, or before each after the class of the one before it
 after_class : (s : Statement) (ss : List Statement) → layout_text s ++ text_from (Some s.class) ss ≡ text_of (s ∷ ss)
 after_class s [] = append-nil (layout_text s)
-after_class s (t ∷ ss) = ap (λ text. layout_text s ++ (gap_text (gap_between s.class t.class) ++ text)) (after_class t ss)
+after_class s (t ∷ ss) = ap (λ text. layout_text s ++ (gap_text (lines_between s.class t.class) ++ text)) (after_class t ss)
 
 pub text_of_all : (ss : List Statement) → text_of ss ≡ text_from None ss
 text_of_all [] = refl
@@ -57,17 +59,26 @@ both_parts : (xs ys : List (List ℕ)) → AllByRecursion IsUtf8 xs → AllByRec
 both_parts [] ys u v = v
 both_parts (x ∷ xs) ys u v = (u.0, both_parts xs ys u.1 v)
 
-with_line : (text : List ℕ) (takes : Bool) → IsUtf8 text → AllByRecursion IsUtf8 (if takes then (text ++ codes "\n") ∷ [] else text ∷ codes "\n" ∷ [])
-with_line text true u = (IsUtf8-append text (codes "\n") u (low_utf8 10 (omega arith)), tt)
-with_line text false u = (u, (low_utf8 10 (omega arith), tt))
+newlines_utf8 : (lines : ℕ) → IsUtf8 (gap_text lines)
+newlines_utf8 zero = IsUtf8-nil
+newlines_utf8 (suc n) = IsUtf8-append (codes "\n") (gap_text n) (low_utf8 10 (omega arith)) (newlines_utf8 n)
 
-own_utf8 : (depth : ℕ) (s : Statement) (blank : Bool) → IsSound depth s → AllByRecursion IsUtf8 (own_chunks s blank)
-own_utf8 depth s false sound = (written_utf8 s sound.utf8, tt)
-own_utf8 depth s true sound = with_line (layout_text s) (takes_line s.class) (written_utf8 s sound.utf8)
+with_lines : (class : Class) (text : List ℕ) (lines : ℕ) → IsUtf8 text → IsUtf8 (own_text class text lines)
+with_lines Comment text zero u = u
+with_lines Comment text (suc n) u = IsUtf8-append text (codes "\n") u (low_utf8 10 (omega arith))
+with_lines Block text lines u = IsUtf8-append text (gap_text lines) u (newlines_utf8 lines)
+with_lines _ text lines u = u
+
+blanks_utf8 : (lines : ℕ) → AllByRecursion IsUtf8 (replicate lines (codes "\n"))
+blanks_utf8 zero = tt
+blanks_utf8 (suc n) = (low_utf8 10 (omega arith), blanks_utf8 n)
+
+own_utf8 : (depth : ℕ) (s : Statement) (lines : ℕ) → IsSound depth s → AllByRecursion IsUtf8 (own_chunks s lines)
+own_utf8 depth s lines sound = (with_lines s.class (layout_text s) lines (written_utf8 s sound.utf8), blanks_utf8 (lines_left s.class lines))
 
 chunks_utf8 : (depth : ℕ) (ss : List Statement) → AllByRecursion (IsSound depth) ss → AllByRecursion IsUtf8 (chunks_from ss)
 chunks_utf8 depth [] sound = tt
-chunks_utf8 depth (s ∷ ss) sound = both_parts (own_chunks s (blank_after s.class ss)) (chunks_from ss) (own_utf8 depth s (blank_after s.class ss) sound.0) (chunks_utf8 depth ss sound.1)
+chunks_utf8 depth (s ∷ ss) sound = both_parts (own_chunks s (lines_after s.class ss)) (chunks_from ss) (own_utf8 depth s (lines_after s.class ss) sound.0) (chunks_utf8 depth ss sound.1)
 
 -- a sound statement is read back
 sound_back : (depth : ℕ) (s : Statement) → IsSound depth s → IsReadBack depth s

@@ -5,7 +5,7 @@ use Rattle.std.specs.List.{list_all}
 use Rattle.std.proofs.lemmas.Bool.{and_parts}
 use Rattle.std.proofs.lemmas.List.{map-append}
 use Rattle.bz_tree.specs.Tree.{Statement}
-use Rattle.bz_layout.specs.Gaps.{gap_between}
+use Rattle.bz_layout.specs.Gaps.{lines_between, gap_text}
 use Rattle.bz_layout.specs.Layout.{layout_text}
 use Rattle.bz_attribute.specs.Marks.{marks}
 use Rattle.bz_rule.specs.Commands.{Command}
@@ -77,17 +77,17 @@ unmarked_stays home passes front back s h =
 -- its text stands in the text of all
 next_stands : (part : List ℕ) (f t : Statement) (ts : List Statement) → StandsIn part (text_of (t ∷ ts)) → StandsIn part (text_of (f ∷ t ∷ ts))
 next_stands part f t ts is =
-    let head = layout_text f ++ (if (gap_between f.class t.class) then codes "\n" else []) in
+    let head = layout_text f ++ gap_text (lines_between f.class t.class) in
     record {
       before = head ++ is.before;
       after = is.after;
-      text_is = sym (append_assoc (layout_text f) (if (gap_between f.class t.class) then codes "\n" else []) (text_of (t ∷ ts))) ∙ ap (λ rest. head ++ rest) is.text_is
+      text_is = sym (append_assoc (layout_text f) (gap_text (lines_between f.class t.class)) (text_of (t ∷ ts))) ∙ ap (λ rest. head ++ rest) is.text_is
           ∙ sym (append_assoc head is.before (part ++ is.after));
     }
 
 pub text_stands : (front : List Statement) (s : Statement) (back : List Statement) → StandsIn (layout_text s) (text_of (front ++ s ∷ back))
 text_stands [] s [] = record { before = []; after = []; text_is = sym (append-nil (layout_text s)) }
-text_stands [] s (t ∷ back) = record { before = []; after = (if (gap_between s.class t.class) then codes "\n" else []) ++ text_of (t ∷ back); text_is = refl }
+text_stands [] s (t ∷ back) = record { before = []; after = gap_text (lines_between s.class t.class) ++ text_of (t ∷ back); text_is = refl }
 text_stands (f ∷ []) s back = next_stands (layout_text s) f s back (text_stands [] s back)
 text_stands (f ∷ g ∷ front) s back = next_stands (layout_text s) f g (front ++ s ∷ back) (text_stands (g ∷ front) s back)
 

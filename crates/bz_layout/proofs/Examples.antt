@@ -7,7 +7,7 @@ use Rattle.bz_tree.specs.declared.stmt.Class.TheVariants.{Load, Assign, Rule, Co
 use Rattle.bz_tree.specs.Tree.{Item, leaf, group, Segment, Statement, segs_of}
 use Rattle.bz_layout.specs.Layout.{layout, layout_text, flat_text}
 use Rattle.bz_layout.specs.Lines.{text_line, lines_of}
-use Rattle.bz_layout.specs.Gaps.{blank_between}
+use Rattle.bz_layout.specs.Gaps.{lines_before}
 use Rattle.bz_layout.specs.private.RowLayout.{row_text}
 use Rattle.bz_tree.specs.Rows.{a_token, opening, closing, segment_end, above, beside, parts_of}
 
@@ -71,16 +71,16 @@ kept : layout_text (record { before = codes "# a" ∷ []; nodes = leaf Kept (cod
 kept = refl
 
 -- empty lines
-first : blank_between None Rule ≡ false
+first : lines_before None Rule ≡ 0
 first = refl
 
-loads : blank_between (Some Load) Load ≡ false
+loads : lines_before (Some Load) Load ≡ 0
 loads = refl
 
-load_and_assignment : blank_between (Some Load) Assign ≡ true
+load_and_assignment : lines_before (Some Load) Assign ≡ 1
 load_and_assignment = refl
 
-comments : blank_between (Some Comment) Comment ≡ true
+comments : lines_before (Some Comment) Comment ≡ 1
 comments = refl
 
 -- a row: its parts, and its text by the two walks

@@ -1,5 +1,5 @@
 -- Which groups are broken over lines (this project's own rule).
-use Rattle.std.specs.Prelude.{ℕ, suc, List, [], ◌∷◌, Bool, true, false, ◌&&◌, ◌||◌, is_some, nat_le}
+use Rattle.std.specs.Prelude.{ℕ, suc, List, Bool, false, ◌&&◌, ◌||◌, is_some, nat_le}
 use Rattle.bz_tree.specs.declared.stmt.GroupKind.{GroupKind}
 use Rattle.bz_tree.specs.declared.stmt.GroupKind.TheVariants.{RuleCall, List as ListKind, Dict}
 use Rattle.bz_tree.specs.Tree.{Item, leaf, group, Items, no_items, item, Segs, no_segs, seg}

@@ -1,16 +1,20 @@
--- Where an empty line stands between two statements (this project's own rule).
-use Rattle.std.specs.Prelude.{Bool, true, false, Option}
+-- Where empty lines stand between statements (this project's own rule).
+use Rattle.std.specs.Prelude.{ℕ, List, replicate, Option}
 use Rattle.std.specs.Prelude.Option.{Some, None}
 use Rattle.bz_tree.specs.declared.stmt.Class.{Class}
 use Rattle.bz_tree.specs.declared.stmt.Class.TheVariants.{Load, Assign}
 
--- one empty line, but none between two loads and none between two assignments
-abbrev pub gap_between : Class → Class → Bool
-gap_between Load Load = false
-gap_between Assign Assign = false
-gap_between _ _ = true
+-- how many between two: one, but none between two loads and none between two assignments
+abbrev pub lines_between : Class → Class → ℕ
+lines_between Load Load = 0
+lines_between Assign Assign = 0
+lines_between _ _ = 1
 
--- no line before the first statement
-abbrev pub blank_between : Option Class → Class → Bool
-blank_between None after = false
-blank_between (Some before) after = gap_between before after
+-- none before the first statement
+abbrev pub lines_before : Option Class → Class → ℕ
+lines_before None after = 0
+lines_before (Some before) after = lines_between before after
+
+-- the text of so many empty lines
+abbrev pub gap_text : ℕ → List ℕ
+gap_text lines = replicate lines 10

@@ -1,5 +1,5 @@
 -- A written text as pieces: tokens and comments, each after its gap (this project's own form of a layout).
-use Rattle.std.specs.Prelude.{codes, ℕ, zero, suc, List, [], ◌∷◌, ◌++◌, Bool, if◌then◌else◌, Option}
+use Rattle.std.specs.Prelude.{codes, ℕ, zero, suc, List, [], ◌∷◌, ◌++◌, Bool, if◌then◌else◌, Option, map, flat_map}
 use Rattle.std.specs.Prelude.Option.{Some, None}
 use Rattle.bz_token.specs.declared.token.Kind.{Kind}
 use Rattle.bz_token.specs.declared.token.Kind.TheVariants.{Operator, Newline, Comment}
@@ -37,13 +37,11 @@ comma_if b = if b then piece Closed Operator (codes ",") ∷ [] else []
 
 -- comments in a broken group, each on a line of its own
 abbrev pub comments : ℕ → List (List ℕ) → List Piece
-comments level [] = []
-comments level (comment ∷ comment_texts) = piece (Line level) Comment comment ∷ comments level comment_texts
+comments level texts = map (piece (Line level) Comment) texts
 
 -- comments above a statement, each with its newline
 abbrev pub comment_lines : List (List ℕ) → List Piece
-comment_lines [] = []
-comment_lines (comment ∷ comment_texts) = piece Closed Comment comment ∷ piece Closed Newline (codes "\n") ∷ comment_lines comment_texts
+comment_lines texts = flat_map (λ text. piece Closed Comment text ∷ piece Closed Newline (codes "\n") ∷ []) texts
 
 -- two spaces and the comment after a segment or statement
 abbrev pub suffix_piece : Option (List ℕ) → List Piece

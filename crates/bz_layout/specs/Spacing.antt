@@ -4,20 +4,20 @@ use Rattle.std.specs.Prelude.Option.{Some}
 use Rattle.std.specs.Str.{bytes_eq}
 use Rattle.bz_token.specs.declared.token.Kind.TheVariants.{Keyword, Operator as OperatorToken}
 use Rattle.bz_tree.specs.declared.stmt.GroupKind.{GroupKind}
-use Rattle.bz_tree.specs.declared.stmt.GroupKind.TheVariants.{Call, RuleCall, Load, Index}
+use Rattle.bz_tree.specs.declared.stmt.GroupKind.TheVariants.{Load, Index}
 use Rattle.bz_layout.specs.declared.spacing.Edge.{Edge}
 use Rattle.bz_layout.specs.declared.spacing.Edge.TheVariants.{Start, Joined, Dotted, Operator, Operand}
 use Rattle.bz_layout.specs.declared.spacing.Gap.{Gap}
 use Rattle.bz_layout.specs.declared.spacing.Gap.TheVariants.{Closed, Space}
 use Rattle.bz_tree.specs.Tree.{Item, leaf, group}
+use Rattle.bz_tree.specs.Statement.{is_call}
+use Rattle.bz_token.specs.Common.{map_or}
 
 -- a group that stands directly after what comes before it
 abbrev pub hugs : GroupKind → Bool
-hugs Call = true
-hugs RuleCall = true
 hugs Load = true
 hugs Index = true
-hugs _ = false
+hugs kind = is_call kind
 
 -- no space stands before `.`, `,`, `:` and a group that hugs
 abbrev pub closes_up : Item → Bool
@@ -25,34 +25,23 @@ closes_up (leaf OperatorToken text) = bytes_eq text (codes ".") || bytes_eq text
 closes_up (leaf _ text) = false
 closes_up (group kind segs one_comma end) = hugs kind
 
-abbrev pub is_index : Option GroupKind → Bool
-is_index (Some Index) = true
-is_index _ = false
-
-abbrev pub is_call : Option GroupKind → Bool
-is_call (Some Call) = true
-is_call (Some RuleCall) = true
-is_call _ = false
-
 -- at the start, after an operator other than `.` and after a keyword an operator begins an operand
 abbrev pub awaits_operand : Edge → Bool
 awaits_operand Dotted = false
 awaits_operand Operand = false
 awaits_operand _ = true
 
-abbrev pub is_start : Edge → Bool
-is_start Start = true
-is_start _ = false
-
 abbrev pub is_prefix : Edge → List ℕ → Bool
 is_prefix left text = awaits_operand left && (bytes_eq text (codes "+") || bytes_eq text (codes "-") || bytes_eq text (codes "~"))
 
 -- the `*` or `**` that begins an argument
 abbrev pub begins_argument : Option GroupKind → Edge → List ℕ → Bool
-begins_argument within left text = is_call within && is_start left && (bytes_eq text (codes "*") || bytes_eq text (codes "**"))
+begins_argument within Start text = map_or false is_call within && (bytes_eq text (codes "*") || bytes_eq text (codes "**"))
+begins_argument within _ text = false
 
 abbrev pub is_index_colon : Option GroupKind → List ℕ → Bool
-is_index_colon within text = is_index within && bytes_eq text (codes ":")
+is_index_colon (Some Index) text = bytes_eq text (codes ":")
+is_index_colon _ text = false
 
 abbrev pub operator_edge : Option GroupKind → Edge → List ℕ → Edge
 operator_edge within left text =

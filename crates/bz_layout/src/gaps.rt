@@ -1,20 +1,29 @@
 //! Empty lines between statements.
 
-ghost use Rattle.std.specs.Prelude.{◌≡◌};
-ghost use Rattle.bz_layout.specs.Gaps.{blank_between};
+ghost use Rattle.std.specs.Prelude.{◌≡◌, ◌++◌, is_ok, if◌then◌else◌};
+ghost use Rattle.bz_layout.specs.Gaps.{lines_before, gap_text};
 
+use bz_memory::{NoMemory, extend_from_slice};
 use bz_tree::Class;
 
-/// Tells whether an empty line stands before a statement of class `after`. `before` is the class of the statement before
-/// it, or `None` for the first statement. An empty line stands between any two statements but two loads and two
-/// assignments, and none before the first (this project's own rule).
-pub fn blank_between(before: Option<Class>, after: Class) -> bool
-    ensures gap { result ≡ blank_between before after }
+/// Writes what stands before a statement of class `after`. `before` is the class of the statement before it, or `None`
+/// for the first statement.
+pub fn put_gap(before: Option<Class>, after: Class, text: &mut Vec<u8>) -> Result<(), NoMemory>
+    ensures gap { text.new.items
+        ≡ (if is_ok result then text.old.items ++ gap_text (lines_before before after) else text.old.items) }
 {
-    match before {
-        None => false,
-        Some(Class::Load) => !matches!(after, Class::Load),
-        Some(Class::Assign) => !matches!(after, Class::Assign),
-        Some(_) => true,
+    extend_from_slice(text, gap(before, after).as_bytes())
+}
+
+/// An empty line stands between any two statements but two loads and two assignments, and none before the first (this
+/// project's own rule).
+fn gap(before: Option<Class>, after: Class) -> &'static str
+    ensures gap { result.now ≡ gap_text (lines_before before after) }
+{
+    match (before, after) {
+        (None, _) => "",
+        (Some(Class::Load), Class::Load) => "",
+        (Some(Class::Assign), Class::Assign) => "",
+        (Some(_), _) => "\n",
     }
 }

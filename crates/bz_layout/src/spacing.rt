@@ -1,8 +1,10 @@
 //! Where a space stands between two neighbouring nodes.
 
-ghost use Rattle.std.specs.Prelude.{◌≡◌, ◌≢◌, ◌∷◌, [], MatchBool};
+ghost use Rattle.std.specs.Prelude.{◌≡◌, ◌≢◌, ◌∷◌, [], false, MatchBool};
+ghost use Rattle.bz_token.specs.Common.{map_or};
+ghost use Rattle.bz_tree.specs.Statement.{is_call};
 ghost use Rattle.bz_tree.specs.Tree.{leaf};
-ghost use Rattle.bz_layout.specs.Spacing.{hugs, closes_up, is_index, is_call, awaits_operand, is_prefix, begins_argument, is_index_colon, operator_edge, edge_after};
+ghost use Rattle.bz_layout.specs.Spacing.{hugs, closes_up, awaits_operand, is_prefix, begins_argument, is_index_colon, operator_edge, edge_after};
 
 use bz_token::Kind;
 use bz_tree::GroupKind;
@@ -63,15 +65,8 @@ pub(crate) fn token_closes_up(kind: Kind, text: &str) -> bool
 }
 
 #[inline(always)]
-fn is_index(within: Option<GroupKind>) -> bool
-    ensures { result ≡ is_index within }
-{
-    matches!(within, Some(GroupKind::Index))
-}
-
-#[inline(always)]
 fn is_call(within: Option<GroupKind>) -> bool
-    ensures { result ≡ is_call within }
+    ensures { result ≡ map_or false is_call within }
 {
     matches!(within, Some(GroupKind::Call | GroupKind::RuleCall))
 }
@@ -94,14 +89,14 @@ fn is_prefix(left: Edge, text: &str) -> bool
 fn begins_argument(within: Option<GroupKind>, left: Edge, text: &str) -> bool
     ensures { result ≡ begins_argument within left text.now }
 {
-    is_call(within) && matches!(left, Edge::Start) && (is_byte(text, b'*') || text == "**")
+    matches!(left, Edge::Start) && is_call(within) && (is_byte(text, b'*') || text == "**")
 }
 
 #[inline(always)]
 fn is_index_colon(within: Option<GroupKind>, text: &str) -> bool
     ensures { result ≡ is_index_colon within text.now }
 {
-    is_index(within) && is_byte(text, b':')
+    matches!(within, Some(GroupKind::Index)) && is_byte(text, b':')
 }
 
 #[inline(always)]

@@ -1,6 +1,6 @@
 -- The chunks of a file's text are those of its statements.
-use Rattle.std.proofs.Common.{◌≡◌, ℕ, List, [], ◌∷◌, ◌++◌, Bool, true, false, refl, sym, ap, ◌∙◌, append-nil}
-use Rattle.std.specs.Prelude.{codes, if◌then◌else◌}
+use Rattle.std.proofs.Common.{◌≡◌, ℕ, List, [], ◌∷◌, ◌++◌, Bool, true, false, refl, sym, ap, ◌∙◌, append-nil, arith}
+use Rattle.std.specs.Prelude.{codes, zero, suc, ◌<◌, replicate}
 use Rattle.std.specs.Prelude.Option.{Some, None}
 use Rattle.std.specs.List.{AllByRecursion}
 use Rattle.std.proofs.lemmas.Bool.{false≢true}
@@ -18,9 +18,9 @@ use Rattle.bz_token_laws.proofs.Readable.{laid_lines}
 use Rattle.bz_tree.specs.declared.stmt.Class.{Class}
 use Rattle.bz_tree.specs.declared.stmt.Class.TheVariants.{Load, Assign, Rule, Other, Comment, Block}
 use Rattle.bz_tree.specs.Tree.{Statement}
-use Rattle.bz_layout.specs.Gaps.{gap_between}
+use Rattle.bz_layout.specs.Gaps.{lines_between, gap_text}
 use Rattle.bz_layout.specs.Layout.{layout_text}
-use Rattle.bz_layout_laws.specs.FileText.{gap_text, text_from, takes_line, own_chunks, chunks_from}
+use Rattle.bz_layout_laws.specs.FileText.{text_from, takes_line, own_text, lines_left, own_chunks, chunks_from}
 use Rattle.bz_layout_laws.specs.ReadBack.{IsReadBack}
 
 -- an empty line as a text
@@ -37,27 +37,49 @@ blank_lines first depth = laid_lines first depth newlines refl refl refl refl re
 pub blank_chunk : IsChunk (10 ∷ [])
 blank_chunk = statement_chunk 1 0 (10 ∷ []) (blank_tokens 1) [] (line_of newlines []) (blank_lines 1 0) refl refl refl
 
+-- each of some empty lines is a chunk
+pub blank_chunks : (lines : ℕ) (rest : List ℕ) → chunks (gap_text lines ++ rest) ≡ replicate lines (codes "\n") ++ chunks rest
+blank_chunks zero rest = refl
+blank_chunks (suc n) rest = blank_chunk (gap_text n ++ rest) ∙ ap (λ cs. codes "\n" ∷ cs) (blank_chunks n rest)
+
 -- comment lines and blocks have an empty line after them, if anything follows
-gap_taken : (class after : Class) → takes_line class ≡ true → gap_between class after ≡ true
-gap_taken Comment after h = refl
-gap_taken Block after h = refl
+gap_taken : (class after : Class) → takes_line class ≡ true → 0 < lines_between class after
+gap_taken Comment after h = omega arith
+gap_taken Block after h = omega arith
 gap_taken Load after h = absurd (false≢true h)
 gap_taken Assign after h = absurd (false≢true h)
 gap_taken Rule after h = absurd (false≢true h)
 gap_taken Other after h = absurd (false≢true h)
 
--- a statement and what follows it, with an empty line between them or none
-statement_cut : (depth : ℕ) (s : Statement) (blank : Bool) (rest : List ℕ) → IsReadBack depth s → (takes_line s.class ≡ true → blank ≡ true) → goes_on If rest ≡ false
-    → chunks (layout_text s ++ (gap_text blank ++ rest)) ≡ own_chunks s blank ++ chunks rest
-statement_cut depth s blank rest h takes stops = by blank (takes_line s.class) refl takes
+-- any other statement takes none
+pub none_taken : (class : Class) (text : List ℕ) (lines : ℕ) → takes_line class ≡ false → (own_text class text lines ≡ text) × (lines_left class lines ≡ lines)
+none_taken Comment text lines h = absurd (false≢true (sym h))
+none_taken Block text lines h = absurd (false≢true (sym h))
+none_taken Load text lines h = (refl, refl)
+none_taken Assign text lines h = (refl, refl)
+none_taken Rule text lines h = (refl, refl)
+none_taken Other text lines h = (refl, refl)
+
+-- at the end of the file none are there
+pub nothing_taken : (class : Class) (text : List ℕ) → (own_text class text 0 ≡ text) × (lines_left class 0 ≡ 0)
+nothing_taken Comment text = (refl, refl)
+nothing_taken Block text = (append-nil text, refl)
+nothing_taken Load text = (refl, refl)
+nothing_taken Assign text = (refl, refl)
+nothing_taken Rule text = (refl, refl)
+nothing_taken Other text = (refl, refl)
+
+-- a statement and what follows it, with empty lines between them or none
+statement_cut : (depth : ℕ) (s : Statement) (lines : ℕ) (rest : List ℕ) → IsReadBack depth s → (takes_line s.class ≡ true → 0 < lines) → goes_on If rest ≡ false
+    → chunks (layout_text s ++ (gap_text lines ++ rest)) ≡ own_chunks s lines ++ chunks rest
+statement_cut depth s lines rest h takes stops = by (takes_line s.class) refl
   where
-    by : (blank b : Bool) → takes_line s.class ≡ b → (b ≡ true → blank ≡ true) → chunks (layout_text s ++ (gap_text blank ++ rest)) ≡ own_chunks s blank ++ chunks rest
-    by true true is t = h.gap is rest stops ∙ sym (ap (λ b. (if b then (layout_text s ++ codes "\n") ∷ [] else layout_text s ∷ codes "\n" ∷ []) ++ chunks rest) is)
-    by true false is t =
-        h.alone is (10 ∷ rest) ∙ ap (λ cs. layout_text s ∷ cs) (blank_chunk rest)
-        ∙ sym (ap (λ b. (if b then (layout_text s ++ codes "\n") ∷ [] else layout_text s ∷ codes "\n" ∷ []) ++ chunks rest) is)
-    by false true is t = absurd (false≢true (t refl))
-    by false false is t = h.alone is rest
+    by : (b : Bool) → takes_line s.class ≡ b → chunks (layout_text s ++ (gap_text lines ++ rest)) ≡ own_chunks s lines ++ chunks rest
+    by true is = h.gap is lines rest (takes is) stops
+    by false is =
+        let none = none_taken s.class (layout_text s) lines is in
+        h.alone is (gap_text lines ++ rest) ∙ ap (λ cs. layout_text s ∷ cs) (blank_chunks lines rest)
+        ∙ sym (λ i. (none.0 i ∷ replicate (none.1 i) (codes "\n")) ++ chunks rest)
 
 -- no block goes on with the text of statements
 pub text_begins : (depth : ℕ) (ss : List Statement) → AllByRecursion (IsReadBack depth) ss → goes_on If (text_from None ss) ≡ false
@@ -66,7 +88,9 @@ text_begins depth (s ∷ ss) h = h.0.begins (text_from (Some s.class) ss)
 
 pub file_chunks : (depth : ℕ) (ss : List Statement) → AllByRecursion (IsReadBack depth) ss → chunks (text_from None ss) ≡ chunks_from ss
 file_chunks depth [] h = refl
-file_chunks depth (s ∷ []) h = ap chunks (append-nil (layout_text s)) ∙ h.0.ends
+file_chunks depth (s ∷ []) h =
+    let none = nothing_taken s.class (layout_text s) in
+    ap chunks (append-nil (layout_text s)) ∙ h.0.ends ∙ sym (λ i. (none.0 i ∷ replicate (none.1 i) (codes "\n")) ++ [])
 file_chunks depth (s ∷ t ∷ ss) h =
-    statement_cut depth s (gap_between s.class t.class) (text_from None (t ∷ ss)) h.0 (gap_taken s.class t.class) (text_begins depth (t ∷ ss) h.1)
-    ∙ ap (λ cs. own_chunks s (gap_between s.class t.class) ++ cs) (file_chunks depth (t ∷ ss) h.1)
+    statement_cut depth s (lines_between s.class t.class) (text_from None (t ∷ ss)) h.0 (gap_taken s.class t.class) (text_begins depth (t ∷ ss) h.1)
+    ∙ ap (λ cs. own_chunks s (lines_between s.class t.class) ++ cs) (file_chunks depth (t ∷ ss) h.1)

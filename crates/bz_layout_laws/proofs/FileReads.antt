@@ -1,6 +1,6 @@
 -- The chunks of statements are read as these statements, and as nothing else.
-use Rattle.std.proofs.Common.{◌≡◌, ℕ, List, [], ◌∷◌, ◌++◌, map, Bool, true, false, Option, refl, sym, ap, subst, ◌∙◌, append-nil}
-use Rattle.std.specs.Prelude.{codes, if◌then◌else◌, is_some}
+use Rattle.std.proofs.Common.{◌≡◌, ℕ, List, [], ◌∷◌, ◌++◌, map, Option, refl, sym, ap, subst, ◌∙◌}
+use Rattle.std.specs.Prelude.{codes, zero, suc, replicate, is_some}
 use Rattle.std.specs.Prelude.Option.{Some, None}
 use Rattle.std.specs.List.{AllByRecursion}
 use Rattle.std.proofs.lemmas.Bool.{false≢true}
@@ -12,10 +12,10 @@ use Rattle.bz_tree.specs.Statement.{first_seen}
 use Rattle.bz_tree.specs.declared.stmt.Class.{Class}
 use Rattle.bz_tree.specs.Tree.{Statement}
 use Rattle.bz_tree_laws.proofs.ChunkLaws.{chunk_same}
-use Rattle.bz_layout.specs.Gaps.{blank_between}
+use Rattle.bz_layout.specs.Gaps.{lines_before, gap_text}
 use Rattle.bz_layout.specs.Layout.{layout_text}
 use Rattle.bz_layout_laws.specs.FileRead.{IsFound, AreFound, AreStatementsIn}
-use Rattle.bz_layout_laws.specs.FileText.{gap_text, text_from, takes_line, blank_after, own_chunks, chunks_from}
+use Rattle.bz_layout_laws.specs.FileText.{text_from, lines_after, own_text, lines_left, own_chunks, chunks_from}
 use Rattle.bz_layout_laws.specs.ReadBack.{IsReadBack}
 use Rattle.bz_layout_laws.specs.Spelled.{spelled_statement}
 use Rattle.bz_layout_laws.specs.Lineless.{lineless}
@@ -37,25 +37,22 @@ one_more : (first depth : ℕ) (c : List ℕ) (cs : List (List ℕ)) (s : Statem
     → Reads first depth (c ∷ cs) (s ∷ ss)
 one_more first depth c cs s ss t rest = (t.0 ∷ rest.0, (Some t.0, t.1, (rest.0, refl, rest.1)), λ i. t.2 i ∷ rest.2 i)
 
-one_reads : (first depth : ℕ) (s : Statement) (ss : List Statement) (blank : Bool) (cs : List (List ℕ)) → IsReadBack depth s → ((line : ℕ) → Reads line depth cs ss) → Reads first depth (own_chunks s blank ++ cs) (s ∷ ss)
-one_reads first depth s ss blank cs h rest = by blank (takes_line s.class) refl
-  where
-    by_itself : (t : Statement) × IsStatementIn first depth (layout_text s) t × (lineless t ≡ lineless (spelled_statement s))
-    by_itself = subst (λ c. (t : Statement) × IsStatementIn first depth c t × (lineless t ≡ lineless (spelled_statement s))) (append-nil (layout_text s)) (h.read first false (λ e. absurd (false≢true e)))
+-- empty lines give no statement
+blanks_read : (depth lines : ℕ) (ss : List Statement) (cs : List (List ℕ)) → ((line : ℕ) → Reads line depth cs ss) → (line : ℕ) → Reads line depth (replicate lines (codes "\n") ++ cs) ss
+blanks_read depth zero ss cs rest line = rest line
+blanks_read depth (suc n) ss cs rest line =
+    let more = blanks_read depth n ss cs rest (line_at line (10 ∷ [])) in
+    (more.0, (None, is_blank line depth, more.1), more.2)
 
-    after_blank : (line : ℕ) → Reads line depth ((10 ∷ []) ∷ cs) ss
-    after_blank line = let more = rest (line_at line (10 ∷ [])) in (more.0, (None, is_blank line depth, more.1), more.2)
-
-    by : (blank b : Bool) → takes_line s.class ≡ b → Reads first depth (own_chunks s blank ++ cs) (s ∷ ss)
-    by false b is = one_more first depth (layout_text s) cs s ss by_itself (rest (line_at first (layout_text s)))
-    by true true is = subst (λ b. Reads first depth ((if b then (layout_text s ++ codes "\n") ∷ [] else layout_text s ∷ codes "\n" ∷ []) ++ cs) (s ∷ ss)) (sym is)
-        (one_more first depth (layout_text s ++ codes "\n") cs s ss (h.read first true (λ e. is)) (rest (line_at first (layout_text s ++ codes "\n"))))
-    by true false is = subst (λ b. Reads first depth ((if b then (layout_text s ++ codes "\n") ∷ [] else layout_text s ∷ codes "\n" ∷ []) ++ cs) (s ∷ ss)) (sym is)
-        (one_more first depth (layout_text s) ((10 ∷ []) ∷ cs) s ss by_itself (after_blank (line_at first (layout_text s))))
+one_reads : (first depth : ℕ) (s : Statement) (ss : List Statement) (lines : ℕ) (cs : List (List ℕ)) → IsReadBack depth s → ((line : ℕ) → Reads line depth cs ss) → Reads first depth (own_chunks s lines ++ cs) (s ∷ ss)
+one_reads first depth s ss lines cs h rest =
+    let text = own_text s.class (layout_text s) lines in
+    let left = lines_left s.class lines in
+    one_more first depth text (replicate left (codes "\n") ++ cs) s ss (h.read first lines) (blanks_read depth left ss cs rest (line_at first text))
 
 file_reads : (first depth : ℕ) (ss : List Statement) → AllByRecursion (IsReadBack depth) ss → Reads first depth (chunks_from ss) ss
 file_reads first depth [] h = ([], refl, refl)
-file_reads first depth (s ∷ ss) h = one_reads first depth s ss (blank_after s.class ss) (chunks_from ss) h.0 (λ line. file_reads line depth ss h.1)
+file_reads first depth (s ∷ ss) h = one_reads first depth s ss (lines_after s.class ss) (chunks_from ss) h.0 (λ line. file_reads line depth ss h.1)
 
 -- a chunk is read as one statement at most, and a blank one as none
 statement_same : (line depth : ℕ) (c : List ℕ) (s t : Statement) → IsStatementIn line depth c s → IsStatementIn line depth c t → s ≡ t
@@ -85,11 +82,11 @@ one_list first depth (c ∷ cs) ss ts x y =
 -- statements that say the same have one text
 text_lineless : (last : Option Class) (ss : List Statement) → text_from last (map lineless ss) ≡ text_from last ss
 text_lineless last [] = refl
-text_lineless last (s ∷ ss) = ap (λ text. gap_text (blank_between last s.class) ++ (layout_text s ++ text)) (text_lineless (Some s.class) ss)
+text_lineless last (s ∷ ss) = ap (λ text. gap_text (lines_before last s.class) ++ (layout_text s ++ text)) (text_lineless (Some s.class) ss)
 
 text_said : (last : Option Class) (ss : List Statement) → text_from last (said ss) ≡ text_from last ss
 text_said last [] = refl
-text_said last (s ∷ ss) = λ i. gap_text (blank_between last s.class) ++ (written_again s (spelled_statement s) refl i ++ text_said (Some s.class) ss i)
+text_said last (s ∷ ss) = λ i. gap_text (lines_before last s.class) ++ (written_again s (spelled_statement s) refl i ++ text_said (Some s.class) ss i)
 
 -- so the text is read again
 pub file_read_again : (first depth : ℕ) (ss : List Statement) → AllByRecursion (IsReadBack depth) ss → Reads first depth (chunks (text_from None ss)) ss

@@ -1,5 +1,5 @@
 -- A block that was kept from a chunk, with a comment put above it.
-use Rattle.std.proofs.Common.{◌≡◌, ℕ, List, [], ◌∷◌, true, refl}
+use Rattle.std.proofs.Common.{◌≡◌, ℕ, List, [], ◌∷◌, true, refl, arith}
 use Rattle.std.specs.Prelude.{codes}
 use Rattle.std.specs.Prelude.Option.{None}
 use Rattle.bz_token.specs.declared.cutter.block.Opener.TheVariants.{If}
@@ -90,7 +90,7 @@ read_back = kept_read_back 1 block is_kept
 
 -- with the empty line after it, where an assignment follows
 followed : chunks (codes "# c\ndef f():\n  pass\n\nx = 1\n") ≡ codes "# c\ndef f():\n  pass\n\n" ∷ chunks (codes "x = 1\n")
-followed = read_back.gap refl (codes "x = 1\n") refl
+followed = read_back.gap refl 1 (codes "x = 1\n") (omega arith) refl
 
 -- an indented line is of the block
 indented : goes_on If (codes "  x = 1\n") ≡ true

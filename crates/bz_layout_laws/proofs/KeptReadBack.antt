@@ -1,5 +1,6 @@
 -- The text of a kept block is read back wherever it stands in a file.
 use Rattle.std.proofs.Common.{◌≡◌, ℕ, zero, suc, List, [], ◌∷◌, ◌++◌, replicate, true, false, refl, sym, ap, subst, ◌∙◌, append_assoc, append-nil}
+use Rattle.std.specs.Prelude.{codes}
 use Rattle.std.specs.List.{list_all}
 use Rattle.std.proofs.lemmas.Bool.{and_parts, false≢true}
 use Rattle.bz_token.specs.declared.cutter.block.Opener.{Opener}
@@ -15,7 +16,8 @@ use Rattle.bz_token.proofs.TokenLines.{lines_join}
 use Rattle.bz_tree.specs.Blocks.{is_block_word_at}
 use Rattle.bz_tree.specs.Tree.{Statement}
 use Rattle.bz_layout.specs.Layout.{layout_text}
-use Rattle.bz_layout_laws.specs.FileText.{takes_line}
+use Rattle.bz_layout.specs.Gaps.{gap_text}
+use Rattle.bz_layout_laws.specs.FileText.{takes_line, own_text, lines_left}
 use Rattle.bz_layout_laws.specs.KeptBlock.{IsKeptBlock}
 use Rattle.bz_layout_laws.specs.Legible.{AreComments}
 use Rattle.bz_layout_laws.specs.ReadBack.{IsReadBack}
@@ -84,12 +86,14 @@ followed depth s more w (b ∷ bs) stops =
 pub kept_read_back : (depth : ℕ) (s : Statement) → IsKeptBlock depth s → IsReadBack depth s
 kept_read_back depth s h =
     let w = kept_written depth s 0 h in
-    let v = kept_written depth s 1 h in
     let text : w.text ≡ layout_text s = w.text_is ∙ append-nil (layout_text s) in
     record {
       begins = λ rest. ap (λ t. goes_on If (t ++ rest)) (sym text) ∙ w.begins rest;
       ends = subst (λ t. chunks t ≡ t ∷ []) text (block_ends w.word w.text w.block);
       alone = λ none. absurd (false≢true (sym none ∙ ap takes_line (kept_class depth s h)));
-      gap = λ takes rest stops. ap chunks (sym (append_assoc (layout_text s) (10 ∷ []) rest)) ∙ subst (λ t. chunks (t ++ rest) ≡ t ∷ chunks rest) v.text_is (followed depth s 1 v rest stops);
-      read = λ first blank only. kept_read first depth s h blank;
+      gap = λ takes lines rest some stops.
+          let v = kept_written depth s lines h in
+          ap chunks (sym (append_assoc (layout_text s) (gap_text lines) rest)) ∙ subst (λ t. chunks (t ++ rest) ≡ t ∷ chunks rest) v.text_is (followed depth s lines v rest stops)
+          ∙ ap (λ class. own_text class (layout_text s) lines ∷ replicate (lines_left class lines) (codes "\n") ++ chunks rest) (sym (kept_class depth s h));
+      read = λ first lines. kept_read first depth s h lines;
     }

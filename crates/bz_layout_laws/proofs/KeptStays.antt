@@ -1,12 +1,12 @@
 -- A kept block is written as it stands and read again; what is read is a kept block again.
-use Rattle.std.proofs.Common.{◌≡◌, ℕ, ◌++◌, replicate, Bool, true, false, map, sym, ap, subst, ◌∙◌}
+use Rattle.std.proofs.Common.{◌≡◌, ℕ, ◌++◌, replicate, map, sym, ap, subst, ◌∙◌}
+use Rattle.bz_layout_laws.specs.FileText.{own_text}
 use Rattle.std.specs.List.{list_all}
 use Rattle.bz_token.specs.Lexical.{is_comment}
 use Rattle.bz_tree.specs.declared.stmt.Class.TheVariants.{Block}
 use Rattle.bz_tree.specs.Chunk.{IsStatementIn}
 use Rattle.bz_tree.specs.Tree.{Statement}
 use Rattle.bz_layout.specs.Layout.{layout_text}
-use Rattle.bz_layout_laws.specs.FileText.{gap_text}
 use Rattle.bz_layout_laws.specs.KeptBlock.{IsKeptBlock}
 use Rattle.bz_layout_laws.specs.Spelled.{spelled, spelled_statement}
 use Rattle.bz_layout_laws.specs.Lineless.{lineless}
@@ -42,15 +42,9 @@ spelled_kept depth s t e h = kept_elsewhere depth s t (e ∙ spelled_same depth 
 pub kept_text : (depth : ℕ) (s : Statement) (h : IsKeptBlock depth s) → layout_text (with_above s.before h.found) ≡ layout_text s
 kept_text depth s h = sym (ap layout_text h.is)
 
-pub kept_read : (first depth : ℕ) (s : Statement) → IsKeptBlock depth s → (blank : Bool)
-    → (t : Statement) × IsStatementIn first depth (layout_text s ++ gap_text blank) t × (lineless t ≡ lineless (spelled_statement s))
-kept_read first depth s h = by
-  where
-    before : (more : ℕ) → (t : Statement) × IsStatementIn first depth (layout_text s ++ replicate more 10) t × (lineless t ≡ lineless (spelled_statement s))
-    before more =
-        let a = again_some h.first first depth more h.bytes h.found s.before h.read h.comments in
-        (a.0, subst (λ text. IsStatementIn first depth (text ++ replicate more 10) a.0) (kept_text depth s h) a.1, a.2 ∙ sym h.is ∙ sym (spelled_same depth s h))
-
-    by : (blank : Bool) → (t : Statement) × IsStatementIn first depth (layout_text s ++ gap_text blank) t × (lineless t ≡ lineless (spelled_statement s))
-    by true = before 1
-    by false = before 0
+pub kept_read : (first depth : ℕ) (s : Statement) → IsKeptBlock depth s → (lines : ℕ)
+    → (t : Statement) × IsStatementIn first depth (own_text s.class (layout_text s) lines) t × (lineless t ≡ lineless (spelled_statement s))
+kept_read first depth s h lines =
+    let a = again_some h.first first depth lines h.bytes h.found s.before h.read h.comments in
+    let text = ap (λ text. text ++ replicate lines 10) (kept_text depth s h) ∙ ap (λ class. own_text class (layout_text s) lines) (sym (kept_class depth s h)) in
+    (a.0, subst (λ text. IsStatementIn first depth text a.0) text a.1, a.2 ∙ sym h.is ∙ sym (spelled_same depth s h))

@@ -1,14 +1,19 @@
 -- A string that is spelled anew has the value that it had.
 use Rattle.std.proofs.Common.{◌≡◌, ℕ, ◌==◌, ◌&&◌, List, [], ◌∷◌, ◌++◌, true, false, Option, None, refl, sym, ap, ◌∙◌, inl, inr, arith, eqb-true}
+use Rattle.std.specs.Prelude.{option_and_then, option_map}
 use Rattle.std.specs.List.{list_all}
 use Rattle.std.proofs.lemmas.Bool.{cases_Bool, and_parts, eqb-false, ne_eqb}
 use Rattle.bz_token.specs.declared.token.Kind.{Kind}
 use Rattle.bz_token.specs.declared.token.Kind.TheVariants.{String}
-use Rattle.bz_command.specs.Values.{and_then, opening, value_of, value_at}
+use Rattle.bz_command.specs.Values.{opening, value_of, value_at}
 use Rattle.bz_command.specs.private.ValueSteps.{first_len, inner_value, value_in}
 use Rattle.bz_command.proofs.Literals.{step}
 use Rattle.bz_layout.specs.Respell.{is_plain, content, is_single, respell}
 use Rattle.bz_layout_laws.proofs.Respelled.{within, plain_byte, single_parts}
+
+-- a byte before a value, if there are both
+abbrev and_then : Option ℕ → Option (List ℕ) → Option (List ℕ)
+and_then b value = option_and_then (λ b. option_map (λ bs. b ∷ bs) value) b
 
 -- the value of content and the quote that closes it
 abbrev closed_value : ℕ → List ℕ → Option (List ℕ)

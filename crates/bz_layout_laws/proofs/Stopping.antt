@@ -1,5 +1,6 @@
 -- What follows a node ends it: the first byte of the next node after its gap.
 use Rattle.std.proofs.Common.{◌≡◌, ℕ, ◌&&◌, ◌||◌, List, [], ◌∷◌, ◌++◌, Bool, true, false, not, Option, refl, sym, ap, ◌∙◌, inl, inr}
+use Rattle.bz_layout.specs.private.RowLayout.{is_start}
 use Rattle.std.specs.Prelude.{codes, bytes_eq, if◌then◌else◌}
 use Rattle.std.proofs.lemmas.Bool.{cases_Bool, and_parts, or_cases, not-true, false≢true, eqb-true}
 use Rattle.bz_token.specs.declared.token.Kind.{Kind}
@@ -19,7 +20,7 @@ use Rattle.bz_layout.specs.declared.spacing.Gap.{Gap}
 use Rattle.bz_layout.specs.declared.spacing.Gap.TheVariants.{Closed, Space}
 use Rattle.bz_layout.specs.declared.broken.Style.{Style}
 use Rattle.bz_layout.specs.Respell.{is_single, respell}
-use Rattle.bz_layout.specs.Spacing.{closes_up, edge_after, holds_on, gap_before, is_start, is_prefix, begins_argument, is_index_colon}
+use Rattle.bz_layout.specs.Spacing.{closes_up, edge_after, holds_on, gap_before, is_prefix, begins_argument, is_index_colon}
 use Rattle.bz_layout.specs.Pieces.{Piece, bytes_of}
 use Rattle.bz_layout.specs.Layout.{opening, item_pieces}
 use Rattle.bz_layout_laws.specs.Legible.{is_later, may_follow, IsLegibleItem}

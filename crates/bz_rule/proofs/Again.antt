@@ -1,28 +1,15 @@
 -- A statement whose arguments were edited, read and edited again.
 use Rattle.std.proofs.Common.{◌≡◌, List, [], ◌∷◌, ◌++◌, true, false, ◌&&◌, Option, Some, None, option_map, if◌then◌else◌, refl, ap, sym, ◌∙◌}
+use Rattle.bz_attribute.proofs.RuleParts.{rule_dotted}
 use Rattle.std.proofs.lemmas.Bool.{and_parts}
 use Rattle.bz_tree.specs.declared.stmt.GroupKind.TheVariants.{RuleCall}
 use Rattle.bz_tree.specs.Tree.{Item, group, Segment, Statement, segs_of}
-use Rattle.bz_attribute.specs.Rules.{Rule, call_at, comma_of, dotted, elements, end_of, is_call, rule_from, rule_of}
+use Rattle.bz_attribute.specs.Rules.{Rule, call_at, dotted, elements, rule_from, rule_of}
 use Rattle.bz_attribute.specs.declared.done.Done.{Done}
 use Rattle.bz_attribute.specs.Effects.{nodes_after, nodes_of, slot_done, with_args, done}
 use Rattle.bz_attribute.proofs.Views.{segments_of}
 use Rattle.bz_attribute.proofs.Calls.{rule_from_end}
 use Rattle.bz_token.specs.Common.{map_or}
-
-call_dotted : (kind : List Item) (x : Item) (r : Rule) → call_at kind x ≡ Some r → dotted true r.kind ≡ true
-call_dotted kind x r h =
-    elim (is_call x && dotted true kind) as (λ b. is_call x && dotted true kind ≡ b → (if b then Some (record { kind = kind; args = elements x; one_comma = comma_of x; end = end_of x }) else None) ≡ Some r → dotted true r.kind ≡ true) [
-      | true ↦ λ e k.
-          let is : record { kind = kind; args = elements x; one_comma = comma_of x; end = end_of x } ≡ r = cc in
-          ap (λ (z : Rule). dotted true z.kind) (sym is) ∙ (and_parts (is_call x) (dotted true kind) e).1
-      | false ↦ λ e k. absurd cc
-    ] refl h
-
-pub rule_dotted : (kind nodes : List Item) (r : Rule) → rule_from kind nodes ≡ Some r → dotted true r.kind ≡ true
-rule_dotted kind [] r h = absurd cc
-rule_dotted kind (x ∷ []) r h = call_dotted kind x r h
-rule_dotted kind (x ∷ y ∷ xs) r h = rule_dotted (kind ++ x ∷ []) (y ∷ xs) r h
 
 -- with other arguments it is the same rule with these
 rule_back : (nodes : List Item) (r : Rule) (args : List Segment) → rule_of nodes ≡ Some r → rule_of (nodes_of (record r { args = args })) ≡ Some (record r { args = args })

@@ -1,12 +1,13 @@
 -- A statement with other arguments: the rule that it is.
 use Rattle.std.proofs.Common.{◌≡◌, ℕ, ◌<◌, ◌==◌, List, [], ◌∷◌, ◌++◌, true, false, ◌&&◌, Option, Some, None, is_some, option_map, length, if◌then◌else◌, refl, ap, sym, ◌∙◌, arith, not}
+use Rattle.bz_attribute.proofs.RuleParts.{rule_dotted}
 use Rattle.std.specs.Prelude.{bytes_eq}
 use Rattle.std.specs.List.{slice_split}
 use Rattle.std.proofs.lemmas.Bool.{and_parts}
 use Rattle.bz_tree.specs.declared.stmt.GroupKind.TheVariants.{RuleCall}
 use Rattle.bz_tree.specs.Tree.{Item, group, Segment, Statement, segs_of}
 use Rattle.bz_command.proofs.Cuts.{some_part}
-use Rattle.bz_attribute.specs.Rules.{Rule, call_at, comma_of, dotted, elements, end_of, is_call, kind_text, rule_from, rule_of}
+use Rattle.bz_attribute.specs.Rules.{Rule, call_at, dotted, elements, kind_text, rule_from, rule_of}
 use Rattle.bz_attribute.specs.declared.done.Done.{Done}
 use Rattle.bz_attribute.specs.Effects.{holds_rule, nodes_after, nodes_of, slot_done, with_args, done}
 use Rattle.bz_attribute.specs.Set.{joined_by_dots, kind_after, kind_items, sets_kind_of, with_kind}
@@ -15,20 +16,6 @@ use Rattle.bz_attribute.proofs.Calls.{rule_from_end}
 use Rattle.bz_attribute.proofs.RuleNodes.{rule_nodes}
 use Rattle.bz_attribute.proofs.Views.{segments_of}
 use Rattle.bz_token.specs.Common.{map_or}
-
-call_dotted : (kind : List Item) (x : Item) (r : Rule) → call_at kind x ≡ Some r → dotted true r.kind ≡ true
-call_dotted kind x r h =
-    elim (is_call x && dotted true kind) as (λ b. is_call x && dotted true kind ≡ b → (if b then Some (record { kind = kind; args = elements x; one_comma = comma_of x; end = end_of x }) else None) ≡ Some r → dotted true r.kind ≡ true) [
-      | true ↦ λ e k.
-          let is : record { kind = kind; args = elements x; one_comma = comma_of x; end = end_of x } ≡ r = cc in
-          ap (λ (z : Rule). dotted true z.kind) (sym is) ∙ (and_parts (is_call x) (dotted true kind) e).1
-      | false ↦ λ e k. absurd cc
-    ] refl h
-
-pub rule_dotted : (kind nodes : List Item) (r : Rule) → rule_from kind nodes ≡ Some r → dotted true r.kind ≡ true
-rule_dotted kind [] r h = absurd cc
-rule_dotted kind (x ∷ []) r h = call_dotted kind x r h
-rule_dotted kind (x ∷ y ∷ xs) r h = rule_dotted (kind ++ x ∷ []) (y ∷ xs) r h
 
 -- the nodes of a rule are read as this rule
 pub nodes_read : (r : Rule) → dotted true r.kind ≡ true → rule_of (nodes_of r) ≡ Some r

@@ -1,10 +1,11 @@
 -- What is owed of `rename`: it changes something exactly where it tells nothing, and leaves what is well formed so, texts that pass a test, and comments.
 use Rattle.std.proofs.Common.{◌≡◌, ℕ, List, [], ◌∷◌, true, false, ◌||◌, Some, None, map, is_some, refl, ap, ◌∙◌, if◌then◌else◌, codes, Bool, suc, ◌++◌, rules, Ok}
+use Rattle.std.specs.Prelude.{drop}
 use Rattle.std.proofs.lemmas.Bool.{or_right, and_parts}
 use Rattle.bz_tree.specs.Tree.{Item, Segment, group, leaf}
 use Rattle.bz_attribute.specs.Rules.{ident_of, is_named, is_operator_item, is_text as is_word, name_of, value}
 use Rattle.bz_attribute.specs.Effects.{edit_first, has}
-use Rattle.bz_attribute.specs.Rename.{rename, rename_note, rename_to, renamed}
+use Rattle.bz_attribute.specs.Rename.{rename, rename_note, rename_to}
 use Rattle.bz_attribute.specs.declared.done.Note.TheVariants.{AttributeExists, NoAttribute}
 use Rattle.bz_rule.specs.declared.command.Action.TheVariants.{Rename}
 use Rattle.bz_command.specs.Labels.{Package}
@@ -30,7 +31,7 @@ use Rattle.std.specs.List.{list_all}
 use Rattle.std.specs.Str.{is_utf8}
 use Rattle.bz_rule.specs.Commands.{Command, IsRead, rename_of}
 
-named_now : (old new : List ℕ) (xs : List Item) → is_word old (name_of xs) ≡ true → is_word new (name_of (renamed new xs)) ≡ true
+named_now : (old new : List ℕ) (xs : List Item) → is_word old (name_of xs) ≡ true → is_word new (name_of (leaf Identifier new ∷ drop 1 xs)) ≡ true
 named_now old new [] h = absurd cc
 named_now old new (x ∷ []) h = absurd cc
 named_now old new (x ∷ y ∷ xs) h =
@@ -75,14 +76,14 @@ rename_aside g names old new leaves_old leaves_new args =
 renamed_formed : (depth : ℕ) (new : List ℕ) (a : Segment) → is_text Identifier new ≡ true → is_attribute a ≡ true → IsFormed IsArg depth a → IsFormed IsArg depth (rename_to new a)
 renamed_formed depth new a name h good =
     let n = has_name a.nodes h in
-    named_good depth new (value a) (rename_to new a) good.before good.suffix (ap (renamed new) n.are) name (good_value depth a h good)
+    named_good depth new (value a) (rename_to new a) good.before good.suffix (ap (λ (xs : List Item). leaf Identifier new ∷ drop 1 xs) n.are) name (good_value depth a h good)
 
 rename_formed : (depth : ℕ) (old new : List ℕ) (args : List Segment) → is_text Identifier new ≡ true → AreFormed IsArg depth args → AreFormed IsArg depth (rename old new args)
 rename_formed depth old new args name h =
     either_way (AreFormed IsArg depth) (is_some (rename_note old new args)) h (first_good depth old (λ a. rename_to new a ∷ []) (λ a n good. (renamed_formed depth new a name n good, tt)) args h)
 
-renamed_passes : (q : List ℕ → Bool) (new : List ℕ) (nodes : List Item) → q new ≡ true → NodesPass q nodes → NodesPass q (renamed new nodes)
-renamed_passes q new [] name h = tt
+renamed_passes : (q : List ℕ → Bool) (new : List ℕ) (nodes : List Item) → q new ≡ true → NodesPass q nodes → NodesPass q (leaf Identifier new ∷ drop 1 nodes)
+renamed_passes q new [] name h = (name, tt)
 renamed_passes q new (x ∷ xs) name h = (name, h.1)
 
 rename_passes : (q : List ℕ → Bool) (old new : List ℕ) (args : List Segment) → q new ≡ true → SegmentsPass q args → SegmentsPass q (rename old new args)
@@ -96,12 +97,12 @@ rename_keeps old new args =
     either_way (λ (zs : List Segment). map own_comments zs ≡ map own_comments args) (is_some (rename_note old new args)) refl (seen_first own_comments old (rename_to new) (λ a. refl) args)
 
 -- a name is a token
-name_keeps : (old new : List ℕ) (xs : List Item) → is_word old (name_of xs) ≡ true → in_nodes (renamed new xs) ≡ in_nodes xs
-name_keeps old new [] h = refl
+name_keeps : (old new : List ℕ) (xs : List Item) → is_word old (name_of xs) ≡ true → in_nodes (leaf Identifier new ∷ drop 1 xs) ≡ in_nodes xs
+name_keeps old new [] h = absurd cc
 name_keeps old new (x ∷ []) h = absurd cc
 name_keeps old new (leaf kind text ∷ y ∷ xs) h = refl
 name_keeps old new (group kind segs one_comma end ∷ y ∷ xs) h =
-    elim (is_operator_item (codes "=") y) as (λ b. is_word old (if b then ident_of (group kind segs one_comma end) else None) ≡ true → in_nodes (renamed new (group kind segs one_comma end ∷ y ∷ xs)) ≡ in_nodes (group kind segs one_comma end ∷ y ∷ xs))
+    elim (is_operator_item (codes "=") y) as (λ b. is_word old (if b then ident_of (group kind segs one_comma end) else None) ≡ true → in_nodes (leaf Identifier new ∷ drop 1 (group kind segs one_comma end ∷ y ∷ xs)) ≡ in_nodes (group kind segs one_comma end ∷ y ∷ xs))
     [ true ↦ λ k. absurd cc | false ↦ λ k. absurd cc ] h
 
 rename_leaves_all : (old new : List ℕ) (args : List Segment) → in_all (rename old new args) ≡ in_all args

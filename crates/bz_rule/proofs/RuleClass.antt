@@ -1,5 +1,6 @@
 -- The class of a rule with other arguments.
 use Rattle.std.proofs.Common.{◌≡◌, ℕ, List, [], ◌∷◌, ◌++◌, Bool, true, false, Some, refl, ap, sym, ◌∙◌, rules}
+use Rattle.bz_attribute.proofs.RuleParts.{rule_dotted}
 use Rattle.std.specs.Prelude.{bytes_eq, codes}
 use Rattle.std.proofs.lemmas.Bool.{and_parts, false≢true}
 use Rattle.std.proofs.lemmas.Slice.Eq.{bytes_eq-Decides}
@@ -11,7 +12,6 @@ use Rattle.bz_tree.specs.Statement.{class_of, is_rule, is_rule_after, is_assign}
 use Rattle.bz_attribute.specs.Rules.{Rule, rule_of, dotted, is_operator_item}
 use Rattle.bz_attribute.specs.Effects.{nodes_after, with_args}
 use Rattle.bz_attribute.proofs.RuleNodes.{rule_nodes}
-use Rattle.bz_rule.proofs.Rebuilt.{rule_dotted}
 use Rattle.std.specs.List.{list_any}
 
 same_bytes : (xs ys : List ℕ) → bytes_eq xs ys ≡ true → xs ≡ ys

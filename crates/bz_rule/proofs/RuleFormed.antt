@@ -1,5 +1,6 @@
 -- Rules that are well formed: their parts, and back.
 use Rattle.std.proofs.Common.{◌≡◌, ℕ, suc, ◌≤◌, List, [], ◌∷◌, ◌++◌, Bool, true, false, Some, if◌then◌else◌, codes, refl, sym, ap, subst, ◌∙◌, arith}
+use Rattle.bz_attribute.proofs.RuleParts.{rule_dotted}
 use Rattle.std.proofs.lemmas.Bool.{false≢true}
 use Rattle.bz_token.specs.declared.token.Kind.TheVariants.{Identifier, Operator}
 use Rattle.bz_tree.specs.declared.stmt.GroupKind.TheVariants.{Call, RuleCall}
@@ -21,7 +22,6 @@ use Rattle.bz_attribute.specs.Rules.{Rule, rule_of}
 use Rattle.bz_attribute.specs.Effects.{nodes_of}
 use Rattle.bz_attribute.proofs.RuleNodes.{rule_nodes}
 use Rattle.bz_rule.proofs.Accepting.{argument_some}
-use Rattle.bz_rule.proofs.Again.{rule_dotted}
 use Rattle.bz_rule.proofs.KindFormed.{IsDotted, last_name, name_before, dotted_is}
 use Rattle.bz_rule.proofs.NewTexts.{dot_text}
 use Rattle.bz_rule.proofs.Segments.{AreFormed, form_args, good_arguments, taken_apart}

@@ -1,5 +1,6 @@
 -- What is owed of `set`, `set_if_absent` and `set kind`: also that they leave what is well formed so, texts that pass a test, and comments.
 use Rattle.std.proofs.Common.{◌≡◌, ℕ, ◌==◌, List, [], ◌∷◌, ◌++◌, Bool, true, false, not, ◌||◌, Option, None, Some, option_map, is_some, length, map, if◌then◌else◌, refl, ap, sym, ◌∙◌, arith, length-append, append-nil, codes, suc, rules, ◌&&◌, Ok, inl, inr}
+use Rattle.bz_attribute.proofs.RuleParts.{rule_dotted}
 use Rattle.std.specs.Prelude.{bytes_eq}
 use Rattle.std.specs.List.{slice_split, join_with_byte, AllByRecursion, list_all}
 use Rattle.std.proofs.lemmas.Bool.{not-true, not-false, and_parts, cases_Bool}
@@ -27,7 +28,6 @@ use Rattle.bz_rule.proofs.Rebuilt.{kind_told, slot_kind_exchanged}
 use Rattle.std.proofs.lemmas.List.{map-append}
 use Rattle.bz_command.specs.Names.{is_identifier, is_kind}
 use Rattle.bz_layout_laws.specs.WellFormed.{IsWellFormed}
-use Rattle.bz_rule.proofs.Again.{rule_dotted}
 use Rattle.bz_rule.proofs.AllComments.{after_new, in_all, in_nodes, list_none, nodes_joined, statement_is}
 use Rattle.bz_rule.proofs.ArgumentValues.{IsValue, good_with}
 use Rattle.bz_rule.proofs.GoodArguments.{argument_good, first_good, string_good_value, strings_good}

@@ -2,7 +2,7 @@
 
 use crate::table::{check_lines, plain, read, statement};
 use crate::trees;
-use bz_layout::{blank_between, flat, put_stmt};
+use bz_layout::{flat, put_gap, put_stmt};
 use bz_tree::{Class, Group, Node, ParseFault};
 use std::alloc::Global;
 use std::test::Fail;
@@ -525,16 +525,18 @@ fn texts_on_one_line(rt: HostRuntime) -> Result<(), Fail> {
 #[test]
 fn empty_lines(rt: HostRuntime) -> Result<(), Fail> {
     for (before, after, wanted) in [
-        (None, Class::Rule, false),
-        (Some(Class::Load), Class::Load, false),
-        (Some(Class::Load), Class::Assign, true),
-        (Some(Class::Comment), Class::Comment, true),
-        (Some(Class::Assign), Class::Assign, false),
-        (Some(Class::Rule), Class::Rule, true),
-        (Some(Class::Block), Class::Block, true),
-        (Some(Class::Assign), Class::Load, true),
+        (None, Class::Rule, ""),
+        (Some(Class::Load), Class::Load, ""),
+        (Some(Class::Load), Class::Assign, "\n"),
+        (Some(Class::Comment), Class::Comment, "\n"),
+        (Some(Class::Assign), Class::Assign, ""),
+        (Some(Class::Rule), Class::Rule, "\n"),
+        (Some(Class::Block), Class::Block, "\n"),
+        (Some(Class::Assign), Class::Load, "\n"),
     ] {
-        assert_eq!(rt; blank_between(before, after), wanted);
+        let mut text = Vec::new(rt.alloc());
+        put_gap(before, after, &mut text)?;
+        assert_eq!(rt; text.as_slice(), wanted.as_bytes());
     }
     Ok(())
 }

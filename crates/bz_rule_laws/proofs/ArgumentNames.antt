@@ -1,11 +1,12 @@
 -- Names of arguments that are edited: another value leaves the name.
 use Rattle.std.proofs.Common.{◌≡◌, ℕ, List, [], ◌∷◌, ◌++◌, Bool, true, false, if◌then◌else◌, Some, None, is_some, take, codes, refl}
-use Rattle.std.specs.Prelude.{bytes_eq}
+use Rattle.bz_token.specs.declared.token.Kind.TheVariants.{Identifier}
+use Rattle.std.specs.Prelude.{bytes_eq, drop}
 use Rattle.std.proofs.lemmas.Slice.Eq.{bytes_eq-Decides}
-use Rattle.bz_tree.specs.Tree.{Item, Segment}
+use Rattle.bz_tree.specs.Tree.{Item, Segment, leaf}
 use Rattle.bz_attribute.specs.Rules.{ident_of, is_named, is_operator_item, is_text, name_of}
 use Rattle.bz_attribute.specs.Lists.{is_attribute, with_value}
-use Rattle.bz_attribute.specs.Rename.{rename_to, renamed}
+use Rattle.bz_attribute.specs.Rename.{rename_to}
 
 pub same_bytes : (bytes : List ℕ) → bytes_eq bytes bytes ≡ true
 same_bytes bytes = (bytes_eq-Decides bytes bytes).1 refl
@@ -26,7 +27,7 @@ name_taken (x ∷ y ∷ xs) nodes h = refl
 pub name_with_value : (nodes : List Item) (a : Segment) → is_attribute a ≡ true → name_of (with_value nodes a).nodes ≡ name_of a.nodes
 name_with_value nodes a h = name_taken a.nodes nodes h
 
-renamed_name : (old new : List ℕ) (xs : List Item) → is_text old (name_of xs) ≡ true → name_of (renamed new xs) ≡ Some new
+renamed_name : (old new : List ℕ) (xs : List Item) → is_text old (name_of xs) ≡ true → name_of (leaf Identifier new ∷ drop 1 xs) ≡ Some new
 renamed_name old new [] h = absurd cc
 renamed_name old new (x ∷ []) h = absurd cc
 renamed_name old new (x ∷ y ∷ xs) h =

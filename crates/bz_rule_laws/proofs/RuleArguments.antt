@@ -1,12 +1,13 @@
 -- The arguments of a rule after an edit of them, and after another kind.
 use Rattle.std.proofs.Common.{◌≡◌, ℕ, ◌<◌, ◌==◌, List, [], ◌∷◌, ◌++◌, Bool, true, false, ◌&&◌, Option, Some, None, option_map, is_some, length, if◌then◌else◌, refl, ap, sym, ◌∙◌, arith}
+use Rattle.bz_attribute.proofs.RuleParts.{rule_dotted}
 use Rattle.std.specs.Prelude.{bytes_eq}
 use Rattle.std.specs.List.{slice_split}
 use Rattle.std.proofs.lemmas.Bool.{and_parts, false≢true}
 use Rattle.bz_tree.specs.declared.stmt.GroupKind.TheVariants.{RuleCall}
 use Rattle.bz_tree.specs.Tree.{Item, group, Segment, Statement, segs_of}
 use Rattle.bz_command.proofs.Cuts.{some_part}
-use Rattle.bz_attribute.specs.Rules.{Rule, call_at, comma_of, dotted, elements, end_of, is_call, kind_text, rule_from, rule_of}
+use Rattle.bz_attribute.specs.Rules.{Rule, call_at, dotted, elements, kind_text, rule_from, rule_of}
 use Rattle.bz_attribute.specs.Effects.{nodes_after, nodes_of, with_args}
 use Rattle.bz_attribute.specs.Set.{joined_by_dots, kind_after, kind_items, with_kind}
 use Rattle.bz_attribute.proofs.Calls.{rule_from_end}
@@ -18,20 +19,6 @@ use Rattle.bz_command.specs.declared.arguments.Setting.TheVariants.{ToKind, ToVa
 use Rattle.bz_rule.specs.declared.command.Action.TheVariants.{Add, Remove, Set, SetIfAbsent, Delete, Rename, Move, Replace, Comment, Print}
 use Rattle.bz_rule.specs.Commands.{Command, after, args_after}
 use Rattle.bz_rule_laws.specs.Again.{is_steady, sets_a_kind}
-
-call_dotted : (kind : List Item) (x : Item) (r : Rule) → call_at kind x ≡ Some r → dotted true r.kind ≡ true
-call_dotted kind x r h =
-    elim (is_call x && dotted true kind) as (λ b. is_call x && dotted true kind ≡ b → (if b then Some (record { kind = kind; args = elements x; one_comma = comma_of x; end = end_of x }) else None) ≡ Some r → dotted true r.kind ≡ true) [
-      | true ↦ λ e k.
-          let is : record { kind = kind; args = elements x; one_comma = comma_of x; end = end_of x } ≡ r = cc in
-          ap (λ (z : Rule). dotted true z.kind) (sym is) ∙ (and_parts (is_call x) (dotted true kind) e).1
-      | false ↦ λ e k. absurd cc
-    ] refl h
-
-rule_dotted : (kind nodes : List Item) (r : Rule) → rule_from kind nodes ≡ Some r → dotted true r.kind ≡ true
-rule_dotted kind [] r h = absurd cc
-rule_dotted kind (x ∷ []) r h = call_dotted kind x r h
-rule_dotted kind (x ∷ y ∷ xs) r h = rule_dotted (kind ++ x ∷ []) (y ∷ xs) r h
 
 -- the nodes of a rule are read as this rule
 nodes_read : (r : Rule) → dotted true r.kind ≡ true → rule_of (nodes_of r) ≡ Some r

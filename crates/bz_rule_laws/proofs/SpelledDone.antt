@@ -18,7 +18,7 @@ use Rattle.bz_attribute.specs.Add.{adds, fresh}
 use Rattle.bz_attribute.specs.Marks.{marks}
 use Rattle.bz_attribute.specs.Remove.{goes_with_all}
 use Rattle.bz_attribute.specs.Replace.{is_replaced, replaces_in}
-use Rattle.bz_attribute.specs.Set.{New, NewConstant, NewNumber, NewString, NewStrings, are_strings, is_ident, is_int, is_list_attribute, is_value, new_of, new_word, sets}
+use Rattle.bz_attribute.specs.Set.{New, NewConstant, NewNumber, NewString, NewStrings, are_strings, is_list_attribute, is_value, new_of, new_word, sets}
 use Rattle.bz_rule.specs.declared.command.Action.TheVariants.{Add, Remove, Set, SetIfAbsent, Delete, Rename, Move, Replace, Comment, Print}
 use Rattle.bz_rule.specs.Commands.{Command, args_done, done_of}
 use Rattle.bz_rule_laws.specs.Again.{IsQuiet, IsSettled, is_line, is_steady}
@@ -74,17 +74,12 @@ new_spelled attr (word ∷ []) a =
     ap (λ b. if bytes_eq attr (codes "name") then NewString word else (if is_list_attribute attr || b then NewStrings (word ∷ []) else new_word word)) (ap (is_only is_list) (value_spelled a) ∙ one_list_spelled (value a))
 new_spelled attr (word ∷ other ∷ words) a = refl
 
-only_spelled : (p : Item → Bool) → ((x : Item) → p (spelled x) ≡ p x) → (nodes : List Item) → is_only p (map spelled nodes) ≡ is_only p nodes
-only_spelled p blind [] = refl
-only_spelled p blind (x ∷ []) = blind x
-only_spelled p blind (x ∷ y ∷ xs) = refl
-
-int_spelled : (digits : List ℕ) (x : Item) → is_int digits (spelled x) ≡ is_int digits x
+int_spelled : (digits : List ℕ) (x : Item) → is_value (NewNumber digits) (spelled x ∷ []) ≡ is_value (NewNumber digits) (x ∷ [])
 int_spelled digits (leaf Integer text) = refl
 int_spelled digits (leaf _ text) = refl
 int_spelled digits (group kind segs one_comma end) = refl
 
-constant_spelled : (name : List ℕ) (x : Item) → is_ident name (spelled x) ≡ is_ident name x
+constant_spelled : (name : List ℕ) (x : Item) → is_value (NewConstant name) (spelled x ∷ []) ≡ is_value (NewConstant name) (x ∷ [])
 constant_spelled name (leaf Identifier text) = refl
 constant_spelled name (leaf _ text) = refl
 constant_spelled name (group kind segs one_comma end) = refl
@@ -97,9 +92,19 @@ strings_spelled (word ∷ words) (s ∷ ss) = rw (string_spelled s.nodes, string
 
 is_value_spelled : (new : New) (nodes : List Item) → is_value new (map spelled nodes) ≡ is_value new nodes
 is_value_spelled (NewString word) nodes = ap (is_text word) (string_spelled nodes)
-is_value_spelled (NewNumber digits) nodes = only_spelled (is_int digits) (int_spelled digits) nodes
-is_value_spelled (NewConstant name) nodes = only_spelled (is_ident name) (constant_spelled name) nodes
-is_value_spelled (NewStrings words) nodes = only_spelled (λ x. is_list x && are_strings words (elements x)) (λ x. rw (list_spelled x, elements_spelled x, strings_spelled words (elements x)) refl) nodes
+is_value_spelled (NewNumber digits) [] = refl
+is_value_spelled (NewNumber digits) (x ∷ []) = int_spelled digits x
+is_value_spelled (NewNumber digits) (leaf Integer text ∷ y ∷ xs) = refl
+is_value_spelled (NewNumber digits) (leaf _ text ∷ y ∷ xs) = refl
+is_value_spelled (NewNumber digits) (group kind segs one_comma end ∷ y ∷ xs) = refl
+is_value_spelled (NewConstant name) [] = refl
+is_value_spelled (NewConstant name) (x ∷ []) = constant_spelled name x
+is_value_spelled (NewConstant name) (leaf Identifier text ∷ y ∷ xs) = refl
+is_value_spelled (NewConstant name) (leaf _ text ∷ y ∷ xs) = refl
+is_value_spelled (NewConstant name) (group kind segs one_comma end ∷ y ∷ xs) = refl
+is_value_spelled (NewStrings words) [] = refl
+is_value_spelled (NewStrings words) (x ∷ []) = rw (list_spelled x, elements_spelled x, strings_spelled words (elements x)) refl
+is_value_spelled (NewStrings words) (x ∷ y ∷ xs) = refl
 
 set_spelled : (attr : List ℕ) (words : List (List ℕ)) (o : Option Segment) → sets attr words (option_map respelled o) ≡ sets attr words o
 set_spelled attr words None = refl

@@ -8,7 +8,7 @@ use Rattle.bz_tree.specs.declared.stmt.GroupKind.TheVariants.{RuleCall, List as 
 use Rattle.bz_tree.specs.Tree.{Item, leaf, group, Items, no_items, item, Segs, no_segs, seg, Segment, list_of, segments}
 use Rattle.bz_layout_laws.specs.Spelled.{spelled, spelled_items, spelled_segs}
 use Rattle.bz_layout_laws.proofs.SpelledValues.{respelled_value}
-use Rattle.bz_attribute.specs.Rules.{call_at, comma_of, dotted, elements, end_of, first_named, ident_of, is_call, is_named, is_operator_item, is_text, kind_text, name_of, rule_from, rule_of, string_value, text_of, value}
+use Rattle.bz_attribute.specs.Rules.{call_at, dotted, elements, first_named, ident_of, is_named, is_operator_item, is_text, kind_text, name_of, rule_from, rule_of, string_value, value}
 use Rattle.bz_attribute.specs.Lists.{ends, is_attribute, is_joint, is_list, is_part, is_plus, parts, parts_from}
 use Rattle.bz_attribute.specs.Effects.{has}
 use Rattle.bz_rule_laws.proofs.RuleArguments.{kind_there, there}
@@ -41,11 +41,6 @@ ident_spelled (group kind segs one_comma end) = refl
 
 -- the rule
 
-call_spelled : (x : Item) → is_call (spelled x) ≡ is_call x
-call_spelled (leaf kind text) = refl
-call_spelled (group RuleCall segs one_comma end) = refl
-call_spelled (group _ segs one_comma end) = refl
-
 dotted_spelled : (b : Bool) (kind : List Item) → dotted b (map spelled kind) ≡ dotted b kind
 dotted_spelled true [] = refl
 dotted_spelled false [] = refl
@@ -69,24 +64,27 @@ kind_stays false (x ∷ xs) h =
     let a = and_parts (is_operator_item (codes ".") x) (dotted true xs) h in
     λ i. dot_spelled x a.0 i ∷ kind_stays true xs a.1 i
 
-test_spelled : (kind : List Item) (x : Item) → is_call (spelled x) && dotted true (map spelled kind) ≡ (is_call x && dotted true kind)
-test_spelled kind x = rw (call_spelled x, dotted_spelled true kind) refl
-
 there_at : (kind : List Item) (x : Item) → there (call_at (map spelled kind) (spelled x)) ≡ option_map (map respelled) (there (call_at kind x))
-there_at kind x =
-    rw (test_spelled kind x)
-    (elim (is_call x && dotted true kind) as (λ b. there (if b then Some (record { kind = map spelled kind; args = elements (spelled x); one_comma = comma_of (spelled x); end = end_of (spelled x) }) else None)
-    ≡ option_map (map respelled) (there (if b then Some (record { kind = kind; args = elements x; one_comma = comma_of x; end = end_of x }) else None)))
+there_at kind (leaf k text) = refl
+there_at kind (group RuleCall segs one_comma end) =
+    let x = group RuleCall segs one_comma end in
+    rw (dotted_spelled true kind)
+    (elim (dotted true kind) as (λ b. there (if b then Some (record { kind = map spelled kind; args = elements (spelled x); one_comma = one_comma; end = end }) else None)
+    ≡ option_map (map respelled) (there (if b then Some (record { kind = kind; args = elements x; one_comma = one_comma; end = end }) else None)))
     [ true ↦ ap (λ (ss : List Segment). Some ss) (elements_spelled x) | false ↦ refl ])
+there_at kind (group _ segs one_comma end) = refl
 
 kind_at : (kind : List Item) (x : Item) → kind_there (call_at (map spelled kind) (spelled x)) ≡ kind_there (call_at kind x)
-kind_at kind x =
-    rw (test_spelled kind x)
-    (elim (is_call x && dotted true kind) as (λ b. is_call x && dotted true kind ≡ b → kind_there (if b then Some (record { kind = map spelled kind; args = elements (spelled x); one_comma = comma_of (spelled x); end = end_of (spelled x) }) else None)
-    ≡ kind_there (if b then Some (record { kind = kind; args = elements x; one_comma = comma_of x; end = end_of x }) else None)) [
-      | true ↦ λ e. ap (λ (ks : List Item). Some (kind_text ks)) (kind_stays true kind (and_parts (is_call x) (dotted true kind) e).1)
+kind_at kind (leaf k text) = refl
+kind_at kind (group RuleCall segs one_comma end) =
+    let x = group RuleCall segs one_comma end in
+    rw (dotted_spelled true kind)
+    (elim (dotted true kind) as (λ b. dotted true kind ≡ b → kind_there (if b then Some (record { kind = map spelled kind; args = elements (spelled x); one_comma = one_comma; end = end }) else None)
+    ≡ kind_there (if b then Some (record { kind = kind; args = elements x; one_comma = one_comma; end = end }) else None)) [
+      | true ↦ λ e. ap (λ (ks : List Item). Some (kind_text ks)) (kind_stays true kind e)
       | false ↦ λ e. refl
     ] refl)
+kind_at kind (group _ segs one_comma end) = refl
 
 one_more : (kind : List Item) (x : Item) → map spelled kind ++ spelled x ∷ [] ≡ map spelled (kind ++ x ∷ [])
 one_more kind x = sym (map-append spelled kind (x ∷ []))
@@ -140,7 +138,7 @@ value_nodes (x ∷ y ∷ xs) = refl
 pub value_spelled : (a : Segment) → value (respelled a) ≡ map spelled (value a)
 value_spelled a = value_nodes a.nodes
 
-text_spelled : (x : Item) → option_and_then value_of (text_of (spelled x)) ≡ option_and_then value_of (text_of x)
+text_spelled : (x : Item) → string_value (spelled x ∷ []) ≡ string_value (x ∷ [])
 text_spelled (leaf String text) = respelled_value String text
 text_spelled (leaf _ text) = refl
 text_spelled (group kind segs one_comma end) = refl
@@ -148,7 +146,9 @@ text_spelled (group kind segs one_comma end) = refl
 pub string_spelled : (nodes : List Item) → string_value (map spelled nodes) ≡ string_value nodes
 string_spelled [] = refl
 string_spelled (x ∷ []) = text_spelled x
-string_spelled (x ∷ y ∷ xs) = refl
+string_spelled (leaf String text ∷ y ∷ xs) = refl
+string_spelled (leaf _ text ∷ y ∷ xs) = refl
+string_spelled (group kind segs one_comma end ∷ y ∷ xs) = refl
 
 joint_spelled : (x : Item) → is_joint (spelled x) ≡ is_joint x
 joint_spelled (leaf Keyword text) = refl

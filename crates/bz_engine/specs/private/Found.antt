@@ -1,6 +1,7 @@
 -- What is known of the statement of a chunk that stands as it would be written, and what the one command of a script tells of it, for
 -- private clauses.
-use Rattle.std.specs.Prelude.{◌≡◌, ℕ, List, [], ◌∷◌, Bool, false, true, Option, None, Some, option_map, IfSome}
+use Rattle.std.specs.Prelude.{◌≡◌, ℕ, List, [], ◌∷◌, Bool, false, true, Option, None, Some, option_map, IfSome, map, option_to_list}
+use Rattle.bz_passes.specs.declared.entry.Entry.TheVariants.{Line}
 use Rattle.bz_tree.specs.declared.stmt.Class.{Class}
 use Rattle.bz_tree.specs.Statement.{class_of}
 use Rattle.bz_tree.specs.Tree.{Statement}
@@ -17,7 +18,6 @@ use Rattle.bz_passes.specs.Exchange.{Kept}
 use Rattle.bz_passes.specs.declared.entry.Entry.{Entry}
 use Rattle.bz_engine.specs.declared.answer.Unchanged.{Unchanged}
 use Rattle.bz_engine.specs.declared.canonical.Found.{Found}
-use Rattle.bz_engine.specs.Meaning.{line_told}
 use Rattle.bz_engine.specs.Outcome.{Script}
 
 -- a script of one pass with one command
@@ -26,7 +26,7 @@ one_pass target command = record { target = target; commands = command ∷ [] } 
 
 -- what is kept of one slot that it marked, of which this line was told
 abbrev pub one_told : Option (List ℕ) → List (Kept Entry)
-one_told line = record { found = true; logs = line_told line ∷ [] } ∷ []
+one_told line = record { found = true; logs = map Line (option_to_list line) ∷ [] } ∷ []
 
 -- a place for the log of one command
 abbrev pub HasOneLog : List (Kept Entry) → Type 0

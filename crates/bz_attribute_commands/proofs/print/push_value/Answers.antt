@@ -1,4 +1,4 @@
-use Rattle.std.proofs.Common.{tests, ◌≡◌, ℕ, ◌<◌, ◌≤◌, ◌∷◌, [], ◌++◌, ◌&&◌, get_or, List, Option, Some, None, is_some, false, length, refl, ap, sym, ◌∙◌, arith, append-nil, string_bytes, if◌then◌else◌, is_ok, Result, Ok, Err, OnOk}
+use Rattle.std.proofs.Common.{tests, ◌≡◌, ℕ, ◌<◌, ◌≤◌, ◌∷◌, [], ◌++◌, ◌&&◌, get_or, List, Option, Some, None, is_some, false, length, refl, ap, sym, ◌∙◌, arith, append-nil, string_bytes, if◌then◌else◌, is_ok, Result, Ok, Err, OnOk, subst}
 use Rattle.std.specs.List.{list_all}
 use Rattle.bz_tree.specs.declared.stmt.GroupKind.TheVariants.{RuleCall}
 use Rattle.bz_tree.specs.declared.stmt.Node.{Node}
@@ -8,7 +8,7 @@ use Rattle.bz_layout.specs.Layout.{flat_text}
 use Rattle.bz_attribute.specs.Lists.{is_list}
 use Rattle.bz_attribute.specs.Rules.{elements, string_value}
 use Rattle.bz_attribute.proofs.Mapped.{one_node}
-use Rattle.bz_attribute_commands.specs.Print.{is_words, value_text, word_form}
+use Rattle.bz_attribute_commands.specs.Print.{list_text, value_text, word_form}
 use Rattle.std.proofs.lemmas.Bool.{and_left, and_right}
 use Rattle.std.proofs.lemmas.Bool.Decides.{nat_tests}
 use Rattle.bz_attribute_commands.proofs.Written.{then_ok}
@@ -20,20 +20,24 @@ none : (o : Option (List ℕ)) → is_some o ≡ false → o ≡ None
 none None h = refl
 none (Some x) h = absurd cc
 
-flat_value : (nodes : List Item) → is_some (string_value nodes) ≡ false → is_words nodes ≡ false → value_text nodes ≡ flat_text (Some RuleCall) nodes
-flat_value nodes string words = rw (none (string_value nodes) string, words) refl
+-- no list of strings with values
+abbrev IsFlat : List Item → Type 0
+IsFlat nodes = list_text nodes ≡ flat_text (Some RuleCall) nodes
 
-no_words : (ns : List Node) → length ns < 1 → is_words (nodes_view ns) ≡ false
+flat_value : (nodes : List Item) → is_some (string_value nodes) ≡ false → IsFlat nodes → value_text nodes ≡ flat_text (Some RuleCall) nodes
+flat_value nodes string flat = rw (none (string_value nodes) string) flat
+
+no_words : (ns : List Node) → length ns < 1 → IsFlat (nodes_view ns)
 no_words [] h = refl
 no_words (n ∷ ns) h = absurd (omega arith)
 
-many : (ns : List Node) → 2 ≤ length ns → is_words (nodes_view ns) ≡ false
+many : (ns : List Node) → 2 ≤ length ns → IsFlat (nodes_view ns)
 many [] h = refl
 many (n ∷ []) h = absurd (omega arith)
 many (n ∷ m ∷ ns) h = refl
 
-one : (ns : List Node) (n : Node) → 1 ≤ length ns → length ns < 2 → n ≡ get_or ns 0 n → (is_list (node_view n) && list_all (λ x0. is_some (string_value x0.nodes)) (elements (node_view n))) ≡ false → is_words (nodes_view ns) ≡ false
-one ns n few more at not = ap (λ (xs : List Node). is_words (nodes_view xs)) (one_node ns n few more at) ∙ not
+one : (ns : List Node) (n : Node) → 1 ≤ length ns → length ns < 2 → n ≡ get_or ns 0 n → (is_list (node_view n) && list_all (λ x0. is_some (string_value x0.nodes)) (elements (node_view n))) ≡ false → IsFlat (nodes_view ns)
+one ns n few more at not = subst (λ (xs : List Node). IsFlat (nodes_view xs)) (sym (one_node ns n few more at)) (rw not refl)
 
 written : {T E : Type 0} (r : Result T E) (new old line : List ℕ) → new ≡ (if is_ok r then old ++ line else old) → OnOk r (new ≡ old ++ line)
 written (Ok x) new old line h = h
@@ -41,7 +45,7 @@ written (Err e) new old line h = tt
 
 pub returns-in_ok-flat-in_default : goal.returns-in_ok-flat-in_default
 returns-in_ok-flat-in_default c =
-    let words : is_words (nodes_view c.args.value.now) ≡ false = elim c.in_default.branch [
+    let flat : IsFlat (nodes_view c.args.value.now) = elim c.in_default.branch [
       | in_default-via-then-value-lt1 w ↦ no_words c.args.value.now (grind (arith, nat_tests, tests))
       | in_default-via-in-len1+then-is_list+else-are_strings w ↦
           one c.args.value.now w.node-item.result (omega arith) (omega arith) w.node-item.is (and_right _ _ (ap (list_all (λ x0. is_some (string_value x0.nodes))) (sym w.elements_at.ensures) ∙ sym w.are_strings.ensures ∙ w.if-are_strings.false))
