@@ -1,34 +1,29 @@
--- The first argument of a name among the parts of its rule: renamed, and with one comment line more.
-use Rattle.std.proofs.Common.{◌≡◌, ℕ, ◌+◌, List, [], ◌∷◌, ◌++◌, Bool, true, false, ◌||◌, if◌then◌else◌, Option, Some, None, is_some, length, map, set, take, drop, option_map, refl, ap, sym, ◌∙◌, arith, append_assoc, length-append, Result, Ok, Err, IfOk}
-use Rattle.std.specs.Prelude.{drop}
+-- The first argument of a name among the parts of its rule, also with one comment line more.
+use Rattle.std.proofs.Common.{◌≡◌, ℕ, ◌+◌, List, [], ◌∷◌, ◌++◌, Bool, true, false, ◌||◌, if◌then◌else◌, Option, Some, None, length, map, take, drop, option_map, refl, ap, sym, ◌∙◌, arith, append_assoc, length-append, Result, Ok, Err, IfOk}
 use Rattle.std.specs.List.{list_any}
-use Rattle.std.proofs.lemmas.Bool.{false≢true}
 use Rattle.std.proofs.lemmas.List.{map-append}
 use Rattle.std.proofs.Math.Seq.{drop-append_seam, take-append_seam}
-use Rattle.bz_token.specs.declared.token.Kind.TheVariants.{Identifier}
-use Rattle.bz_tree.specs.Tree.{Item, leaf, group, Segment, Statement, items_of, segs_of}
-use Rattle.bz_tree.specs.Rows.{RowPart, a_token, segment_end, above, beside_part, items_parts, segs_parts, parts_of}
-use Rattle.bz_attribute.specs.Rules.{Rule, is_named, is_text, name_of}
+use Rattle.bz_tree.specs.Tree.{Segment, Statement, items_of, segs_of}
+use Rattle.bz_tree.specs.Rows.{RowPart, segment_end, above, beside_part, items_parts, segs_parts, parts_of}
+use Rattle.bz_attribute.specs.Rules.{Rule, is_named}
 use Rattle.bz_attribute.specs.Effects.{edit_first, has, is_absent, nodes_after, nodes_of, with_args}
 use Rattle.bz_attribute.specs.Comment.{comment_attribute, comment_line, with_comment}
-use Rattle.bz_attribute.specs.Rename.{rename, rename_note, rename_to}
-use Rattle.bz_attribute.specs.declared.done.Note.{Note}
-use Rattle.bz_attribute.specs.declared.done.Note.TheVariants.{AttributeExists, NoAttribute}
+use Rattle.bz_attribute.specs.declared.done.Note.TheVariants.{NoAttribute}
 use Rattle.bz_attribute.specs.Finder.{find_from}
 use Rattle.bz_attribute.specs.RowPlaces.{IsRuleRow}
 use Rattle.bz_attribute.proofs.RuleNodes.{rule_nodes}
 use Rattle.bz_attribute.proofs.EditedAt.{edited_at, segs_join, with_args_at}
-use Rattle.bz_attribute.proofs.FoundArgs.{Answer, found, absent, answer, group_name, IsArgAt}
+use Rattle.bz_attribute.proofs.FoundArgs.{Answer, found, absent, answer, IsArgAt}
 use Rattle.bz_attribute.proofs.RuleParts.{after_args, before_args, head_passed, is_after, parts_cut}
 
 -- the parts before an argument, its own and others, and those after it
-abbrev front_parts : Statement → Rule → List Segment → List RowPart
+abbrev pub front_parts : Statement → Rule → List Segment → List RowPart
 front_parts s r front = before_args s r ++ segs_parts (segs_of front)
 
-abbrev argument_parts : Segment → List RowPart → List RowPart
+abbrev pub argument_parts : Segment → List RowPart → List RowPart
 argument_parts a rest = map above a.before ++ (items_parts (items_of a.nodes) ++ (segment_end ∷ (beside_part a.suffix ++ rest)))
 
-abbrev back_parts : Statement → Rule → List Segment → List RowPart
+abbrev pub back_parts : Statement → Rule → List Segment → List RowPart
 back_parts s r back = segs_parts (segs_of back) ++ after_args s r
 
 in_three : (s : Statement) (r : Rule) (front : List Segment) (a : Segment) (back : List Segment) → nodes_of r ≡ s.nodes → r.args ≡ front ++ a ∷ back
@@ -40,15 +35,15 @@ in_three s r front a back nodes are =
     ∙ moved
 
 -- the first argument of the name, and where its nodes begin
-record IsAt (name : List ℕ) (s : Statement) (r : Rule) (ps : List RowPart) (at : ℕ) : Type 0 where
-  front : List Segment
-  arg : Segment
-  back : List Segment
-  is : is_named name arg ≡ true
-  there : has name r.args ≡ true
-  parts : ps ≡ front_parts s r front ++ argument_parts arg (back_parts s r back)
-  place : at ≡ length (front_parts s r front ++ map above arg.before)
-  edited : (f : Segment → Segment) → parts_of (with_args (edit_first (is_named name) (λ a. f a ∷ [])) s) ≡ front_parts s r front ++ argument_parts (f arg) (back_parts s r back)
+pub record IsAt (name : List ℕ) (s : Statement) (r : Rule) (ps : List RowPart) (at : ℕ) : Type 0 where
+  pub front : List Segment
+  pub arg : Segment
+  pub back : List Segment
+  pub is : is_named name arg ≡ true
+  pub there : has name r.args ≡ true
+  pub parts : ps ≡ front_parts s r front ++ argument_parts arg (back_parts s r back)
+  pub place : at ≡ length (front_parts s r front ++ map above arg.before)
+  pub edited : (f : Segment → Segment) → parts_of (with_args (edit_first (is_named name) (λ a. f a ∷ [])) s) ≡ front_parts s r front ++ argument_parts (f arg) (back_parts s r back)
 
 among : (p : Segment → Bool) (front : List Segment) (a : Segment) (back : List Segment) → p a ≡ true → list_any p (front ++ a ∷ back) ≡ true
 among p [] a back is = ap (λ (b : Bool). b || list_any p back) is
@@ -84,7 +79,7 @@ placed name s r ps at o h (found n on arg) is =
 placed name s r ps at o h (absent on none) is = let clash : None ≡ Some at = sym (ap (option_map (λ (k : ℕ). length (before_args s r) + k)) on) ∙ is in absurd cc
 
 -- by what the finder told
-argument_at : (name : List ℕ) (s : Statement) (r : Rule) (ps : List RowPart) (at : ℕ) → IsRuleRow s r ps → find_from name 0 false ps ≡ Some at → IsAt name s r ps at
+pub argument_at : (name : List ℕ) (s : Statement) (r : Rule) (ps : List RowPart) (at : ℕ) → IsRuleRow s r ps → find_from name 0 false ps ≡ Some at → IsAt name s r ps at
 argument_at name s r ps at h is = placed name s r ps at (args_found name s r) h (answer name r.args (after_args s r) (is_after s r)) (sym (told name s r ps h) ∙ is)
 
 pub has_argument : (name : List ℕ) (s : Statement) (r : Rule) (ps : List RowPart) (at : ℕ) → IsRuleRow s r ps → find_from name 0 false ps ≡ Some at → has name r.args ≡ true
@@ -121,57 +116,6 @@ absent_note name args h = rw h refl
 
 pub there_note : (name : List ℕ) (args : List Segment) → has name args ≡ true → is_absent name args ≡ None
 there_note name args h = rw h refl
-
--- another name: a named argument begins with a token
-record BeginsWith (xs : List Item) : Type 0 where
-  token : RowPart
-  after : List RowPart
-  are : items_parts (items_of xs) ≡ token ∷ after
-  put : (new : List ℕ) → items_parts (items_of (leaf Identifier new ∷ drop 1 xs)) ≡ a_token Identifier new ∷ after
-
-no_text : (name : List ℕ) (o : Option (List ℕ)) → o ≡ None → is_text name o ≡ true → ⊥
-no_text name o none h = false≢true (sym (ap (is_text name) none) ∙ h)
-
-begins : (name : List ℕ) (xs : List Item) → is_text name (name_of xs) ≡ true → BeginsWith xs
-begins name [] h = absurd cc
-begins name (x ∷ []) h = absurd cc
-begins name (leaf k text ∷ y ∷ xs) h = record { token = a_token k text; after = items_parts (items_of (y ∷ xs)); are = refl; put = λ new. refl }
-begins name (group k segs one_comma end ∷ y ∷ xs) h = absurd (no_text name _ (group_name k segs one_comma end y xs) h)
-
-name_written : (old new : List ℕ) (s : Statement) (r : Rule) (ps : List RowPart) (at : ℕ) → IsAt old s r ps at
-    → take at ps ++ a_token Identifier new ∷ drop (at + 1) ps ≡ parts_of (with_args (edit_first (is_named old) (λ a. rename_to new a ∷ [])) s)
-name_written old new s r ps at p =
-    let b = begins old p.arg.nodes p.is in
-    let first : List RowPart = front_parts s r p.front in
-    let comments : List RowPart = map above p.arg.before in
-    let rest : List RowPart = segment_end ∷ (beside_part p.arg.suffix ++ back_parts s r p.back) in
-    let all : ps ≡ (first ++ comments) ++ b.token ∷ (b.after ++ rest) =
-    p.parts ∙ ap (λ (qs : List RowPart). first ++ (comments ++ (qs ++ rest))) b.are ∙ sym (append_assoc first comments (b.token ∷ (b.after ++ rest))) in
-    let taken : take at ps ≡ first ++ comments = (λ i. take (p.place i) (all i)) ∙ take-append_seam (first ++ comments) (b.token ∷ (b.after ++ rest)) in
-    let past : ps ≡ ((first ++ comments) ++ b.token ∷ []) ++ (b.after ++ rest) = all ∙ sym (append_assoc (first ++ comments) (b.token ∷ []) (b.after ++ rest)) in
-    let next : at + 1 ≡ length ((first ++ comments) ++ b.token ∷ []) = omega (arith, p.place, length-append (first ++ comments) (b.token ∷ [])) in
-    let left : drop (at + 1) ps ≡ b.after ++ rest = (λ i. drop (next i) (past i)) ∙ drop-append_seam ((first ++ comments) ++ b.token ∷ []) (b.after ++ rest) in
-    (λ i. taken i ++ a_token Identifier new ∷ left i)
-    ∙ append_assoc first comments (a_token Identifier new ∷ (b.after ++ rest))
-    ∙ sym (ap (λ (qs : List RowPart). first ++ (comments ++ (qs ++ rest))) (b.put new)) ∙ sym (p.edited (rename_to new))
-
-pub no_old : (old new : List ℕ) (args : List Segment) → has old args ≡ false → rename_note old new args ≡ Some (NoAttribute old)
-no_old old new args h = rw h refl
-
-pub new_there : (old new : List ℕ) (args : List Segment) → has old args ≡ true → has new args ≡ true → rename_note old new args ≡ Some (AttributeExists new)
-new_there old new args a b = rw (a, b) refl
-
-pub no_note : (old new : List ℕ) (args : List Segment) → has old args ≡ true → has new args ≡ false → rename_note old new args ≡ None
-no_note old new args a b = rw (a, b) refl
-
-pub argument_renamed : (old new : List ℕ) (s : Statement) (r : Rule) (ps : List RowPart) (at : ℕ) → IsRuleRow s r ps → find_from old 0 false ps ≡ Some at → has new r.args ≡ false
-    → take at ps ++ a_token Identifier new ∷ drop (at + 1) ps ≡ parts_of (with_args (rename old new) s)
-argument_renamed old new s r ps at h is free =
-    let p = argument_at old s r ps at h is in
-    let edit : List Segment → List Segment = edit_first (is_named old) (λ a. rename_to new a ∷ []) in
-    let noted : rename_note old new r.args ≡ None = no_note old new r.args p.there free in
-    name_written old new s r ps at p
-    ∙ sym (ap parts_of (with_args_at (rename old new) edit s r h.rule (ap (λ (n : Option Note). if is_some n then r.args else edit r.args) noted)))
 
 -- what a result promises, in other words
 pub in_other_words : {T E : Type 0} (r : Result T E) (P Q : T → Type 0) → ((t : T) → P t → Q t) → IfOk r P → IfOk r Q

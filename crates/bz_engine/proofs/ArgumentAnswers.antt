@@ -6,7 +6,7 @@ use Rattle.std.specs.Prelude.{codes, option_to_list, Option, None, Some, Result,
 use Rattle.bz_tree.specs.Chunk.{IsStatementIn}
 use Rattle.bz_tree.specs.Tree.{Segment, Statement}
 use Rattle.bz_layout.specs.Layout.{layout_text}
-use Rattle.bz_command.specs.declared.arguments.Setting.TheVariants.{ToValues, ToKind}
+use Rattle.bz_command.specs.declared.arguments.Setting.TheVariants.{ToValues}
 use Rattle.bz_command.specs.Labels.{Package}
 use Rattle.bz_attribute.specs.declared.done.Done.{Done}
 use Rattle.bz_attribute.specs.Effects.{slot_done, with_args, done}
@@ -15,7 +15,7 @@ use Rattle.bz_attribute.specs.Rules.{Rule, first_named, rule_of}
 use Rattle.bz_attribute_commands.specs.Argument.{new_argument}
 use Rattle.bz_canonical.specs.Canonical.{AreReadAlone, Between, HasName, HasPlace, argument_lines, first_args, rule_args, small_text}
 use Rattle.bz_canonical.proofs.SmallRules.{no_lines, small_after, small_told}
-use Rattle.bz_rule.specs.declared.command.Action.TheVariants.{Add, Remove, Set, SetIfAbsent, Delete, Rename, Move, Replace, Comment, Print}
+use Rattle.bz_rule.specs.declared.command.Action.TheVariants.{Set, SetIfAbsent}
 use Rattle.bz_rule.specs.Commands.{Command, after, args_after, args_done, done_of}
 use Rattle.bz_rule.specs.OneAttribute.{one_attribute}
 use Rattle.bz_rule.proofs.Commands.{local}
@@ -36,15 +36,7 @@ set_alone (Set (ToValues a ws)) new is home =
 set_alone (SetIfAbsent a ws) new is home =
     let same : record { attr = a; words = ws } ≡ new = cc in
     (refl, ap (λ (n : Setting). new_argument n.attr n.words ∷ []) same)
-set_alone (Set (ToKind kind)) new is home = absurd cc
-set_alone (Add a values) new is home = absurd cc
-set_alone (Remove attrs values) new is home = absurd cc
-set_alone (Replace attrs old by_it) new is home = absurd cc
-set_alone Delete new is home = absurd cc
-set_alone (Rename a b) new is home = absurd cc
-set_alone (Move a b moved) new is home = absurd cc
-set_alone (Comment place text) new is home = absurd cc
-set_alone (Print fields) new is home = absurd cc
+set_alone _ new is home = absurd cc
 
 pub adds_argument : (command : Command) (new : Setting) (lines : List ℕ) → set_by command ≡ Some new → lines ≡ argument_lines (new_argument new.attr new.words ∷ []) → AddsArgument command lines
 adds_argument command new lines is lines_are = λ home.

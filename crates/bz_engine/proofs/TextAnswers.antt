@@ -5,14 +5,13 @@ use Rattle.std.proofs.lemmas.Bool.{false≢true}
 use Rattle.std.proofs.lemmas.List.{get_or_append_left, get_or-append-add, length-append}
 use Rattle.memchr.specs.Find.{FindsNeedle, OccursAt}
 use Rattle.bz_tree.specs.Tree.{Segment, Statement}
-use Rattle.bz_command.specs.declared.arguments.Attributes.TheVariants.{Named, Every}
-use Rattle.bz_command.specs.declared.arguments.Setting.TheVariants.{ToValues, ToKind}
+use Rattle.bz_command.specs.declared.arguments.Attributes.TheVariants.{Named}
 use Rattle.bz_command.specs.Labels.{Package}
 use Rattle.bz_attribute.specs.declared.done.Done.{Done}
 use Rattle.bz_attribute.specs.Effects.{done, has}
 use Rattle.bz_attribute.specs.Rules.{Rule, first_named, is_named, rule_of}
 use Rattle.bz_canonical.specs.Canonical.{HasArgumentName, rule_args}
-use Rattle.bz_rule.specs.declared.command.Action.TheVariants.{Add, Remove, Set, SetIfAbsent, Delete, Rename, Move, Replace, Comment, Print}
+use Rattle.bz_rule.specs.declared.command.Action.TheVariants.{Remove, Replace}
 use Rattle.bz_rule.specs.Commands.{Command, after, args_after, args_done, done_of}
 use Rattle.bz_rule.proofs.Commands.{lawful}
 use Rattle.bz_engine.specs.private.Found.{IsWithout, Makes, looked_at, told_line}
@@ -58,16 +57,7 @@ looked_at_done (Replace (Named a) old new) attr home s is without =
     let same : a ≡ attr = cc in
     quiet (λ x0. map_or (done None false) (λ r. (args_done (Replace (Named a) old new) home) r.args) x0) (rule_of s.nodes) refl
     (λ r at. rw (ap (λ n. first_named n r.args) same ∙ ap (λ o. first_named attr (rule_args o)) (sym at) ∙ without) refl)
-looked_at_done (Remove Every values) attr home s is without = absurd cc
-looked_at_done (Replace Every old new) attr home s is without = absurd cc
-looked_at_done (Add a values) attr home s is without = absurd cc
-looked_at_done (Set setting) attr home s is without = absurd cc
-looked_at_done (SetIfAbsent a values) attr home s is without = absurd cc
-looked_at_done Delete attr home s is without = absurd cc
-looked_at_done (Rename a b) attr home s is without = absurd cc
-looked_at_done (Move a b moved) attr home s is without = absurd cc
-looked_at_done (Comment place text) attr home s is without = absurd cc
-looked_at_done (Print fields) attr home s is without = absurd cc
+looked_at_done _ attr home s is without = absurd cc
 
 pub looked_at_stays : (command : Command) (attr : List ℕ) (home : Package) (s : Statement) → looked_at command ≡ Some attr → IsWithout attr s → Makes command home s s (told_line false None)
 looked_at_stays command attr home s is without = stays_by command home s (looked_at_done command attr home s is without)

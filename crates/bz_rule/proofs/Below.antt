@@ -7,15 +7,16 @@ use Rattle.std.proofs.Math.Seq.{take-append-add}
 use Rattle.bz_tree.specs.Tree.{Item, Statement, items_of}
 use Rattle.bz_tree.specs.Rows.{RowPart, above, beside_part, items_parts, parts_of}
 use Rattle.bz_command.specs.Labels.{Package}
-use Rattle.bz_command.specs.declared.arguments.Commented.TheVariants.{Rule as Above, Attribute, Value}
-use Rattle.bz_command.specs.declared.arguments.Setting.TheVariants.{ToKind, ToValues}
+use Rattle.bz_command.specs.declared.arguments.Commented.TheVariants.{Rule as Above}
+use Rattle.bz_command.specs.declared.arguments.Setting.TheVariants.{ToKind}
 use Rattle.bz_attribute.specs.Comment.{comment_line}
+use Rattle.bz_attribute.specs.Set.{with_kind}
 use Rattle.bz_attribute.specs.Rules.{Rule, rule_of}
 use Rattle.bz_attribute.specs.RowEdits.{replaced_at}
 use Rattle.bz_attribute.specs.RowPlaces.{IsRuleRow}
 use Rattle.bz_attribute.specs.declared.place.Place.{Place}
 use Rattle.bz_rule.specs.Commands.{Command, done_of}
-use Rattle.bz_rule.specs.declared.command.Action.TheVariants.{Add, Comment, Delete, Move, Print, Remove, Rename, Replace, Set, SetIfAbsent}
+use Rattle.bz_rule.specs.declared.command.Action.TheVariants.{Comment, Delete, Print, Set}
 use Rattle.bz_rule.specs.private.RowEdits.{below, is_edit, rule_after}
 use Rattle.bz_token.specs.Common.{map_or}
 
@@ -50,33 +51,15 @@ commented n text s (Some r) h =
 
 pub after_off : (c : Command) (home : Package) (n : ℕ) (s : Statement) → n ≤ length s.before → parts_of (rule_after c home s) ≡ map above (take n s.before) ++ parts_of (rule_after c home (below n s))
 after_off (Comment Above text) home n s h = commented n text s (rule_of s.nodes) h
-after_off (Add attr values) home n s h = parts_off n (rule_after (Add attr values) home s)
-after_off (Remove attrs values) home n s h = parts_off n (rule_after (Remove attrs values) home s)
-after_off (Set (ToKind kind)) home n s h = parts_off n (rule_after (Set (ToKind kind)) home s)
-after_off (Set (ToValues attr values)) home n s h = parts_off n (rule_after (Set (ToValues attr values)) home s)
-after_off (SetIfAbsent attr values) home n s h = parts_off n (rule_after (SetIfAbsent attr values) home s)
-after_off Delete home n s h = parts_off n (rule_after Delete home s)
-after_off (Rename old new) home n s h = parts_off n (rule_after (Rename old new) home s)
-after_off (Move old new chosen) home n s h = parts_off n (rule_after (Move old new chosen) home s)
-after_off (Replace attrs old new) home n s h = parts_off n (rule_after (Replace attrs old new) home s)
-after_off (Comment (Attribute attr) text) home n s h = parts_off n (rule_after (Comment (Attribute attr) text) home s)
-after_off (Comment (Value attr v) text) home n s h = parts_off n (rule_after (Comment (Value attr v) text) home s)
-after_off (Print fields) home n s h = parts_off n (rule_after (Print fields) home s)
+after_off (Set (ToKind kind)) home n s h = parts_off n (with_kind kind s)
+after_off c home n s h = parts_off n (rule_after c home s)
 
 pub told_below : (c : Command) (home : Package) (n : ℕ) (s : Statement) → is_edit c ≡ true → done_of c home (Some (below n s)) ≡ done_of c home (Some s)
-told_below (Comment Above text) home n s h = refl
-told_below (Add attr values) home n s h = refl
-told_below (Remove attrs values) home n s h = refl
-told_below (Set (ToKind kind)) home n s h = refl
-told_below (Set (ToValues attr values)) home n s h = refl
-told_below (SetIfAbsent attr values) home n s h = refl
 told_below Delete home n s h = absurd (false≢true h)
-told_below (Rename old new) home n s h = refl
-told_below (Move old new chosen) home n s h = refl
-told_below (Replace attrs old new) home n s h = refl
-told_below (Comment (Attribute attr) text) home n s h = refl
-told_below (Comment (Value attr v) text) home n s h = refl
 told_below (Print fields) home n s h = absurd (false≢true h)
+told_below (Set (ToKind kind)) home n s h = refl
+told_below (Comment Above text) home n s h = refl
+told_below _ home n s h = refl
 
 -- others in a place behind the first n parts
 pub replaced_behind : (n : ℕ) (place : Place) (ps new : List RowPart) → n ≤ length ps

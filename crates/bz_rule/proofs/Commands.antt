@@ -1,25 +1,34 @@
 -- Each command owes what `Lawful` says, and what follows of all of them.
+pub mod Add
+pub mod Comment
+pub mod Delete
+pub mod Move
+pub mod Print
+pub mod Remove
+pub mod Rename
+pub mod Replace
+pub mod Set
 use Rattle.std.proofs.Common.{◌≡◌, ◌↔◌, ℕ, List, Bool, true, false, Option, Some, None, map, option_map, is_some, refl, ap, sym, ◌∙◌, subst, zero, suc, ◌≤◌, arith, Result, Ok, Err, if◌then◌else◌}
 use Rattle.std.specs.Prelude.{IfSome, bytes_eq, codes}
 use Rattle.bz_tree.specs.Tree.{Segment, Statement}
 use Rattle.bz_command.specs.Labels.{Package}
 use Rattle.bz_rule.specs.Commands.{Command, is_command, command_passes, after, done_of, args_after, keeps_comments, IsRead, a_command, named_command, add_of, comment_of, delete_of, move_of, print_of, remove_of, rename_of, replace_of, set_if_absent_of, set_of}
-use Rattle.bz_rule.specs.declared.command.Action.TheVariants.{Add, Remove, Set, SetIfAbsent, Delete, Rename, Move, Replace, Comment, Print}
+use Rattle.bz_rule.specs.declared.command.Action.{Action}
 use Rattle.bz_attribute.specs.declared.done.Done.{Done}
 use Rattle.bz_attribute.specs.declared.done.Note.{Note}
 use Rattle.bz_attribute.specs.Effects.{fails, holds_rule, with_args}
 use Rattle.bz_rule.specs.Aside.{IsAside}
 use Rattle.bz_rule.specs.OneAttribute.{one_attribute}
 use Rattle.bz_rule.proofs.Lawful.{Lawful, Local, SlotFormed}
-use Rattle.bz_rule.proofs.Add.{add_lawful, add_keeps, add_read}
-use Rattle.bz_rule.proofs.Comment.{comment_lawful, comment_read}
-use Rattle.bz_rule.proofs.Delete.{delete_lawful, delete_read}
-use Rattle.bz_rule.proofs.Move.{move_lawful, move_read}
-use Rattle.bz_rule.proofs.Print.{print_lawful, print_read}
-use Rattle.bz_rule.proofs.Remove.{remove_lawful, left_keeps, remove_read}
-use Rattle.bz_rule.proofs.Rename.{rename_lawful, rename_keeps, rename_read}
-use Rattle.bz_rule.proofs.Replace.{replace_lawful, replace_keeps, replace_read}
-use Rattle.bz_rule.proofs.Set.{set_if_absent_lawful, set_lawful, set_if_absent_keeps, set_keeps, set_read, set_if_absent_read}
+use Rattle.bz_rule.proofs.Commands.Add.{add_lawful, add_read}
+use Rattle.bz_rule.proofs.Commands.Comment.{comment_lawful, comment_read}
+use Rattle.bz_rule.proofs.Commands.Delete.{delete_lawful, delete_read}
+use Rattle.bz_rule.proofs.Commands.Move.{move_lawful, move_read}
+use Rattle.bz_rule.proofs.Commands.Print.{print_lawful, print_read}
+use Rattle.bz_rule.proofs.Commands.Remove.{remove_lawful, remove_read}
+use Rattle.bz_rule.proofs.Commands.Rename.{rename_lawful, rename_read}
+use Rattle.bz_rule.proofs.Commands.Replace.{replace_lawful, replace_read}
+use Rattle.bz_rule.proofs.Commands.Set.{set_if_absent_lawful, set_lawful, set_read, set_if_absent_read}
 use Rattle.bz_tree.specs.Grammar.{IsArg}
 use Rattle.bz_layout_laws.specs.EachText.{statement_passes}
 use Rattle.bz_layout_laws.specs.WellFormed.{IsWellFormed}
@@ -32,16 +41,16 @@ use Rattle.std.specs.Str.{is_utf8}
 use Rattle.bz_rule.specs.declared.command.CommandFault.{CommandFault}
 
 pub lawful : (c : Command) (home : Package) → Lawful c home
-lawful (Add attr values) home = add_lawful home attr values
-lawful (Remove attrs values) home = remove_lawful home attrs values
-lawful (Set setting) home = set_lawful home setting
-lawful (SetIfAbsent attr values) home = set_if_absent_lawful home attr values
-lawful Delete home = delete_lawful home
-lawful (Rename old new) home = rename_lawful home old new
-lawful (Move old new chosen) home = move_lawful home old new chosen
-lawful (Replace attrs old new) home = replace_lawful home attrs old new
-lawful (Comment commented text) home = comment_lawful home commented text
-lawful (Print fields) home = print_lawful home fields
+lawful (Action.Add attr values) home = add_lawful home attr values
+lawful (Action.Remove attrs values) home = remove_lawful home attrs values
+lawful (Action.Set setting) home = set_lawful home setting
+lawful (Action.SetIfAbsent attr values) home = set_if_absent_lawful home attr values
+lawful Action.Delete home = delete_lawful home
+lawful (Action.Rename old new) home = rename_lawful home old new
+lawful (Action.Move old new chosen) home = move_lawful home old new chosen
+lawful (Action.Replace attrs old new) home = replace_lawful home attrs old new
+lawful (Action.Comment commented text) home = comment_lawful home commented text
+lawful (Action.Print fields) home = print_lawful home fields
 
 -- what a command does not mention may be changed before it or after it, and it tells the same
 pub after_aside : (c : Command) (home : Package) (slot : Option Statement) (g : Segment → Segment) → IsAside c g → after c home (option_map (with_args (map g)) slot) ≡ option_map (with_args (map g)) (after c home slot)
@@ -95,9 +104,6 @@ commands_pass q w c home s t h is k = subst (SlotPasses q) is ((lawful c home).t
 -- comments stay where the command is one that leaves them
 pub comments_after : (c : Command) (home : Package) (slot : Option Statement) → keeps_comments c ≡ true → option_map comments_of (after c home slot) ≡ option_map comments_of slot
 comments_after c home slot keeps = let law = lawful c home in law.comments keeps slot
-
--- what arguments keep of their comments
-pub ruleset own_comments_stay = (add_keeps, left_keeps, rename_keeps, replace_keeps, set_if_absent_keeps, set_keeps)
 
 -- what is read of words that are UTF-8 can be read, and its words are UTF-8
 row : (test : Bool) (one : Result Command CommandFault) (others : Result (Option Command) CommandFault) (c : Command) → (Ok c ≡ one → IsRead c) → (Ok (Some c) ≡ others → IsRead c)

@@ -16,7 +16,7 @@ use Rattle.bz_attribute.proofs.Views.{segments_of}
 use Rattle.bz_rule.proofs.PartLaws.{edit_head}
 use Rattle.bz_rule.proofs.Arguments.{attribute_named, first_after, has_first, is_first_named, name_put, same_bytes}
 use Rattle.bz_rule.proofs.Likeness.{all_follow, chosen_alike, in_full, same_self, strings_chosen, or_none}
-use Rattle.bz_rule.proofs.Add.{add_kept, added_nothing, new_argument, parts_with}
+use Rattle.bz_rule.proofs.Commands.Add.{add_kept, added_nothing, new_argument, parts_with}
 use Rattle.bz_token.specs.Common.{is_empty, map_or}
 
 -- an element of some lists equals the word

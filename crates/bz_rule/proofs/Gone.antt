@@ -13,7 +13,7 @@ use Rattle.bz_attribute.specs.Effects.{edit_first, filtered, has, is_chosen, los
 use Rattle.bz_attribute.specs.Remove.{remove, goes_with_all}
 use Rattle.bz_rule.proofs.Kept.{none_left_in}
 use Rattle.bz_rule.proofs.Arguments.{attribute_named, name_put}
-use Rattle.bz_rule.proofs.Remove.{everywhere_left, parts_put}
+use Rattle.bz_rule.proofs.Commands.Remove.{everywhere_left, parts_put}
 use Rattle.bz_token.specs.Common.{map_or}
 
 nothing_chosen : (home : Package) (ss : List Segment) → list_any (is_chosen home (Values [])) ss ≡ false

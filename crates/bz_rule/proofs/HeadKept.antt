@@ -4,7 +4,7 @@ use Rattle.std.specs.Prelude.{bytes_eq, codes}
 use Rattle.std.proofs.lemmas.Slice.Eq.{bytes_eq-Decides}
 use Rattle.bz_tree.specs.Tree.{Item, Segment, Statement}
 use Rattle.bz_command.specs.Labels.{Package}
-use Rattle.bz_command.specs.declared.arguments.Attributes.TheVariants.{Every, Named}
+use Rattle.bz_command.specs.declared.arguments.Attributes.TheVariants.{Named}
 use Rattle.bz_command.specs.declared.arguments.Commented.TheVariants.{Rule as Above, Attribute, Value}
 use Rattle.bz_command.specs.declared.arguments.Moved.TheVariants.{Values}
 use Rattle.bz_command.specs.declared.arguments.Setting.TheVariants.{ToKind, ToValues}
@@ -19,7 +19,7 @@ use Rattle.bz_attribute.specs.RowPlaces.{IsLocal}
 use Rattle.bz_attribute.specs.Set.{is_value, new_of, new_value, set, set_if_absent, set_in}
 use Rattle.bz_attribute.proofs.EditedAt.{none_first}
 use Rattle.bz_rule.specs.Commands.{Command, args_after}
-use Rattle.bz_rule.specs.declared.command.Action.TheVariants.{Add, Comment, Delete, Move, Print, Remove, Rename, Replace, Set, SetIfAbsent}
+use Rattle.bz_rule.specs.declared.command.Action.TheVariants.{Add, Comment, Delete, Print, Remove, Replace, Set, SetIfAbsent}
 use Rattle.bz_rule.specs.OneAttribute.{one_attribute}
 use Rattle.bz_rule.specs.private.RowEdits.{KeepsHead, edits_arguments, rule_after}
 use Rattle.bz_rule.proofs.Arguments.{attribute_named, has_first, is_first_named, name_put}
@@ -163,36 +163,20 @@ of_it n name attr f is h made = let same : name ≡ attr = cc in subst (λ (z : 
 
 makes_no : (c : Command) (home : Package) (attr n : List ℕ) → one_attribute c ≡ Some attr → bytes_eq attr n ≡ false → MakesNo n attr (args_after c home)
 makes_no (Add name values) home attr n is h = of_it n name attr _ is h (no_add home n name values)
-makes_no (Remove Every values) home attr n is h = absurd cc
-makes_no (Remove (Named name) []) home attr n is h = absurd cc
 makes_no (Remove (Named name) (value ∷ values)) home attr n is h = of_it n name attr _ is h (no_less home n name (value ∷ values))
-makes_no (Set (ToKind kind)) home attr n is h = absurd cc
 makes_no (Set (ToValues name words)) home attr n is h = of_it n name attr _ is h (no_set n name words)
 makes_no (SetIfAbsent name words) home attr n is h = of_it n name attr _ is h (no_set_if_absent n name words)
-makes_no Delete home attr n is h = absurd cc
-makes_no (Rename old new) home attr n is h = absurd cc
-makes_no (Move old new chosen) home attr n is h = absurd cc
-makes_no (Replace Every old new) home attr n is h = absurd cc
 makes_no (Replace (Named name) old new) home attr n is h = of_it n name attr _ is h (no_replace home n name old new)
-makes_no (Comment Above text) home attr n is h = absurd cc
 makes_no (Comment (Attribute name) text) home attr n is h = of_it n name attr _ is h (no_comment n name text)
 makes_no (Comment (Value name v) text) home attr n is h = of_it n name attr _ is h (no_comment_value home n name v text)
-makes_no (Print fields) home attr n is h = absurd cc
+makes_no _ home attr n is h = absurd cc
 
 edits : (c : Command) (attr : List ℕ) → one_attribute c ≡ Some attr → edits_arguments c ≡ true
-edits (Add name values) attr is = refl
-edits (Remove attrs values) attr is = refl
-edits (Set (ToKind kind)) attr is = absurd cc
-edits (Set (ToValues name words)) attr is = refl
-edits (SetIfAbsent name words) attr is = refl
 edits Delete attr is = absurd cc
-edits (Rename old new) attr is = absurd cc
-edits (Move old new chosen) attr is = absurd cc
-edits (Replace attrs old new) attr is = refl
+edits (Set (ToKind kind)) attr is = absurd cc
 edits (Comment Above text) attr is = absurd cc
-edits (Comment (Attribute name) text) attr is = refl
-edits (Comment (Value name v) text) attr is = refl
 edits (Print fields) attr is = absurd cc
+edits _ attr is = refl
 
 with_head : (f : List Segment → List Segment) (s : Statement) → ((args : List Segment) → first_named (codes "name") (f args) ≡ first_named (codes "name") args) → KeepsHead s (with_args f s)
 with_head f s same None has = rebuilt.rule_after f s ∙ ap (option_map (rule_with f)) has

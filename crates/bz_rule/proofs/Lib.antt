@@ -1,5 +1,4 @@
 mod Accepting
-mod Add
 mod Again
 mod AllComments
 mod ArgumentValues
@@ -9,8 +8,7 @@ mod AsideTargets
 mod Below
 mod CallArguments
 pub mod Commands
-mod Comment
-mod Delete
+pub mod FirstEdits
 mod Found
 mod Gone
 mod GoodArguments
@@ -21,26 +19,19 @@ mod Lawful
 mod Likeness
 mod ListParts
 mod Local
-mod Move
 mod NamesKept
 mod NewTexts
-mod OwnComments
 mod PartLaws
 mod PassingParts
 mod PassingRules
 mod PassingTexts
 mod PassingWritten
-mod Print
 mod Rebuilt
-mod Remove
-mod Rename
-mod Replace
 mod RowEdited
 mod RowStatements
 mod RuleClass
 mod RuleFormed
 mod Segments
-mod Set
 mod SetAgain
 mod Spliced
 mod Tests

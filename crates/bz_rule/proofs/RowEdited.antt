@@ -1,47 +1,38 @@
 -- What a command makes of the row of a rule.
-use Rattle.std.proofs.Common.{◌≡◌, ◌+◌, ◌∷◌, [], ℕ, List, length, length-append, arith, Bool, true, false, Option, None, Some, is_some, refl, ap, sym, ◌∙◌, if◌then◌else◌, rules, not, ◌++◌}
+use Rattle.std.proofs.Common.{◌≡◌, ◌+◌, ◌∷◌, [], ℕ, List, length, length-append, arith, true, false, Option, None, Some, is_some, refl, ap, sym, ◌∙◌, if◌then◌else◌, not, ◌++◌}
 use Rattle.std.specs.Prelude.{bytes_eq}
 use Rattle.std.proofs.lemmas.Bool.{false≢true}
-use Rattle.bz_tree.specs.Tree.{Item, Segment, Statement, segs_of}
+use Rattle.bz_tree.specs.Tree.{Segment, Statement, segs_of}
 use Rattle.bz_tree.specs.Rows.{RowPart, parts_of}
 use Rattle.bz_tree.specs.Statement.{class_of}
 use Rattle.bz_tree.specs.declared.stmt.Class.TheVariants.{Rule as RuleClass}
 use Rattle.bz_command.specs.Labels.{Package}
-use Rattle.bz_command.specs.declared.arguments.Commented.TheVariants.{Rule as Above, Attribute, Value}
-use Rattle.bz_command.specs.declared.arguments.Setting.TheVariants.{ToKind, ToValues}
+use Rattle.bz_command.specs.declared.arguments.Commented.TheVariants.{Rule as Above}
+use Rattle.bz_command.specs.declared.arguments.Setting.TheVariants.{ToKind}
 use Rattle.bz_attribute.specs.Comment.{comment_line}
 use Rattle.bz_attribute.specs.Rules.{Rule, rule_of, kind_text}
 use Rattle.bz_attribute.specs.Effects.{done, holds_rule, nodes_of, slot_done, with_args}
 use Rattle.bz_attribute.specs.declared.done.Done.{Done}
 use Rattle.bz_attribute.specs.Set.{kind_after, kind_items, sets_kind_of, with_kind}
 use Rattle.bz_rule.specs.Commands.{Command, after, args_after, args_done, done_of}
-use Rattle.bz_rule.specs.declared.command.Action.TheVariants.{Add, Comment, Delete, Move, Print, Remove, Rename, Replace, Set, SetIfAbsent}
+use Rattle.bz_rule.specs.declared.command.Action.TheVariants.{Comment, Delete, Print, Set}
 use Rattle.bz_attribute.specs.RowEdits.{IsRowEdit}
 use Rattle.bz_attribute.specs.declared.edit.Edit.{Edit}
 use Rattle.bz_rule.specs.private.RowEdits.{HasMore, IsEditOf, IsNextOf, edits_arguments, is_edit, rule_after}
 use Rattle.bz_command.specs.declared.arguments.Field.{Field}
 use Rattle.bz_attribute_commands.specs.Print.{prints, fields_of, printed}
 use Rattle.bz_rule.proofs.Commands.{lawful}
-use Rattle.bz_rule.proofs.Lawful.{Lawful}
 use Rattle.bz_rule.proofs.Rebuilt.{kind_dotted}
 use Rattle.bz_rule.proofs.RuleClass.{call_class, class_after, rule_class}
 use Rattle.bz_token.specs.Common.{map_or}
 
 -- what an edit leaves of a rule
 pub after_edit : (c : Command) (home : Package) (s : Statement) → is_edit c ≡ true → after c home (Some s) ≡ Some (rule_after c home s)
-after_edit (Add attr values) home s h = refl
-after_edit (Remove attrs values) home s h = refl
-after_edit (Set (ToKind kind)) home s h = refl
-after_edit (Set (ToValues attr values)) home s h = refl
-after_edit (SetIfAbsent attr values) home s h = refl
 after_edit Delete home s h = absurd (false≢true h)
-after_edit (Rename old new) home s h = refl
-after_edit (Move old new chosen) home s h = refl
-after_edit (Replace attrs old new) home s h = refl
-after_edit (Comment Above text) home s h = refl
-after_edit (Comment (Attribute attr) text) home s h = refl
-after_edit (Comment (Value attr value) text) home s h = refl
 after_edit (Print fields) home s h = absurd (false≢true h)
+after_edit (Set (ToKind kind)) home s h = refl
+after_edit (Comment Above text) home s h = refl
+after_edit _ home s h = refl
 
 next_args : (f : List Segment → List Segment) (s : Statement) (r : Rule) (ps : List RowPart) → rule_of s.nodes ≡ Some r → ps ≡ parts_of (with_args f s) → IsNextOf s ps (with_args f s)
 next_args f s r ps is are = record { are = are; rule = class_after f s r is; before = omega arith; same = refl; start = refl; end = refl }
@@ -54,21 +45,11 @@ kind_class kind s r is =
     ∙ elim (bytes_eq (kind_text r.kind) kind) as (λ b. class_of (if b then s.nodes else nodes_of other) ≡ RuleClass) [ true ↦ rule_class s.nodes r is | false ↦ made ]
 
 pub next_of : (c : Command) (home : Package) (s : Statement) (r : Rule) (ps : List RowPart) → rule_of s.nodes ≡ Some r → ps ≡ parts_of (rule_after c home s) → IsNextOf s ps (rule_after c home s)
-next_of (Add attr values) home s r ps is are = next_args _ s r ps is are
-next_of (Remove attrs values) home s r ps is are = next_args _ s r ps is are
 next_of (Set (ToKind kind)) home s r ps is are = record { are = are; rule = kind_class kind s r is; before = omega arith; same = refl; start = refl; end = refl }
-next_of (Set (ToValues attr values)) home s r ps is are = next_args _ s r ps is are
-next_of (SetIfAbsent attr values) home s r ps is are = next_args _ s r ps is are
-next_of Delete home s r ps is are = next_args _ s r ps is are
-next_of (Rename old new) home s r ps is are = next_args _ s r ps is are
-next_of (Move old new chosen) home s r ps is are = next_args _ s r ps is are
-next_of (Replace attrs old new) home s r ps is are = next_args _ s r ps is are
 next_of (Comment Above text) home s r ps is are =
     let more : length (map_or s.before (λ r. s.before ++ comment_line text ∷ []) (rule_of s.nodes)) ≡ length s.before + 1 = ap (λ (o : Option Rule). length (map_or s.before (λ r. s.before ++ comment_line text ∷ []) o)) is ∙ length-append s.before (comment_line text ∷ []) in
     record { are = are; rule = rule_class s.nodes r is; before = omega (arith, more); same = refl; start = refl; end = refl }
-next_of (Comment (Attribute attr) text) home s r ps is are = next_args _ s r ps is are
-next_of (Comment (Value attr value) text) home s r ps is are = next_args _ s r ps is are
-next_of (Print fields) home s r ps is are = next_args _ s r ps is are
+next_of c home s r ps is are = next_args (args_after c home) s r ps is are
 
 -- where it tells no change, the rule stays
 pub edit_stays : (c : Command) (home : Package) (s : Statement) → is_edit c ≡ true → (done_of c home (Some s)).changed ≡ false → Some s ≡ after c home (Some s)
@@ -88,19 +69,11 @@ told_print home fields None h = refl
 told_print home fields (Some s) h = elim (rule_of s.nodes) as (λ o. is_some o ≡ false → map_or (done None false) (λ r. printed home s r (fields_of fields)) o ≡ done None false) [ None ↦ λ k. refl | Some r ↦ λ k. absurd (false≢true (sym k)) ] h
 
 pub told_of_none : (c : Command) (home : Package) (slot : Option Statement) → holds_rule slot ≡ false → done_of c home slot ≡ done None false
-told_of_none (Add attr values) home slot h = told_args _ slot h
-told_of_none (Remove attrs values) home slot h = told_args _ slot h
 told_of_none (Set (ToKind kind)) home slot h = told_kind kind slot h
-told_of_none (Set (ToValues attr values)) home slot h = told_args _ slot h
-told_of_none (SetIfAbsent attr values) home slot h = told_args _ slot h
 told_of_none Delete home slot h = ap (done None) h
-told_of_none (Rename old new) home slot h = told_args _ slot h
-told_of_none (Move old new chosen) home slot h = told_args _ slot h
-told_of_none (Replace attrs old new) home slot h = told_args _ slot h
 told_of_none (Comment Above text) home slot h = ap (done None) h
-told_of_none (Comment (Attribute attr) text) home slot h = told_args _ slot h
-told_of_none (Comment (Value attr value) text) home slot h = told_args _ slot h
 told_of_none (Print fields) home slot h = told_print home fields slot h
+told_of_none c home slot h = told_args (args_done c home) slot h
 
 pub some_rule : (o : Option Rule) → is_some o ≡ true → (r : Rule) × (o ≡ Some r)
 some_rule None h = absurd (false≢true h)
@@ -108,49 +81,24 @@ some_rule (Some r) h = (r, refl)
 
 -- of a command on arguments
 pub args_rule : (c : Command) (home : Package) (s : Statement) → edits_arguments c ≡ true → rule_after c home s ≡ with_args (args_after c home) s
-args_rule (Add attr values) home s h = refl
-args_rule (Remove attrs values) home s h = refl
 args_rule (Set (ToKind kind)) home s h = absurd (false≢true h)
-args_rule (Set (ToValues attr values)) home s h = refl
-args_rule (SetIfAbsent attr values) home s h = refl
-args_rule Delete home s h = absurd (false≢true h)
-args_rule (Rename old new) home s h = absurd (false≢true h)
-args_rule (Move old new chosen) home s h = refl
-args_rule (Replace attrs old new) home s h = refl
 args_rule (Comment Above text) home s h = absurd (false≢true h)
-args_rule (Comment (Attribute attr) text) home s h = refl
-args_rule (Comment (Value attr value) text) home s h = refl
-args_rule (Print fields) home s h = absurd (false≢true h)
+args_rule _ home s h = refl
 
 pub args_told : (c : Command) (home : Package) (s : Statement) (r : Rule) → edits_arguments c ≡ true → rule_of s.nodes ≡ Some r → args_done c home r.args ≡ done_of c home (Some s)
-args_told (Add attr values) home s r h is = sym (ap (λ x0. map_or (done None false) (λ r. (args_done (Add attr values) home) r.args) x0) is)
-args_told (Remove attrs values) home s r h is = sym (ap (λ x0. map_or (done None false) (λ r. (args_done (Remove attrs values) home) r.args) x0) is)
 args_told (Set (ToKind kind)) home s r h is = absurd (false≢true h)
-args_told (Set (ToValues attr values)) home s r h is = sym (ap (λ x0. map_or (done None false) (λ r. (args_done (Set (ToValues attr values)) home) r.args) x0) is)
-args_told (SetIfAbsent attr values) home s r h is = sym (ap (λ x0. map_or (done None false) (λ r. (args_done (SetIfAbsent attr values) home) r.args) x0) is)
 args_told Delete home s r h is = absurd (false≢true h)
-args_told (Rename old new) home s r h is = absurd (false≢true h)
-args_told (Move old new chosen) home s r h is = sym (ap (λ x0. map_or (done None false) (λ r. (args_done (Move old new chosen) home) r.args) x0) is)
-args_told (Replace attrs old new) home s r h is = sym (ap (λ x0. map_or (done None false) (λ r. (args_done (Replace attrs old new) home) r.args) x0) is)
 args_told (Comment Above text) home s r h is = absurd (false≢true h)
-args_told (Comment (Attribute attr) text) home s r h is = sym (ap (λ x0. map_or (done None false) (λ r. (args_done (Comment (Attribute attr) text) home) r.args) x0) is)
-args_told (Comment (Value attr value) text) home s r h is = sym (ap (λ x0. map_or (done None false) (λ r. (args_done (Comment (Value attr value) text) home) r.args) x0) is)
 args_told (Print fields) home s r h is = absurd (false≢true h)
+args_told c home s r h is = sym (ap (λ (o : Option Rule). map_or (done None false) (λ r. (args_done c home) r.args) o) is)
 
 -- an edit of arguments, of a command that is one
-pub of_arguments : (c : Command) (home : Package) (kind : List ℕ) (ps new : List RowPart) (e : Edit) → ((s : Statement) → rule_after c home s ≡ with_args (args_after c home) s)
-    → ((s : Statement) (r : Rule) → rule_of s.nodes ≡ Some r → args_done c home r.args ≡ done_of c home (Some s)) → IsRowEdit (args_after c home) (args_done c home) ps new e → IsEditOf c home kind ps new e
-of_arguments c home kind ps new e rule told edit = record {
-  within = edit.within;
-  parts = λ s r h was changed. edit.parts s r h changed ∙ ap parts_of (sym (rule s));
-  done = λ s r h was. edit.done s r h ∙ told s r h.rule;
-}
-
 pub arguments_edited : (c : Command) (home : Package) (kind : List ℕ) (ps new : List RowPart) (e : Edit) → edits_arguments c ≡ true → IsRowEdit (args_after c home) (args_done c home) ps new e → IsEditOf c home kind ps new e
-arguments_edited c home kind ps new e edits edit = of_arguments c home kind ps new e (λ s. args_rule c home s edits) (λ s r is. args_told c home s r edits is) edit
-
-pub renamed : (old to : List ℕ) (home : Package) (kind : List ℕ) (ps new : List RowPart) (e : Edit) → IsRowEdit (args_after (Rename old to) home) (args_done (Rename old to) home) ps new e → IsEditOf (Rename old to) home kind ps new e
-renamed old to home kind ps new e edit = of_arguments (Rename old to) home kind ps new e (λ s. refl) (λ s r is. sym (ap (λ x0. map_or (done None false) (λ r. (args_done (Rename old to) home) r.args) x0) is)) edit
+arguments_edited c home kind ps new e edits edit = record {
+  within = edit.within;
+  parts = λ s r h was changed. edit.parts s r h changed ∙ ap parts_of (sym (args_rule c home s edits));
+  done = λ s r h was. edit.done s r h ∙ args_told c home s r edits h.rule;
+}
 
 -- a comment more above the rule
 pub one_above : (text : List ℕ) (home : Package) (s : Statement) (r : Rule) → rule_of s.nodes ≡ Some r → HasMore 1 s (rule_after (Comment Above text) home s)

@@ -11,7 +11,7 @@ use Rattle.bz_attribute.specs.Set.{New, NewStrings, is_list_attribute, is_number
 use Rattle.bz_attribute.proofs.Calls.{rule_from_end}
 use Rattle.bz_command.proofs.Cuts.{some_part}
 use Rattle.bz_rule.proofs.Arguments.{attribute_named, first_after, is_first_named, name_put, same_bytes}
-use Rattle.bz_rule.proofs.Set.{in_stays, in_value, is_written, kind_read, set_absent, set_present}
+use Rattle.bz_rule.proofs.Commands.Set.{in_stays, in_value, is_written, kind_read, set_absent, set_present}
 use Rattle.bz_rule.proofs.Found.{first_at_end}
 use Rattle.bz_attribute.specs.Lists.{is_list, is_only}
 use Rattle.bz_token.specs.Common.{map_or}

@@ -1,10 +1,29 @@
-//! The commands on one rule: what each is.
+//! The commands on one rule: what each is, how its words are read, and what it makes of the arguments of a rule.
 
-ghost use Rattle.std.specs.Prelude.{◌≡◌};
+ghost use Rattle.bz_memory.specs.NoMemory.{no_memory};
+ghost use Rattle.std.specs.Prelude.{◌≡◌, ◌≢◌, Err, IfOk, IfSome, Some, map, true};
+ghost use Rattle.bz_tree.specs.Rows.{part_view};
+ghost use Rattle.bz_attribute.specs.RowEdits.{IsRowEdit};
 ghost use Rattle.bz_rule.specs.Commands as spec;
+ghost use Rattle.bz_rule.specs.OneAttribute.{one_attribute};
+ghost use Rattle.bz_rule.specs.declared.command.Action.TheVariants.{Set};
+ghost use Rattle.bz_rule.specs.private.RowEdits.{edits_arguments};
 
-use bz_command::{Attributes, Commented, Field, Moved, Seq, Setting, Text};
-use bz_memory::NoMemory;
+use crate::reader::{
+    attribute, attributes, breaks_line, ensure, field, moved, next_word, read_place,
+};
+use bz_attribute::{Done, Edit, Env, Parts};
+use bz_attribute_commands::line::comment;
+use bz_attribute_commands::rename::rename;
+use bz_attribute_commands::set::{set, set_if_absent};
+use bz_command::{Attributes, Commented, Field, Moved, Seq, Setting, Text, is_kind};
+use bz_list_commands::add::add;
+use bz_list_commands::moving::{Move, move_elements};
+use bz_list_commands::remove::remove;
+use bz_list_commands::replace::{Change, replace};
+use bz_memory::{NoMemory, push, with_room_for};
+use bz_tree::Part;
+use std::alloc::Global;
 use std::marker::Model;
 
 /// The ten commands.
@@ -125,5 +144,206 @@ impl From<NoMemory> for CommandFault {
 
     fn from(why: NoMemory) -> CommandFault {
         CommandFault::OutOfMemory(why)
+    }
+}
+
+/// Reads the words after a command's name; `None` for another name.
+pub(crate) fn read_named(
+    alloc: Global,
+    name: &str,
+    words: Vec<Text>,
+) -> Result<Option<Action>, CommandFault>
+    ensures { result ≢ Err (CommandFault.OutOfMemory no_memory) → result ≡ spec.named_command name.now words.items }
+{
+    let action = match name {
+        "add" => read_add(words)?,
+        "remove" => read_remove(words)?,
+        "set" => read_set(words)?,
+        "set_if_absent" => read_set_if_absent(words)?,
+        "delete" => read_delete(words)?,
+        "rename" => read_rename(words)?,
+        "move" => read_move(words)?,
+        "replace" => read_replace(words)?,
+        "comment" => read_comment(words)?,
+        "print" => read_print(alloc, words)?,
+        _ => return Ok(None),
+    };
+    Ok(Some(action))
+}
+
+fn read_add(mut words: Vec<Text>) -> Result<Action, CommandFault>
+    ensures { result ≡ spec.add_of words.items }
+{
+    let attr = next_word(&mut words)?;
+    ensure(words.len() > 0, CommandFault::WrongCount)?;
+    Ok(Action::Add(attribute(attr)?, Seq::from_vec(words)))
+}
+
+fn read_remove(mut words: Vec<Text>) -> Result<Action, CommandFault>
+    ensures { result ≡ spec.remove_of words.items }
+{
+    let attrs = next_word(&mut words)?;
+    Ok(Action::Remove(attributes(attrs)?, Seq::from_vec(words)))
+}
+
+fn read_set(mut words: Vec<Text>) -> Result<Action, CommandFault>
+    ensures { result ≡ spec.set_of words.items }
+{
+    let attr = next_word(&mut words)?;
+    if words.len() == 0 || matches!(attr.as_str(), "name" | "kind") && words.len() != 1 {
+        return Err(CommandFault::WrongCount);
+    }
+    if attr.as_str() == "kind" {
+        let kind = next_word(&mut words)?;
+        ensure(is_kind(kind.as_str()), CommandFault::BadKind)?;
+        return Ok(Action::Set(Setting::ToKind(kind)));
+    }
+    Ok(Action::Set(Setting::ToValues(attribute(attr)?, Seq::from_vec(words))))
+}
+
+fn read_set_if_absent(mut words: Vec<Text>) -> Result<Action, CommandFault>
+    ensures { result ≡ spec.set_if_absent_of words.items }
+{
+    let attr = next_word(&mut words)?;
+    if words.len() == 0 || attr.as_str() == "name" && words.len() != 1 {
+        return Err(CommandFault::WrongCount);
+    }
+    Ok(Action::SetIfAbsent(attribute(attr)?, Seq::from_vec(words)))
+}
+
+fn read_delete(words: Vec<Text>) -> Result<Action, CommandFault>
+    ensures { result ≡ spec.delete_of words.items }
+{
+    ensure(words.len() == 0, CommandFault::WrongCount)?;
+    Ok(Action::Delete)
+}
+
+fn read_rename(mut words: Vec<Text>) -> Result<Action, CommandFault>
+    ensures { result ≡ spec.rename_of words.items }
+{
+    let old = next_word(&mut words)?;
+    let new = next_word(&mut words)?;
+    ensure(words.len() == 0, CommandFault::WrongCount)?;
+    Ok(Action::Rename(attribute(old)?, attribute(new)?))
+}
+
+fn read_move(mut words: Vec<Text>) -> Result<Action, CommandFault>
+    ensures { result ≡ spec.move_of words.items }
+{
+    let old = next_word(&mut words)?;
+    let new = next_word(&mut words)?;
+    ensure(words.len() > 0, CommandFault::WrongCount)?;
+    let old = attribute(old)?;
+    let new = attribute(new)?;
+    ensure(old.as_str() != new.as_str(), CommandFault::SameAttribute)?;
+    Ok(Action::Move(old, new, moved(Seq::from_vec(words))))
+}
+
+fn read_replace(mut words: Vec<Text>) -> Result<Action, CommandFault>
+    ensures { result ≡ spec.replace_of words.items }
+{
+    let attrs = next_word(&mut words)?;
+    let old = next_word(&mut words)?;
+    let new = next_word(&mut words)?;
+    ensure(words.len() == 0, CommandFault::WrongCount)?;
+    Ok(Action::Replace(attributes(attrs)?, old, new))
+}
+
+// The last word is the text.
+fn read_comment(mut words: Vec<Text>) -> Result<Action, CommandFault>
+    ensures { result ≡ spec.comment_of words.items }
+{
+    let text = words.pop().ok_or(CommandFault::WrongCount)?;
+    let place = read_place(words)?;
+    ensure(!breaks_line(text.as_str()), CommandFault::CommentLine)?;
+    Ok(Action::Comment(place, text))
+}
+
+fn read_print(alloc: Global, words: Vec<Text>) -> Result<Action, CommandFault>
+    ensures { result ≢ Err (CommandFault.OutOfMemory no_memory) → result ≡ spec.print_of words.items }
+{
+    let mut fields = with_room_for(alloc, words.as_slice(), 0)?;
+    for word in words {
+        push(&mut fields, field(word)?)?;
+    }
+    Ok(Action::Print(Seq::from_vec(fields)))
+}
+
+// `set` of an attribute. The kind of a rule is none of its arguments.
+fn set_argument<'a>(
+    env: Env<'_>,
+    setting: &Setting,
+    parts: &[Part<'a>],
+    new: &mut Parts<'a>,
+) -> Result<Edit, NoMemory>
+    ensures { IfOk result (IsRowEdit (spec.args_after (Set setting.now) env.entry.home.now)
+        (spec.args_done (Set setting.now) env.entry.home.now)
+        (map part_view parts.now) (map part_view new.new.items)) }
+{
+    match setting {
+        Setting::ToKind(_) => Ok(Edit::none(Done::quiet(false))),
+        Setting::ToValues(attr, words) => {
+            set(env.alloc, attr.as_str(), words.as_slice(), parts, new)
+        }
+    }
+}
+
+/// What a command makes of the arguments of a rule, by its parts. The new parts go into a list.
+pub(crate) fn edit_arguments<'a>(
+    env: Env<'_>,
+    command: &Command,
+    parts: &[Part<'a>],
+    new: &mut Parts<'a>,
+) -> Result<Edit, NoMemory>
+    requires { edits_arguments command.now ≡ true }
+    ensures { IfOk result (IsRowEdit (spec.args_after command.now env.entry.home.now)
+        (spec.args_done command.now env.entry.home.now) (map part_view parts.now) (map part_view new.new.items)) }
+{
+    match &command.action {
+        Action::Add(attr, values) => add(env, attr.as_str(), values.as_slice(), parts, new),
+        Action::Remove(attributes, values) => {
+            remove(env, attributes, values.as_slice(), parts, new)
+        }
+        Action::Replace(attributes, old, value) => {
+            let change = Change {
+                old: old.as_str(),
+                new: value.as_str(),
+            };
+            replace(env, attributes, change, parts, new)
+        }
+        Action::Move(old, to, moved) => {
+            let change = Move {
+                old: old.as_str(),
+                new: to.as_str(),
+                moved,
+            };
+            move_elements(env, change, parts, new)
+        }
+        Action::Rename(old, to) => rename(env.alloc, old.as_str(), to.as_str(), parts, new),
+        Action::Set(setting) => set_argument(env, setting, parts, new),
+        Action::SetIfAbsent(attr, words) => {
+            set_if_absent(env.alloc, attr.as_str(), words.as_slice(), parts, new)
+        }
+        Action::Comment(commented, text) => comment(env, commented, text.as_str(), parts, new),
+        _ => Ok(Edit::none(Done::quiet(false))),
+    }
+}
+
+/// The attribute of a command that looks at its first argument alone.
+pub fn one_attribute(command: &Command) -> Option<&str>
+    ensures { IfSome result (λ attr. one_attribute command.now ≡ Some attr.now) }
+{
+    match &command.action {
+        Action::Add(attr, _)
+        | Action::Set(Setting::ToValues(attr, _))
+        | Action::SetIfAbsent(attr, _)
+        | Action::Replace(Attributes::Named(attr), _, _)
+        | Action::Comment(Commented::Attribute(attr) | Commented::Value(attr, _), _) => {
+            Some(attr.as_str())
+        }
+        Action::Remove(Attributes::Named(attr), values) if !values.as_slice().is_empty() => {
+            Some(attr.as_str())
+        }
+        _ => None,
     }
 }

@@ -11,8 +11,7 @@ mod statement_row;
 
 pub use bz_attribute::{Done, Note, label};
 pub use bz_command::{LabelFault, Package, Target, Text, quote, read_label, same, value_is};
-pub use command::{Action, Command, CommandFault, LEFT_OUT, USAGE};
+pub use command::{Action, Command, CommandFault, LEFT_OUT, USAGE, one_attribute};
 pub use reader::read_command;
-pub use row_edit::one_attribute;
 pub use slot::apply;
 pub use statement_row::{StatementRow, execute};

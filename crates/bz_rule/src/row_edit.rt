@@ -1,28 +1,19 @@
-//! Commands on a rule, by its parts: each tells which of them give way to which new ones.
+//! A command on a rule, by its parts: it tells which of them give way to which new ones.
 
-ghost use Rattle.std.specs.Prelude.{◌≡◌, ◌≤◌, IfOk, IfSome, Some, length, map, true};
+ghost use Rattle.std.specs.Prelude.{◌≡◌, ◌≤◌, IfOk, Some, length, map, true};
 ghost use Rattle.bz_tree.specs.Tree.{Statement};
 ghost use Rattle.bz_tree.specs.Rows.{part_view};
-ghost use Rattle.bz_attribute.specs.RowEdits.{IsRowEdit, IsWithin};
+ghost use Rattle.bz_attribute.specs.RowEdits.{IsWithin};
 ghost use Rattle.bz_attribute.specs.RowPlaces.{IsRuleRow};
 ghost use Rattle.bz_attribute.specs.Rules.{Rule, rule_of};
 ghost use Rattle.bz_command.specs.Labels as labels;
-ghost use Rattle.bz_rule.specs.Commands as commands;
-ghost use Rattle.bz_rule.specs.OneAttribute.{one_attribute};
-ghost use Rattle.bz_rule.specs.declared.command.Action.TheVariants.{Set};
-ghost use Rattle.bz_rule.specs.private.RowEdits.{HasKindAndParts, HasMore, IsEditFor, IsEditOf, KeepsHead, edits_arguments, is_edit, rule_after};
+ghost use Rattle.bz_rule.specs.private.RowEdits.{HasKindAndParts, HasMore, IsEditFor, IsEditOf, KeepsHead, is_edit, rule_after};
 
-use crate::command::{Action, Command};
-use bz_attribute::{Done, Edit, Env, Parts, Place};
-use bz_attribute_commands::line::{comment, comment_rule};
-use bz_attribute_commands::rename::rename;
-use bz_attribute_commands::set::{set, set_if_absent};
+use crate::command::{Action, Command, edit_arguments, one_attribute};
+use bz_attribute::{Edit, Env, Parts, Place};
+use bz_attribute_commands::line::comment_rule;
 use bz_attribute_commands::set_kind::set_kind;
-use bz_command::{Attributes, Commented, Setting};
-use bz_list_commands::add::add;
-use bz_list_commands::moving::{Move, move_elements};
-use bz_list_commands::remove::remove;
-use bz_list_commands::replace::{Change, replace};
+use bz_command::{Commented, Setting};
 use bz_memory::NoMemory;
 use bz_tree::Part;
 
@@ -33,84 +24,6 @@ pub(crate) struct RuleParts<'p, 'a> {
     /// How many comments they begin with at least.
     pub(crate) comments: usize,
     pub(crate) parts: &'p [Part<'a>],
-}
-
-/// The attribute of a command that looks at its first argument alone.
-pub fn one_attribute(command: &Command) -> Option<&str>
-    ensures { IfSome result (λ attr. one_attribute command.now ≡ Some attr.now) }
-{
-    match &command.action {
-        Action::Add(attr, _)
-        | Action::Set(Setting::ToValues(attr, _))
-        | Action::SetIfAbsent(attr, _)
-        | Action::Replace(Attributes::Named(attr), _, _)
-        | Action::Comment(Commented::Attribute(attr) | Commented::Value(attr, _), _) => {
-            Some(attr.as_str())
-        }
-        Action::Remove(Attributes::Named(attr), values) if !values.as_slice().is_empty() => {
-            Some(attr.as_str())
-        }
-        _ => None,
-    }
-}
-
-// `set` of an attribute. The kind of a rule is none of its arguments.
-fn set_argument<'a>(
-    env: Env<'_>,
-    setting: &Setting,
-    parts: &[Part<'a>],
-    new: &mut Parts<'a>,
-) -> Result<Edit, NoMemory>
-    ensures { IfOk result (IsRowEdit (commands.args_after (Set setting.now) env.entry.home.now)
-        (commands.args_done (Set setting.now) env.entry.home.now)
-        (map part_view parts.now) (map part_view new.new.items)) }
-{
-    match setting {
-        Setting::ToKind(_) => Ok(Edit::none(Done::quiet(false))),
-        Setting::ToValues(attr, words) => {
-            set(env.alloc, attr.as_str(), words.as_slice(), parts, new)
-        }
-    }
-}
-
-// What a command makes of the arguments of a rule.
-fn edit_arguments<'a>(
-    env: Env<'_>,
-    command: &Command,
-    parts: &[Part<'a>],
-    new: &mut Parts<'a>,
-) -> Result<Edit, NoMemory>
-    requires { edits_arguments command.now ≡ true }
-    ensures { IfOk result (IsRowEdit (commands.args_after command.now env.entry.home.now)
-        (commands.args_done command.now env.entry.home.now) (map part_view parts.now) (map part_view new.new.items)) }
-{
-    match &command.action {
-        Action::Add(attr, values) => add(env, attr.as_str(), values.as_slice(), parts, new),
-        Action::Remove(attributes, values) => {
-            remove(env, attributes, values.as_slice(), parts, new)
-        }
-        Action::Replace(attributes, old, value) => {
-            let change = Change {
-                old: old.as_str(),
-                new: value.as_str(),
-            };
-            replace(env, attributes, change, parts, new)
-        }
-        Action::Move(old, to, moved) => {
-            let change = Move {
-                old: old.as_str(),
-                new: to.as_str(),
-                moved,
-            };
-            move_elements(env, change, parts, new)
-        }
-        Action::Set(setting) => set_argument(env, setting, parts, new),
-        Action::SetIfAbsent(attr, words) => {
-            set_if_absent(env.alloc, attr.as_str(), words.as_slice(), parts, new)
-        }
-        Action::Comment(commented, text) => comment(env, commented, text.as_str(), parts, new),
-        _ => Ok(Edit::none(Done::quiet(false))),
-    }
 }
 
 // What a command makes of a rule of this kind. The new parts go into a list.
@@ -130,7 +43,6 @@ fn edit_parts<'a>(
         Action::Comment(Commented::Rule, text) => {
             comment_rule(env.alloc, text.as_str(), parts, new)
         }
-        Action::Rename(old, to) => rename(env.alloc, old.as_str(), to.as_str(), parts, new),
         _ => edit_arguments(env, command, parts, new),
     }
 }

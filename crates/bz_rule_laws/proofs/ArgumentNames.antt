@@ -1,12 +1,10 @@
 -- Names of arguments that are edited: another value leaves the name.
-use Rattle.std.proofs.Common.{◌≡◌, ℕ, List, [], ◌∷◌, ◌++◌, Bool, true, false, if◌then◌else◌, Some, None, is_some, take, codes, refl}
-use Rattle.bz_token.specs.declared.token.Kind.TheVariants.{Identifier}
-use Rattle.std.specs.Prelude.{bytes_eq, drop}
+use Rattle.std.proofs.Common.{◌≡◌, ℕ, List, [], ◌∷◌, ◌++◌, Bool, true, false, if◌then◌else◌, Some, None, is_some, take, refl}
+use Rattle.std.specs.Prelude.{bytes_eq}
 use Rattle.std.proofs.lemmas.Slice.Eq.{bytes_eq-Decides}
-use Rattle.bz_tree.specs.Tree.{Item, Segment, leaf}
-use Rattle.bz_attribute.specs.Rules.{ident_of, is_named, is_operator_item, is_text, name_of}
+use Rattle.bz_tree.specs.Tree.{Item, Segment}
+use Rattle.bz_attribute.specs.Rules.{is_named, is_text, name_of}
 use Rattle.bz_attribute.specs.Lists.{is_attribute, with_value}
-use Rattle.bz_attribute.specs.Rename.{rename_to}
 
 pub same_bytes : (bytes : List ℕ) → bytes_eq bytes bytes ≡ true
 same_bytes bytes = (bytes_eq-Decides bytes bytes).1 refl
@@ -26,12 +24,3 @@ name_taken (x ∷ y ∷ xs) nodes h = refl
 
 pub name_with_value : (nodes : List Item) (a : Segment) → is_attribute a ≡ true → name_of (with_value nodes a).nodes ≡ name_of a.nodes
 name_with_value nodes a h = name_taken a.nodes nodes h
-
-renamed_name : (old new : List ℕ) (xs : List Item) → is_text old (name_of xs) ≡ true → name_of (leaf Identifier new ∷ drop 1 xs) ≡ Some new
-renamed_name old new [] h = absurd cc
-renamed_name old new (x ∷ []) h = absurd cc
-renamed_name old new (x ∷ y ∷ xs) h =
-    elim (is_operator_item (codes "=") y) as (λ b. is_text old (if b then ident_of x else None) ≡ true → (if b then Some new else None) ≡ Some new) [ true ↦ λ k. refl | false ↦ λ k. absurd cc ] h
-
-pub name_renamed : (old new : List ℕ) (a : Segment) → is_named old a ≡ true → name_of (rename_to new a).nodes ≡ Some new
-name_renamed old new a h = renamed_name old new a.nodes h

@@ -17,16 +17,17 @@ use Rattle.bz_attribute.specs.Rules.{Rule, is_named, is_text, name_of, rule_of, 
 use Rattle.bz_attribute.specs.Lists.{edit_first_part, edit_parts, is_attribute, with_value, parts}
 use Rattle.bz_attribute.specs.Effects.{argument, edit_first, filtered, has, loses_all, unchosen}
 use Rattle.bz_attribute.specs.Add.{add, new_elements, with_added}
-use Rattle.bz_attribute.specs.Comment.{comment_args, comment_element, comment_note, comment_line, with_comment}
 use Rattle.bz_attribute.specs.Move.{move, move_note, moves, put_in}
 use Rattle.bz_attribute.specs.Remove.{goes_with_all, remove}
-use Rattle.bz_attribute.specs.Rename.{rename, rename_note, rename_to}
-use Rattle.bz_attribute.specs.Replace.{replace, replaced_in}
 use Rattle.bz_attribute.specs.Set.{New, is_value, new_of, new_value, set, set_if_absent, set_in}
 use Rattle.bz_rule.specs.declared.command.Action.TheVariants.{Add, Remove, Set, SetIfAbsent, Delete, Rename, Move, Replace, Comment, Print}
-use Rattle.bz_rule.specs.Commands.{Command, after, args_after}
+use Rattle.bz_rule.specs.Commands.{Command, after, args_after, mentions}
+use Rattle.bz_rule.proofs.Commands.Comment.{comment_attribute_edits, comment_value_edits}
+use Rattle.bz_rule.proofs.Commands.Rename.{rename_edits}
+use Rattle.bz_rule.proofs.Commands.Replace.{replace_edits}
+use Rattle.bz_rule.proofs.FirstEdits.{EditsFirst, Noting, noted}
 use Rattle.bz_rule_laws.specs.Unmentioned.{arguments_in, arguments_of, is_delete, is_unmentioned, may_change, may_change_named, unmentioned}
-use Rattle.bz_rule_laws.proofs.ArgumentNames.{attribute_named, either_way, name_renamed, name_with_value, same_bytes}
+use Rattle.bz_rule_laws.proofs.ArgumentNames.{attribute_named, either_way, name_with_value, same_bytes}
 use Rattle.bz_rule_laws.proofs.RuleArguments.{there, there_after}
 use Rattle.bz_token.specs.Common.{is_empty}
 
@@ -132,6 +133,14 @@ filter_leaves c p goes (a ∷ args) =
       | false ↦ λ e. rw (goes a e) (filter_leaves c p goes args)
     ] refl
 
+-- a command that edits the first argument of a name in its place
+first_leaves : (c : Command) (home : Package) (attr : List ℕ) (note : Noting) (changes : Option Segment → Bool) (edit : Segment → Segment) → ((name : List ℕ) → mentions c name ≡ true → may_change c name ≡ true)
+    → EditsFirst c home attr note changes edit → Leaves c (args_after c home)
+first_leaves c home attr note changes edit may law args =
+    ap (unmentioned c) (law.after args)
+    ∙ either_leaves c (is_some (noted note attr args)) args _ _ refl
+    (first_edited c attr (may attr law.mentioned) (λ a. edit a ∷ []) (λ a h. let is = law.named a h in one_gone c is.name (may is.name is.mentioned) (edit a) is.is) args)
+
 -- command by command
 
 add_leaves : (home : Package) (attr : List ℕ) (values : List (List ℕ)) → Leaves (Add attr values) (add home attr values)
@@ -183,14 +192,6 @@ remove_leaves home (Named attr) (v ∷ values) args =
     let c = Remove (Named attr) (v ∷ values) in
     first_edited c attr (same_bytes attr) (filtered (unchosen home (Values (v ∷ values)))) (filtered_goes c attr (same_bytes attr) (unchosen home (Values (v ∷ values)))) args
 
-rename_leaves : (old new : List ℕ) → Leaves (Rename old new) (rename old new)
-rename_leaves old new args =
-    let c = Rename old new in
-    let first : bytes_eq old old || bytes_eq new old ≡ true = ap (λ (b : Bool). b || bytes_eq new old) (same_bytes old) in
-    let second : bytes_eq old new || bytes_eq new new ≡ true = or_right (bytes_eq old new) (bytes_eq new new) (same_bytes new) in
-    either_leaves c (is_some (rename_note old new args)) args _ _ refl
-    (first_edited c old first (λ a. rename_to new a ∷ []) (λ a h. one_gone c new second (rename_to new a) (ap (is_text new) (name_renamed old new a h) ∙ same_bytes new)) args)
-
 put_in_leaves : (c : Command) (attr : List ℕ) → may_change c attr ≡ true → (ss : List Segment) → Leaves c (put_in attr ss)
 put_in_leaves c attr mentioned ss args =
     either_leaves c (has attr args) args _ _
@@ -207,20 +208,6 @@ move_leaves home old new chosen args =
     either_leaves c (is_some (move_note old new args)) args _ _ refl
     (either_leaves c (moves home old chosen args) args _ _ (put_in_leaves c new second _ left ∙ first_edited c old first (filtered f) (filtered_goes c old first f) args) refl)
 
-replace_leaves : (home : Package) (attrs : Attributes) (old new : List ℕ) → Leaves (Replace attrs old new) (replace home attrs old new)
-replace_leaves home Every old new args = each_with_value (Replace Every old new) (λ name. refl) _ args
-replace_leaves home (Named attr) old new args =
-    one_edited (Replace (Named attr) old new) attr (same_bytes attr) (replaced_in home old new) (λ a h. named_with_value attr _ a h) args
-
-comment_leaves : (home : Package) (place : _) (text : List ℕ) → Leaves (Comment place text) (comment_args place home text)
-comment_leaves home OfRule text args = refl
-comment_leaves home (Attribute attr) text args =
-    let c = Comment (Attribute attr) text in
-    either_leaves c (has attr args) args _ _ (one_edited c attr (same_bytes attr) (with_comment (comment_line text)) (λ a h. h) args) refl
-comment_leaves home (Value attr v) text args =
-    let c = Comment (Value attr v) text in
-    either_leaves c (is_some (comment_note home attr v args)) args _ _ refl (one_edited c attr (same_bytes attr) (comment_element home v text) (λ a h. named_with_value attr _ a h) args)
-
 pub args_left : (c : Command) (home : Package) → Leaves c (args_after c home)
 args_left (Add attr values) home args = add_leaves home attr values args
 args_left (Remove attrs values) home args = remove_leaves home attrs values args
@@ -228,10 +215,13 @@ args_left (Set (ToKind kind)) home args = refl
 args_left (Set (ToValues attr values)) home args = set_leaves attr values args
 args_left (SetIfAbsent attr values) home args = set_if_absent_leaves attr values args
 args_left Delete home args = refl
-args_left (Rename old new) home args = rename_leaves old new args
+args_left (Rename old new) home args = first_leaves (Rename old new) home old _ _ _ (λ name h. h) (rename_edits home old new) args
 args_left (Move old new chosen) home args = move_leaves home old new chosen args
-args_left (Replace attrs old new) home args = replace_leaves home attrs old new args
-args_left (Comment place text) home args = comment_leaves home place text args
+args_left (Replace Every old new) home args = each_with_value (Replace Every old new) (λ name. refl) _ args
+args_left (Replace (Named attr) old new) home args = first_leaves (Replace (Named attr) old new) home attr _ _ _ (λ name h. h) (replace_edits home attr old new) args
+args_left (Comment OfRule text) home args = refl
+args_left (Comment (Attribute attr) text) home args = first_leaves (Comment (Attribute attr) text) home attr _ _ _ (λ name h. h) (comment_attribute_edits home attr text) args
+args_left (Comment (Value attr v) text) home args = first_leaves (Comment (Value attr v) text) home attr _ _ _ (λ name h. h) (comment_value_edits home attr v text) args
 args_left (Print fields) home args = refl
 
 -- on a statement
@@ -255,32 +245,16 @@ unmentioned_stay c home s t h =
 
 -- `delete` alone leaves nothing
 pub deleted : (c : Command) (home : Package) (s : Statement) → after c home (Some s) ≡ None → is_delete c ≡ true
-deleted (Add attr values) home s h = absurd cc
-deleted (Remove attrs values) home s h = absurd cc
-deleted (Set (ToKind kind)) home s h = absurd cc
-deleted (Set (ToValues attr values)) home s h = absurd cc
-deleted (SetIfAbsent attr values) home s h = absurd cc
 deleted Delete home s h = refl
-deleted (Rename old new) home s h = absurd cc
-deleted (Move old new chosen) home s h = absurd cc
-deleted (Replace attrs old new) home s h = absurd cc
+deleted (Set (ToKind kind)) home s h = absurd cc
 deleted (Comment OfRule text) home s h = absurd cc
-deleted (Comment (Attribute attr) text) home s h = absurd cc
-deleted (Comment (Value attr v) text) home s h = absurd cc
 deleted (Print fields) home s h = absurd cc
+deleted _ home s h = absurd cc
 
 -- nothing comes of nothing
 pub nothing_left : (c : Command) (home : Package) → after c home None ≡ None
-nothing_left (Add attr values) home = refl
-nothing_left (Remove attrs values) home = refl
-nothing_left (Set (ToKind kind)) home = refl
-nothing_left (Set (ToValues attr values)) home = refl
-nothing_left (SetIfAbsent attr values) home = refl
 nothing_left Delete home = refl
-nothing_left (Rename old new) home = refl
-nothing_left (Move old new chosen) home = refl
-nothing_left (Replace attrs old new) home = refl
+nothing_left (Set (ToKind kind)) home = refl
 nothing_left (Comment OfRule text) home = refl
-nothing_left (Comment (Attribute attr) text) home = refl
-nothing_left (Comment (Value attr v) text) home = refl
 nothing_left (Print fields) home = refl
+nothing_left _ home = refl

@@ -2,6 +2,7 @@ mod ArgumentNames
 pub mod CommandsAgain
 mod FirstNamed
 pub mod KeptArguments
+mod KeptComments
 pub mod MarksStay
 mod OthersLeave
 mod RuleArguments

@@ -14,7 +14,7 @@ use Rattle.bz_attribute.specs.Effects.{done, has, not_a_list, slot_done, chooses
 use Rattle.bz_attribute.specs.Add.{adds}
 use Rattle.bz_attribute.specs.Set.{sets, sets_kind_of}
 use Rattle.bz_attribute.specs.declared.done.Done.{Done}
-use Rattle.bz_rule.specs.declared.command.Action.TheVariants.{Add, Remove, Set, SetIfAbsent, Delete, Rename, Move, Replace, Comment, Print}
+use Rattle.bz_rule.specs.declared.command.Action.TheVariants.{Add, Remove, Set, SetIfAbsent, Delete, Replace, Comment, Print}
 use Rattle.bz_rule.specs.Commands.{Command, after, args_after, args_done, done_of}
 use Rattle.bz_rule_laws.specs.Again.{HasOnce, IsOnce, IsQuiet, IsSettled, are_apart, are_others, is_steady, sets_a_kind, subject}
 use Rattle.bz_rule_laws.specs.Unmentioned.{arguments_in, arguments_of, is_unmentioned, may_change, may_change_named}
@@ -75,13 +75,10 @@ others_left x (Remove (Named b) values) home steady h args = one_other (Remove (
 others_left x (Set (ToKind kind)) home steady h args = no_change x args
 others_left x (Set (ToValues b values)) home steady h args = one_other (Set (ToValues b values)) home b refl (λ name. refl) x h args
 others_left x (SetIfAbsent b values) home steady h args = one_other (SetIfAbsent b values) home b refl (λ name. refl) x h args
-others_left x Delete home steady h args = absurd (false≢true steady)
-others_left x (Rename old new) home steady h args = absurd (false≢true steady)
-others_left x (Move old new chosen) home steady h args = absurd (false≢true steady)
 others_left x (Replace Every old new) home steady h args = no_others x h args (args_after (Replace Every old new) home args)
 others_left x (Replace (Named b) old new) home steady h args = one_other (Replace (Named b) old new) home b refl (λ name. refl) x h args
-others_left x (Comment place text) home steady h args = absurd (false≢true steady)
 others_left x (Print fields) home steady h args = no_change x args
+others_left x _ home steady h args = absurd (false≢true steady)
 
 pub same_first : (attr : List ℕ) (xs ys : List Segment) → filter (is_named attr) xs ≡ filter (is_named attr) ys → first_named attr xs ≡ first_named attr ys
 same_first attr xs ys h = sym (first_of_named attr xs) ∙ ap (first_named attr) h ∙ first_of_named attr ys
@@ -98,13 +95,10 @@ looks (Remove (Named attr) (v ∷ values)) home xs ys steady h = ap (λ o. done 
 looks (Set (ToKind kind)) home xs ys steady h = refl
 looks (Set (ToValues attr values)) home xs ys steady h = ap (λ o. done None (sets attr values o)) (same_first attr xs ys h)
 looks (SetIfAbsent attr values) home xs ys steady h = ap (λ b. done None (not b)) (same_has attr xs ys h)
-looks Delete home xs ys steady h = absurd (false≢true steady)
-looks (Rename old new) home xs ys steady h = absurd (false≢true steady)
-looks (Move old new chosen) home xs ys steady h = absurd (false≢true steady)
 looks (Replace Every old new) home xs ys steady h = ap (args_done (Replace Every old new) home) h
 looks (Replace (Named attr) old new) home xs ys steady h = ap (λ o. done None (map_or false (replaces_in home old new) o)) (same_first attr xs ys h)
-looks (Comment place text) home xs ys steady h = absurd (false≢true steady)
 looks (Print fields) home xs ys steady h = refl
+looks _ home xs ys steady h = absurd (false≢true steady)
 
 -- on a statement
 
@@ -139,14 +133,11 @@ pub settled_stays : (c d : Command) (home : Package) (s t : Statement) → is_st
 settled_stays c d home s t steady steady_other apart h settled = by c steady (and_parts (are_others (subject c) (subject d)) (not (sets_a_kind c && sets_a_kind d)) apart) settled
   where
     by : (e : Command) → is_steady e ≡ true → (are_others (subject e) (subject d) ≡ true) × (not (sets_a_kind e && sets_a_kind d) ≡ true) → IsSettled e home (Some s) → IsSettled e home (Some t)
-    by (Add attr values) k both q = subst IsQuiet (sym (on_args (Add attr values) d home s t (λ slot. refl) k steady_other both.0 h)) q
-    by (Remove attrs values) k both q = subst IsQuiet (sym (on_args (Remove attrs values) d home s t (λ slot. refl) k steady_other both.0 h)) q
     by (Set (ToKind kind)) k both q = subst IsQuiet (sym (kind_stays kind d home s t steady_other (not_true (sets_a_kind d) both.1) h)) q
-    by (Set (ToValues attr values)) k both q = subst IsQuiet (sym (on_args (Set (ToValues attr values)) d home s t (λ slot. refl) k steady_other both.0 h)) q
-    by (SetIfAbsent attr values) k both q = subst IsQuiet (sym (on_args (SetIfAbsent attr values) d home s t (λ slot. refl) k steady_other both.0 h)) q
-    by (Replace attrs old new) k both q = subst IsQuiet (sym (on_args (Replace attrs old new) d home s t (λ slot. refl) k steady_other both.0 h)) q
+    by Delete k both q = absurd (false≢true k)
+    by (Comment place text) k both q = absurd (false≢true k)
     by (Print fields) k both q = print_quiet home fields t
-    by _ k both q = absurd (false≢true k)
+    by e k both q = subst IsQuiet (sym (on_args e d home s t (λ slot. refl) k steady_other both.0 h)) q
 
 -- and the arguments of its attribute
 once_alike : (x : Option Attributes) (xs ys : List Segment) → Alike x xs ys → IsOnce x ys → IsOnce x xs

@@ -14,9 +14,9 @@ use Rattle.bz_attribute.proofs.Calls.{rule_from_end}
 use Rattle.bz_attribute.proofs.Views.{segments_of}
 use Rattle.bz_attribute.specs.Comment.{comment_rule}
 use Rattle.bz_command.specs.Labels.{Package}
-use Rattle.bz_command.specs.declared.arguments.Commented.TheVariants.{Rule as OfRule, Attribute, Value}
-use Rattle.bz_command.specs.declared.arguments.Setting.TheVariants.{ToKind, ToValues}
-use Rattle.bz_rule.specs.declared.command.Action.TheVariants.{Add, Remove, Set, SetIfAbsent, Delete, Rename, Move, Replace, Comment, Print}
+use Rattle.bz_command.specs.declared.arguments.Commented.TheVariants.{Rule as OfRule}
+use Rattle.bz_command.specs.declared.arguments.Setting.TheVariants.{ToKind}
+use Rattle.bz_rule.specs.declared.command.Action.TheVariants.{Set, Delete, Comment, Print}
 use Rattle.bz_rule.specs.Commands.{Command, after, args_after}
 use Rattle.bz_rule_laws.specs.Again.{is_steady, sets_a_kind}
 
@@ -66,23 +66,15 @@ left_alone s t false h = same s t h
 
 -- a command does to a statement what it does to its arguments
 pub there_after : (c : Command) (home : Package) (s t : Statement) → after c home (Some s) ≡ Some t → there (rule_of t.nodes) ≡ option_map (args_after c home) (there (rule_of s.nodes))
-there_after (Add attr values) home s t h = edited (args_after (Add attr values) home) s t h
-there_after (Remove attrs values) home s t h = edited (args_after (Remove attrs values) home) s t h
 there_after (Set (ToKind kind)) home s t h =
     let is : with_kind kind s ≡ t = cc in
     ap (λ (z : Statement). there (rule_of z.nodes)) (sym is) ∙ kind_set kind s ∙ no_edit (there (rule_of s.nodes))
-there_after (Set (ToValues attr values)) home s t h = edited (args_after (Set (ToValues attr values)) home) s t h
-there_after (SetIfAbsent attr values) home s t h = edited (args_after (SetIfAbsent attr values) home) s t h
 there_after Delete home s t h = left_alone s t (is_some (rule_of s.nodes)) h
-there_after (Rename old new) home s t h = edited (args_after (Rename old new) home) s t h
-there_after (Move old new chosen) home s t h = edited (args_after (Move old new chosen) home) s t h
-there_after (Replace attrs old new) home s t h = edited (args_after (Replace attrs old new) home) s t h
 there_after (Comment OfRule text) home s t h =
     let is : comment_rule text s ≡ t = cc in
     ap (λ (z : Statement). there (rule_of z.nodes)) (sym is) ∙ no_edit (there (rule_of s.nodes))
-there_after (Comment (Attribute attr) text) home s t h = edited (args_after (Comment (Attribute attr) text) home) s t h
-there_after (Comment (Value attr v) text) home s t h = edited (args_after (Comment (Value attr v) text) home) s t h
 there_after (Print fields) home s t h = same s t h
+there_after c home s t h = edited (args_after c home) s t h
 
 -- the kind of a rule after a command on its arguments
 
@@ -97,11 +89,8 @@ edited_kind f s t h =
     [ None ↦ λ e. ap kind_there e | Some r ↦ λ e. ap kind_there (nodes_read (record r { args = f r.args }) (rule_dotted [] s.nodes r e)) ] refl
 
 pub kind_kept : (c : Command) (home : Package) (s t : Statement) → is_steady c ≡ true → sets_a_kind c ≡ false → after c home (Some s) ≡ Some t → kind_there (rule_of t.nodes) ≡ kind_there (rule_of s.nodes)
-kind_kept (Add attr values) home s t steady other h = edited_kind (args_after (Add attr values) home) s t h
-kind_kept (Remove attrs values) home s t steady other h = edited_kind (args_after (Remove attrs values) home) s t h
 kind_kept (Set (ToKind kind)) home s t steady other h = absurd (false≢true (sym other))
-kind_kept (Set (ToValues attr values)) home s t steady other h = edited_kind (args_after (Set (ToValues attr values)) home) s t h
-kind_kept (SetIfAbsent attr values) home s t steady other h = edited_kind (args_after (SetIfAbsent attr values) home) s t h
-kind_kept (Replace attrs old new) home s t steady other h = edited_kind (args_after (Replace attrs old new) home) s t h
+kind_kept Delete home s t steady other h = absurd (false≢true steady)
+kind_kept (Comment place text) home s t steady other h = absurd (false≢true steady)
 kind_kept (Print fields) home s t steady other h = let is : s ≡ t = cc in ap (λ (z : Statement). kind_there (rule_of z.nodes)) (sym is)
-kind_kept _ home s t steady other h = absurd (false≢true steady)
+kind_kept c home s t steady other h = edited_kind (args_after c home) s t h

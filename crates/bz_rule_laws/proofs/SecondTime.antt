@@ -22,7 +22,7 @@ use Rattle.bz_attribute.specs.declared.done.Done.{Done}
 use Rattle.bz_attribute.specs.declared.done.Note.TheVariants.{NotAList}
 use Rattle.bz_command.specs.Names.{is_identifier}
 use Rattle.bz_attribute_commands.specs.Print.{missing, field_text, fields_of, prints, printed}
-use Rattle.bz_rule.specs.declared.command.Action.TheVariants.{Add, Remove, Set, SetIfAbsent, Delete, Rename, Move, Replace, Comment, Print}
+use Rattle.bz_rule.specs.declared.command.Action.TheVariants.{Add, Remove, Set, SetIfAbsent, Replace, Print}
 use Rattle.bz_rule.specs.Commands.{Command, after, args_after, args_done, done_of, is_command}
 use Rattle.bz_rule_laws.specs.Again.{IsOnce, IsQuiet, IsSettled, is_steady, subject}
 use Rattle.bz_rule_laws.specs.Unmentioned.{arguments_in, arguments_of}
@@ -192,10 +192,7 @@ second_time known (Set (ToValues attr values)) home s t read steady once calm h 
     record { unchanged = ap (λ slot. (done_of c home slot).changed) (sym h) ∙ known.set home attr values (Some s); calm = no_note (λ args. sets attr values (first_named attr args)) (Some t) }
 second_time known (SetIfAbsent attr values) home s t read steady once calm h =
     on_args (SetIfAbsent attr values) home s t (λ slot. refl) (λ args o k. quiet _ (ap not (set_if_absent_again attr values args))) once calm h
-second_time known Delete home s t read steady once calm h = absurd (false≢true steady)
-second_time known (Rename old new) home s t read steady once calm h = absurd (false≢true steady)
-second_time known (Move old new chosen) home s t read steady once calm h = absurd (false≢true steady)
 second_time known (Replace attrs old new) home s t read steady once calm h =
     on_args (Replace attrs old new) home s t (λ slot. refl) (λ args o k. quiet _ (replace_again known home attrs old new args)) once calm h
-second_time known (Comment place text) home s t read steady once calm h = absurd (false≢true steady)
 second_time known (Print fields) home s t read steady once calm h = print_quiet home fields t
+second_time known _ home s t read steady once calm h = absurd (false≢true steady)

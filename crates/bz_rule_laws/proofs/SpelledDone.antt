@@ -19,7 +19,7 @@ use Rattle.bz_attribute.specs.Marks.{marks}
 use Rattle.bz_attribute.specs.Remove.{goes_with_all}
 use Rattle.bz_attribute.specs.Replace.{is_replaced, replaces_in}
 use Rattle.bz_attribute.specs.Set.{New, NewConstant, NewNumber, NewString, NewStrings, are_strings, is_list_attribute, is_value, new_of, new_word, sets}
-use Rattle.bz_rule.specs.declared.command.Action.TheVariants.{Add, Remove, Set, SetIfAbsent, Delete, Rename, Move, Replace, Comment, Print}
+use Rattle.bz_rule.specs.declared.command.Action.TheVariants.{Add, Remove, Set, SetIfAbsent, Delete, Replace, Comment, Print}
 use Rattle.bz_rule.specs.Commands.{Command, args_done, done_of}
 use Rattle.bz_rule_laws.specs.Again.{IsQuiet, IsSettled, is_line, is_steady}
 use Rattle.bz_rule_laws.proofs.MarksStay.{by_kind, by_name, kind_seen, name_seen, package_seen, rule_seen, rule_stays}
@@ -149,13 +149,10 @@ args_spelled (Remove (Named attr) (v ∷ values)) home args steady = ap (λ o. d
 args_spelled (Set (ToKind kind)) home args steady = refl
 args_spelled (Set (ToValues attr values)) home args steady = ap (λ o. done None (sets attr values o)) (first_spelled attr args) ∙ ap (done None) (set_spelled attr values (first_named attr args))
 args_spelled (SetIfAbsent attr values) home args steady = ap (λ b. done None (not b)) (has_spelled attr args)
-args_spelled Delete home args steady = absurd (false≢true steady)
-args_spelled (Rename old new) home args steady = absurd (false≢true steady)
-args_spelled (Move old new chosen) home args steady = absurd (false≢true steady)
 args_spelled (Replace Every old new) home args steady = ap (done None) (any_spelled (λ a. is_attribute a && replaces_in home old new a) (each_blind home old new) args)
 args_spelled (Replace (Named attr) old new) home args steady = ap (λ o. done None (map_or false (replaces_in home old new) o)) (first_spelled attr args) ∙ ap (done None) (replaces_spelled home old new (first_named attr args))
-args_spelled (Comment place text) home args steady = absurd (false≢true steady)
 args_spelled (Print fields) home args steady = refl
+args_spelled _ home args steady = absurd (false≢true steady)
 
 on_args : (c : Command) (home : Package) (s t : Statement) → ((slot : Option Statement) → done_of c home slot ≡ slot_done (args_done c home) slot) → is_steady c ≡ true → t.nodes ≡ map spelled s.nodes → done_of c home (Some t) ≡ done_of c home (Some s)
 on_args c home s t tells steady is =
@@ -168,15 +165,12 @@ on_args c home s t tells steady is =
     by (Some args) = args_spelled c home args steady
 
 pub settled_spelled : (c : Command) (home : Package) (s t : Statement) → is_steady c ≡ true → t.nodes ≡ map spelled s.nodes → IsSettled c home (Some s) → IsSettled c home (Some t)
-settled_spelled (Add attr values) home s t steady is q = subst IsQuiet (sym (on_args (Add attr values) home s t (λ slot. refl) steady is)) q
-settled_spelled (Remove attrs values) home s t steady is q = subst IsQuiet (sym (on_args (Remove attrs values) home s t (λ slot. refl) steady is)) q
 settled_spelled (Set (ToKind kind)) home s t steady is q =
     subst IsQuiet (sym (kind_told_of kind t ∙ ap (λ (nodes : List Item). kind_told kind (kind_there (rule_of nodes))) is ∙ ap (kind_told kind) (kind_spelled s.nodes) ∙ sym (kind_told_of kind s))) q
-settled_spelled (Set (ToValues attr values)) home s t steady is q = subst IsQuiet (sym (on_args (Set (ToValues attr values)) home s t (λ slot. refl) steady is)) q
-settled_spelled (SetIfAbsent attr values) home s t steady is q = subst IsQuiet (sym (on_args (SetIfAbsent attr values) home s t (λ slot. refl) steady is)) q
-settled_spelled (Replace attrs old new) home s t steady is q = subst IsQuiet (sym (on_args (Replace attrs old new) home s t (λ slot. refl) steady is)) q
+settled_spelled Delete home s t steady is q = absurd (false≢true steady)
+settled_spelled (Comment place text) home s t steady is q = absurd (false≢true steady)
 settled_spelled (Print fields) home s t steady is q = print_quiet home fields t
-settled_spelled _ home s t steady is q = absurd (false≢true steady)
+settled_spelled c home s t steady is q = subst IsQuiet (sym (on_args c home s t (λ slot. refl) steady is)) q
 
 -- targets
 

@@ -2,4 +2,5 @@
 #![tactic(auto)]
 
 pub mod again;
+pub mod comments;
 pub mod unmentioned;

@@ -1,15 +1,10 @@
-use Rattle.std.proofs.Common.{◌≡◌, true, map, sym, rules}
+use Rattle.std.proofs.Common.{◌≡◌, true, map, rules}
 use Rattle.std.proofs.lemmas.Result.{IfOk-weaker}
 use Rattle.bz_tree.specs.Rows.{part_view}
 use Rattle.bz_rule.specs.private.RowEdits.{edits_arguments}
-use Rattle.bz_rule.proofs.RowEdited.{arguments_edited, renamed}
+use Rattle.bz_rule.proofs.RowEdited.{arguments_edited}
 use Rattle.bz_rule.proofs.row_edit.edit_parts.Goals as goal
 use Rattle.bz_rule.proofs.row_edit.edit_parts.Goals.{in_default-via-in-Set+in_default, in_default-via-in-Comment+in_default, in_default-via-in_default}
-
-pub returns-in-Rename : goal.returns-in-Rename
-returns-in-Rename c =
-    rw (sym c.command.view_is, c.in-Rename.is)
-    (IfOk-weaker c.rename.result _ _ (λ e h. renamed _ _ _ _ _ _ e h) (rw (c.as_str-in-Rename.ensures, c.as_str-in-Rename-2.ensures) at c.rename.ensures))
 
 pub returns-in_default : goal.returns-in_default
 returns-in_default c =

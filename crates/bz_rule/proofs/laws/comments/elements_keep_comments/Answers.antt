@@ -1,6 +1,6 @@
 use Rattle.bz_rule.proofs.Found.{added_elements}
-use Rattle.bz_rule.proofs.Remove.{left_elements}
-use Rattle.bz_rule.proofs.Replace.{element_keeps, replace_elements}
+use Rattle.bz_rule.proofs.Commands.Remove.{left_elements}
+use Rattle.bz_rule.proofs.Commands.Replace.{element_keeps, replace_elements}
 use Rattle.bz_rule.proofs.laws.comments.elements_keep_comments.Goals as goal
 
 pub returns-clause-remove : goal.returns-clause-remove

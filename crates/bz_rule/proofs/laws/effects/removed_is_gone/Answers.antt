@@ -3,7 +3,7 @@ use Rattle.bz_attribute.specs.Rules.{is_named}
 use Rattle.bz_attribute.specs.Effects.{filtered, unchosen}
 use Rattle.bz_attribute.specs.Remove.{goes_with_all}
 use Rattle.bz_rule.proofs.Kept.{none_left}
-use Rattle.bz_rule.proofs.Remove.{filtered_left}
+use Rattle.bz_rule.proofs.Commands.Remove.{filtered_left}
 use Rattle.bz_rule.proofs.Gone.{edited_at, removed_everywhere, removed_named}
 use Rattle.bz_rule.proofs.laws.effects.removed_is_gone.Goals as goal
 

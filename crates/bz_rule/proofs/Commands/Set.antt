@@ -25,7 +25,6 @@ use Rattle.bz_rule.proofs.Lawful.{Lawful, on_arguments, passed, held, none_of_ei
 use Rattle.bz_rule.proofs.NamesKept.{KeepsEach, Leaves, append_kept, edit_one_kept, first_kept, has_kept, put_kept, taken}
 use Rattle.bz_rule.proofs.Aside.{leaves_mentioned}
 use Rattle.bz_rule.proofs.Rebuilt.{kind_told, slot_kind_exchanged}
-use Rattle.std.proofs.lemmas.List.{map-append}
 use Rattle.bz_command.specs.Names.{is_identifier, is_kind}
 use Rattle.bz_layout_laws.specs.WellFormed.{IsWellFormed}
 use Rattle.bz_rule.proofs.AllComments.{after_new, in_all, in_nodes, list_none, nodes_joined, statement_is}
@@ -34,13 +33,11 @@ use Rattle.bz_rule.proofs.GoodArguments.{argument_good, first_good, string_good_
 use Rattle.bz_rule.proofs.KindFormed.{kind_is}
 use Rattle.bz_rule.proofs.ListParts.{list_value}
 use Rattle.bz_rule.proofs.NewTexts.{constant_text, number_text}
-use Rattle.bz_rule.proofs.OwnComments.{seen_or_new}
 use Rattle.bz_rule.proofs.PassingRules.{rule_in, rule_out, with_nodes}
 use Rattle.bz_rule.proofs.PassingTexts.{NodesPass, SegmentPasses, SegmentsPass, WordPasses, with_value_passes, words_in}
 use Rattle.bz_rule.proofs.PassingWritten.{PassesWritten, argument_added, first_of_name_edited, list_passes, strings_pass}
 use Rattle.bz_rule.proofs.RuleFormed.{rule_formed, rule_parts}
 use Rattle.bz_rule.proofs.Segments.{AreFormed, IsFormed, all_appended, either_way}
-use Rattle.bz_rule.specs.OwnComments.{no_comments, own_comments}
 use Rattle.bz_token.specs.Lexical.{is_text}
 use Rattle.bz_token.specs.declared.token.Kind.TheVariants.{Identifier, Integer, Kept, Newline, Comment, Operator, String, Keyword}
 use Rattle.bz_tree.specs.Comments.{beside, comments_of}
@@ -324,16 +321,6 @@ kind_nodes_pass q w kind nodes word h =
     ] refl
 
 -- comments stay
-pub set_keeps : (attr : List ℕ) (words : List (List ℕ)) (args : List Segment) → map own_comments (set attr words args) ≡ map own_comments args ++ (if has attr args then [] else no_comments ∷ [])
-set_keeps attr words args = seen_or_new attr (set_in (new_of attr words (first_named attr args))) (new_value (new_of attr words (first_named attr args))) (λ a.
-    either_way (λ (z : Segment). own_comments z ≡ own_comments a) (is_value (new_of attr words (first_named attr args)) (value a)) refl refl) args
-
-pub set_if_absent_keeps : (attr : List ℕ) (words : List (List ℕ)) (args : List Segment) → map own_comments (set_if_absent attr words args) ≡ map own_comments args ++ (if has attr args then [] else no_comments ∷ [])
-set_if_absent_keeps attr words args =
-    elim (has attr args) as (λ b. map own_comments (if b then args else args ++ argument attr (new_value (new_of attr words None)) ∷ []) ≡ map own_comments args ++ (if b then [] else no_comments ∷ [])) [
-      | true ↦ sym (append-nil (map own_comments args))
-      | false ↦ map-append own_comments args (argument attr (new_value (new_of attr words None)) ∷ [])
-    ]
 
 new_none : (new : New) → in_nodes (new_value new) ≡ []
 new_none (NewString word) = refl

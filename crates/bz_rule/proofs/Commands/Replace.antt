@@ -1,5 +1,5 @@
 -- What is owed of `replace`: it changes something where an element equals `old` and is not exactly `new`, and afterwards there is none; it leaves what is well formed so, texts that pass a test, and comments.
-use Rattle.std.proofs.Common.{IfSome, ◌≡◌, ℕ, List, [], ◌∷◌, Bool, true, false, not, ◌&&◌, ◌||◌, Option, Some, None, option_map, map, if◌then◌else◌, refl, ap, sym, ◌∙◌, inl, inr, suc, ◌++◌, rules, Ok}
+use Rattle.std.proofs.Common.{◌≡◌, ℕ, List, [], ◌∷◌, Bool, true, false, not, ◌&&◌, ◌||◌, Option, Some, None, option_map, map, if◌then◌else◌, refl, ap, sym, ◌∙◌, inl, inr, suc, ◌++◌, rules, Ok}
 use Rattle.std.specs.List.{list_any, list_all}
 use Rattle.std.proofs.lemmas.Bool.{cases_Bool, or_parts, and_parts}
 use Rattle.std.proofs.lemmas.Slice.Eq.{bytes_eq-Decides}
@@ -13,24 +13,21 @@ use Rattle.bz_attribute.specs.Lists.{edit_parts, equals, is_attribute, parts, wi
 use Rattle.bz_attribute.specs.Effects.{done, edit_first, string_item}
 use Rattle.bz_attribute.specs.Replace.{is_replaced, replaced, replaced_in, replace, replaces, replaces_in}
 use Rattle.bz_command.proofs.ReadBack.{quoted_value}
-use Rattle.bz_rule.specs.Aside.{IsAside}
 use Rattle.bz_rule.proofs.Arguments.{attribute_named, first_after, is_first_named, name_put, rest_same, same_bytes, value_back, value_put}
-use Rattle.bz_rule.specs.OneAttribute.{one_attribute}
 use Rattle.bz_rule.proofs.Local.{edit_local, looks_at_one}
-use Rattle.bz_rule.proofs.Lawful.{Local, Lawful, on_arguments}
+use Rattle.bz_rule.proofs.FirstEdits.{EditsFirst, edits_first, named_with}
+use Rattle.bz_rule.proofs.Lawful.{Lawful, on_arguments}
 use Rattle.bz_rule.proofs.PartLaws.{parts_edited, parts_stay}
-use Rattle.bz_rule.proofs.NamesKept.{edit_one_kept, first_kept, put_kept}
-use Rattle.bz_rule.proofs.Aside.{all_aside, leaves_all, leaves_mentioned}
-use Rattle.bz_rule.proofs.AllComments.{first_keeps, in_all, in_nodes, in_one, map_keeps, parts_keep, value_keeps}
+use Rattle.bz_rule.proofs.Aside.{all_aside, leaves_all}
+use Rattle.bz_rule.proofs.AllComments.{in_nodes, in_one, map_keeps, parts_keep, value_keeps}
 use Rattle.bz_rule.proofs.ArgumentValues.{good_value, good_with}
-use Rattle.bz_rule.proofs.GoodArguments.{first_good, string_good_value}
+use Rattle.bz_rule.proofs.GoodArguments.{string_good_value}
 use Rattle.bz_rule.proofs.ListParts.{KeepsGood, edited_parts_good}
-use Rattle.bz_rule.proofs.OwnComments.{seen_first}
 use Rattle.bz_rule.proofs.PassingParts.{edited_parts_pass}
-use Rattle.bz_rule.proofs.PassingTexts.{SegmentPasses, SegmentsPass, value_passes, with_value_passes}
-use Rattle.bz_rule.proofs.PassingWritten.{PassesWritten, first_of_name_edited}
-use Rattle.bz_rule.proofs.Segments.{AreFormed, IsFormed, all_mapped, either_way}
-use Rattle.bz_rule.specs.OwnComments.{Comments, own_comments}
+use Rattle.bz_rule.proofs.PassingTexts.{SegmentPasses, value_passes, with_value_passes}
+use Rattle.bz_rule.proofs.PassingWritten.{PassesWritten}
+use Rattle.bz_rule.proofs.Segments.{IsFormed, all_mapped, either_way}
+use Rattle.bz_rule.specs.OwnComments.{own_comments}
 use Rattle.bz_tree.specs.Comments.{beside}
 use Rattle.bz_tree.specs.Grammar.{IsArg, IsTest}
 use Rattle.std.specs.Str.{is_utf8}
@@ -133,22 +130,6 @@ every_stays home old new (a ∷ args) h =
     [ true ↦ λ k. argument_stays home old new a k | false ↦ λ k. refl ] both.0 in
     rw here (ap (λ (zs : List Segment). a ∷ zs) (every_stays home old new args both.1))
 
-replace_stays : (home : Package) (attrs : Attributes) (old new : List ℕ) (args : List Segment) → replaces home attrs old new args ≡ false → replace home attrs old new args ≡ args
-replace_stays home (Named attr) old new args h = first_stays home attr old new args h
-replace_stays home Every old new args h = every_stays home old new args h
-
--- beside changes of other arguments
-
-replace_aside : (home : Package) (attrs : Attributes) (old new : List ℕ) (g : Segment → Segment) → IsAside (Replace attrs old new) g → (args : List Segment) → replace home attrs old new (map g args) ≡ map g (replace home attrs old new args)
-replace_aside home Every old new g aside args = all_aside aside (λ attr. refl) (replace home Every old new) args
-replace_aside home (Named attr) old new g aside args =
-    let leaves = leaves_mentioned aside attr (same_bytes attr) in
-    edit_one_kept g aside.names attr leaves (replaced_in home old new) (λ a named. put_kept g attr leaves _ a named) args
-
-replace_told : (home : Package) (attrs : Attributes) (old new : List ℕ) (g : Segment → Segment) → IsAside (Replace attrs old new) g → (args : List Segment) → replaces home attrs old new (map g args) ≡ replaces home attrs old new args
-replace_told home Every old new g aside args = ap (replaces home Every old new) (leaves_all aside (λ attr. refl) args)
-replace_told home (Named attr) old new g aside args = rw (first_kept g aside.names attr (leaves_mentioned aside attr (same_bytes attr)) args) refl
-
 -- what it leaves is well formed, and passes a test
 
 replaced_good : (depth : ℕ) (home : Package) (old new : List ℕ) (s : Segment) → IsFormed IsTest depth s → IsFormed IsTest depth (replaced home old new s)
@@ -169,10 +150,6 @@ where_attribute depth home old new a h =
     elim (is_attribute a) as (λ b. is_attribute a ≡ b → IsFormed IsArg (suc depth) (if b then replaced_in home old new a else a))
     [ true ↦ λ e. replaced_in_good depth home old new a e h | false ↦ λ e. h ] refl
 
-replace_good : (depth : ℕ) (home : Package) (attrs : Attributes) (old new : List ℕ) (args : List Segment) → AreFormed IsArg (suc depth) args → AreFormed IsArg (suc depth) (replace home attrs old new args)
-replace_good depth home (Named attr) old new args h = first_good (suc depth) attr (λ a. replaced_in home old new a ∷ []) (λ a n good. (replaced_in_good depth home old new a n good, tt)) args h
-replace_good depth home Every old new args h = all_mapped (IsFormed IsArg (suc depth)) (IsFormed IsArg (suc depth)) (λ a. if is_attribute a then replaced_in home old new a else a) (where_attribute depth home old new) args h
-
 replaced_passes : (q : List ℕ → Bool) → PassesWritten q → (home : Package) (old new : List ℕ) → q new ≡ true → (s : Segment) → SegmentPasses q s → SegmentPasses q (replaced home old new s)
 replaced_passes q w home old new word s h =
     either_way (SegmentPasses q) (is_replaced home old new s) (record { before = h.before; nodes = (w.literal new word, tt); suffix = h.suffix }) h
@@ -185,22 +162,6 @@ replaced_in_passes q w home old new word a h =
 attribute_passes : (q : List ℕ → Bool) → PassesWritten q → (home : Package) (old new : List ℕ) → q new ≡ true → (a : Segment) → SegmentPasses q a → SegmentPasses q (if is_attribute a then replaced_in home old new a else a)
 attribute_passes q w home old new word a h =
     either_way (SegmentPasses q) (is_attribute a) (replaced_in_passes q w home old new word a h) h
-
-replace_passes : (q : List ℕ → Bool) → PassesWritten q → (home : Package) (attrs : Attributes) (old new : List ℕ) (args : List Segment) → q new ≡ true → SegmentsPass q args
-    → SegmentsPass q (replace home attrs old new args)
-replace_passes q w home (Named attr) old new args word h = first_of_name_edited q attr (replaced_in home old new) (replaced_in_passes q w home old new word) args h
-replace_passes q w home Every old new args word h =
-    all_mapped (SegmentPasses q) (SegmentPasses q) (λ a. if is_attribute a then replaced_in home old new a else a) (attribute_passes q w home old new word) args h
-
--- comments stay
-pub replace_keeps : (home : Package) (attrs : Attributes) (old new : List ℕ) (args : List Segment) → map own_comments (replace home attrs old new args) ≡ map own_comments args
-replace_keeps home (Named attr) old new args = seen_first own_comments attr (replaced_in home old new) (λ a. refl) args
-replace_keeps home Every old new [] = refl
-replace_keeps home Every old new (a ∷ args) =
-    elim (is_attribute a) as (λ b. own_comments (if b then replaced_in home old new a else a) ∷ map own_comments (replace home Every old new args) ≡ own_comments a ∷ map own_comments args) [
-      | true ↦ ap (λ (cs : List Comments). own_comments a ∷ cs) (replace_keeps home Every old new args)
-      | false ↦ ap (λ (cs : List Comments). own_comments a ∷ cs) (replace_keeps home Every old new args)
-    ]
 
 -- the elements of an attribute after `replace`
 pub replace_elements : (home : Package) (old new : List ℕ) (a : Segment) → is_attribute a ≡ true → parts (value (replaced_in home old new a)) ≡ map (map (replaced home old new)) (parts (value a))
@@ -235,32 +196,38 @@ replaced_in_keeps : (home : Package) (old new : List ℕ) (a : Segment) → in_o
 replaced_in_keeps home old new a =
     value_keeps (edit_parts (map (replaced home old new)) (value a)) a (parts_keep (map (replaced home old new)) (map_keeps (replaced home old new) (replaced_keeps home old new)) (value a))
 
-replace_leaves_all : (home : Package) (attrs : Attributes) (old new : List ℕ) (args : List Segment) → in_all (replace home attrs old new args) ≡ in_all args
-replace_leaves_all home (Named attr) old new args = first_keeps attr (replaced_in home old new) (λ a h. replaced_in_keeps home old new a) args
-replace_leaves_all home Every old new args = map_keeps (λ a. if is_attribute a then replaced_in home old new a else a) (λ a.
-    either_way (λ (z : Segment). in_one z ≡ in_one a) (is_attribute a) (replaced_in_keeps home old new a) refl) args
-
--- of one attribute
-replace_local : (home : Package) (attrs : Attributes) (old new : List ℕ) → IfSome (one_attribute (Replace attrs old new)) (Local (Replace attrs old new) home)
-replace_local home Every old new = tt
-replace_local home (Named attr) old new = record {
-  args = edit_local attr (λ a. replaced_in home old new a ∷ []);
-  told = looks_at_one attr _ (λ o. done None (map_or false (replaces_in home old new) o)) (λ args. refl);
-  slot = λ s. refl;
-  done = λ s. refl;
+pub replace_edits : (home : Package) (attr old new : List ℕ) → EditsFirst (Replace (Named attr) old new) home attr (λ there first. None) (map_or false (replaces_in home old new)) (replaced_in home old new)
+replace_edits home attr old new = record {
+  after = λ args. refl;
+  told = λ args. refl;
+  mentioned = same_bytes attr;
+  local = record {
+    args = edit_local attr (λ a. replaced_in home old new a ∷ []);
+    told = looks_at_one attr _ (λ o. done None (map_or false (replaces_in home old new) o)) (λ args. refl);
+    slot = λ s. refl;
+    done = λ s. refl;
+  };
+  stays = λ args h. first_stays home attr old new args h;
+  differs = λ read args quiet changed same. replace_differs home (Named attr) old new args changed same;
+  named = λ a h. record { name = attr; is = named_with attr _ a h; mentioned = same_bytes attr };
+  formed = λ depth a h n good. replaced_in_good depth home old new a n good;
+  passes = λ q w h a k. replaced_in_passes q w home old new (and_parts _ (q new) h).1 a k;
+  comments = λ k a h. replaced_in_keeps home old new a;
 }
 
 pub replace_lawful : (home : Package) (attrs : Attributes) (old new : List ℕ) → Lawful (Replace attrs old new) home
-replace_lawful home attrs old new = on_arguments (Replace attrs old new) home (λ slot. refl) (λ slot. refl) (record {
-  stays = λ args h. replace_stays home attrs old new args h;
-  differs = λ read args h same. replace_differs home attrs old new args h same;
+replace_lawful home (Named attr) old new = on_arguments (Replace (Named attr) old new) home (λ slot. refl) (λ slot. refl) (edits_first _ home attr _ _ _ (replace_edits home attr old new))
+replace_lawful home Every old new = on_arguments (Replace Every old new) home (λ slot. refl) (λ slot. refl) (record {
+  stays = λ args h. every_stays home old new args h;
+  differs = λ read args h same. replace_differs home Every old new args h same;
   noted = λ args h. absurd cc;
-  aside = λ g aside args. replace_aside home attrs old new g aside args;
-  told = λ g aside args. ap (done None) (replace_told home attrs old new g aside args);
-  local = replace_local home attrs old new;
-  formed = λ depth args h good. replace_good depth home attrs old new args good;
-  passes = λ q w h args k. replace_passes q w home attrs old new args (and_parts _ (q new) h).1 k;
-  comments = λ k args. replace_leaves_all home attrs old new args;
+  aside = λ g aside args. all_aside aside (λ attr. refl) (replace home Every old new) args;
+  told = λ g aside args. ap (λ (zs : List Segment). done None (replaces home Every old new zs)) (leaves_all aside (λ attr. refl) args);
+  local = tt;
+  formed = λ depth args h good. all_mapped (IsFormed IsArg (suc depth)) (IsFormed IsArg (suc depth)) (λ a. if is_attribute a then replaced_in home old new a else a) (where_attribute depth home old new) args good;
+  passes = λ q w h args k. all_mapped (SegmentPasses q) (SegmentPasses q) (λ a. if is_attribute a then replaced_in home old new a else a) (attribute_passes q w home old new (and_parts _ (q new) h).1) args k;
+  comments = λ k args. map_keeps (λ a. if is_attribute a then replaced_in home old new a else a) (λ a.
+      either_way (λ (z : Segment). in_one z ≡ in_one a) (is_attribute a) (replaced_in_keeps home old new a) refl) args;
 })
 
 -- What is read of words that are UTF-8 can be read, and its words are UTF-8.

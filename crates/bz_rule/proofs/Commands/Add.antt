@@ -22,11 +22,9 @@ use Rattle.bz_rule.proofs.AllComments.{after_new, after_none, first_keeps, first
 use Rattle.bz_rule.proofs.ArgumentValues.{good_value, good_with}
 use Rattle.bz_rule.proofs.GoodArguments.{appended_good, argument_good, first_good, strings_good}
 use Rattle.bz_rule.proofs.ListParts.{edited_first_part_good, list_value}
-use Rattle.bz_rule.proofs.OwnComments.{seen_or_new}
 use Rattle.bz_rule.proofs.PassingTexts.{SegmentPasses, SegmentsPass, WordPasses, words_in}
 use Rattle.bz_rule.proofs.PassingWritten.{PassesWritten, argument_added, elements_added, first_of_name_edited, list_passes, strings_pass}
 use Rattle.bz_rule.proofs.Segments.{AreFormed, IsFormed, all_appended, either_way}
-use Rattle.bz_rule.specs.OwnComments.{no_comments, own_comments}
 use Rattle.bz_token.specs.Lexical.{is_text}
 use Rattle.bz_token.specs.declared.token.Kind.TheVariants.{Identifier}
 use Rattle.bz_tree.specs.Grammar.{IsArg}
@@ -153,10 +151,6 @@ add_passes q w home attr values args name k h =
     (argument_added q w attr (list_item (new_elements home [] values) ∷ []) args name (list_passes q (new_elements home [] values) (new_elements_pass q w home [] values k)) h)
 
 -- comments stay
-pub add_keeps : (home : Package) (attr : List ℕ) (values : List (List ℕ)) (args : List Segment) → map own_comments (add home attr values args) ≡ map own_comments args ++ (if has attr args then [] else no_comments ∷ [])
-add_keeps home attr values args = seen_or_new attr (with_added home values) (list_item (new_elements home [] values) ∷ []) (λ a.
-    either_way (λ (z : Segment). own_comments z ≡ own_comments a) (is_empty (parts (value a))) refl refl) args
-
 added_keeps : (home : Package) (values : List (List ℕ)) (a : Segment) → in_one (with_added home values a) ≡ in_one a
 added_keeps home values a =
     either_way (λ (z : Segment). in_one z ≡ in_one a) (is_empty (parts (value a))) refl

@@ -29,7 +29,6 @@ use Rattle.bz_rule.proofs.PassingParts.{edited_first_passes}
 use Rattle.bz_rule.proofs.PassingTexts.{SegmentPasses, SegmentsPass}
 use Rattle.bz_rule.proofs.PassingWritten.{filtered_passes}
 use Rattle.bz_rule.proofs.Segments.{AreFormed, IsFormed, all_filtered, all_flattened, either_way}
-use Rattle.bz_rule.specs.OwnComments.{own_comments}
 use Rattle.bz_tree.specs.Grammar.{IsArg}
 use Rattle.std.specs.Str.{is_utf8}
 use Rattle.bz_rule.specs.Commands.{Command, IsRead, remove_of}
@@ -174,13 +173,7 @@ remove_passes q home Every (v ∷ values) args h =
 remove_passes q home (Named attr) [] args h = all_filtered (SegmentPasses q) (λ a. not (is_named attr a)) args h
 remove_passes q home (Named attr) (v ∷ values) args h = edited_first_passes q (is_named attr) (filtered (unchosen home (Values (v ∷ values)))) (filtered_passes q home (Values (v ∷ values))) args h
 
--- an argument that `remove` leaves has its comments
-pub left_keeps : (home : Package) (chosen : Moved) (a : Segment) → map own_comments (filtered (unchosen home chosen) a) ≡ (if loses_all (unchosen home chosen) (value a) then [] else own_comments a ∷ [])
-left_keeps home chosen a =
-    elim (loses_all (unchosen home chosen) (value a)) as (λ b. map own_comments (if b then [] else with_value (edit_parts (unchosen home chosen) (value a)) a ∷ []) ≡ (if b then [] else own_comments a ∷ []))
-    [ true ↦ refl | false ↦ refl ]
-
--- and of its elements those that no value equals, as they were
+-- of the elements of an argument that `remove` leaves, those stay that no value equals, as they were
 pub left_elements : (home : Package) (chosen : Moved) (a b : Segment) → is_attribute a ≡ true → filtered (unchosen home chosen) a ≡ b ∷ [] → parts (value b) ≡ map (unchosen home chosen) (parts (value a))
 left_elements home chosen a b h is =
     elim (loses_all (unchosen home chosen) (value a)) as (λ l. (if l then [] else with_value (edit_parts (unchosen home chosen) (value a)) a ∷ []) ≡ b ∷ [] → parts (value b) ≡ map (unchosen home chosen) (parts (value a))) [

@@ -1,5 +1,5 @@
 use Rattle.std.proofs.Common.{sym}
-use Rattle.bz_rule.proofs.row_edit.edit_arguments.Goals as goal
+use Rattle.bz_rule.proofs.command.edit_arguments.Goals as goal
 
 pub returns-in-Add : goal.returns-in-Add
 returns-in-Add c = rw (sym c.command.view_is, c.in-Add.is) (rw (c.as_str.ensures, c.as_slice.ensures) at c.add.ensures)
@@ -21,3 +21,6 @@ returns-in-SetIfAbsent c = rw (sym c.command.view_is, c.in-SetIfAbsent.is) (rw (
 
 pub returns-in-Comment : goal.returns-in-Comment
 returns-in-Comment c = rw (sym c.command.view_is, c.in-Comment.is) (rw (c.as_str-in-Comment.ensures) at c.comment.ensures)
+
+pub returns-in-Rename : goal.returns-in-Rename
+returns-in-Rename c = rw (sym c.command.view_is, c.in-Rename.is) (rw (c.as_str-in-Rename.ensures, c.as_str-in-Rename-2.ensures) at c.rename.ensures)

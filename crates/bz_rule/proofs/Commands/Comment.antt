@@ -17,9 +17,8 @@ use Rattle.bz_command.specs.declared.arguments.Commented.TheVariants.{Rule as Of
 use Rattle.bz_rule.specs.declared.command.Action.TheVariants.{Comment}
 use Rattle.bz_rule.proofs.Arguments.{attribute_named, first_same, has_first, is_first_named, same_bytes, value_put}
 use Rattle.bz_rule.proofs.Local.{comment_local, comment_value_local, looks_at_one, note_by_first, note_of}
-use Rattle.bz_rule.proofs.Lawful.{Lawful, done_changed, guarded_same, note_unchanged, on_arguments}
-use Rattle.bz_rule.proofs.NamesKept.{KeepsEach, Leaves, edit_one_kept, first_kept, has_kept, put_kept, taken}
-use Rattle.bz_rule.proofs.Aside.{leaves_mentioned}
+use Rattle.bz_rule.proofs.FirstEdits.{EditsFirst, edits_first, named_with}
+use Rattle.bz_rule.proofs.Lawful.{Lawful, on_arguments}
 use Rattle.bz_rule.proofs.Rebuilt.{comment_exchanged, holds_after}
 use Rattle.std.proofs.lemmas.List.Folds.{list_all-append}
 use Rattle.bz_attribute.proofs.RuleNodes.{rule_nodes}
@@ -30,13 +29,12 @@ use Rattle.bz_layout_laws.specs.EachText.{items_pass}
 use Rattle.bz_layout_laws.specs.Legible.{AreComments}
 use Rattle.bz_layout_laws.specs.WellFormed.{IsWellFormed}
 use Rattle.bz_rule.proofs.ArgumentValues.{good_value, good_with}
-use Rattle.bz_rule.proofs.GoodArguments.{first_good}
 use Rattle.bz_rule.proofs.ListParts.{KeepsGood, edited_element_good}
 use Rattle.bz_rule.proofs.NewTexts.{line_text}
 use Rattle.bz_rule.proofs.PassingParts.{edited_element_passes}
 use Rattle.bz_rule.proofs.PassingRules.{StatementPasses}
-use Rattle.bz_rule.proofs.PassingTexts.{SegmentPasses, SegmentsPass, value_passes, with_value_passes}
-use Rattle.bz_rule.proofs.PassingWritten.{PassesWritten, first_of_name_edited}
+use Rattle.bz_rule.proofs.PassingTexts.{SegmentPasses, value_passes, with_value_passes}
+use Rattle.bz_rule.proofs.PassingWritten.{PassesWritten}
 use Rattle.bz_rule.proofs.RuleFormed.{rule_formed, rule_parts}
 use Rattle.bz_rule.proofs.Segments.{AreFormed, IsFormed, either_way}
 use Rattle.bz_token.specs.Lexical.{is_comment}
@@ -153,27 +151,6 @@ comment_value_differs home attr v text args h same =
     let inner = both_none (not_a_list attr (first_named attr args)) (is_missing home attr v (first_named attr args)) outer.1 in
     value_differs home attr v text args (first_named attr args) refl (sym (has_first attr args) ∙ present attr args outer.0) inner.1 edited
 
-absent_same : (attr text : List ℕ) (args : List Segment) → (done (is_absent attr args) true).changed ≡ false → comment_attribute attr text args ≡ args
-absent_same attr text args h =
-    elim (has attr args) as (λ b. (done (if b then None else Some (NoAttribute attr)) true).changed ≡ false
-    → (if b then edit_first (is_named attr) (λ a. with_comment (comment_line text) a ∷ []) args else args) ≡ args)
-    [ true ↦ λ k. absurd cc | false ↦ λ k. refl ] h
-
--- beside changes of other arguments
-
-comment_attribute_aside : (g : Segment → Segment) → KeepsEach g → (attr text : List ℕ) → Leaves attr g → (args : List Segment) → comment_attribute attr text (map g args) ≡ map g (comment_attribute attr text args)
-comment_attribute_aside g names attr text leaves args =
-    taken (map g) (has_kept g names attr args) (edit_one_kept g names attr leaves (with_comment (comment_line text)) (λ a named. leaves (with_comment (comment_line text) a) named) args) refl
-
-note_comment : (g : Segment → Segment) → KeepsEach g → (home : Package) (attr v : List ℕ) → Leaves attr g → (args : List Segment) → comment_note home attr v (map g args) ≡ comment_note home attr v args
-note_comment g names home attr v leaves args = rw (has_kept g names attr args, first_kept g names attr leaves args) refl
-
-comment_value_aside : (g : Segment → Segment) → KeepsEach g → (home : Package) (attr v text : List ℕ) → Leaves attr g → (args : List Segment)
-    → comment_value home attr v text (map g args) ≡ map g (comment_value home attr v text args)
-comment_value_aside g names home attr v text leaves args =
-    taken (map g) (ap is_some (note_comment g names home attr v leaves args)) refl
-    (edit_one_kept g names attr leaves (comment_element home v text) (λ a named. put_kept g attr leaves _ a named) args)
-
 -- what it leaves is well formed, and passes a test
 
 -- one more comment line
@@ -183,11 +160,6 @@ line_after before line h k = list_all-append is_comment before (line ∷ []) ∙
 commented_formed : (Form : Items → Type 0) (depth : ℕ) (text : List ℕ) (s : Segment) → list_any breaks_line text ≡ false → IsFormed Form depth s → IsFormed Form depth (with_comment (comment_line text) s)
 commented_formed Form depth text s one_line h =
     record { before = line_after s.before (comment_line text) h.before (line_text text one_line); suffix = h.suffix; nodes = h.nodes; form = h.form }
-
-comment_attribute_formed : (depth : ℕ) (attr text : List ℕ) (args : List Segment) → list_any breaks_line text ≡ false → AreFormed IsArg depth args → AreFormed IsArg depth (comment_attribute attr text args)
-comment_attribute_formed depth attr text args one_line h =
-    either_way (AreFormed IsArg depth) (has attr args) (first_good depth attr (λ a. with_comment (comment_line text) a ∷ []) (λ a n good. (commented_formed IsArg depth text a one_line good, tt)) args h)
-    h
 
 -- the first element that passes
 first_commented : (depth : ℕ) (p : Segment → Bool) (text : List ℕ) → list_any breaks_line text ≡ false → KeepsGood depth (edit_first p (λ s. with_comment (comment_line text) s ∷ []))
@@ -200,11 +172,6 @@ element_formed depth home word text a one_line n good =
     let line : List ℕ = comment_line text in
     good_with (suc depth) (edit_element (equals home word) (with_comment line) (value a)) a n good
     (edited_element_good depth (equals home word) (with_comment line) (first_commented depth (equals home word) text one_line) (value a) (good_value (suc depth) a n good))
-
-comment_value_formed : (depth : ℕ) (home : Package) (attr word text : List ℕ) (args : List Segment) → list_any breaks_line text ≡ false → AreFormed IsArg (suc depth) args → AreFormed IsArg (suc depth) (comment_value home attr word text args)
-comment_value_formed depth home attr word text args one_line h =
-    either_way (AreFormed IsArg (suc depth)) (is_some (comment_note home attr word args)) h
-    (first_good (suc depth) attr (λ a. comment_element home word text a ∷ []) (λ a n good. (element_formed depth home word text a one_line n good, tt)) args h)
 
 comment_stays_formed : (depth : ℕ) (text : List ℕ) → list_any breaks_line text ≡ false → (s : Statement) → IsWellFormed (suc depth) s → IsWellFormed (suc depth) (comment_rule text s)
 comment_stays_formed depth text h s w =
@@ -226,19 +193,10 @@ line_added q w before text word h = comments_join q before (comment_line text �
 commented_passes : (q : List ℕ → Bool) → PassesWritten q → (text : List ℕ) → q text ≡ true → (s : Segment) → SegmentPasses q s → SegmentPasses q (with_comment (comment_line text) s)
 commented_passes q w text word s h = record { before = line_added q w s.before text word h.before; nodes = h.nodes; suffix = h.suffix }
 
-comment_attribute_passes : (q : List ℕ → Bool) → PassesWritten q → (attr text : List ℕ) (args : List Segment) → q text ≡ true → SegmentsPass q args → SegmentsPass q (comment_attribute attr text args)
-comment_attribute_passes q w attr text args word h =
-    either_way (SegmentsPass q) (has attr args) (first_of_name_edited q attr (with_comment (comment_line text)) (commented_passes q w text word) args h) h
-
 element_passes : (q : List ℕ → Bool) → PassesWritten q → (home : Package) (v text : List ℕ) → q text ≡ true → (a : Segment) → SegmentPasses q a → SegmentPasses q (comment_element home v text a)
 element_passes q w home v text word a h =
     with_value_passes q (edit_element (equals home v) (with_comment (comment_line text)) (value a)) a
     (edited_element_passes q (equals home v) (with_comment (comment_line text)) (commented_passes q w text word) (value a) (value_passes q a.nodes h.nodes)) h
-
-comment_value_passes : (q : List ℕ → Bool) → PassesWritten q → (home : Package) (attr v text : List ℕ) (args : List Segment) → q text ≡ true → SegmentsPass q args
-    → SegmentsPass q (comment_value home attr v text args)
-comment_value_passes q w home attr v text args word h =
-    either_way (SegmentsPass q) (is_some (comment_note home attr v args)) h (first_of_name_edited q attr (comment_element home v text) (element_passes q w home v text word) args h)
 
 above_passes : (q : List ℕ → Bool) → PassesWritten q → (before : List (List ℕ)) (text : List ℕ) (rule : Option Rule) → q text ≡ true → list_all q before ≡ true → list_all q (map_or before (λ r. before ++ comment_line text ∷ []) rule) ≡ true
 above_passes q w before text None word h = h
@@ -256,6 +214,38 @@ comment_passes q w text s word h =
 one_line : (place : Commented) (text : List ℕ) → is_command (Comment place text) ≡ true → list_any breaks_line text ≡ false
 one_line place text h = not-true (list_any breaks_line text) (and_parts (is_commented place) (not (list_any breaks_line text)) h).1
 
+pub comment_attribute_edits : (home : Package) (attr text : List ℕ)
+    → EditsFirst (Comment (Attribute attr) text) home attr (λ there first. if there attr then None else Some (NoAttribute attr)) (λ first. true) (with_comment (comment_line text))
+comment_attribute_edits home attr text = record {
+  after = λ args.
+      let new : List Segment = edit_first (is_named attr) (λ a. with_comment (comment_line text) a ∷ []) args in
+      elim (has attr args) as (λ b. (if b then new else args) ≡ (if is_some (if b then None else Some (NoAttribute attr)) then args else new)) [ true ↦ refl | false ↦ refl ];
+  told = λ args. refl;
+  mentioned = same_bytes attr;
+  local = record { args = comment_local attr text; told = looks_at_one attr _ (λ o. done (if is_some o then None else Some (NoAttribute attr)) true) (λ args. ap (λ (b : Bool). done (if b then None else Some (NoAttribute attr)) true) (has_first attr args)); slot = λ s. refl; done = λ s. refl };
+  stays = λ args h. absurd cc;
+  differs = λ read args quiet changed same. comment_attribute_differs attr text args quiet same;
+  named = λ a h. record { name = attr; is = h; mentioned = same_bytes attr };
+  formed = λ depth a h n good. commented_formed IsArg (suc depth) text a (one_line (Attribute attr) text h) good;
+  passes = λ q w h a k. commented_passes q w text (and_parts (q attr) (q text) h).1 a k;
+  comments = λ k. absurd cc;
+}
+
+pub comment_value_edits : (home : Package) (attr v text : List ℕ)
+    → EditsFirst (Comment (Value attr v) text) home attr (λ there first. option_or (if there attr then None else Some (NoAttribute attr)) (option_or (not_a_list attr first) (is_missing home attr v first))) (λ first. true) (comment_element home v text)
+comment_value_edits home attr v text = record {
+  after = λ args. refl;
+  told = λ args. refl;
+  mentioned = same_bytes attr;
+  local = record { args = comment_value_local home attr v text; told = looks_at_one attr _ (λ o. done (note_of home attr v o) true) (λ args. ap (λ (n : Option Note). done n true) (note_by_first home attr v args)); slot = λ s. refl; done = λ s. refl };
+  stays = λ args h. absurd cc;
+  differs = λ read args quiet changed same. comment_value_differs home attr v text args quiet same;
+  named = λ a h. record { name = attr; is = named_with attr _ a h; mentioned = same_bytes attr };
+  formed = λ depth a h n good. element_formed depth home v text a (one_line (Value attr v) text h) n good;
+  passes = λ q w h a k. element_passes q w home v text (and_parts (q attr && q v) (q text) h).1 a k;
+  comments = λ k. absurd cc;
+}
+
 pub comment_lawful : (home : Package) (place : Commented) (text : List ℕ) → Lawful (Comment place text) home
 comment_lawful home OfRule text = record {
   stays = λ slot h. comment_rule_stays text slot h;
@@ -270,28 +260,8 @@ comment_lawful home OfRule text = record {
   texts = λ q w s h k. comment_passes q w text s h k;
   comments = λ k. absurd cc;
 }
-comment_lawful home (Attribute attr) text = on_arguments (Comment (Attribute attr) text) home (λ slot. refl) (λ slot. refl) (record {
-  stays = λ args h. absent_same attr text args h;
-  differs = λ read args h same. comment_attribute_differs attr text args (done_changed (is_absent attr args) true h).0 same;
-  noted = λ args h. note_unchanged (is_absent attr args) true h;
-  aside = λ g aside args. comment_attribute_aside g aside.names attr text (leaves_mentioned aside attr (same_bytes attr)) args;
-  told = λ g aside args. rw (has_kept g aside.names attr args) refl;
-  local = record { args = comment_local attr text; told = looks_at_one attr _ (λ o. done (if is_some o then None else Some (NoAttribute attr)) true) (λ args. ap (λ (b : Bool). done (if b then None else Some (NoAttribute attr)) true) (has_first attr args)); slot = λ s. refl; done = λ s. refl };
-  formed = λ depth args h good. comment_attribute_formed (suc depth) attr text args (one_line (Attribute attr) text h) good;
-  passes = λ q w h args k. comment_attribute_passes q w attr text args (and_parts (q attr) (q text) h).1 k;
-  comments = λ k. absurd cc;
-})
-comment_lawful home (Value attr v) text = on_arguments (Comment (Value attr v) text) home (λ slot. refl) (λ slot. refl) (record {
-  stays = λ args h. guarded_same (comment_note home attr v args) true _ args (λ k. absurd cc) h;
-  differs = λ read args h same. comment_value_differs home attr v text args (done_changed (comment_note home attr v args) true h).0 same;
-  noted = λ args h. note_unchanged (comment_note home attr v args) true h;
-  aside = λ g aside args. comment_value_aside g aside.names home attr v text (leaves_mentioned aside attr (same_bytes attr)) args;
-  told = λ g aside args. rw (note_comment g aside.names home attr v (leaves_mentioned aside attr (same_bytes attr)) args) refl;
-  local = record { args = comment_value_local home attr v text; told = looks_at_one attr _ (λ o. done (note_of home attr v o) true) (λ args. ap (λ (n : Option Note). done n true) (note_by_first home attr v args)); slot = λ s. refl; done = λ s. refl };
-  formed = λ depth args h good. comment_value_formed depth home attr v text args (one_line (Value attr v) text h) good;
-  passes = λ q w h args k. comment_value_passes q w home attr v text args (and_parts (q attr && q v) (q text) h).1 k;
-  comments = λ k. absurd cc;
-})
+comment_lawful home (Attribute attr) text = on_arguments (Comment (Attribute attr) text) home (λ slot. refl) (λ slot. refl) (edits_first _ home attr _ _ _ (comment_attribute_edits home attr text))
+comment_lawful home (Value attr v) text = on_arguments (Comment (Value attr v) text) home (λ slot. refl) (λ slot. refl) (edits_first _ home attr _ _ _ (comment_value_edits home attr v text))
 
 -- What is read of words that are UTF-8 can be read, and its words are UTF-8.
 pub comment_read : (words : List (List ℕ)) (c : Command) → Ok c ≡ comment_of words → list_all is_utf8 words ≡ true → IsRead c

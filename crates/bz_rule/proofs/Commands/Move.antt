@@ -15,7 +15,7 @@ use Rattle.bz_attribute.specs.Move.{arrivals, elements_of, move, move_note, move
 use Rattle.bz_rule.proofs.Arguments.{attribute_named, is_first_named, name_put}
 use Rattle.bz_token.proofs.Classes.{same_bytes}
 use Rattle.std.proofs.lemmas.List.Elements.{filter-append}
-use Rattle.bz_rule.proofs.Remove.{filtered_kept, filtered_same}
+use Rattle.bz_rule.proofs.Commands.Remove.{filtered_kept, filtered_same}
 use Rattle.bz_command.specs.Names.{is_identifier}
 use Rattle.std.specs.Prelude.{not, ◌&&◌}
 use Rattle.bz_rule.proofs.Lawful.{Lawful, done_changed, guarded_same, note_unchanged, on_arguments}
