@@ -1,5 +1,6 @@
 -- The call of a rule, at the end of the nodes, edited.
 use Rattle.std.proofs.Common.{◌≡◌, ℕ, suc, ◌+◌, ◌-◌, List, [], ◌∷◌, ◌++◌, Bool, true, false, ◌&&◌, if◌then◌else◌, Some, None, length, get_or, set, take, refl, ap, sym, ◌∙◌, arith, is_some}
+use Rattle.std.proofs.lemmas.Bool.{and_parts}
 use Rattle.std.proofs.lemmas.List.{map-append, set_split, drop_all, get_or_default}
 use Rattle.bz_tree.specs.declared.stmt.Node.{Node}
 use Rattle.bz_tree.specs.declared.stmt.GroupKind.TheVariants.{Call, RuleCall, Load, Paren, List as ListKind, Index, Dict, ListComp, DictComp}
@@ -54,15 +55,10 @@ called kind x r h =
     elim (is_call x && dotted true kind) as (λ b. Some r ≡ (if b then Some (record { kind = kind; args = elements x; one_comma = comma_of x; end = end_of x }) else None) → b ≡ true)
     [ true ↦ λ k. refl | false ↦ λ k. absurd cc ] h
 
-both : (a b : Bool) → (a && b) ≡ true → (a ≡ true) × (b ≡ true)
-both true true h = (refl, refl)
-both true false h = absurd cc
-both false b h = absurd cc
-
 pub call_of_rule : (ns : List Node) (r : Rule) → Some r ≡ rule_of (nodes_view ns) → IsCallAt ns (length ns - 1)
 call_of_rule [] r h = absurd cc
 call_of_rule (n ∷ ns) r h =
     let i : ℕ = length (n ∷ ns) - 1 in
     let last : i + 1 ≡ length (n ∷ ns) = omega arith in
-    let parts = both (is_call (node_view (get_or (n ∷ ns) i n))) (dotted true (nodes_view (take i (n ∷ ns)))) (called (nodes_view (take i (n ∷ ns))) (node_view (get_or (n ∷ ns) i n)) r (h ∙ rule_at (n ∷ ns) n i last)) in
+    let parts = and_parts (is_call (node_view (get_or (n ∷ ns) i n))) (dotted true (nodes_view (take i (n ∷ ns)))) (called (nodes_view (take i (n ∷ ns))) (node_view (get_or (n ∷ ns) i n)) r (h ∙ rule_at (n ∷ ns) n i last)) in
     is_call_at (n ∷ ns) i n last parts.0 parts.1
