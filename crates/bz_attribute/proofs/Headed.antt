@@ -2,7 +2,6 @@
 use Rattle.std.proofs.Common.{◌≡◌, ℕ, Bool, true, false, ◌&&◌, ◌||◌, List, [], ◌∷◌, ◌++◌, map, refl, sym, ◌∙◌, ap, append_assoc, Option, None, Some, if◌then◌else◌, bytes_eq, rules}
 use Rattle.std.specs.Prelude.{codes}
 use Rattle.std.proofs.lemmas.Bool.{false≢true, and_parts}
-use Rattle.std.proofs.lemmas.Slice.Eq.{bytes_eq-Decides}
 use Rattle.bz_token.specs.declared.token.Kind.TheVariants.{Identifier, Operator}
 use Rattle.bz_tree.specs.declared.stmt.GroupKind.{GroupKind}
 use Rattle.bz_tree.specs.declared.stmt.GroupKind.TheVariants.{RuleCall}
@@ -17,6 +16,7 @@ use Rattle.bz_attribute.proofs.RuleNodes.{rule_nodes, segs_back}
 use Rattle.bz_attribute.proofs.RuleParts.{rule_dotted, with_last}
 use Rattle.bz_token.specs.Common.{is_empty}
 use Rattle.std.specs.List.{list_any}
+use Rattle.bz_token.proofs.Classes.{same_bytes}
 
 pub class_called : (nodes : List Item) → class_of nodes ≡ RuleClass → is_rule nodes ≡ true
 class_called [] h = absurd cc
@@ -31,9 +31,6 @@ class_called (x ∷ xs) h =
         ]
       ]
     ] h
-
-same_bytes : (xs ys : List ℕ) → bytes_eq xs ys ≡ true → xs ≡ ys
-same_bytes xs ys h = search (rules, bytes_eq-Decides)
 
 -- A rule by its class: an identifier comes next, or with `false` a dot or the call
 abbrev goes_on : Bool → List Item → Bool

@@ -4,6 +4,7 @@ use Rattle.std.specs.Prelude.{codes}
 use Rattle.std.proofs.lemmas.Bool.{false≢true, and_parts}
 use Rattle.std.proofs.lemmas.Slice.Eq.{bytes_eq-Decides}
 use Rattle.bz_token.specs.declared.token.Kind.TheVariants.{Identifier, Operator, String}
+use Rattle.bz_token.proofs.Classes.{same_bytes}
 use Rattle.bz_tree.specs.Tree.{Item, leaf, group, Statement, items_of}
 use Rattle.bz_tree.specs.Rows.{RowPart, a_token, opening, closing, above, segment_end, items_parts, segs_parts}
 use Rattle.bz_attribute.specs.Rules.{Rule, rule_of, is_text, ident_of, is_operator_item, name_of, name_in, only_text, string_value, value}
@@ -14,9 +15,6 @@ use Rattle.bz_attribute.specs.private.HeadParts.{name_literal, IsInCall}
 use Rattle.bz_attribute.proofs.FoundArgs.{here}
 use Rattle.bz_attribute.proofs.PlaceFound.{IsArgument, argument_in, argument_there, none_there}
 use Rattle.bz_command.specs.Values.{value_of}
-
-same_bytes : (xs ys : List ℕ) → bytes_eq xs ys ≡ true → xs ≡ ys
-same_bytes xs ys h = search (rules, bytes_eq-Decides)
 
 -- the nodes of an argument `name = value`
 record IsNameItems (xs : List Item) : Type 0 where

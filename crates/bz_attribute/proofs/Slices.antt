@@ -1,5 +1,5 @@
 -- What a slice of parts is seen as.
-use Rattle.std.proofs.Common.{◌≡◌, ℕ, ◌-◌, List, length, map, take, drop, ap, sym, ◌∙◌, ◌++◌, append_assoc}
+use Rattle.std.proofs.Common.{◌≡◌, ℕ, ◌-◌, List, [], ◌∷◌, length, map, take, drop, ap, sym, ◌∙◌, ◌++◌, append_assoc}
 use Rattle.std.specs.List.{take-map, drop-map}
 use Rattle.std.proofs.lemmas.List.{map-append, take_rest}
 use Rattle.bz_tree.specs.declared.row.Part.{Part}
@@ -13,6 +13,10 @@ rest_seen ps from = ap (map part_view) (take_rest ps from) ∙ sym (drop-map par
 
 pub front_seen : (ps : List Part) (to : ℕ) → map part_view (take to ps) ≡ take to (map part_view ps)
 front_seen ps to = sym (take-map part_view to ps)
+
+-- one part more
+pub one_more : (old new : List Part) (p : Part) → new ≡ old ++ p ∷ [] → map part_view new ≡ map part_view old ++ part_view p ∷ []
+one_more old new p is = ap (map part_view) is ∙ map-append part_view old (p ∷ [])
 
 -- parts written in place of others
 pub three_written : (ps one two three : List Part) (from to : ℕ) (own : List RowPart) → one ≡ take from ps → map part_view two ≡ map part_view one ++ own → three ≡ two ++ take (length ps - to) (drop to ps)

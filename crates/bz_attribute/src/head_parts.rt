@@ -11,6 +11,7 @@ ghost use Rattle.bz_attribute.specs.private.HeadParts.{IsInCall};
 ghost use Rattle.bz_command.specs.Values.{value_of};
 
 use crate::finder::find_argument;
+use crate::place::comments_len;
 use bumpalo::Bump;
 use bz_command::{plain_text, read_value};
 use bz_memory::{NoMemory, alloc_str, push_str};
@@ -22,11 +23,7 @@ use std::alloc::Global;
 pub(crate) fn after_comments<'p, 'a>(parts: &'p [Part<'a>]) -> &'p [Part<'a>]
     ensures { map part_view result.now ≡ spec.after_comments (map part_view parts.now) }
 {
-    let mut rest = parts;
-    while let [Part::Above(_), after @ ..] = rest {
-        rest = after;
-    }
-    rest
+    &parts[comments_len(parts)..]
 }
 
 // The parts after the tokens with which they begin.

@@ -22,6 +22,7 @@ mod rule;
 mod texts;
 mod value;
 mod word_set;
+mod written;
 
 pub use arguments::{FirstArgument, first_argument};
 pub use done::{Done, Executed, Note};
@@ -46,3 +47,4 @@ pub use rule::{
 pub use texts::{label, push_home};
 pub use value::{only_list, value_end};
 pub use word_set::WordSet;
+pub use written::{begin_argument, literal_in, push_element, push_string, push_token};

@@ -72,7 +72,7 @@ pub(crate) fn segment_len(parts: &[Part<'_>]) -> usize
     nodes + end_len(&parts[nodes..])
 }
 
-pub(crate) fn is_above(part: Part<'_>) -> bool
+fn is_above(part: Part<'_>) -> bool
     ensures { result ≡ spec.is_above (part_view part.entry) }
 {
     matches!(part, Part::Above(_))

@@ -9,15 +9,8 @@ ghost use Rattle.bz_attribute.specs.Rules.{Rule};
 ghost use Rattle.bz_attribute.specs.RowPlaces.{IsRuleRow};
 ghost use Rattle.bz_attribute.specs.private.Ends as spec;
 
-use crate::place::{Place, is_above};
+use crate::place::{Place, comments_len};
 use bz_tree::Part;
-
-// How many comments the parts begin with.
-fn comments_len(parts: &[Part<'_>]) -> usize
-    ensures { result ≡ prefix_len (λ part. spec.is_above (part_view part)) parts.now }
-{
-    parts.iter().take_while(|part| is_above(**part)).count()
-}
 
 fn is_token(part: Part<'_>) -> bool
     ensures { result ≡ spec.is_token (part_view part.entry) }

@@ -1,21 +1,15 @@
 -- The kind of a rule, set in its parts.
-use Rattle.std.proofs.Common.{◌≡◌, ℕ, ◌<◌, ◌==◌, List, [], ◌∷◌, ◌++◌, Bool, false, if◌then◌else◌, not, Some, None, length, map, take, drop, refl, ap, sym, ◌∙◌, arith, append_assoc}
+use Rattle.std.proofs.Common.{◌≡◌, ℕ, ◌<◌, ◌==◌, List, [], ◌∷◌, ◌++◌, Bool, false, if◌then◌else◌, not, Some, None, length, take, drop, refl, ap, sym, ◌∙◌, arith, append_assoc}
 use Rattle.std.specs.Prelude.{bytes_eq, codes}
 use Rattle.std.specs.List.{slice_split}
-use Rattle.std.proofs.lemmas.List.{map-append}
 use Rattle.bz_token.specs.declared.token.Kind.TheVariants.{Identifier, Operator}
-use Rattle.bz_tree.specs.declared.row.Part.{Part}
 use Rattle.bz_tree.specs.Tree.{Item, Statement, items_of, leaf}
-use Rattle.bz_tree.specs.Rows.{RowPart, a_token, items_parts, part_view, parts_of}
+use Rattle.bz_tree.specs.Rows.{RowPart, a_token, items_parts, parts_of}
 use Rattle.bz_command.proofs.Cuts.{some_part}
 use Rattle.bz_attribute.specs.Rules.{Rule, rule_of, kind_text}
 use Rattle.bz_attribute.specs.Set.{joined_by_dots, kind_items, kind_after, sets_kind_of, with_kind}
 use Rattle.bz_attribute.specs.Effects.{done, nodes_of}
 use Rattle.bz_attribute.specs.KindPlaces.{IsKindPlace}
-
--- one part more
-pub one_more : (old new : List Part) (p : Part) → new ≡ old ++ p ∷ [] → map part_view new ≡ map part_view old ++ part_view p ∷ []
-one_more old new p is = ap (map part_view) is ∙ map-append part_view old (p ∷ [])
 
 joined_more : (name : List ℕ) (names : List (List ℕ)) → 0 < length names → joined_by_dots (name ∷ names) ≡ leaf Identifier name ∷ leaf Operator (codes ".") ∷ joined_by_dots names
 joined_more name [] h = absurd (omega arith)

@@ -1,7 +1,6 @@
 -- What is printed of the head and the parts of a rule is what is printed of it.
-use Rattle.std.proofs.Common.{◌≡◌, ℕ, List, [], ◌∷◌, ◌++◌, ◌<◌, ◌≤◌, true, false, Option, Some, None, Bor, option_map, is_some, length, refl, sym, ◌∙◌, ap, arith, append_assoc, if◌then◌else◌, bytes_eq, rules, option_and_then}
+use Rattle.std.proofs.Common.{◌≡◌, ℕ, List, [], ◌∷◌, ◌++◌, ◌<◌, ◌≤◌, true, false, Option, Some, None, Bor, option_map, is_some, length, refl, sym, ◌∙◌, ap, arith, append_assoc, if◌then◌else◌, bytes_eq, option_and_then}
 use Rattle.std.specs.Prelude.{codes, option_to_list}
-use Rattle.std.proofs.lemmas.Slice.Eq.{bytes_eq-Decides}
 use Rattle.bz_tree.specs.Tree.{Segment, Statement}
 use Rattle.bz_tree.specs.Rows.{RowPart}
 use Rattle.bz_command.specs.Labels.{Package}
@@ -20,9 +19,7 @@ use Rattle.bz_attribute_commands.specs.private.PrintSteps.{HasPrinted, HasPrinte
 use Rattle.bz_attribute.specs.Effects.{done}
 use Rattle.bz_token.specs.Common.{map_or}
 use Rattle.std.specs.Option.{option_or}
-
-same_bytes : (xs ys : List ℕ) → bytes_eq xs ys ≡ true → xs ≡ ys
-same_bytes xs ys h = search (rules, bytes_eq-Decides)
+use Rattle.bz_token.proofs.Classes.{same_bytes}
 
 same_rule : (o : Option Rule) (x y : Rule) → o ≡ Some x → o ≡ Some y → x ≡ y
 same_rule o x y one other = let both : Some x ≡ Some y = sym one ∙ other in cc

@@ -16,10 +16,6 @@ pub then_err : {T E P Q : Type 0} (r : Result T E) → (P → Q) → OnErr r P �
 then_err (Ok x) f h = tt
 then_err (Err e) f h = f h
 
-pub then_ok : {T E P Q : Type 0} (r : Result T E) → (P → Q) → OnOk r P → OnOk r Q
-then_ok (Ok x) f h = f h
-then_ok (Err e) f h = tt
-
 pub on_ok : {T E P : Type 0} (r : Result T E) → P → OnOk r P
 on_ok (Ok x) h = h
 on_ok (Err e) h = tt

@@ -1,18 +1,16 @@
 //! The parts of a new argument, and of the value that it is set to.
 
 ghost use Rattle.std.specs.Prelude.{◌≡◌, ◌++◌, ◌∷◌, [], None, OnOk, map};
-ghost use Rattle.bz_token.specs.declared.token.Kind.TheVariants.{String as StringKind};
-ghost use Rattle.bz_command.specs.Values.{quoted};
 ghost use Rattle.bz_tree.specs.Tree.{items_of, segs_of};
-ghost use Rattle.bz_tree.specs.Rows.{a_token, items_parts, part_view, segs_parts};
+ghost use Rattle.bz_tree.specs.Rows.{items_parts, part_view, segs_parts};
 ghost use Rattle.bz_attribute.specs.Effects.{argument, list_item, string};
 ghost use Rattle.bz_attribute_commands.specs.private.SetViews.{new_view};
 ghost use Rattle.bz_attribute.specs.Set as spec;
 
 use crate::set::{New, new_of};
-use bz_attribute::Parts;
-use bz_command::{Text, quote};
-use bz_memory::{NoMemory, alloc_str, push};
+use bz_attribute::{Parts, begin_argument, push_element, push_string, push_token};
+use bz_command::Text;
+use bz_memory::{NoMemory, push};
 use bz_token::Kind;
 use bz_tree::{GroupKind, Part};
 use std::alloc::Global;
@@ -28,8 +26,7 @@ pub fn write_argument<'a>(
         ≡ segs_parts (segs_of (argument attr.now (spec.new_value (spec.new_of attr.now words.now None)) ∷ []))) }
 {
     new.clear();
-    push_token(Kind::Identifier, attr, new)?;
-    push(new, Part::Token(Kind::Operator, "="))?;
+    begin_argument(attr, new)?;
     push_value(alloc, new_of(attr, words, false), new)?;
     push(new, Part::End)?;
     Ok(())
@@ -52,26 +49,6 @@ pub(crate) fn push_value<'a>(
     }
 }
 
-// Appends a token, whose text is copied into the arena.
-fn push_token<'a>(kind: Kind, text: &str, new: &mut Parts<'a>) -> Result<(), NoMemory>
-    ensures { OnOk result
-        (map part_view new.new.items ≡ map part_view new.old.items ++ a_token kind text.now ∷ []) }
-{
-    let bump = *new.allocator();
-    let text = alloc_str(bump, text)?;
-    push(new, Part::Token(kind, text))?;
-    Ok(())
-}
-
-// Appends the literal of a string.
-fn push_string<'a>(alloc: Global, word: &str, new: &mut Parts<'a>) -> Result<(), NoMemory>
-    ensures { OnOk result
-        (map part_view new.new.items ≡ map part_view new.old.items ++ a_token StringKind (quoted word.now) ∷ []) }
-{
-    let literal = quote(alloc, word)?;
-    push_token(Kind::String, literal.as_str(), new)
-}
-
 // Appends the parts of a list of strings.
 fn push_list<'a>(alloc: Global, words: &[Text], new: &mut Parts<'a>) -> Result<(), NoMemory>
     ensures { OnOk result (map part_view new.new.items
@@ -89,8 +66,7 @@ fn push_strings<'a>(alloc: Global, words: &[Text], new: &mut Parts<'a>) -> Resul
         (map part_view new.new.items ≡ map part_view new.old.items ++ segs_parts (segs_of (map string words.now))) }
 {
     for word in words {
-        push_string(alloc, word.as_str(), new)?;
-        push(new, Part::End)?;
+        push_element(alloc, word.as_str(), new)?;
     }
     Ok(())
 }

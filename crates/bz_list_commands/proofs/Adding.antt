@@ -1,6 +1,6 @@
 -- What `add` writes, value by value, and what it makes of a rule.
 use Rattle.std.proofs.Common.{◌≡◌, ℕ, ◌+◌, ◌-◌, ◌<◌, ◌≤◌, List, [], ◌∷◌, ◌++◌, Bool, true, false, not, if◌then◌else◌, Option, Some, None, length, get_or, map, take, drop, refl, ap, sym, ◌∙◌, arith, append_assoc, append-nil, length-append, take-add}
-use Rattle.std.specs.Prelude.{codes, option_to_list, Result, Ok, Err, OnOk}
+use Rattle.std.specs.Prelude.{codes, option_to_list}
 use Rattle.std.proofs.lemmas.List.{drop_all}
 use Rattle.bz_token.specs.declared.token.Kind.TheVariants.{Identifier, Operator}
 use Rattle.bz_tree.specs.declared.stmt.GroupKind.TheVariants.{List as ListKind}
@@ -11,7 +11,7 @@ use Rattle.bz_command.specs.LabelSetViews.{Gains, has as holds_label}
 use Rattle.bz_command.specs.declared.label_set.LabelSet.{LabelSet}
 use Rattle.bz_attribute.specs.Add.{add, adds, fresh, is_fresh, new_elements, with_added}
 use Rattle.bz_attribute.specs.Effects.{argument, done, edit_first, has, list_item, not_a_list, string, with_args}
-use Rattle.bz_attribute.specs.Elements.{AreElementsTo, AreLists, IsListIn, IsValueAt, value_parts}
+use Rattle.bz_attribute.specs.Elements.{AreElementsTo, AreLists, IsListIn, IsValueAt}
 use Rattle.bz_attribute.specs.Lists.{edit_first_part, parts, same, with_value}
 use Rattle.bz_attribute.specs.RowEdits.{replaced_at}
 use Rattle.bz_attribute.specs.RowPlaces.{IsLocal, IsPlaceOf, IsRuleRow, alone}
@@ -140,7 +140,3 @@ attribute_written attr ss old one two three first mid last =
     let elements : List RowPart = segs_parts (segs_of ss) in
     let moved : ((old ++ head) ++ elements) ++ (closing false ∷ segment_end ∷ []) ≡ old ++ segs_parts (segs_of (argument attr (list_item ss ∷ []) ∷ [])) = simp append_assoc in
     last ∙ ap (λ (qs : List RowPart). qs ++ (closing false ∷ segment_end ∷ [])) (mid ∙ ap (λ (qs : List RowPart). qs ++ elements) first) ∙ moved
-
-pub where_done : {T E P Q : Type 0} (r : Result T E) → (P → Q) → OnOk r P → OnOk r Q
-where_done (Ok x) f p = f p
-where_done (Err e) f p = p

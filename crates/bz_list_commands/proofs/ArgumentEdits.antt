@@ -23,7 +23,7 @@ use Rattle.bz_list_commands.specs.private.ArgumentEdits.{HasEdited, HasEditedAll
 use Rattle.bz_list_commands.specs.private.ElementEdits.{HasEditedValue}
 use Rattle.bz_list_commands.specs.private.StringEdits.{become_all, changes, is_meant}
 use Rattle.bz_list_commands.specs.private.WrittenParts.{HasPut, IsWithin, IsWritten}
-use Rattle.bz_list_commands.proofs.ElementEdits.{after_them, and_them}
+use Rattle.bz_list_commands.proofs.ElementEdits.{after_them, and_them, or_true}
 use Rattle.bz_list_commands.proofs.WrittenParts.{passed}
 use Rattle.bz_token.specs.Common.{is_empty}
 
@@ -46,10 +46,6 @@ stays f t a others w nodes to n name ps out within are first same none =
           subst (λ (ss : List Segment). IsWritten (record w { at = w.at + to }) ps out (target ++ segs_parts (segs_of ss))) (sym same)
           (passed w ps out target (segs_parts (segs_of (a ∷ []))) (w.at + to) n within h (and_them ps (segs_parts (segs_of (a ∷ []))) (segs_parts (segs_of others)) w.at (w.at + to) (are ∙ apart a others) size) size);
     }
-
-or_true : (b : Bool) → (b || true) ≡ true
-or_true true = refl
-or_true false = refl
 
 -- one that goes
 pub goes_away : (f : Segment → List Segment) (t : Segment → Bool) (a : Segment) (others : List Segment) (w next : Written) (nodes to : ℕ) (name : Option (List ℕ)) (ps before out : List RowPart) → HasPut w next (w.at + to) None ps before out

@@ -82,7 +82,7 @@ element_put p literal w next token to n string ps before out none within order w
       subst (λ (t : List RowPart). IsWritten (record next { at = to }) ps out t) whole third;
 }
 
-or_true : (b : Bool) → (b || true) ≡ true
+pub or_true : (b : Bool) → (b || true) ≡ true
 or_true true = refl
 or_true false = refl
 

@@ -1,5 +1,5 @@
 -- Parts that are written anew from the first change on.
-use Rattle.std.proofs.Common.{◌≡◌, ℕ, ◌+◌, ◌-◌, ◌≤◌, List, [], ◌++◌, Bool, true, false, not, Option, None, Some, length, map, take, drop, refl, ap, sym, subst, ◌∙◌, arith, rules, append_assoc, append-nil, length-take-le, take-add, take-append-drop, length-drop, drop-drop}
+use Rattle.std.proofs.Common.{◌≡◌, ℕ, ◌+◌, ◌-◌, ◌≤◌, List, [], ◌++◌, true, false, Option, None, Some, length, map, take, drop, ap, sym, subst, ◌∙◌, arith, rules, append_assoc, append-nil, length-take-le, take-add, take-append-drop, length-drop, drop-drop}
 use Rattle.std.specs.Prelude.{Result, Ok, Err, IfOk, IfSome, IfNone}
 use Rattle.std.proofs.lemmas.Bool.{false≢true}
 use Rattle.std.proofs.lemmas.List.{drop-append-le, map-append, take_all, take-append-le}
@@ -92,14 +92,6 @@ placed w ps out target from to within order long all h =
     ∙ regrouped (take from ps) (take w.from own) out (drop w.to own) after
     ∙ ap (λ (qs : List RowPart). take from ps ++ ((take w.from own ++ (out ++ qs)) ++ after)) (sym waits)
     ∙ ap (λ (qs : List RowPart). take from ps ++ (qs ++ after)) h.are
-
-pub is_false : (b : Bool) → not b ≡ true → b ≡ false
-is_false true h = absurd (false≢true h)
-is_false false h = refl
-
-pub is_true : (b : Bool) → not b ≡ false → b ≡ true
-is_true true h = refl
-is_true false h = absurd (false≢true (sym h))
 
 -- what holds of the value of a call that succeeds
 pub ok_as : {T E : Type 0} {P Q : T → Type 0} → ((x : T) → P x → Q x) → (r : Result T E) → IfOk r P → IfOk r Q

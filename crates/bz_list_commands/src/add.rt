@@ -8,6 +8,7 @@ ghost use Rattle.bz_attribute.specs.Elements.{AreLists, ListRest, elements_left,
 ghost use Rattle.bz_attribute.specs.Lists.{equals, same};
 ghost use Rattle.bz_attribute.specs.RowEdits.{IsRowEdit};
 ghost use Rattle.bz_attribute.specs.Rules.{first_named};
+ghost use Rattle.bz_list_commands.specs.private.AddSteps.{HaveWritten};
 ghost use Rattle.bz_attribute.specs.Add as spec;
 ghost use Rattle.bz_attribute.specs.Effects as effects;
 ghost use Rattle.bz_command.specs.Values.{value_of};
@@ -16,13 +17,11 @@ ghost use Rattle.bz_token.specs.Common.{map_or};
 use crate::new_attribute::{close_attribute, open_attribute};
 use bz_attribute::{
     Done, Edit, Env, Parts, Place, WordSet, elements_end, first_equal, first_list, labels_of,
-    new_place, value_place,
+    new_place, push_element, value_place,
 };
-use bz_command::{Bytes, Package, Text, quote};
-use bz_memory::{NoMemory, alloc_str, push};
-use bz_token::Kind;
+use bz_command::{Bytes, Package, Text};
+use bz_memory::NoMemory;
 use bz_tree::Part;
-use std::alloc::Global;
 
 /// Adds the values that are missing to the first argument of a name of the rule that has these parts, or a new one. The
 /// new parts go into `written`.
@@ -70,7 +69,8 @@ fn write_attribute(
     close_attribute(written)
 }
 
-// The elements for the values that are missing in some list parts.
+// The elements for the values that are missing in some list parts. Each is looked up in a set of the values before it and
+// of the elements that are among the values: no other element needs to be in it.
 fn write_missing<'s>(
     env: Env<'s>,
     values: &'s [Text],
@@ -79,35 +79,17 @@ fn write_missing<'s>(
     written: &mut Parts<'_>,
 ) -> Result<(), NoMemory>
     requires { IfSome list (λ from. from ≤ length parts.now) }
-    ensures { OnOk result ((lists : List (List Segment)) → AreLists (map part_view parts.now) list lists
-        → map part_view written.new.items ≡ map part_view written.old.items
-        ++ segs_parts (segs_of (spec.new_elements env.entry.home.now lists values.now))) }
+    ensures { OnOk result (HaveWritten env.entry.home.now values.now (map part_view parts.now) list
+        (map part_view written.old.items) (map part_view written.new.items)) }
 {
-    match values {
-        [word] => write_if_missing(env, word.as_str(), parts, list, written),
-        _ => write_each_missing(env, values, parts, list, written),
+    if let [word] = values {
+        return write_if_missing(env, word.as_str(), parts, list, written);
     }
-}
-
-// The same of any values. Each is looked up in a set of the values before it and of the elements that are among the
-// values: no other element needs to be in it.
-fn write_each_missing<'s>(
-    env: Env<'s>,
-    values: &'s [Text],
-    parts: &[Part<'s>],
-    list: Option<usize>,
-    written: &mut Parts<'_>,
-) -> Result<(), NoMemory>
-    requires { IfSome list (λ from. from ≤ length parts.now) }
-    ensures { OnOk result ((lists : List (List Segment)) → AreLists (map part_view parts.now) list lists
-        → map part_view written.new.items ≡ map part_view written.old.items
-        ++ segs_parts (segs_of (spec.new_elements env.entry.home.now lists values.now))) }
-{
     let words = WordSet::new(env.alloc, env.home, values)?;
     let mut labels = labels_of(env.alloc, env.home, Some(&words), parts, list)?;
     for word in values {
         if labels.insert(Bytes::Plain(word.as_str().as_bytes()))? {
-            write_string(env.alloc, word.as_str(), written)?;
+            push_element(env.alloc, word.as_str(), written)?;
         }
     }
     Ok(())
@@ -122,14 +104,13 @@ fn write_if_missing(
     written: &mut Parts<'_>,
 ) -> Result<(), NoMemory>
     requires { IfSome list (λ from. from ≤ length parts.now) }
-    ensures { OnOk result ((lists : List (List Segment)) → AreLists (map part_view parts.now) list lists
-        → map part_view written.new.items ≡ map part_view written.old.items
-        ++ segs_parts (segs_of (spec.new_elements env.entry.home.now lists (word.now ∷ [])))) }
+    ensures { OnOk result (HaveWritten env.entry.home.now (word.now ∷ []) (map part_view parts.now) list
+        (map part_view written.old.items) (map part_view written.new.items)) }
 {
     if is_there(env.home, word, parts, list) {
         return Ok(());
     }
-    write_string(env.alloc, word, written)
+    push_element(env.alloc, word, written)
 }
 
 // An element of some list parts equals the word.
@@ -142,16 +123,4 @@ fn is_there(home: &Package, word: &str, parts: &[Part<'_>], list: Option<usize>)
         None => false,
         Some(from) => first_equal(home, word, parts, from).is_some(),
     }
-}
-
-// An element that is a new string.
-fn write_string(alloc: Global, value: &str, written: &mut Parts<'_>) -> Result<(), NoMemory>
-    ensures { OnOk result (map part_view written.new.items
-        ≡ map part_view written.old.items ++ segs_parts (segs_of (effects.string value.now ∷ []))) }
-{
-    let bump = *written.allocator();
-    let literal = alloc_str(bump, quote(alloc, value)?.as_str())?;
-    push(written, Part::Token(Kind::String, literal))?;
-    push(written, Part::End)?;
-    Ok(())
 }

@@ -41,29 +41,6 @@ fn goes(attributes: &Attributes, name: Option<&str>) -> bool
     }
 }
 
-// An argument goes, or stays.
-fn drop_argument<'a>(
-    attributes: &Attributes,
-    parts: &[Part<'a>],
-    written: Written,
-    argument: FirstArgument<'_>,
-    out: &mut Parts<'a>,
-) -> Result<Written, NoMemory>
-    requires within { IsWithin written (length parts.now) }
-    requires order { (argument.nodes ≤ argument.to) × (written.at + argument.to ≤ length parts.now) }
-    ensures within { IfOk result (λ next. IsWithin next (length parts.now)) }
-    ensures progress { IfOk result (λ next. written.at + argument.entry.to ≤ next.at) }
-    ensures edited { IfOk result (λ next. spec.HasEditedOne (spec.kept attributes.now) (spec.goes_by attributes.now)
-        written next argument.entry.nodes argument.entry.to (option_map (λ text. text.now) argument.entry.name)
-        (map part_view parts.now) (map part_view out.old.items) (map part_view out.new.items)) }
-{
-    let to = written.at + argument.to;
-    if !goes(attributes, argument.name) {
-        return Ok(Written { at: to, ..written });
-    }
-    put(parts, written, to, None, out)
-}
-
 // The value of a keyword argument is edited.
 fn edit_keyword<'a>(
     edit: StringEdit<'_, '_, '_>,
@@ -94,32 +71,7 @@ fn edit_keyword<'a>(
     Ok(Written { at: end, ..next })
 }
 
-// An argument stays, or its value is edited.
-fn edit_strings<'a>(
-    edit: StringEdit<'_, '_, '_>,
-    parts: &[Part<'a>],
-    written: Written,
-    argument: FirstArgument<'_>,
-    out: &mut Parts<'a>,
-) -> Result<Written, NoMemory>
-    requires within { IsWithin written (length parts.now) }
-    requires order { (argument.nodes ≤ argument.to) × (written.at + argument.to ≤ length parts.now) }
-    ensures within { IfOk result (λ next. IsWithin next (length parts.now)) }
-    ensures progress { IfOk result (λ next. written.at + argument.entry.to ≤ next.at) }
-    ensures edited { IfOk result (λ next. spec.HasEditedOne (spec.edited (means edit.entry) (literal_of edit.entry))
-        (spec.is_changed (means edit.entry))
-        written next argument.entry.nodes argument.entry.to (option_map (λ text. text.now) argument.entry.name)
-        (map part_view parts.now) (map part_view out.old.items) (map part_view out.new.items)) }
-{
-    match argument.name {
-        None => Ok(Written {
-            at: written.at + argument.to,
-            ..written
-        }),
-        Some(_) => edit_keyword(edit, parts, written, argument, out),
-    }
-}
-
+// An argument goes, or stays, or its value is edited.
 fn edit_argument<'a>(
     edit: ArgumentEdit<'_, '_, '_>,
     parts: &[Part<'a>],
@@ -135,9 +87,18 @@ fn edit_argument<'a>(
         written next argument.entry.nodes argument.entry.to (option_map (λ text. text.now) argument.entry.name)
         (map part_view parts.now) (map part_view out.old.items) (map part_view out.new.items)) }
 {
+    let to = written.at + argument.to;
     match edit {
-        ArgumentEdit::Gone(attributes) => drop_argument(attributes, parts, written, argument, out),
-        ArgumentEdit::Strings(strings) => edit_strings(strings, parts, written, argument, out),
+        ArgumentEdit::Gone(attributes) => {
+            if !goes(attributes, argument.name) {
+                return Ok(Written { at: to, ..written });
+            }
+            put(parts, written, to, None, out)
+        }
+        ArgumentEdit::Strings(strings) => match argument.name {
+            None => Ok(Written { at: to, ..written }),
+            Some(_) => edit_keyword(strings, parts, written, argument, out),
+        },
     }
 }
 

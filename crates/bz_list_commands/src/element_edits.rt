@@ -4,7 +4,6 @@ ghost use Rattle.std.specs.Prelude.{◌≡◌, ◌≤◌, ◌+◌, List, true, m
 ghost use Rattle.std.specs.List.{list_any};
 ghost use Rattle.bz_tree.specs.Tree.{Item, Segment};
 ghost use Rattle.bz_tree.specs.Rows.{RowPart, part_view};
-ghost use Rattle.bz_command.specs.Values.{quoted};
 ghost use Rattle.bz_attribute.specs.Elements.{ListRest, rest_parts, value_parts};
 ghost use Rattle.bz_list_commands.specs.private.StringEdits.{literal_of, means};
 ghost use Rattle.bz_list_commands.specs.private.WrittenParts.{IsWithin};
@@ -12,54 +11,11 @@ ghost use Rattle.bz_list_commands.specs.private.ElementEdits as spec;
 
 use crate::rewriting::{Written, put};
 use crate::string_edit::StringEdit;
-use bumpalo::Bump;
-use bz_attribute::{Element, Parts, first_list, next_element, next_list};
-use bz_command::quote;
-use bz_memory::{NoMemory, alloc_str};
+use bz_attribute::{Element, Parts, first_list, literal_in, next_element, next_list};
+use bz_memory::NoMemory;
 use bz_tree::Part;
-use std::alloc::Global;
 
-// The literal of a value, in an arena.
-fn literal_in<'a>(alloc: Global, bump: &'a Bump, value: &str) -> Result<&'a str, NoMemory>
-    ensures { IfOk result (λ text. text.now ≡ quoted value.now) }
-{
-    alloc_str(bump, quote(alloc, value)?.as_str())
-}
-
-// An element that is meant goes, or its string becomes another.
-fn put_element<'a>(
-    edit: StringEdit<'_, '_, '_>,
-    parts: &[Part<'a>],
-    written: Written,
-    element: Element<'_>,
-    out: &mut Parts<'a>,
-) -> Result<Written, NoMemory>
-    requires within { IsWithin written (length parts.now) }
-    requires order { (written.at ≤ element.token)
-        × ((element.token + 1 ≤ element.to) × (element.to ≤ length parts.now)) }
-    ensures within { IfOk result (λ next. IsWithin next (length parts.now)) }
-    ensures put { IfOk result (λ next. spec.HasPutElement (means edit.entry) (literal_of edit.entry) written next
-        element.entry.token element.entry.to (option_map (λ text. text.now) element.entry.string)
-        (map part_view parts.now) (map part_view out.old.items) (map part_view out.new.items)) }
-{
-    match edit.new() {
-        None => put(parts, written, element.to, None, out),
-        Some(value) => {
-            let text = literal_in(edit.env.alloc, *out.allocator(), value)?;
-            let before = Written {
-                at: element.token,
-                ..written
-            };
-            let next = put(parts, before, element.token + 1, Some(text), out)?;
-            Ok(Written {
-                at: element.to,
-                ..next
-            })
-        }
-    }
-}
-
-// An element stays, or goes, or becomes another.
+// An element that is meant goes, or its string becomes another. The others stay.
 fn edit_element<'a>(
     edit: StringEdit<'_, '_, '_>,
     parts: &[Part<'a>],
@@ -81,7 +37,21 @@ fn edit_element<'a>(
             ..written
         });
     }
-    put_element(edit, parts, written, element, out)
+    match edit.new() {
+        None => put(parts, written, element.to, None, out),
+        Some(value) => {
+            let text = literal_in(edit.env.alloc, *out.allocator(), value)?;
+            let before = Written {
+                at: element.token,
+                ..written
+            };
+            let next = put(parts, before, element.token + 1, Some(text), out)?;
+            Ok(Written {
+                at: element.to,
+                ..next
+            })
+        }
+    }
 }
 
 // The elements of a list part, up to their end.

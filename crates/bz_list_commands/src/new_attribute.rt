@@ -5,9 +5,8 @@ ghost use Rattle.bz_token.specs.declared.token.Kind.TheVariants.{Identifier, Ope
 ghost use Rattle.bz_tree.specs.declared.stmt.GroupKind.TheVariants.{List as ListKind};
 ghost use Rattle.bz_tree.specs.Rows.{a_token, closing, opening, part_view, segment_end};
 
-use bz_attribute::Parts;
-use bz_memory::{NoMemory, alloc_str, push};
-use bz_token::Kind;
+use bz_attribute::{Parts, begin_argument};
+use bz_memory::{NoMemory, push};
 use bz_tree::{GroupKind, Part};
 
 /// Begins an argument of a name whose value is a list.
@@ -15,10 +14,7 @@ pub(crate) fn open_attribute(attr: &str, written: &mut Parts<'_>) -> Result<(), 
     ensures { OnOk result (map part_view written.new.items ≡ map part_view written.old.items
         ++ (a_token Identifier attr.now ∷ a_token Operator (codes "=") ∷ opening ListKind ∷ [])) }
 {
-    let bump = *written.allocator();
-    let name = alloc_str(bump, attr)?;
-    push(written, Part::Token(Kind::Identifier, name))?;
-    push(written, Part::Token(Kind::Operator, "="))?;
+    begin_argument(attr, written)?;
     push(written, Part::Open(GroupKind::List))?;
     Ok(())
 }

@@ -1,6 +1,6 @@
 -- The recognizer accepts the statements of the grammar, and nothing else.
-use Rattle.std.proofs.Common.{◌≡◌, ℕ, List, Bool, true, false, ◌&&◌, ◌||◌, refl, ap, ◌∙◌, ◌⊎◌, inl, inr}
-use Rattle.std.proofs.lemmas.Bool.{false≢true, and_parts}
+use Rattle.std.proofs.Common.{◌≡◌, ℕ, List, Bool, true, false, ◌&&◌, ◌||◌, refl, ap, ◌∙◌, inl, inr}
+use Rattle.std.proofs.lemmas.Bool.{false≢true, and_parts, or_left, or_right, or_cases}
 use Rattle.bz_tree.specs.declared.stmt.GroupKind.TheVariants.{Load}
 use Rattle.bz_tree.specs.declared.role.Role.{Role}
 use Rattle.bz_tree.specs.declared.role.Role.TheVariants.{Name, Value, Comma, Equals, Augmented}
@@ -13,18 +13,6 @@ use Rattle.bz_tree.specs.Grammar.{token_role, leaf_role, is_assignment, join, Is
 use Rattle.bz_tree.specs.private.Machine.{accepts, role_of, after_part, is_value, is_name, is_equals, is_string_item, is_string, is_renamed, is_load_argument, are_load_arguments, are_loaded, is_load_group, is_load, is_nothing, is_statement}
 use Rattle.bz_tree.proofs.Accepted.{join_assoc, both, role_known, leave, whole, Accepts, is_test_part, test_run}
 use Rattle.bz_tree.proofs.Meant.{Sides, one_side, two_sides, statement_means, named_token, equals_token}
-
-or_left : (a b : Bool) → a ≡ true → (a || b) ≡ true
-or_left true b h = refl
-or_left false b h = absurd (false≢true h)
-
-or_right : (a b : Bool) → b ≡ true → (a || b) ≡ true
-or_right true b h = refl
-or_right false b h = h
-
-or_cases : (a b : Bool) → (a || b) ≡ true → (a ≡ true) ⊎ (b ≡ true)
-or_cases true b h = inl refl
-or_cases false b h = inr h
 
 -- expressions
 expr_run : {xs : Items} → IsExpr xs → (p : Goal) (r : Items) → is_test_part p ≡ true → after_part p Comma ≡ Wants p false → Accepts p false r → accepts (Wants p false) (join xs r) ≡ true

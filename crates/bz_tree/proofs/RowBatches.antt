@@ -2,7 +2,7 @@
 use Rattle.std.proofs.Common.{◌≡◌, ℕ, ◌+◌, ◌<◌, ◌^◌, ◌==◌, ◌&&◌, List, [], ◌∷◌, ◌++◌, Bool, true, false, cond, Option, Some, None, IfSome, IfNone, IsSome, option_map, rules, refl, sym, ap, subst, ◌∙◌, append-nil, append_assoc}
 use Rattle.std.specs.Prelude.{count_by, is_some}
 use Rattle.std.specs.Option.{option_or}
-use Rattle.std.proofs.lemmas.Bool.{false≢true}
+use Rattle.std.proofs.lemmas.Bool.{false≢true, and_right, and_left}
 use Rattle.bz_token.specs.declared.token.Token.{Token}
 use Rattle.bz_token.specs.declared.reader.TokenReader.{TokenReader}
 use Rattle.bz_token.specs.Places.{Placed, placed}
@@ -135,18 +135,10 @@ NoRow first depth text = (tokens : List Placed) → AreTokensOf first depth text
 pub faulty : (first depth : ℕ) (text : List ℕ) → HasFault first depth text → NoRow first depth text
 faulty first depth text (fault, lexical, is) tokens are = absurd (no_fault first depth text tokens fault are is lexical)
 
-second_off : (a b : Bool) → b ≡ false → (a && b) ≡ false
-second_off true b off = off
-second_off false b off = refl
-
-first_off : (a b : Bool) → a ≡ false → (a && b) ≡ false
-first_off true b off = absurd (false≢true (sym off))
-first_off false b off = refl
-
 stops_at : (first depth : ℕ) (text : List ℕ) (given : List Placed) (reader : TokenReader) → HasGiven first depth text given reader → ((more : List Placed) → row_run row_start (given ++ more) ≡ None) → NoRow first depth text
 stops_at first depth text given reader read none tokens are =
     let front = given_front first depth text given tokens reader read are in
-    second_off (is_some (first_token tokens)) (has_row tokens) (walk_stops tokens (ap (row_run row_start) front.1 ∙ none front.0))
+    and_right (is_some (first_token tokens)) (has_row tokens) (walk_stops tokens (ap (row_run row_start) front.1 ∙ none front.0))
 
 -- the walk stops in a batch
 pub stopped : (first depth : ℕ) (text : List ℕ) (before reader : TokenReader) (walk : RowWalk) (begin end : Option Token) (i : IsRowSoFar first depth text before walk begin end) → HasGiven first depth text (i.given ++ batch reader) reader
@@ -165,14 +157,14 @@ indented first depth text before reader walk begin end front i read front_is off
     leans (first_token (i.given ++ b)) (first_token more.0) (first_token tokens) (is_some (first_seen tokens)) (is_some (row_run row_start tokens)) whole (ap is_upright (sym here) ∙ off)
   where
     middle_off : (a b c d : Bool) → c ≡ false → (a && (b && (c && d))) ≡ false
-    middle_off a b c d off = second_off a (b && (c && d)) (second_off b (c && d) (first_off c d off))
+    middle_off a b c d off = and_right a (b && (c && d)) (and_right b (c && d) (and_left c d off))
 
     leans : (o p whole : Option Placed) (b d : Bool) → whole ≡ option_or o p → is_upright o ≡ false → (is_some whole && (b && (is_upright whole && d))) ≡ false
     leans None p whole b d is off = absurd (false≢true (sym off))
     leans (Some t) p whole b d is off = middle_off (is_some whole) b (is_upright whole) d (ap is_upright is ∙ off)
 
 no_first : (tokens : List Placed) → first_token tokens ≡ None → (is_some (first_token tokens) && has_row tokens) ≡ false
-no_first tokens none = first_off (is_some (first_token tokens)) (has_row tokens) (ap is_some none)
+no_first tokens none = and_left (is_some (first_token tokens)) (has_row tokens) (ap is_some none)
 
 -- comments alone
 pub nothing_first : (first depth : ℕ) (text : List ℕ) (reader : TokenReader) (walk : RowWalk) (begin end : Option Token) → IsRowSoFar first depth text reader walk begin end → left reader ≡ 0 → begin ≡ None → NoRow first depth text
@@ -202,4 +194,4 @@ pub unfinished : (first depth : ℕ) (text : List ℕ) (reader : TokenReader) (w
 unfinished first depth text reader walk begin end (Some row) i done same = tt
 unfinished first depth text reader walk begin end None i done same = λ tokens are.
     let run : row_run row_start i.given ≡ None = ap (row_run row_start) (sym (append-nil i.given)) ∙ sym (i.run []) ∙ sym same in
-    second_off (is_some (first_token tokens)) (has_row tokens) (ap has_row (given_all first depth text i.given tokens reader i.read done are) ∙ walk_stops i.given run)
+    and_right (is_some (first_token tokens)) (has_row tokens) (ap has_row (given_all first depth text i.given tokens reader i.read done are) ∙ walk_stops i.given run)

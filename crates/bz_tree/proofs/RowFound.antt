@@ -1,7 +1,7 @@
 -- The row that the walk finds is that of the statement of its tokens.
 use Rattle.std.proofs.Common.{◌≡◌, ℕ, ◌==◌, List, [], ◌∷◌, ◌++◌, map, Bool, true, false, not, cond, ◌&&◌, ◌||◌, Option, Some, None, IfSome, IsSome, option_map, option_and_then, refl, sym, ap, subst, ◌∙◌, append-nil}
 use Rattle.std.specs.Bool.{then_some}
-use Rattle.std.proofs.lemmas.Bool.{false≢true, and_parts}
+use Rattle.std.proofs.lemmas.Bool.{false≢true, and_parts, or_left, or_right, not-true}
 use Rattle.bz_token.specs.Places.{Placed}
 use Rattle.bz_token.specs.Reading.{AreTokensOf}
 use Rattle.bz_tree.specs.declared.stmt.GroupKind.{GroupKind}
@@ -36,14 +36,6 @@ pub record Found (answer : Option Segment) (r : RowView) : Type 0 where
   pub parts_are : r.parts ≡ map above segment.before ++ (nodes_parts segment.nodes ++ beside_part segment.suffix)
   pub class_is : r.class ≡ class_of segment.nodes
   pub grammar : is_statement (items_of segment.nodes) ≡ true
-
-or_left : (a b : Bool) → a ≡ true → (a || b) ≡ true
-or_left true b h = refl
-or_left false b h = absurd (false≢true h)
-
-or_right : (a b : Bool) → b ≡ true → (a || b) ≡ true
-or_right true b h = refl
-or_right false b h = h
 
 abbrev row_of : List RowPart → Class → RowView
 row_of ps c = record { parts = ps; class = c }
@@ -138,15 +130,11 @@ run_found (t ∷ ts) = λ g gs r same good goods. after_step t ts (run_found ts)
 pub row_found : (ts : List Placed) (r : RowView) → row_run row_start ts ≡ Some r → Found (run (new_level None) [] ts) r
 row_found ts r same = run_found ts (bracket None [] (none [])) [] r same (refl, refl) tt
 
-not_false : (b : Bool) → not b ≡ true → b ≡ false
-not_false false h = refl
-not_false true h = absurd (false≢true h)
-
 upright : (o : Option Placed) (ts : List Placed) → is_upright o ≡ true → (indent_at o ts ≡ None) × (map_or false is_block_word o ≡ false)
 upright None ts h = (refl, refl)
 upright (Some t) ts h =
     let p = and_parts (t.col == 1) (not (is_block_word t)) h in
-    let word : is_block_word t ≡ false = not_false (is_block_word t) p.1 in
+    let word : is_block_word t ≡ false = not-true (is_block_word t) p.1 in
     (rw (p.0, word) refl, word)
 
 -- the row has the lines of these tokens

@@ -1,6 +1,6 @@
 -- Parts that are read as a load are those of a load.
-use Rattle.std.proofs.Common.{◌≡◌, ℕ, List, [], ◌∷◌, ◌++◌, map, Bool, true, false, cond, ◌||◌, Option, Some, None, refl, sym, ap, ◌∙◌, append_assoc}
-use Rattle.std.proofs.lemmas.Bool.{false≢true, and_parts}
+use Rattle.std.proofs.Common.{◌≡◌, ℕ, List, [], ◌∷◌, ◌++◌, map, Bool, true, false, cond, Option, Some, None, refl, sym, ap, ◌∙◌, append_assoc}
+use Rattle.std.proofs.lemmas.Bool.{false≢true, and_parts, or_left, or_right}
 use Rattle.bz_token.specs.declared.token.Kind.{Kind}
 use Rattle.bz_token.specs.declared.token.Kind.TheVariants.{Keyword}
 use Rattle.bz_tree.specs.declared.stmt.Class.TheVariants.{Load as LoadClass}
@@ -85,15 +85,6 @@ renamed_is : (n e : Item) (xs : Items) → is_name (role_of n) ≡ true → is_e
 renamed_is n e no_items name equals string = absurd (false≢true string)
 renamed_is n e (item x no_items) name equals string = both _ _ (both _ _ name equals) string
 renamed_is n e (item x (item y xs)) name equals string = absurd (false≢true string)
-
--- a string, with or without a name
-or_left : (a b : Bool) → a ≡ true → (a || b) ≡ true
-or_left true b h = refl
-or_left false b h = absurd (false≢true h)
-
-or_right : (a b : Bool) → b ≡ true → (a || b) ≡ true
-or_right true b h = refl
-or_right false b h = h
 
 argument_leaf : (kind : Kind) (text : List ℕ) (r : Role) → leaf_role kind text ≡ r → (xs : Items) (ps : List RowPart) → load_run (load_argument r) (ended xs ps) ≡ true
     → (is_load_argument (item (leaf kind text) xs) ≡ true) × (load_run More ps ≡ true)

@@ -1,7 +1,7 @@
 -- The walk that reads a row goes along with the walk that builds the tree.
-use Rattle.std.proofs.Common.{◌≡◌, ℕ, ◌==◌, List, [], ◌∷◌, ◌++◌, suc, length, map, Bool, true, false, cond, ◌&&◌, ◌||◌, Option, Some, None, option_and_then, arith, refl, sym, ap, ◌∙◌, append_assoc, append-nil}
+use Rattle.std.proofs.Common.{◌≡◌, ℕ, ◌==◌, List, [], ◌∷◌, ◌++◌, suc, length, map, Bool, true, false, cond, ◌&&◌, Option, Some, None, option_and_then, arith, refl, sym, ap, ◌∙◌, append_assoc, append-nil}
 use Rattle.std.proofs.lemmas.List.{map-append}
-use Rattle.std.proofs.lemmas.Bool.{false≢true}
+use Rattle.std.proofs.lemmas.Bool.{false≢true, or_parts}
 use Rattle.std.proofs.lemmas.Bool.Decides.{nat_tests}
 use Rattle.bz_token.specs.declared.token.Kind.{Kind}
 use Rattle.bz_token.specs.declared.token.Kind.TheVariants.{Operator}
@@ -75,10 +75,6 @@ pub record Leads (step : Option Levels) (new : RowState) : Type 0 where
   pub step_is : step ≡ Some (level_of to, map level_of around)
   pub good : IsGood to
   pub goods : AreGood around
-
-neither : (a b : Bool) → (a || b) ≡ false → (a ≡ false) × (b ≡ false)
-neither false b h = (refl, h)
-neither true b h = absurd (false≢true (sym h))
 
 passed : {A : Type 0} (b : Bool) (x y : A) → cond b None (Some x) ≡ Some y → (b ≡ false) × (x ≡ y)
 passed false x y h = (refl, some_injective x y h)
@@ -176,8 +172,8 @@ node_leads g gs x line read ps step new no_for h read_is parts_are is step_is go
 leaf_leads : (t : Placed) (g : Bracket) (gs : List Bracket) (new : RowState) → row_next_at Plain t (image g gs) ≡ Some new → IsGood g → AreGood gs → Leads (next_at Plain t (level_of g) (map level_of gs)) new
 leaf_leads t g gs new same good goods =
     let p = passed (is_refused t (at_place g.place)) _ new same in
-    let q = neither _ _ p.0 in
-    let r = neither (is_for_at t.kind t.text) _ q.1 in
+    let q = or_parts _ _ p.0 in
+    let r = or_parts (is_for_at t.kind t.text) _ q.1 in
     node_leads g gs (leaf_of t) (end_line t) _ _ _ new r.0 r.1 refl refl p.1 refl good goods
 
 -- a comma at the top

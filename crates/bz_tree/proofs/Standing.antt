@@ -1,8 +1,8 @@
 -- The tokens of a text stand in it at their places.
-use Rattle.std.proofs.Common.{◌≡◌, ℕ, ◌+◌, ◌<◌, ◌^◌, ◌==◌, List, [], ◌∷◌, ◌++◌, count_by, Bool, true, false, ◌&&◌, ◌||◌, cond, Option, Some, None, refl, sym, ap, subst, ◌∙◌, arith, append_assoc, append-nil, ◌⊎◌, inl, inr}
+use Rattle.std.proofs.Common.{◌≡◌, ℕ, ◌+◌, ◌<◌, ◌^◌, ◌==◌, List, [], ◌∷◌, ◌++◌, count_by, Bool, true, false, ◌&&◌, ◌||◌, cond, Option, Some, None, refl, sym, ap, subst, ◌∙◌, arith, append_assoc, append-nil, inl, inr}
 use Rattle.std.specs.Prelude.{codes}
 use Rattle.std.specs.Str.{bytes_eq}
-use Rattle.std.proofs.lemmas.Bool.{false≢true, and_parts}
+use Rattle.std.proofs.lemmas.Bool.{false≢true, and_parts, or_cases}
 use Rattle.std.proofs.lemmas.Bool.Decides.{nat_tests}
 use Rattle.std.proofs.lemmas.Slice.Eq.{bytes_eq-Decides}
 use Rattle.bz_token.specs.declared.token.Kind.{Kind}
@@ -295,11 +295,6 @@ both_found first (p ∷ ps) = λ depth before lines opened bs rest header last r
         let ts = without_lines (tokens_of first (before ++ (p.gap ++ p.text)) (line_at first (before ++ p.gap) ∷ lines) ps) in
         let kept : last_of (Some t) ts ≡ Some last = ap (λ b. last_of None (cond b ts (t ∷ ts))) (sym (counted_mark p.kind p.text e)) ∙ is in
         both_from first p ps depth before lines opened bs rest header last reading gap (some_injective t header some) (last_of None ts) refl (sym (last_or (Some t) ts) ∙ kept)
-
--- the word of a header is ASCII
-or_cases : (a b : Bool) → (a || b) ≡ true → (a ≡ true) ⊎ (b ≡ true)
-or_cases true b h = inl refl
-or_cases false b h = inr h
 
 word_front : (t more word : List ℕ) → bytes_eq t word ≡ true → IsAsciiFront (word ++ more) → IsAsciiFront (t ++ more)
 word_front t more word is ascii = subst (λ x. IsAsciiFront (x ++ more)) (sym ((bytes_eq-Decides t word).0 is)) ascii

@@ -15,11 +15,6 @@ use Rattle.bz_tree.specs.Brackets.{leaf_of, after_item, is_for_item, end_line}
 use Rattle.bz_tree.specs.private.Steps.{Walked, walked, so_far, leaf_view, has_one, kind_with, after_node, after_own, Level, with_own}
 use Rattle.bz_tree.proofs.Views.{view-Token, view-Group, view-group}
 
--- what follows where it did not fail
-pub on_ok : {X E A B : Type 0} → (r : Result X E) → (A → B) → OnOk r A → OnOk r B
-on_ok (Ok x) f a = f a
-on_ok (Err e) f a = tt
-
 pub on_both : {X E A B C : Type 0} → (r : Result X E) → (A → B → C) → OnOk r A → OnOk r B → OnOk r C
 on_both (Ok x) f a b = f a b
 on_both (Err e) f a b = tt

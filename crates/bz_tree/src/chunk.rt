@@ -6,7 +6,7 @@ ghost use Rattle.bz_token.specs.Reading.{AreTokensOf};
 ghost use Rattle.bz_tree.specs.Tree.{Statement};
 ghost use Rattle.bz_tree.specs.View.{texts, view, seg_view};
 ghost use Rattle.bz_tree.specs.Statement.{EndsFit, statement_with, first_token, first_seen, last_seen};
-ghost use Rattle.bz_tree.specs.Blocks.{IsBlockOf, kept_statement, is_block_word};
+ghost use Rattle.bz_tree.specs.Blocks.{kept_statement, is_block_word};
 ghost use Rattle.bz_tree.specs.Chunk.{IsPlain, indent_fault, IsChunkOf, IsReadAs, IsTokenFault, IsStatementIn, IsBlank, IsFaultIn};
 ghost use Rattle.bz_tree.specs.private.BlockSteps.{AreStanding};
 ghost use Rattle.bz_tree.specs.Borrowed.{owned_in, owned_texts, seg_owned};
@@ -91,37 +91,6 @@ fn kept_statement<'a>(
     })
 }
 
-// The block that the tokens are. None: they are none.
-fn block_statement<'a>(
-    alloc: Global,
-    text: &'a str,
-    first_line: u64,
-    tokens: &[Token<'a>],
-) -> Result<Option<Stmt<'a>>, NoMemory>
-    requires lines { first_line + count_by (λ b. b == 10) text.now < 2 ^ 64 }
-    requires ends { EndsFit (map placed tokens.now) }
-    requires standing { AreStanding first_line text.now (map placed tokens.now) }
-    requires block { map_or false is_block_word (first_token (map placed tokens.now)) ≡ true }
-    ensures statement { IfOk result
-        (λ o. IfSome o (λ s. IsBlockOf first_line text.now (map placed tokens.now) (view s))) }
-    ensures none { IfOk result
-        (λ o. IfNone o ((t : Statement) → IsBlockOf first_line text.now (map placed tokens.now) t → ⊥)) }
-    ensures borrowed { IfOk result (λ o. IfSome o (λ s. owned_texts s ≡ 0)) }
-{
-    if !is_block(tokens) {
-        return Ok(None);
-    }
-    let Some(header) = first_token(tokens) else {
-        return Ok(None);
-    };
-    let Some(last) = last_seen(tokens) else {
-        return Ok(None);
-    };
-    let kept = kept_text(text, first_line, &header, &last);
-    let before = comments_above(alloc, tokens)?;
-    Ok(Some(kept_statement(alloc, before, kept, &header, end_line(&last))?))
-}
-
 fn begins_block(tokens: &[Token<'_>]) -> bool
     ensures { result ≡ map_or false is_block_word (first_token (map placed tokens.now)) }
 {
@@ -131,7 +100,7 @@ fn begins_block(tokens: &[Token<'_>]) -> bool
     }
 }
 
-// The statement of a chunk's tokens. None: they have none.
+// The statement of a chunk's tokens, a block or not. None: they have none.
 fn chunk_statement<'a>(
     alloc: Global,
     text: &'a str,
@@ -147,11 +116,21 @@ fn chunk_statement<'a>(
         (λ o. IfNone o ((t : Statement) → IsChunkOf first_line text.now (map placed tokens.now) t → ⊥)) }
     ensures borrowed { IfOk result (λ o. IfSome o (λ s. owned_texts s ≡ 0)) }
 {
-    if begins_block(tokens) {
-        block_statement(alloc, text, first_line, tokens)
-    } else {
-        plain_statement(alloc, tokens)
+    if !begins_block(tokens) {
+        return plain_statement(alloc, tokens);
     }
+    if !is_block(tokens) {
+        return Ok(None);
+    }
+    let Some(header) = first_token(tokens) else {
+        return Ok(None);
+    };
+    let Some(last) = last_seen(tokens) else {
+        return Ok(None);
+    };
+    let kept = kept_text(text, first_line, &header, &last);
+    let before = comments_above(alloc, tokens)?;
+    Ok(Some(kept_statement(alloc, before, kept, &header, end_line(&last))?))
 }
 
 // The line at which a chunk is indented wrongly.

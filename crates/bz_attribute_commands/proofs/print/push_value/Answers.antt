@@ -1,4 +1,5 @@
 use Rattle.std.proofs.Common.{tests, ◌≡◌, ℕ, ◌<◌, ◌≤◌, ◌∷◌, [], ◌++◌, ◌&&◌, get_or, List, Option, Some, None, is_some, false, length, refl, ap, sym, ◌∙◌, arith, append-nil, string_bytes, if◌then◌else◌, is_ok, Result, Ok, Err, OnOk, subst}
+use Rattle.std.proofs.lemmas.Result.{on_ok_weaker}
 use Rattle.std.specs.List.{list_all}
 use Rattle.bz_tree.specs.declared.stmt.GroupKind.TheVariants.{RuleCall}
 use Rattle.bz_tree.specs.declared.stmt.Node.{Node}
@@ -11,7 +12,6 @@ use Rattle.bz_attribute.proofs.Mapped.{one_node}
 use Rattle.bz_attribute_commands.specs.Print.{list_text, value_text, word_form}
 use Rattle.std.proofs.lemmas.Bool.{and_left, and_right}
 use Rattle.std.proofs.lemmas.Bool.Decides.{nat_tests}
-use Rattle.bz_attribute_commands.proofs.Written.{then_ok}
 use Rattle.bz_attribute_commands.proofs.print.push_value.Goals as goal
 use Rattle.bz_attribute_commands.proofs.print.push_value.Goals.{in_default-via-then-value-lt1, in_default-via-in-len1+then-is_list+else-are_strings, in_default-via-in-len1+else-is_list, in_default-via-else-value-lt1+else-value-lt2}
 use Rattle.bz_token.specs.Common.{map_or}
@@ -56,6 +56,6 @@ returns-in_ok-flat-in_default c =
     let flat : c.as_str.result.now ≡ value_text (nodes_view c.args.value.now) = c.as_str.ensures.value ∙ c.in_ok-flat-in_default.ensures.text ∙ sym (flat_value (nodes_view c.args.value.now) string words) in
     let before : string_bytes c.push_string.new.text ≡ string_bytes c.args.text.now =
     c.in_ok-push_string.ensures.word ∙ ap (λ (v : Option (List ℕ)). string_bytes c.args.text.now ++ map_or [] word_form v) (none (string_value (nodes_view c.args.value.now)) string) ∙ append-nil (string_bytes c.args.text.now) in
-    then_ok c.push_str.result
+    on_ok_weaker c.push_str.result
     (λ (is : string_bytes c.push_str.new.string ≡ string_bytes c.push_string.new.text ++ c.as_str.result.now). is ∙ (λ j. before j ++ flat j))
     (written c.push_str.result (string_bytes c.push_str.new.string) (string_bytes c.push_string.new.text) c.as_str.result.now c.push_str.ensures.bytes)

@@ -5,7 +5,8 @@ use Rattle.bz_token.specs.declared.token.Kind.TheVariants.{Operator}
 use Rattle.bz_tree.specs.Tree.{items_of}
 use Rattle.bz_tree.specs.Rows.{RowPart, a_token, items_parts, part_view}
 use Rattle.bz_attribute.specs.Set.{kind_items}
-use Rattle.bz_attribute_commands.proofs.KindWritten.{name_written, one_more}
+use Rattle.bz_attribute.proofs.Slices.{one_more}
+use Rattle.bz_attribute_commands.proofs.KindWritten.{name_written}
 use Rattle.bz_attribute_commands.proofs.set_kind.push_kind.Goals as goal
 
 pub loop-name-preserved : goal.loop-name-preserved

@@ -1,4 +1,5 @@
-use Rattle.std.proofs.Common.{map, sym, ◌∙◌, Result, Ok, Err, OnOk}
+use Rattle.std.proofs.Common.{map, sym, ◌∙◌}
+use Rattle.std.proofs.lemmas.Result.{on_ok_weaker}
 use Rattle.bz_tree.specs.Rows.{part_view}
 use Rattle.bz_layout.specs.private.RowLayout.{laid}
 use Rattle.bz_layout.proofs.Kept.{begun_further}
@@ -23,13 +24,9 @@ returns-in_err-walk-clause-begun c = c.put_leading.ensures.begun
 pub returns-in_err-run-clause-begun : goal.returns-in_err-run-clause-begun
 returns-in_err-run-clause-begun c = begun_further _ _ _ c.put_leading.ensures.begun c.run.ensures.begun
 
-on_ok : {T E P Q : Type 0} (r : Result T E) → (P → Q) → OnOk r P → OnOk r Q
-on_ok (Ok x) f h = f h
-on_ok (Err e) f h = tt
-
 pub returns-clause-text : goal.returns-clause-text
 returns-clause-text c =
-    on_ok c.put.result
+    on_ok_weaker c.put.result
     (line_row _ _ _ (map part_view c.args.parts.now) c.args.class _ _ (laid c.run.new.self c.run.new.out.items) (sym c.is_comment.ensures ∙ c.if-is_comment.false) c.in_ok-put_leading.ensures.text c.in_ok-marks.ensures
     (c.in_ok-walk.ensures.laid c.put_leading.new.out.items) c.in_ok-run.ensures.laid)
     c.put.ensures.put

@@ -1,7 +1,9 @@
-use Rattle.std.proofs.Common.{length, map, sym, ◌∙◌}
+use Rattle.std.proofs.Common.{◌+◌, ℕ, List, None, Some, length, map, subst, sym, ◌∙◌}
 use Rattle.bz_tree.specs.Rows.{part_view}
+use Rattle.bz_command.specs.Values.{quoted}
 use Rattle.bz_list_commands.specs.private.StringEdits.{literal_of, means}
-use Rattle.bz_list_commands.proofs.ElementEdits.{element_edited, element_passed}
+use Rattle.bz_list_commands.specs.private.WrittenParts.{HasPut}
+use Rattle.bz_list_commands.proofs.ElementEdits.{element_edited, element_gone, element_passed, element_put, strings_only}
 use Rattle.bz_list_commands.proofs.WrittenParts.{ok_as}
 use Rattle.bz_list_commands.proofs.element_edits.edit_element.Goals as goal
 
@@ -10,7 +12,21 @@ returns-then-not-means-clause-edited c =
     element_passed (means c.args.edit) (literal_of c.args.edit) c.args.written c.args.element.token c.args.element.to (length c.args.parts.now) _ (map part_view c.args.parts.now) (map part_view c.args.out.now.items)
     c.requires.within (sym c.means.ensures ∙ c.if-not-means.true)
 
-pub returns-clause-edited : goal.returns-clause-edited
-returns-clause-edited c =
-    ok_as (λ next h. element_edited (means c.args.edit) (literal_of c.args.edit) c.args.written next c.args.element.token c.args.element.to _ (map part_view c.args.parts.now) (map part_view c.args.out.now.items) (map part_view c.put_element.new.out.items) (sym c.means.ensures ∙ c.if-not-means.false) h)
-    c.put_element.result c.put_element.ensures.put
+pub returns-in-None-clause-edited : goal.returns-in-None-clause-edited
+returns-in-None-clause-edited c =
+    let p = means c.args.edit in
+    let ps = map part_view c.args.parts.now in
+    let out = map part_view c.args.out.now.items in
+    rw (sym c.in-None.ensures) (ok_as (λ next h. element_edited p None c.args.written next c.args.element.token c.args.element.to _ ps out (map part_view c.put.new.out.items) (sym c.means.ensures ∙ c.if-not-means.false)
+    (element_gone p c.args.written next c.args.element.token c.args.element.to _ ps out (map part_view c.put.new.out.items) h)) c.put.result c.put.ensures.put)
+
+pub returns-in_ok-next-in-Some-clause-edited : goal.returns-in_ok-next-in-Some-clause-edited
+returns-in_ok-next-in-Some-clause-edited c =
+    let p = means c.args.edit in
+    let ps = map part_view c.args.parts.now in
+    let out = map part_view c.args.out.now.items in
+    rw (sym c.in-Some.ensures)
+    (element_edited p (Some (quoted c.in-Some.value.now)) c.args.written _ c.args.element.token c.args.element.to _ ps out (map part_view c.put-in-Some.new.out.items) (sym c.means.ensures ∙ c.if-not-means.false)
+    (element_put p (quoted c.in-Some.value.now) c.args.written c.in_ok-next-in-Some.next c.args.element.token c.args.element.to (length c.args.parts.now) _ ps out (map part_view c.put-in-Some.new.out.items)
+    (strings_only c.args.edit.env.home.now c.args.edit.meant (quoted c.in-Some.value.now) (sym c.in-Some.ensures)) c.requires.within c.requires.order.0 c.in_ok-next-in-Some.ensures.within
+    (subst (λ (t : List ℕ). HasPut (record c.args.written { at = c.args.element.token }) c.in_ok-next-in-Some.next (c.args.element.token + 1) (Some t) ps out (map part_view c.put-in-Some.new.out.items)) c.in_ok-text-in-Some.ensures c.in_ok-next-in-Some.ensures.put)))

@@ -1,4 +1,5 @@
 use Rattle.std.proofs.Common.{ℕ, List, Option, None, true, ◌∙◌, ap, map, subst, sym}
+use Rattle.std.proofs.lemmas.Bool.{not-true, not-false}
 use Rattle.std.proofs.lemmas.List.{length-map}
 use Rattle.bz_tree.specs.Rows.{RowPart, part_view}
 use Rattle.bz_attribute.specs.Effects.{done, edit_first, filtered}
@@ -9,7 +10,6 @@ use Rattle.bz_attribute.specs.declared.place.Place.{Place}
 use Rattle.bz_list_commands.specs.private.MoveSteps.{HaveArrivals}
 use Rattle.bz_list_commands.specs.private.StringEdits.{become_all, means}
 use Rattle.bz_list_commands.proofs.MovedRules.{gone_from, has_moved, not_moved, told_gone}
-use Rattle.bz_list_commands.proofs.WrittenParts.{is_false, is_true}
 use Rattle.bz_list_commands.proofs.moving.move_meant.Goals as goal
 
 pub returns-then-not-gone : goal.returns-then-not-gone
@@ -20,7 +20,7 @@ returns-then-not-gone c moved plain same =
     let one : List RowPart = map part_view c.edit_named.new.new.items in
     let gone : IsRowEdit (gone_from c.args.change.old.now (means c.args.edit)) (told_gone c.args.change.old.now (means c.args.edit)) (map part_view c.args.parts.now) (map part_view c.edit_named.new.new.items) c.in_ok-gone.gone =
     subst (λ (literal : Option (List ℕ)). IsRowEdit (edit_first (is_named c.args.change.old.now) (filtered (become_all p literal))) (told_gone c.args.change.old.now p) ps one c.in_ok-gone.gone) plain c.in_ok-gone.ensures in
-    not_moved home c.args.change.old.now c.args.change.new.now moved p ps one c.in_ok-gone.gone _ same gone (is_false c.in_ok-gone.gone.done.changed c.if-not-gone.true)
+    not_moved home c.args.change.old.now c.args.change.new.now moved p ps one c.in_ok-gone.gone _ same gone (not-true c.in_ok-gone.gone.done.changed c.if-not-gone.true)
     (c.none.ensures ∙ ap (λ (d : Done). record { done = d; place = record { from = 0; to = 0 } }) c.quiet.ensures)
 
 pub returns : goal.returns
@@ -32,7 +32,7 @@ returns c moved plain same =
     let gone : IsRowEdit (gone_from c.args.change.old.now (means c.args.edit)) (told_gone c.args.change.old.now (means c.args.edit)) (map part_view c.args.parts.now) (map part_view c.edit_named.new.new.items) c.in_ok-gone.gone =
     subst (λ (literal : Option (List ℕ)). IsRowEdit (edit_first (is_named c.args.change.old.now) (filtered (become_all p literal))) (told_gone c.args.change.old.now p) ps one c.in_ok-gone.gone) plain c.in_ok-gone.ensures in
     has_moved home c.args.change.old.now c.args.change.new.now moved p c.args.lists ps one (map part_view c.deref-3.result.now) (map part_view c.write_with.new.written.items) c.deref-2.result.now c.in_ok-gone.gone c.at.result same gone
-    (is_true c.in_ok-gone.gone.done.changed c.if-not-gone.false)
+    (not-false c.in_ok-gone.gone.done.changed c.if-not-gone.false)
     (ap (map part_view) c.deref-3.ensures.value ∙ c.in_ok-left.ensures ∙ (λ i. replaced_at c.in_ok-gone.gone.place (map part_view (c.deref.ensures.value i)) ps))
     c.requires.from c.requires.to (subst (λ (places : List Place). HaveArrivals home p c.args.lists ps places) (sym c.deref-2.ensures.value) c.in_ok-arriving.ensures.arrivals) c.in_ok-write_with.ensures
     (c.at.ensures ∙ ap (λ (n : ℕ). record { done = done None true; place = record { from = 0; to = n } }) (sym (length-map c.args.parts.now part_view)))

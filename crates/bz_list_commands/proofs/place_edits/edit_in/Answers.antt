@@ -1,4 +1,5 @@
 use Rattle.std.proofs.Common.{◌≡◌, ◌-◌, ℕ, List, length, map, take, drop, arith, length-drop, length-take-le, subst, ap, sym, ◌∙◌}
+use Rattle.std.proofs.lemmas.Bool.{not-true, not-false}
 use Rattle.std.proofs.lemmas.List.{length-map}
 use Rattle.bz_tree.specs.Rows.{RowPart, part_view}
 use Rattle.bz_attribute.specs.declared.done.Done.{Done}
@@ -6,7 +7,6 @@ use Rattle.bz_attribute.proofs.Slices.{slice_seen}
 use Rattle.bz_list_commands.specs.private.ArgumentEdits.{HasEditedAll, changes_by, edit_by}
 use Rattle.bz_list_commands.specs.private.WrittenParts.{IsWithin}
 use Rattle.bz_list_commands.proofs.PlaceEdits.{quiet_place, written_place}
-use Rattle.bz_list_commands.proofs.WrittenParts.{is_false, is_true}
 use Rattle.bz_list_commands.proofs.place_edits.edit_in.Goals as goal
 
 pub returns-then-not-may_change : goal.returns-then-not-may_change
@@ -19,7 +19,7 @@ pub returns-then-not-written : goal.returns-then-not-written
 returns-then-not-written c =
     quiet_place (edit_by c.args.edit) (changes_by c.args.edit) c.args.place (map part_view c.args.parts.now) (map part_view c.edit_arguments.new.out.items) c.none-then-not-written.result
     (c.none-then-not-written.ensures ∙ ap (λ (d : Done). record { done = d; place = record { from = 0; to = 0 } }) c.quiet-then-not-written.ensures)
-    (λ args there. sym (c.in_ok-written.ensures.edited args (slice_seen c.args.parts.now c.args.place.from (c.args.place.to - c.args.place.from) ∙ there)).changed ∙ is_false c.in_ok-written.written.changed c.if-not-written.true)
+    (λ args there. sym (c.in_ok-written.ensures.edited args (slice_seen c.args.parts.now c.args.place.from (c.args.place.to - c.args.place.from) ∙ there)).changed ∙ not-true c.in_ok-written.written.changed c.if-not-written.true)
 
 pub returns : goal.returns
 returns c =
@@ -28,6 +28,6 @@ returns c =
     let size : length (take n (drop c.args.place.from c.args.parts.now)) ≡ n = length-take-le n (drop c.args.place.from c.args.parts.now) (omega (arith, length-drop c.args.place.from c.args.parts.now, c.requires.0, c.requires.1)) in
     written_place (edit_by c.args.edit) (changes_by c.args.edit) c.args.place ps (map part_view c.edit_arguments.new.out.items) c.in_ok-written.written c.at.result
     c.requires.0 (omega (arith, c.requires.1, length-map c.args.parts.now part_view)) (subst (λ (k : ℕ). IsWithin c.in_ok-written.written k) size c.in_ok-written.ensures.within) (c.in_ok-written.ensures.all ∙ size)
-    (is_true c.in_ok-written.written.changed c.if-not-written.false) c.at.ensures
+    (not-false c.in_ok-written.written.changed c.if-not-written.false) c.at.ensures
     (λ args there. subst (λ (qs : List RowPart). HasEditedAll (edit_by c.args.edit) (changes_by c.args.edit) args c.in_ok-written.written qs (map part_view c.edit_arguments.new.out.items)) (slice_seen c.args.parts.now c.args.place.from n)
     (c.in_ok-written.ensures.edited args (slice_seen c.args.parts.now c.args.place.from n ∙ there)))

@@ -3,7 +3,7 @@ use Rattle.bz_tree.specs.Rows.{part_view}
 use Rattle.bz_tree.specs.Tree.{Segment}
 use Rattle.bz_attribute.specs.Elements.{AreLists}
 use Rattle.bz_list_commands.specs.private.AddSteps.{IsAdding}
-use Rattle.bz_list_commands.proofs.add.write_each_missing.Given as goal
+use Rattle.bz_list_commands.proofs.add.write_missing.Given as goal
 
 abbrev pub invariant-loop-word : goal.invariant-loop-word
 invariant-loop-word l = (lists : List (List Segment)) → AreLists (map part_view l.fn.parts) l.fn.list lists
