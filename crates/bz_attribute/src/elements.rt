@@ -189,6 +189,7 @@ pub fn next_list(parts: &[Part<'_>], at: usize) -> Option<usize>
 }
 
 // The elements of a list end there.
+#[inline(always)]
 fn ends_list(parts: &[Part<'_>]) -> bool
     ensures { result ≡ spec.ends_list (map part_view parts.now) }
 {
@@ -196,6 +197,7 @@ fn ends_list(parts: &[Part<'_>]) -> bool
 }
 
 // The text of the segment that they begin with, where it is one string token.
+#[inline(always)]
 fn string_in<'a>(parts: &[Part<'a>]) -> Option<&'a str>
     ensures { option_map (λ text. text.now) result ≡ spec.string_in (map part_view parts.now) }
 {

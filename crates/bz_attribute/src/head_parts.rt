@@ -151,6 +151,7 @@ pub(crate) fn is_equals(part: &Part<'_>) -> bool
     }
 }
 
+#[inline(always)]
 pub(crate) fn is_end(part: &Part<'_>) -> bool
     ensures { result ≡ spec.is_end (part_view part.now) }
 {
@@ -158,6 +159,7 @@ pub(crate) fn is_end(part: &Part<'_>) -> bool
 }
 
 /// The text of a string token.
+#[inline(always)]
 pub(crate) fn text_of<'a>(part: &Part<'a>) -> Option<&'a str>
     ensures { option_map (λ text. text.now) result ≡ spec.text_of (part_view part.now) }
 {

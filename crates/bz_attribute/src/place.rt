@@ -52,6 +52,7 @@ fn end_len(parts: &[Part<'_>]) -> usize
 }
 
 // How many comments the parts begin with.
+#[inline(always)]
 pub(crate) fn comments_len(parts: &[Part<'_>]) -> usize
     ensures len { result ≡ spec.above_len (map part_view parts.now) }
     ensures within { result ≤ length parts.now }
@@ -64,7 +65,20 @@ pub(crate) fn comments_len(parts: &[Part<'_>]) -> usize
 }
 
 // How many parts the segment has that they begin with.
+#[inline(always)]
 pub(crate) fn segment_len(parts: &[Part<'_>]) -> usize
+    ensures len { result ≡ spec.segment_len (map part_view parts.now) }
+    ensures within { result ≤ length parts.now }
+{
+    match parts {
+        // Most elements are one token.
+        [Part::Token(_, _), Part::End, after @ ..] => 2 + besides(after),
+        _ => long_segment_len(parts),
+    }
+}
+
+#[inline(never)]
+fn long_segment_len(parts: &[Part<'_>]) -> usize
     ensures len { result ≡ spec.segment_len (map part_view parts.now) }
     ensures within { result ≤ length parts.now }
 {
@@ -98,6 +112,7 @@ fn is_stop(part: Part<'_>) -> bool
     matches!(part, Part::End | Part::Open(_))
 }
 
+#[inline(always)]
 #[inline(always)]
 fn besides(parts: &[Part<'_>]) -> usize
     ensures { result ≡ spec.besides (map part_view parts.now) }

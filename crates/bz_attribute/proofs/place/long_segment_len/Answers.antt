@@ -2,7 +2,7 @@ use Rattle.std.proofs.Common.{ℕ, ◌+◌, drop, map, ap, ◌∙◌}
 use Rattle.bz_tree.specs.Rows.{part_view}
 use Rattle.bz_attribute.specs.private.Ends.{end_len}
 use Rattle.bz_attribute.proofs.Slices.{rest_seen}
-use Rattle.bz_attribute.proofs.place.segment_len.Goals as goal
+use Rattle.bz_attribute.proofs.place.long_segment_len.Goals as goal
 
 pub returns-clause-len : goal.returns-clause-len
 returns-clause-len c =
