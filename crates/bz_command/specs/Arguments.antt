@@ -1,5 +1,5 @@
 -- The arguments of commands: what those keep that were read (this project's own rule), which attributes they mention, and a test of their words.
-use Rattle.std.specs.Prelude.{ℕ, ◌==◌, List, [], ◌∷◌, Bool, true, false, ◌&&◌, ◌||◌, not, length, codes, bytes_eq}
+use Rattle.std.specs.Prelude.{ℕ, ◌==◌, List, [], ◌∷◌, Bool, true, false, ◌&&◌, ◌||◌, if◌then◌else◌, not, length, codes, bytes_eq}
 use Rattle.std.specs.List.{list_all, list_any}
 use Rattle.bz_command.specs.declared.arguments.Attributes.{Attributes}
 use Rattle.bz_command.specs.declared.arguments.Attributes.TheVariants.{Every, Named}
@@ -10,7 +10,7 @@ use Rattle.bz_command.specs.declared.arguments.Moved.TheVariants.{All, Values}
 use Rattle.bz_command.specs.declared.arguments.Commented.{Commented}
 use Rattle.bz_command.specs.declared.arguments.Commented.TheVariants.{Rule, Attribute, Value}
 use Rattle.bz_command.specs.declared.arguments.Field.{Field}
-use Rattle.bz_command.specs.declared.arguments.Field.TheVariants.{ValueOf}
+use Rattle.bz_command.specs.declared.arguments.Field.TheVariants.{EndLine, Kind, Label, StartLine, ValueOf}
 use Rattle.bz_command.specs.Names.{is_identifier, is_kind}
 
 -- a newline or a carriage return
@@ -23,6 +23,14 @@ is_left_out word = list_any (bytes_eq word) (codes "rule" ∷ codes "attrs" ∷ 
 
 abbrev pub is_field : List ℕ → Bool
 is_field word = is_identifier word && not (is_left_out word)
+
+-- the field that such a word names
+abbrev pub field_of : List ℕ → Field
+field_of word =
+    if bytes_eq word (codes "label") then Label
+    else (if bytes_eq word (codes "kind") then Kind
+    else (if bytes_eq word (codes "startline") then StartLine
+    else (if bytes_eq word (codes "endline") then EndLine else ValueOf word)))
 
 -- what a command that was read keeps
 abbrev pub are_attributes : Attributes → Bool

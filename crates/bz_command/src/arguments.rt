@@ -1,6 +1,10 @@
 //! What commands on one rule take as their arguments.
 
+ghost use Rattle.std.specs.Prelude.{◌≡◌, if◌then◌else◌, None, Some};
+ghost use Rattle.bz_command.specs.Arguments.{field_of, is_field};
+
 use crate::list::{Seq, Text};
+use bz_token::is_identifier;
 
 /// The attributes that a command speaks of.
 #[derive(Drop)]
@@ -44,4 +48,23 @@ pub enum Field {
     StartLine,
     EndLine,
     ValueOf(Text),
+}
+
+/// The field that a word names. None: the word is no attribute's name, or names a field that Bazel's buildozer prints and
+/// this program does not.
+#[tactic(auto, unfolding(crate::specs::Names::is_identifier))]
+pub fn read_field(word: Text) -> Option<Field>
+    ensures { result ≡ (if is_field word then Some (field_of word) else None) }
+{
+    if !is_identifier(word.as_str()) {
+        return None;
+    }
+    match word.as_str() {
+        "label" => Some(Field::Label),
+        "kind" => Some(Field::Kind),
+        "startline" => Some(Field::StartLine),
+        "endline" => Some(Field::EndLine),
+        "rule" | "attrs" | "path" => None,
+        _ => Some(Field::ValueOf(word)),
+    }
 }

@@ -29,7 +29,7 @@ use Rattle.bz_attribute.specs.Replace.{replace, replaces}
 use Rattle.bz_attribute.specs.Comment.{comment_rule, comment_args, comment_done}
 use Rattle.bz_attribute_commands.specs.Print.{prints}
 use Rattle.bz_attribute.specs.declared.done.Done.{Done}
-use Rattle.bz_command.specs.Arguments.{breaks_line, is_field, are_attributes, is_setting, is_moved, is_commented, is_named_field, attributes_mention, setting_mentions, comment_mentions, print_mentions, attributes_pass, setting_passes, moved_passes, commented_passes}
+use Rattle.bz_command.specs.Arguments.{breaks_line, field_of, is_field, are_attributes, is_setting, is_moved, is_commented, is_named_field, attributes_mention, setting_mentions, comment_mentions, print_mentions, attributes_pass, setting_passes, moved_passes, commented_passes}
 
 -- a command is the enum of the source
 abbrev pub Command : Type 0
@@ -110,13 +110,6 @@ comment_of (text ∷ []) = comment_before Rule text
 comment_of (attr ∷ text ∷ []) = if is_identifier attr then comment_before (Attribute attr) text else Err BadAttribute
 comment_of (attr ∷ value ∷ text ∷ []) = if is_identifier attr then comment_before (Value attr value) text else Err BadAttribute
 comment_of _ = Err WrongCount
-
-abbrev pub field_of : List ℕ → Field
-field_of word =
-    if bytes_eq word (codes "label") then Label
-    else (if bytes_eq word (codes "kind") then Kind
-    else (if bytes_eq word (codes "startline") then StartLine
-    else (if bytes_eq word (codes "endline") then EndLine else ValueOf word)))
 
 -- `print <field>..`, with no fields too
 abbrev pub print_of : List (List ℕ) → Result Command CommandFault

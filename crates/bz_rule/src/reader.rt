@@ -8,7 +8,7 @@ ghost use Rattle.bz_rule.specs.Commands as spec;
 ghost use Rattle.bz_rule.specs.private.CommandSteps.{attribute_of, attributes_of, a_field, place_of};
 
 use crate::command::{Command, CommandFault, read_named};
-use bz_command::{Attributes, Commented, Field, Moved, Seq, Text, read_words};
+use bz_command::{Attributes, Commented, Field, Moved, Seq, Text, read_field, read_words};
 use bz_token::is_identifier;
 use std::alloc::Global;
 
@@ -61,15 +61,7 @@ pub(crate) fn breaks_line(text: &str) -> bool
 pub(crate) fn field(word: Text) -> Result<Field, CommandFault>
     ensures { result ≡ a_field word }
 {
-    let word = attribute(word)?;
-    match word.as_str() {
-        "label" => Ok(Field::Label),
-        "kind" => Ok(Field::Kind),
-        "startline" => Ok(Field::StartLine),
-        "endline" => Ok(Field::EndLine),
-        "rule" | "attrs" | "path" => Err(CommandFault::BadAttribute),
-        _ => Ok(Field::ValueOf(word)),
-    }
+    read_field(word).ok_or(CommandFault::BadAttribute)
 }
 
 /// A star means every attribute.

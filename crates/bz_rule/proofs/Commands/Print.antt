@@ -9,7 +9,7 @@ use Rattle.bz_command.specs.Labels.{Package}
 use Rattle.bz_command.specs.declared.arguments.Field.{Field}
 use Rattle.bz_command.specs.declared.arguments.Field.TheVariants.{EndLine, Kind, Label, StartLine, ValueOf}
 use Rattle.bz_rule.specs.declared.command.Action.TheVariants.{Print}
-use Rattle.bz_command.specs.Arguments.{field_mentions, is_field, is_named_field}
+use Rattle.bz_command.specs.Arguments.{field_mentions, field_of, is_field, is_named_field}
 use Rattle.bz_attribute.specs.Rules.{Rule, rule_of, value}
 use Rattle.bz_attribute.specs.Effects.{with_args, done}
 use Rattle.bz_attribute.specs.Texts.{home_text}
@@ -22,7 +22,7 @@ use Rattle.bz_rule.proofs.Rebuilt.{rule_after, rule_with}
 use Rattle.bz_rule.proofs.Aside.{leaves_mentioned}
 use Rattle.std.specs.Str.{is_utf8}
 use Rattle.bz_rule.specs.declared.command.CommandFault.TheVariants.{BadAttribute}
-use Rattle.bz_rule.specs.Commands.{Command, IsRead, field_of, print_of}
+use Rattle.bz_rule.specs.Commands.{Command, IsRead, print_of}
 use Rattle.bz_token.specs.Common.{map_or}
 
 print_quiet : (home : Package) (fields : List Field) (slot : Option Statement) → (prints home fields slot).changed ≡ false

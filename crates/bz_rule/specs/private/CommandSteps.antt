@@ -2,13 +2,13 @@
 use Rattle.std.specs.Prelude.{ℕ, List, [], ◌∷◌, if◌then◌else◌, Result, Ok, Err}
 use Rattle.bz_rule.specs.declared.command.CommandFault.{CommandFault}
 use Rattle.bz_rule.specs.declared.command.CommandFault.TheVariants.{WrongCount, BadAttribute}
-use Rattle.bz_rule.specs.Commands.{is_star, field_of}
+use Rattle.bz_rule.specs.Commands.{is_star}
 use Rattle.bz_command.specs.declared.arguments.Attributes.{Attributes}
 use Rattle.bz_command.specs.declared.arguments.Attributes.TheVariants.{Every, Named}
 use Rattle.bz_command.specs.declared.arguments.Commented.{Commented}
 use Rattle.bz_command.specs.declared.arguments.Commented.TheVariants.{Rule, Attribute, Value}
 use Rattle.bz_command.specs.declared.arguments.Field.{Field}
-use Rattle.bz_command.specs.Arguments.{is_field}
+use Rattle.bz_command.specs.Arguments.{field_of, is_field}
 use Rattle.bz_command.specs.Names.{is_identifier}
 
 abbrev pub attribute_of : List ℕ → Result (List ℕ) CommandFault
