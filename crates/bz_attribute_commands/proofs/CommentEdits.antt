@@ -1,5 +1,5 @@
 -- Steps to a comment: the line without the blanks at its end, and the element that it goes to.
-use Rattle.std.proofs.Common.{◌≡◌, ℕ, ◌+◌, ◌-◌, ◌<◌, List, [], ◌∷◌, ◌++◌, Bool, true, false, ◌&&◌, ◌||◌, if◌then◌else◌, is_some, length, get_or, take, drop, refl, ap, sym, ◌∙◌, arith, Option, Some, None}
+use Rattle.std.proofs.Common.{◌≡◌, ℕ, ◌+◌, ◌-◌, ◌<◌, List, [], ◌∷◌, ◌++◌, Bool, true, false, ◌&&◌, if◌then◌else◌, is_some, length, get_or, take, drop, refl, ap, sym, ◌∙◌, arith, Option, Some, None}
 use Rattle.std.specs.List.{list_all, list_any, flat_map}
 use Rattle.std.proofs.lemmas.List.{take_more, take_all}
 use Rattle.std.proofs.lemmas.Bool.Decides.{nat_tests}
@@ -8,7 +8,7 @@ use Rattle.bz_tree.specs.Tree.{Item, Segment, Statement}
 use Rattle.bz_command.specs.Labels.{Package}
 use Rattle.bz_attribute.specs.Comment.{comment_element, comment_line, comment_note, comment_value, edit_element, is_blank, trimmed, with_comment}
 use Rattle.bz_attribute.specs.Effects.{done, edit_first, has, with_args}
-use Rattle.bz_attribute.specs.Elements.{IsFirstEqual, IsListIn, IsValueAt, ListRest, elements_left, value_parts}
+use Rattle.bz_attribute.specs.Elements.{IsFirstEqual, IsListIn, IsValueAt, elements_left}
 use Rattle.bz_attribute.specs.Lists.{equals, parts}
 use Rattle.bz_attribute.specs.RowPlaces.{IsRuleRow}
 use Rattle.bz_attribute.specs.Rules.{Rule, first_named, is_named, value}

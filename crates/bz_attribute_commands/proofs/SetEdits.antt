@@ -1,16 +1,15 @@
 -- What `set` makes of a rule: another value of its first argument of a name, or a new argument.
-use Rattle.std.proofs.Common.{◌≡◌, ℕ, List, [], ◌∷◌, ◌++◌, Bool, true, false, not, if◌then◌else◌, Option, Some, None, is_some, take, drop, refl, ap, sym, ◌∙◌}
+use Rattle.std.proofs.Common.{◌≡◌, ℕ, List, [], ◌∷◌, ◌++◌, Bool, false, not, if◌then◌else◌, Option, Some, None, is_some, take, drop, refl, ap, sym, ◌∙◌}
 use Rattle.std.specs.Prelude.{option_to_list}
 use Rattle.bz_tree.specs.Tree.{Item, Segment, Statement, items_of, segs_of}
 use Rattle.bz_tree.specs.Rows.{RowPart, items_parts, parts_of, segment_end, segs_parts}
 use Rattle.bz_attribute.specs.Effects.{argument, done, edit_first, has, with_args}
-use Rattle.bz_attribute.specs.Elements.{IsValueAt, OnlyList, value_parts}
+use Rattle.bz_attribute.specs.Elements.{IsValueAt, OnlyList}
 use Rattle.bz_attribute.specs.Lists.{with_value, is_list, is_only}
 use Rattle.bz_attribute.specs.RowEdits.{IsRowEdit, replaced_at}
 use Rattle.bz_attribute.specs.RowPlaces.{IsLocal, IsPlaceOf, IsRuleRow, alone}
 use Rattle.bz_attribute.specs.Rules.{Rule, first_named, is_named, value}
 use Rattle.bz_attribute.specs.Set.{New, is_value, new_of, new_value, set, set_if_absent, set_in, sets}
-use Rattle.bz_attribute.specs.declared.done.Done.{Done}
 use Rattle.bz_attribute.specs.declared.edit.Edit.{Edit}
 use Rattle.bz_attribute.specs.declared.place.Place.{Place}
 use Rattle.bz_attribute.proofs.EditedAt.{none_first, with_args_at}

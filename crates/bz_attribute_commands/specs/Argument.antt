@@ -6,7 +6,7 @@ use Rattle.bz_layout.specs.declared.broken.Style.TheVariants.{Broken}
 use Rattle.bz_layout.specs.Layout.{broken_segs}
 use Rattle.bz_layout.specs.Pieces.{bytes_of}
 use Rattle.bz_attribute.specs.Effects.{argument}
-use Rattle.bz_attribute.specs.Set.{New, new_of, new_value}
+use Rattle.bz_attribute.specs.Set.{new_of, new_value}
 
 abbrev pub argument_lines : Segment → List ℕ
 argument_lines arg = bytes_of (broken_segs Broken 1 RuleCall true (segs_of (arg ∷ [])))

@@ -11,7 +11,7 @@ use Rattle.bz_command.specs.LabelSetViews.{Gains, has as holds_label}
 use Rattle.bz_command.specs.declared.label_set.LabelSet.{LabelSet}
 use Rattle.bz_attribute.specs.Add.{add, adds, fresh, is_fresh, new_elements, with_added}
 use Rattle.bz_attribute.specs.Effects.{argument, done, edit_first, has, list_item, not_a_list, string, with_args}
-use Rattle.bz_attribute.specs.Elements.{AreElementsTo, AreLists, IsListIn, IsValueAt, value_parts}
+use Rattle.bz_attribute.specs.Elements.{AreElementsTo, AreLists, IsListIn, IsValueAt}
 use Rattle.bz_attribute.specs.Lists.{edit_first_part, parts, same, with_value}
 use Rattle.bz_attribute.specs.RowEdits.{replaced_at}
 use Rattle.bz_attribute.specs.RowPlaces.{IsLocal, IsPlaceOf, IsRuleRow, alone}

@@ -11,7 +11,7 @@ use Rattle.bz_tree.specs.declared.row.Part.{Part}
 use Rattle.bz_tree.specs.Rows.{RowPart, part_view, segs_parts}
 use Rattle.bz_tree.specs.Tree.{Segment, segs_of}
 use Rattle.bz_command.specs.Labels.{Package}
-use Rattle.bz_command.specs.declared.arguments.Moved.TheVariants.{All, Values}
+use Rattle.bz_command.specs.declared.arguments.Moved.TheVariants.{All}
 use Rattle.bz_attribute.specs.Lists.{equals, same}
 use Rattle.bz_attribute.specs.Move.{arrivals}
 use Rattle.bz_attribute.specs.Rules.{string_value}

@@ -14,7 +14,7 @@ use Rattle.bz_command.specs.declared.label_set.LabelSet.{LabelSet}
 use Rattle.bz_command.specs.LabelSetViews.{Gains, has}
 use Rattle.bz_attribute.specs.Lists.{same}
 use Rattle.bz_attribute.specs.Rules.{string_value}
-use Rattle.bz_attribute.specs.Effects.{is_chosen, string}
+use Rattle.bz_attribute.specs.Effects.{is_chosen}
 use Rattle.bz_attribute.specs.Add.{is_fresh}
 use Rattle.bz_attribute.specs.private.ElementSets.{is_in}
 use Rattle.bz_attribute.proofs.LabelSets.{or_false}

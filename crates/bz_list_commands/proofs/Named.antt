@@ -1,5 +1,5 @@
 -- An edit of the first argument of a name that adds others where there is none looks at that argument alone.
-use Rattle.std.proofs.Common.{◌≡◌, ℕ, List, ◌++◌, Bool, if◌then◌else◌, refl, ap, ◌∙◌}
+use Rattle.std.proofs.Common.{ℕ, List, ◌++◌, Bool, if◌then◌else◌, refl, ap, ◌∙◌}
 use Rattle.bz_tree.specs.Tree.{Segment}
 use Rattle.bz_attribute.specs.Rules.{is_named}
 use Rattle.bz_attribute.specs.Effects.{edit_first, has}

@@ -9,8 +9,7 @@ use Rattle.bz_tree.specs.Rows.{RowPart, segs_parts}
 use Rattle.bz_tree.specs.Tree.{Segment, segs_of}
 use Rattle.bz_attribute.specs.Add.{fresh, new_elements}
 use Rattle.bz_attribute.specs.Effects.{string}
-use Rattle.bz_attribute.specs.Elements.{ListRest, elements_left, rest_parts}
-use Rattle.bz_attribute.specs.Lists.{equals, same}
+use Rattle.bz_attribute.specs.Lists.{same}
 use Rattle.bz_attribute.specs.private.ElementSets.{is_in}
 
 -- the set has the labels of the elements of these lists that are among the values, and of the first i values

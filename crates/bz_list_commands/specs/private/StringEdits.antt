@@ -7,11 +7,10 @@ use Rattle.bz_tree.specs.Rows.{RowPart, a_token}
 use Rattle.bz_command.specs.Labels.{Package}
 use Rattle.bz_command.specs.Values.{quoted, value_of}
 use Rattle.bz_attribute.specs.Rules.{is_text, only_text, value}
-use Rattle.bz_attribute.specs.Lists.{is_attribute, parts, same}
+use Rattle.bz_attribute.specs.Lists.{parts, same}
 use Rattle.bz_list_commands.specs.declared.string_edit.Meant.{Meant}
 use Rattle.bz_list_commands.specs.declared.string_edit.Meant.TheVariants.{Any, Word, Words, Unlike}
 use Rattle.bz_list_commands.specs.declared.string_edit.StringEdit.{StringEdit}
-use Rattle.bz_attribute.specs.Effects.{filtered}
 use Rattle.bz_token.specs.Common.{map_or}
 
 -- the text of a string token equals a word, one of some, or `old` and is not exactly `new`

@@ -1,7 +1,6 @@
-use Rattle.std.proofs.Common.{◌≡◌, ◌∙◌, ◌≤◌, ◌∷◌, ℕ, List, true, Option, length, map, ap, sym, arith}
+use Rattle.std.proofs.Common.{◌∙◌, ◌≤◌, ℕ, List, true, Option, length, map, ap, sym, arith}
 use Rattle.std.proofs.lemmas.List.{length-map}
-use Rattle.bz_tree.specs.Rows.{RowPart, above, part_view}
-use Rattle.bz_attribute.specs.Comment.{comment_line}
+use Rattle.bz_tree.specs.Rows.{RowPart, part_view}
 use Rattle.bz_attribute.specs.Effects.{done}
 use Rattle.bz_attribute.specs.RowEdits.{replaced_at}
 use Rattle.bz_attribute.specs.declared.done.Done.{Done}

@@ -1,8 +1,7 @@
-use Rattle.std.proofs.Common.{◌≡◌, ◌∙◌, ◌≤◌, ◌∷◌, ℕ, List, length, map, ap, sym, subst, arith}
-use Rattle.bz_tree.specs.Rows.{RowPart, above, part_view}
+use Rattle.std.proofs.Common.{◌≡◌, ◌∙◌, ◌≤◌, ℕ, List, length, map, ap, sym, subst, arith}
+use Rattle.bz_tree.specs.Rows.{RowPart, part_view}
 use Rattle.bz_attribute.specs.RowEdits.{IsWithin, replaced_at}
 use Rattle.bz_attribute.specs.declared.edit.Edit.{Edit}
-use Rattle.bz_attribute.specs.declared.place.Place.{Place}
 use Rattle.bz_attribute.proofs.RowEdits.{seen_within}
 use Rattle.bz_attribute_commands.proofs.LineWritten.{rule_commented}
 use Rattle.bz_attribute_commands.proofs.line.comment_rule.Goals as goal

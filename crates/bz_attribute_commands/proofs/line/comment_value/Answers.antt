@@ -1,4 +1,4 @@
-use Rattle.std.proofs.Common.{◌≡◌, ◌≤◌, ◌∙◌, ℕ, List, ap, length, map, arith}
+use Rattle.std.proofs.Common.{◌∙◌, ℕ, List, ap, map, arith}
 use Rattle.std.proofs.lemmas.List.{length-map}
 use Rattle.bz_tree.specs.Tree.{Statement}
 use Rattle.bz_tree.specs.Rows.{RowPart, part_view}

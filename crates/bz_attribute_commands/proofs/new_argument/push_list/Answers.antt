@@ -1,9 +1,9 @@
 use Rattle.std.proofs.Common.{◌≡◌, ◌∙◌, ◌++◌, ◌∷◌, [], List, false, ap, map, sym, append_assoc}
 use Rattle.std.proofs.lemmas.List.{append-nil}
 use Rattle.bz_tree.specs.declared.stmt.GroupKind.TheVariants.{List as ListKind}
-use Rattle.bz_tree.specs.Tree.{items_of, segs_of}
-use Rattle.bz_tree.specs.Rows.{RowPart, closing, items_parts, opening, part_view, segs_parts}
-use Rattle.bz_attribute.specs.Effects.{list_item, string}
+use Rattle.bz_tree.specs.Tree.{segs_of}
+use Rattle.bz_tree.specs.Rows.{RowPart, closing, opening, part_view, segs_parts}
+use Rattle.bz_attribute.specs.Effects.{string}
 use Rattle.bz_attribute_commands.proofs.KindWritten.{one_more}
 use Rattle.bz_attribute_commands.proofs.new_argument.push_list.Goals as goal
 

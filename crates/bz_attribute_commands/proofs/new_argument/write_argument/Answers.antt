@@ -2,7 +2,7 @@ use Rattle.std.proofs.Common.{◌≡◌, ◌∙◌, ◌++◌, ◌∷◌, [], ℕ
 use Rattle.std.specs.Prelude.{codes}
 use Rattle.bz_token.specs.declared.token.Kind.TheVariants.{Identifier, Operator}
 use Rattle.bz_tree.specs.declared.row.Part.{Part}
-use Rattle.bz_tree.specs.Tree.{Item, items_of}
+use Rattle.bz_tree.specs.Tree.{items_of}
 use Rattle.bz_tree.specs.Rows.{RowPart, a_token, items_parts, part_view, segment_end}
 use Rattle.bz_attribute.specs.Set.{new_of, new_value}
 use Rattle.bz_attribute.specs.Set as spec

@@ -1,4 +1,4 @@
-use Rattle.std.proofs.Common.{◌≡◌, ◌+◌, ◌∷◌, ◌++◌, ◌≤◌, [], ◌∙◌, List, true, Option, None, is_some, length, map, take, drop, ap, sym, refl, false, ℕ, arith}
+use Rattle.std.proofs.Common.{◌≡◌, ◌+◌, ◌∷◌, ◌++◌, ◌≤◌, [], ◌∙◌, List, true, Option, None, is_some, length, map, ap, sym, false, ℕ, arith}
 use Rattle.std.proofs.lemmas.List.{length-map}
 use Rattle.bz_token.specs.declared.token.Kind.TheVariants.{Identifier}
 use Rattle.bz_tree.specs.declared.row.Part.{Part}

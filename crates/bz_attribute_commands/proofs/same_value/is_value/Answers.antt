@@ -1,5 +1,4 @@
-use Rattle.std.proofs.Common.{ap, map, sym, ◌∙◌}
-use Rattle.bz_tree.specs.Rows.{part_view}
+use Rattle.std.proofs.Common.{ap, sym, ◌∙◌}
 use Rattle.bz_attribute.specs.Set as spec
 use Rattle.bz_attribute.proofs.Slices.{rest_seen}
 use Rattle.bz_attribute_commands.specs.declared.set.New.{New}

@@ -1,5 +1,5 @@
 use Rattle.std.proofs.Common.{map, refl, subst, sym}
-use Rattle.bz_tree.specs.Rows.{RowPart, part_view}
+use Rattle.bz_tree.specs.Rows.{part_view}
 use Rattle.bz_attribute.specs.declared.edit.Edit.{Edit}
 use Rattle.bz_attribute.proofs.RowEdits.{seen_within}
 use Rattle.bz_attribute_commands.specs.private.SetViews.{IsAdded}

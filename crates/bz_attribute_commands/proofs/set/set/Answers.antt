@@ -2,7 +2,7 @@ use Rattle.std.proofs.Common.{◌≡◌, ◌++◌, List, false, true, ap, map, s
 use Rattle.std.proofs.lemmas.List.{length-map}
 use Rattle.bz_tree.specs.declared.row.Part.{Part}
 use Rattle.bz_tree.specs.Tree.{Statement, items_of}
-use Rattle.bz_tree.specs.Rows.{RowPart, items_parts, part_view}
+use Rattle.bz_tree.specs.Rows.{items_parts, part_view}
 use Rattle.bz_attribute.specs.RowPlaces.{IsRuleRow}
 use Rattle.bz_attribute.specs.Rules.{Rule, value}
 use Rattle.bz_attribute.specs.Set.{New, new_value}

@@ -1,13 +1,11 @@
-use Rattle.std.proofs.Common.{◌≡◌, ◌∙◌, ◌++◌, ◌<◌, ℕ, List, false, true, ap, map, sym, subst, arith}
-use Rattle.std.proofs.lemmas.Bool.{false≢true}
-use Rattle.bz_tree.specs.declared.row.Part.{Part}
+use Rattle.std.proofs.Common.{◌≡◌, ◌∙◌, ◌++◌, List, map, sym, subst}
 use Rattle.bz_tree.specs.Tree.{items_of}
 use Rattle.bz_tree.specs.Rows.{RowPart, items_parts, part_view}
 use Rattle.bz_attribute.specs.RowEdits.{IsWithin, replaced_at}
 use Rattle.bz_attribute.specs.Set.{kind_items}
 use Rattle.bz_attribute.specs.declared.edit.Edit.{Edit}
 use Rattle.bz_attribute.proofs.RowEdits.{seen_within}
-use Rattle.bz_attribute_commands.proofs.KindWritten.{kind_done, kind_written}
+use Rattle.bz_attribute_commands.proofs.KindWritten.{kind_written}
 use Rattle.bz_attribute_commands.proofs.set_kind.set_kind.Goals as goal
 
 pub returns-clause-within : goal.returns-clause-within

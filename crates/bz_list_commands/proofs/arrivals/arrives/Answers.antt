@@ -1,4 +1,4 @@
-use Rattle.std.proofs.Common.{◌≡◌, true, map, option_map, rules}
+use Rattle.std.proofs.Common.{◌≡◌, true, option_map, rules}
 use Rattle.bz_list_commands.specs.private.StringEdits.{means}
 use Rattle.bz_list_commands.proofs.arrivals.arrives.Goals as goal
 

@@ -1,9 +1,8 @@
-use Rattle.std.proofs.Common.{ℕ, List, Option, Bool, ◌||◌, not, ap, sym, ◌∙◌, false, option_map, option_and_then}
+use Rattle.std.proofs.Common.{ℕ, List, Option, Bool, ◌||◌, ap, sym, ◌∙◌, false, option_map, option_and_then}
 use Rattle.std.proofs.lemmas.Result.{on_ok_weaker}
 use Rattle.bz_command.specs.LabelSetViews.{has}
 use Rattle.bz_command.specs.private.ByteSteps.{left}
 use Rattle.bz_command.specs.LabelSetViews.{has}
-use Rattle.bz_list_commands.specs.private.MoveSteps.{has_value}
 use Rattle.bz_attribute.proofs.LabelSets.{same_back}
 use Rattle.bz_list_commands.proofs.arrivals.is_new.Goals as goal
 use Rattle.bz_attribute.specs.Lists.{same}
