@@ -10,7 +10,7 @@ use Rattle.bz_command.specs.Values.{quoted}
 use Rattle.bz_command.specs.declared.arguments.Field.{Field}
 use Rattle.bz_command.specs.declared.arguments.Field.TheVariants.{Label, Kind, StartLine, EndLine, ValueOf}
 use Rattle.bz_attribute.specs.Rules.{Rule, rule_of, kind_text, name_in, first_named, value, string_value, elements}
-use Rattle.bz_attribute.specs.Lists.{is_list, is_only}
+use Rattle.bz_attribute.specs.Lists.{is_list}
 use Rattle.bz_attribute.specs.Texts.{home_text}
 use Rattle.bz_attribute.specs.Effects.{done}
 use Rattle.bz_attribute.specs.declared.done.Done.{Done}

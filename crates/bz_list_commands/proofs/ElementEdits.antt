@@ -41,7 +41,9 @@ is_string [] p none h = absurd (false≢true (sym none ∙ h))
 is_string (leaf String text ∷ []) p none h = record { text = text; are = refl }
 is_string (leaf _ text ∷ []) p none h = absurd (false≢true (sym none ∙ h))
 is_string (group k segs one_comma end ∷ []) p none h = absurd (false≢true (sym none ∙ h))
-is_string (x ∷ y ∷ xs) p none h = absurd (false≢true (sym none ∙ h))
+is_string (leaf String text ∷ y ∷ xs) p none h = absurd (false≢true (sym none ∙ h))
+is_string (leaf _ text ∷ y ∷ xs) p none h = absurd (false≢true (sym none ∙ h))
+is_string (group k segs one_comma end ∷ y ∷ xs) p none h = absurd (false≢true (sym none ∙ h))
 
 -- what becomes another is a string
 pub strings_only : (home : Package) (meant : Meant) (literal : List ℕ) → literal_in meant ≡ Some literal → means_in home meant None ≡ false

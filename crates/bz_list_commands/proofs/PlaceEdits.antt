@@ -128,7 +128,9 @@ no_text p no_items none h = none
 no_text p (item (leaf String text) no_items) none h = either (p (Some text)) false h
 no_text p (item (leaf _ text) no_items) none h = none
 no_text p (item (group k segs one_comma end) no_items) none h = none
-no_text p (item x (item y xs)) none h = none
+no_text p (item (leaf String text) (item y xs)) none h = none
+no_text p (item (leaf _ text) (item y xs)) none h = none
+no_text p (item (group k segs one_comma end) (item y xs)) none h = none
 
 no_element : (p : Option (List ℕ) → Bool) (ss : Segs) → p None ≡ false → None_in p (segs_parts ss) → list_any (is_meant p) (segments ss) ≡ false
 no_element p no_segs none h = refl

@@ -1,5 +1,6 @@
 -- What is owed of `replace`: it changes something where an element equals `old` and is not exactly `new`, and afterwards there is none; it leaves what is well formed so, texts that pass a test, and comments.
-use Rattle.std.proofs.Common.{◌≡◌, ℕ, List, [], ◌∷◌, Bool, true, false, not, ◌&&◌, ◌||◌, Option, Some, None, option_map, map, if◌then◌else◌, refl, ap, sym, ◌∙◌, inl, inr, suc, ◌++◌, rules, Ok}
+use Rattle.std.proofs.Common.{◌≡◌, ℕ, List, [], ◌∷◌, Bool, true, false, not, ◌&&◌, ◌||◌, Option, Some, None, option_map, map, if◌then◌else◌, refl, ap, sym, ◌∙◌, inl, inr, suc, ◌++◌, rules, Ok, IfSome}
+use Rattle.bz_token.specs.declared.token.Kind.TheVariants.{String}
 use Rattle.std.specs.List.{list_any, list_all}
 use Rattle.std.proofs.lemmas.Bool.{cases_Bool, or_parts, and_parts}
 use Rattle.std.proofs.lemmas.Slice.Eq.{bytes_eq-Decides}
@@ -176,7 +177,9 @@ string_none : (nodes : List Item) (v : List ℕ) → string_value nodes ≡ Some
 string_none [] v h = refl
 string_none (leaf kind text ∷ []) v h = refl
 string_none (group kind segs one_comma end ∷ []) v h = absurd cc
-string_none (x ∷ y ∷ xs) v h = absurd cc
+string_none (leaf String text ∷ y ∷ xs) v h = absurd cc
+string_none (leaf _ text ∷ y ∷ xs) v h = absurd cc
+string_none (group kind segs one_comma end ∷ y ∷ xs) v h = absurd cc
 
 equal_none : (home : Package) (old : List ℕ) (s : Segment) → equals home old s ≡ true → in_nodes s.nodes ≡ []
 equal_none home old s h =

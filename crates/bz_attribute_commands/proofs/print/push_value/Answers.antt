@@ -45,7 +45,7 @@ written (Err e) new old line h = tt
 
 pub returns-in_ok-flat-in_default : goal.returns-in_ok-flat-in_default
 returns-in_ok-flat-in_default c =
-    let flat : IsFlat (nodes_view c.args.value.now) = elim c.in_default.branch [
+    let no_list : IsFlat (nodes_view c.args.value.now) = elim c.in_default.branch [
       | in_default-via-then-value-lt1 w ↦ no_words c.args.value.now (grind (arith, nat_tests, tests))
       | in_default-via-in-len1+then-is_list+else-are_strings w ↦
           one c.args.value.now w.node-item.result (omega arith) (omega arith) w.node-item.is (and_right _ _ (ap (list_all (λ x0. is_some (string_value x0.nodes))) (sym w.elements_at.ensures) ∙ sym w.are_strings.ensures ∙ w.if-are_strings.false))
@@ -53,7 +53,7 @@ returns-in_ok-flat-in_default c =
       | in_default-via-else-value-lt1+else-value-lt2 w ↦ many c.args.value.now (grind (arith, nat_tests, tests))
     ] in
     let string : is_some (string_value (nodes_view c.args.value.now)) ≡ false = sym c.in_ok-push_string.ensures.is ∙ c.if-branch.false in
-    let flat : c.as_str.result.now ≡ value_text (nodes_view c.args.value.now) = c.as_str.ensures.value ∙ c.in_ok-flat-in_default.ensures.text ∙ sym (flat_value (nodes_view c.args.value.now) string words) in
+    let flat : c.as_str.result.now ≡ value_text (nodes_view c.args.value.now) = c.as_str.ensures.value ∙ c.in_ok-flat-in_default.ensures.text ∙ sym (flat_value (nodes_view c.args.value.now) string no_list) in
     let before : string_bytes c.push_string.new.text ≡ string_bytes c.args.text.now =
     c.in_ok-push_string.ensures.word ∙ ap (λ (v : Option (List ℕ)). string_bytes c.args.text.now ++ map_or [] word_form v) (none (string_value (nodes_view c.args.value.now)) string) ∙ append-nil (string_bytes c.args.text.now) in
     on_ok_weaker c.push_str.result
