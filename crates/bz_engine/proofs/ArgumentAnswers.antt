@@ -24,7 +24,7 @@ use Rattle.bz_engine.specs.declared.argument.EditedArgument.TheVariants.{Unchang
 use Rattle.bz_engine.specs.private.ArgumentEdits.{AddsArgument, AreLinesAfter, ChangesArgs, EditsLines, Setting, set_by}
 use Rattle.bz_engine.specs.private.Found.{Makes, told_line}
 use Rattle.bz_engine.proofs.OnlyPass.{named_rule}
-use Rattle.bz_engine.proofs.TextAnswers.{none_has, stays_by}
+use Rattle.bz_engine.proofs.TextAnswers.{none_has, nothing, stays_by}
 use Rattle.bz_token.specs.Common.{is_empty, map_or}
 
 -- what is set where none has the name
@@ -42,10 +42,6 @@ pub adds_argument : (command : Command) (new : Setting) (lines : List ℕ) → s
 adds_argument command new lines is lines_are = λ home.
     let made = set_alone command new is home in
     record { told = made.0; some = ap is_empty made.1; lines_are = lines_are ∙ ap argument_lines (sym made.1) }
-
-nothing : (xs : List ℕ) → length xs ≡ 0 → xs ≡ []
-nothing [] is = refl
-nothing (x ∷ xs) is = absurd (omega (arith, is))
 
 pub adds_to_none : (depth : ℕ) (command : Command) (home : Package) (lines : List ℕ) (new : List ℕ) → length lines ≡ 0 → AddsArgument command new
     → (args : List Segment) → lines ≡ argument_lines args → AreReadAlone depth args → ChangesArgs command home args new
@@ -71,9 +67,9 @@ edits_alone depth command attr home lines text one text_is first t read told tol
     by Unchanged known = λ args lines_are reads. done_is args lines_are reads ∙ known
     by (Lines new) known = λ args lines_are reads.
         let law = local command home attr one in
-        let new_is : new.items ≡ argument_lines (args_after command home args) =
+        let new_is : new.now ≡ argument_lines (args_after command home args) =
         known.2 (with_args (args_after command home) t) (args_after command home args) (slot_is ∙ law.slot t) (small_after (args_after command home) args t (reads first t (read_of args lines_are))) in
-        record { told = done_is args lines_are reads ∙ known.0; some = not_nil (args_after command home args) new.items known.1 new_is; lines_are = new_is }
+        record { told = done_is args lines_are reads ∙ known.0; some = not_nil (args_after command home args) new.now known.1 new_is; lines_are = new_is }
 
 pub edited_alone : {E : Type 0} (depth : ℕ) (command : Command) (attr : List ℕ) (home : Package) (lines text : List ℕ) → one_attribute command ≡ Some attr → text ≡ small_text lines → (first : ℕ) (t : Statement)
     → IsStatementIn first depth text t → (told : Done) → told ≡ done_of command home (Some t) → (slot : Option Statement) → slot ≡ after command home (Some t)

@@ -29,7 +29,7 @@ use Rattle.bz_engine.proofs.FirstChunks.{IsTakenOf, first_is_next, chunk_is}
 use Rattle.bz_attribute.specs.Marks.{marks_rule}
 use Rattle.bz_token.specs.Common.{map_or}
 
-same_bytes : (xs ys : List ℕ) → bytes_eq xs ys ≡ true → xs ≡ ys
+pub same_bytes : (xs ys : List ℕ) → bytes_eq xs ys ≡ true → xs ≡ ys
 same_bytes xs ys h = search (rules, bytes_eq-Decides)
 
 bytes_same : (xs : List ℕ) → bytes_eq xs xs ≡ true
@@ -81,7 +81,7 @@ canonical_edited run most ahead found text old mid new before after few outer ut
     let read = c.read old.line in
     let s = read.statement in
     let done : IsLaidOut run s old mid before after =
-    laid s (record { class = chunk_class old.line chunk read.read.tokens s read.read.reads.chunk; class_is = read.class_is; named = read.named; written = read.written; absent = read.absent; has = read.has }) in
+    laid s (record { class = chunk_class old.line chunk read.read.tokens s read.read.reads.chunk; class_is = read.class_is; named = read.named; written = read.written; has = read.has }) in
     record {
       chunk = first_is_next most ahead chunk text few outer c.some within front size c.ends;
       lines = subst (λ n. n ≤ old.line + length chunk) (sym (ap (λ (p : Progress). p.line) is ∙ ap (λ n. line_at n chunk) done.line)) (few_lines old.line chunk);

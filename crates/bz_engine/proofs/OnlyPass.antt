@@ -143,3 +143,9 @@ grown_laid run target command class s t old mid new before after_it passes met m
     (is ∙ ap (λ (p : Progress). record p { last = Some class; changed = true }) kept
     ∙ (λ i. record { kept = kept_and old.kept (one_told None); changed = or_true old.changed i; failed = old.failed; last = Some (sym class_is i); line = old.line }))
     (text ∙ ap (λ (p : Progress). before ++ (if is_query run.passes then [] else text_following p.last (Some t ∷ []))) kept)
+
+-- the same of what is kept before and after
+pub laid_as : (run : Run) (s : Statement) (old start end new : Progress) (before after_it : List ℕ) → start ≡ old → new ≡ end → IsLaidOut run s start end before after_it
+    → IsLaidOut run s old new before after_it
+laid_as run s old start end new before after_it begun ended laid =
+    subst (λ (p : Progress). IsLaidOut run s old p before after_it) (sym ended) (subst (λ (p : Progress). IsLaidOut run s p end before after_it) begun laid)

@@ -1,32 +1,32 @@
 -- What the one command of a script makes of a rule, by the rule's name and text.
 use Rattle.std.proofs.Common.{◌≡◌, ℕ, ◌+◌, ◌<◌, Bool, true, false, ◌||◌, not, List, [], ◌∷◌, ◌++◌, length, get_or, refl, sym, ◌∙◌, ap, subst, arith, append_assoc}
-use Rattle.std.specs.Prelude.{codes, Option, None, Some, if◌then◌else◌, slice_index}
+use Rattle.std.specs.Prelude.{Option, None, Some, if◌then◌else◌, option_to_list}
 use Rattle.std.proofs.lemmas.Bool.{false≢true}
-use Rattle.std.proofs.lemmas.List.{get_or_append_left, get_or-append-add, length-append}
-use Rattle.memchr.specs.Find.{FindsNeedle, OccursAt}
 use Rattle.bz_tree.specs.Tree.{Segment, Statement}
 use Rattle.bz_command.specs.declared.arguments.Attributes.TheVariants.{Named}
 use Rattle.bz_command.specs.Labels.{Package}
 use Rattle.bz_attribute.specs.declared.done.Done.{Done}
 use Rattle.bz_attribute.specs.Effects.{done, has}
 use Rattle.bz_attribute.specs.Rules.{Rule, first_named, is_named, rule_of}
-use Rattle.bz_canonical.specs.Canonical.{HasArgumentName, rule_args}
-use Rattle.bz_rule.specs.declared.command.Action.TheVariants.{Remove, Replace}
+use Rattle.bz_canonical.specs.Canonical.{HasArgumentName, rule_args, Between, HasPlace, first_args}
+use Rattle.bz_rule.specs.declared.command.Action.TheVariants.{Remove, Replace, Add, Set, SetIfAbsent, Delete, Rename, Move, Comment, Print}
+use Rattle.bz_canonical.proofs.SmallRules.{no_lines}
 use Rattle.bz_rule.specs.Commands.{Command, after, args_after, args_done, done_of}
 use Rattle.bz_rule.proofs.Commands.{lawful}
 use Rattle.bz_engine.specs.private.Found.{IsWithout, Makes, looked_at, told_line}
 use Rattle.bz_token.specs.Common.{map_or}
 
--- a text in which the name and the sign are not found
-pub not_found : (text attr needle : List ℕ) (r : Option ℕ) → needle ≡ attr ++ codes " =" → FindsNeedle text needle 0 r → r ≡ None → HasArgumentName attr text → ⊥
-not_found text attr needle (Some i) is finds none has = absurd cc
-not_found text attr needle None is finds none has =
-    let whole : text ≡ has.before ++ (needle ++ has.after) = has.is ∙ ap (λ (t : List ℕ). has.before ++ t) (sym (append_assoc attr (codes " =") has.after)) ∙ ap (λ (t : List ℕ). has.before ++ (t ++ has.after)) (sym is) in
-    let size : length text ≡ length has.before + (length needle + length has.after) = ap length whole ∙ length-append has.before (needle ++ has.after) ∙ ap (λ n. length has.before + n) (length-append needle has.after) in
-    finds (length has.before) (omega arith) (omega (arith, size)) (record {
-      fits = omega (arith, size);
-      reads = λ j within. ap (λ (t : List ℕ). slice_index t (length has.before + j)) whole ∙ get_or-append-add has.before (needle ++ has.after) j 0 ∙ get_or_append_left needle has.after 0 j within;
-    })
+pub nothing : (xs : List ℕ) → length xs ≡ 0 → xs ≡ []
+nothing [] is = refl
+nothing (x ∷ xs) is = absurd (omega (arith, is))
+
+-- an argument that has no lines
+no_first : (o : Option Segment) → option_to_list o ≡ [] → o ≡ None
+no_first None none = refl
+no_first (Some a) none = absurd cc
+
+pub no_argument : (depth : ℕ) (attr : List ℕ) (s : Statement) (place : Between) → HasPlace depth attr s place → length place.lines ≡ 0 → IsWithout attr s
+no_argument depth attr s place has none = no_first (first_named attr (rule_args (rule_of s.nodes))) (no_lines (first_args attr s) (sym has.lines ∙ nothing place.lines none))
 
 -- a command that looks at an argument that is not there
 quiet : (done_is : Option Rule → Done) (o : Option Rule) → done_is None ≡ told_line false None → ((r : Rule) → o ≡ Some r → done_is (Some r) ≡ told_line false None) → done_is o ≡ told_line false None

@@ -1,18 +1,17 @@
-//! Rules that the one command of a script leaves as they are, by their text alone.
+//! Rules that the one command of a script leaves as they are, by what is known of their text.
 
-ghost use Rattle.std.specs.Prelude.{◌≡◌, ◌++◌, codes, string_bytes, IfOk, IfSome, IsFalse, IsTrue, Some, false, true};
+ghost use Rattle.std.specs.Prelude.{◌≡◌, ℕ, IfOk, IfSome, IsTrue, Some, false, true};
 ghost use Rattle.bz_tree.specs.Tree.{Statement};
 ghost use Rattle.bz_attribute.specs.Marks.{marks};
-ghost use Rattle.bz_canonical.specs.Canonical.{HasArgumentName, HasName};
-ghost use Rattle.bz_engine.specs.private.Found.{LeavesRule, Makes, looked_at, told_line};
+ghost use Rattle.bz_canonical.specs.Canonical.{HasName};
+ghost use Rattle.bz_engine.specs.private.Found.{IsFound, IsWithout, LeavesRule, Makes, looked_at, told_line};
 
+use crate::canonical::Found;
 use bz_attribute::Env;
 use bz_attribute_commands::print::print_name;
 use bz_command::{Attributes, Marked, Setting, Target};
-use bz_memory::{NoMemory, from_str, push_str};
+use bz_memory::NoMemory;
 use bz_rule::{Action, Command, Text, one_attribute};
-use memchr::memmem;
-use std::alloc::Global;
 
 /// A rule stays as it is, and this is printed of it.
 #[derive(Drop)]
@@ -28,22 +27,34 @@ pub(crate) fn is_answerable(command: &Command) -> bool {
     }
 }
 
-/// What the command prints of a rule of this name and this text, where it leaves it as it is. None: it may change it, or
-/// the rule is to be seen.
+/// The attribute that the command looks at alone. Empty: there is none.
+pub(crate) fn asked_attribute(command: &Command) -> &str {
+    match one_attribute(command) {
+        Some(attr) => attr,
+        None => match looked_at(command) {
+            Some(attr) => attr,
+            None => "",
+        },
+    }
+}
+
+/// What the command prints of the rule, where it leaves it as it is. None: it may change it, or the rule is to be seen.
 pub(crate) fn unchanged_by_text(
     env: Env<'_>,
     command: &Command,
-    name: &str,
-    text: &str,
+    found: Found<'_>,
 ) -> Result<Option<Unchanged>, NoMemory>
-    ensures { IfOk result (λ told. IfSome told (LeavesRule command.now env.entry.home.now name.now text.now)) }
+    ensures { IfOk result (λ told. IfSome told (LeavesRule command.now env.entry.home.now found.entry)) }
 {
     if let Some(attr) = looked_at(command) {
-        if may_have(env.alloc, text, attr)? {
+        if !is_without(found, attr) {
             return Ok(None);
         }
         return Ok(Some(Unchanged { line: None }));
     }
+    let Some(name) = found.chunk.name else {
+        return Ok(None);
+    };
     let line = printed_by_name(env, command, name)?;
     match line {
         None => Ok(None),
@@ -73,24 +84,14 @@ fn printed_by_name(env: Env<'_>, command: &Command, name: &str) -> Result<Option
     }
 }
 
-/// Whether an argument of this name may stand in the text: the name and an equals sign do.
-fn may_have(alloc: Global, text: &str, attr: &str) -> Result<bool, NoMemory>
-    ensures { IfOk result (λ has. IsFalse has → HasArgumentName attr.now text.now → ⊥) }
+/// No argument of the rule has this name, as its place shows.
+fn is_without(found: Found<'_>, attr: &str) -> bool
+    ensures { IsTrue result → (depth : ℕ) (s : Statement) → IsFound depth found.entry s → IsWithout attr.now s }
 {
-    let begins = argument_begins(alloc, attr)?;
-    match memmem::find(text.as_bytes(), begins.as_bytes()) {
-        None => Ok(false),
-        Some(_) => Ok(true),
+    match found.chunk.place {
+        Some(place) => found.attr == attr && place.lines.is_empty(),
+        None => false,
     }
-}
-
-/// The name of an argument, and the sign after it.
-fn argument_begins(alloc: Global, attr: &str) -> Result<String, NoMemory>
-    ensures { IfOk result (λ text. string_bytes text ≡ attr.now ++ codes " =") }
-{
-    let mut text = from_str(alloc, attr)?;
-    push_str(&mut text, " =")?;
-    Ok(text)
 }
 
 /// The target marks a rule of this name, whatever else the rule is.

@@ -1,25 +1,26 @@
 //! What a command makes of the lines of an argument, by a small rule that has this argument alone.
 
-ghost use Rattle.std.specs.Prelude.{◌≡◌, ◌++◌, ℕ, List, [], codes, string_bytes, IfOk, IfSome, Some};
+ghost use Rattle.std.specs.Prelude.{◌≡◌, ◌++◌, ℕ, List, [], codes, string_bytes, IfOk, IfSome, IsTrue, OnOk, Some};
 ghost use Rattle.bz_canonical.specs.Canonical.{small_text};
 ghost use Rattle.bz_rule.specs.OneAttribute.{one_attribute};
 ghost use Rattle.bz_engine.specs.private.ArgumentEdits.{AddsArgument, AreLinesAfter, EditsLines, new_of, set_by};
 
 use crate::edit::ScriptRun;
+use crate::spare::Spare;
 use bz_attribute::Env;
 use bz_attribute_commands::argument::put_argument;
 use bz_command::Setting;
-use bz_memory::{NoMemory, extend_from_slice, from_str, push_str};
+use bz_memory::{NoMemory, push_str};
 use bz_rule::{Action, Command, Done, StatementRow, Text, execute};
 use bz_tree::read_text;
 use std::alloc::Global;
 
 /// What a command makes of an argument.
-#[derive(Drop)]
-pub(crate) enum EditedArgument {
+#[derive(Clone, Copy)]
+pub(crate) enum EditedArgument<'s> {
     Unchanged,
     /// These are its lines, or those of what stands in its place: some.
-    Lines(Vec<u8>),
+    Lines(&'s [u8]),
 }
 
 /// An argument that `set` adds.
@@ -39,35 +40,41 @@ const LONGEST: usize = 1 << 30;
 
 /// What a command makes of the argument that has these lines, or, where they are none, adds to a rule that has no
 /// argument of the name. None: the rule is to be seen.
-pub(crate) fn edit_lines(
+pub(crate) fn edit_lines<'s>(
     script: ScriptRun<'_>,
     command: &Command,
     lines: &str,
-) -> Result<Option<EditedArgument>, NoMemory>
+    spare: &'s mut Spare,
+) -> Result<Option<EditedArgument<'s>>, NoMemory>
     requires { (attr : List ℕ) × (one_attribute command.now ≡ Some attr) }
     ensures { IfOk result (λ told. IfSome told (EditsLines script.entry.max_depth command.now script.entry.home.now lines.now)) }
 {
     if !lines.is_empty() {
-        return edit_alone(script, command, lines);
+        return edit_alone(script, command, lines, spare);
     }
-    match new_lines(script.alloc, command)? {
-        None => edit_alone(script, command, lines),
-        Some(new) => Ok(Some(EditedArgument::Lines(new))),
+    if is_comment(command) {
+        return Ok(None);
     }
+    if !put_new(script.alloc, command, &mut spare.laid)? {
+        return edit_alone(script, command, lines, spare);
+    }
+    Ok(Some(EditedArgument::Lines(spare.laid.as_slice())))
 }
 
-/// The lines of the argument that the command adds where none has its name, where they are easily written.
-fn new_lines(alloc: Global, command: &Command) -> Result<Option<Vec<u8>>, NoMemory>
-    ensures { IfOk result (λ told. IfSome told (λ new. AddsArgument command.now new.items)) }
+// Where there is no argument to put a comment at, it fails, and its note is told of the rule.
+fn is_comment(command: &Command) -> bool {
+    matches!(command.action, Action::Comment(_, _))
+}
+
+/// The lines of the argument that the command adds where none has its name. False: they are not easily written.
+fn put_new(alloc: Global, command: &Command, lines: &mut Vec<u8>) -> Result<bool, NoMemory>
+    ensures { IfOk result (λ put. IsTrue put → AddsArgument command.now lines.new.items) }
 {
     let Some(new) = set_by(command) else {
-        return Ok(None);
+        return Ok(false);
     };
-    let mut lines = Vec::new(alloc);
-    if !put_argument(alloc, new.attr, new.values, &mut lines)? {
-        return Ok(None);
-    }
-    Ok(Some(lines))
+    lines.clear();
+    put_argument(alloc, new.attr, new.values, lines)
 }
 
 /// The argument that the command adds to a rule that has none of its name.
@@ -86,22 +93,23 @@ fn set_by(command: &Command) -> Option<NewArgument<'_>>
 }
 
 /// The command on the small rule that has the argument of these lines alone.
-fn edit_alone(
+fn edit_alone<'s>(
     script: ScriptRun<'_>,
     command: &Command,
     lines: &str,
-) -> Result<Option<EditedArgument>, NoMemory>
+    spare: &'s mut Spare,
+) -> Result<Option<EditedArgument<'s>>, NoMemory>
     requires { (attr : List ℕ) × (one_attribute command.now ≡ Some attr) }
     ensures { IfOk result (λ told. IfSome told (EditsLines script.entry.max_depth command.now script.entry.home.now lines.now)) }
 {
-    let text = small_rule(script.alloc, lines)?;
-    if text.len() > LONGEST {
+    put_small_rule(lines, &mut spare.small)?;
+    if spare.small.len() > LONGEST {
         return Ok(None);
     }
     let Ok(Some(row)) = read_text(
         script.alloc,
         script.bump,
-        text.as_str(),
+        spare.small.as_str(),
         1,
         script.max_depth,
     ) else {
@@ -113,26 +121,28 @@ fn edit_alone(
     };
     let mut slot = Some(StatementRow::of_row(script.alloc, script.bump, &row)?);
     let done = execute(env, command, &mut slot)?;
-    lines_after(script.alloc, &done, &slot)
+    lines_after(script.alloc, &done, &slot, &mut spare.laid)
 }
 
 /// The small rule that has the argument of these lines alone.
-fn small_rule(alloc: Global, lines: &str) -> Result<String, NoMemory>
-    ensures { IfOk result (λ text. string_bytes text ≡ small_text lines.now) }
+fn put_small_rule(lines: &str, text: &mut String) -> Result<(), NoMemory>
+    ensures { OnOk result (string_bytes text.new ≡ small_text lines.now) }
 {
-    let mut text = from_str(alloc, BEFORE)?;
-    push_str(&mut text, lines)?;
-    push_str(&mut text, AFTER)?;
-    Ok(text)
+    text.clear();
+    push_str(text, BEFORE)?;
+    push_str(text, lines)?;
+    push_str(text, AFTER)?;
+    Ok(())
 }
 
 /// What was made of the argument of the small rule that is in the slot now. None: more is told of it than that it
 /// changed, or nothing is left of it.
-fn lines_after(
+fn lines_after<'s>(
     alloc: Global,
     done: &Done,
     slot: &Option<StatementRow<'_>>,
-) -> Result<Option<EditedArgument>, NoMemory>
+    text: &'s mut Vec<u8>,
+) -> Result<Option<EditedArgument<'s>>, NoMemory>
     ensures { IfOk result (λ told. IfSome told (AreLinesAfter done.now slot.now)) }
 {
     if done.note.is_some() || done.line.is_some() {
@@ -144,14 +154,12 @@ fn lines_after(
     let Some(stmt) = slot else {
         return Ok(None);
     };
-    let mut text = Vec::new(alloc);
-    stmt.put(alloc, &mut text)?;
+    text.clear();
+    stmt.put(alloc, text)?;
     let Some(lines) = argument_of(text.as_slice()) else {
         return Ok(None);
     };
-    let mut new = Vec::new(alloc);
-    extend_from_slice(&mut new, lines)?;
-    Ok(Some(EditedArgument::Lines(new)))
+    Ok(Some(EditedArgument::Lines(lines)))
 }
 
 /// The lines of the argument in the text of a small rule. None: it has none.

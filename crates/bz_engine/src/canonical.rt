@@ -17,7 +17,7 @@ ghost use Rattle.bz_engine.specs.private.Found.{IsFound, IsMarked, one_pass};
 ghost use Rattle.bz_engine.specs.private.NextChunks.{IsFirstEdited};
 ghost use Rattle.bz_engine.specs.private.Rows.{HasKey};
 
-use crate::answer::{is_answerable, marks_name, unchanged_by_text};
+use crate::answer::{asked_attribute, is_answerable, marks_name, unchanged_by_text};
 use crate::argument::{EditedArgument, edit_lines};
 use crate::edit::{Edited, ScriptRun};
 use crate::next_chunk::NextChunk;
@@ -104,14 +104,11 @@ fn find_canonical<'a>(script: ScriptRun<'a>, text: &'a str, max_statement: u64) 
     Some(Found { chunk, attr })
 }
 
-/// The attribute that the one command of the script looks at alone. Empty: there is none.
+/// The attribute whose argument is to be looked for. Empty: there is none.
 fn asked<'a>(script: ScriptRun<'a>) -> &'a str {
     match script.passes.only() {
         None => "",
-        Some(only) => match one_attribute(only.command) {
-            None => "",
-            Some(attr) => attr,
-        },
+        Some(only) => asked_attribute(only.command),
     }
 }
 
@@ -167,7 +164,7 @@ fn edit_by_text(
         alloc: script.alloc,
         home: script.home,
     };
-    match unchanged_by_text(env, only.command, name, found.chunk.written)? {
+    match unchanged_by_text(env, only.command, found)? {
         None => edit_argument(script, only, found, progress, text),
         Some(unchanged) => {
             progress.keep_line(unchanged.line)?;
@@ -199,11 +196,16 @@ fn edit_argument(
     let Some(place) = place_for(only.command, found) else {
         return Ok(false);
     };
-    match edit_lines(script, only.command, place.lines)? {
-        None => Ok(false),
+    let mut spare = progress.take_spare(script.alloc);
+    match edit_lines(script, only.command, place.lines, &mut spare)? {
+        None => {
+            progress.give_back(spare);
+            Ok(false)
+        }
         Some(EditedArgument::Unchanged) => {
             progress.keep_line(None)?;
             put_canonical(script, found.chunk, progress, text)?;
+            progress.give_back(spare);
             Ok(true)
         }
         Some(EditedArgument::Lines(lines)) => {
@@ -211,9 +213,10 @@ fn edit_argument(
             let changed = Changed {
                 class: found.chunk.class,
                 place,
-                lines: lines.as_slice(),
+                lines,
             };
             put_changed(script, changed, progress, text)?;
+            progress.give_back(spare);
             Ok(true)
         }
     }

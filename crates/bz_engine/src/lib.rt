@@ -24,6 +24,7 @@ mod rules;
 mod run_fault;
 mod runner;
 mod session;
+mod spare;
 mod telling;
 
 pub use bz_command::Pass;

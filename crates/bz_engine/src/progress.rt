@@ -9,11 +9,14 @@ ghost use Rattle.bz_engine.specs.private.Found.{HasOneLog, one_told};
 use crate::chunk::newlines;
 use crate::looks::Looks;
 use crate::rules::tell_line;
+use crate::spare::Spare;
 use bz_memory::NoMemory;
 use bz_passes::kept::Kept;
 use bz_rule::Text;
 use bz_tree::Class;
+use std::alloc::Global;
 use std::marker::Model;
+use std::mem;
 
 /// What a run keeps of the chunks that are done.
 #[derive(Drop)]
@@ -30,6 +33,8 @@ pub(crate) struct Progress {
     pub(crate) line: u64,
     /// When to see whether the next chunk stands as it would be written. Contracts do not see it.
     pub(crate) looks: Looks,
+    /// Contracts do not see it either.
+    pub(crate) spare: Spare,
 }
 
 impl Model for Progress {
@@ -57,6 +62,19 @@ impl Progress {
             (self.new ≡ record self.old { kept = kept_and self.old.kept (one_told line) }) }
     {
         keep_line(&mut self.kept[0], line)
+    }
+
+    /// The buffers, until they are given back.
+    pub(crate) fn take_spare(&mut self, alloc: Global) -> Spare
+        ensures { self.new ≡ self.old }
+    {
+        mem::replace(&mut self.spare, Spare::new(alloc))
+    }
+
+    pub(crate) fn give_back(&mut self, spare: Spare)
+        ensures { self.new ≡ self.old }
+    {
+        self.spare = spare;
     }
 
     /// Whether to see if the next chunk stands as it would be written.

@@ -24,6 +24,7 @@ use crate::report::{End, Report};
 use crate::rule_passes::RulePasses;
 use crate::rules::Rules;
 use crate::run_fault::RunFault;
+use crate::spare::Spare;
 use crate::telling::{report_of_all, report_of_fault, report_of_one};
 use bumpalo::Bump;
 use bz_command::Pass;
@@ -111,6 +112,7 @@ impl Session {
                 last: None,
                 line: 1,
                 looks: Looks::new(),
+                spare: Spare::new(alloc),
             },
             ahead: Ahead::new(alloc),
             stage: SessionState::Going,

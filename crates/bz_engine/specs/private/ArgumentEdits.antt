@@ -41,10 +41,10 @@ AddsArgument command lines = (home : Package) → ChangesArgs command home [] li
 -- what the command makes of the arguments that have these lines, and are read of them alone
 abbrev pub EditsLines : ℕ → Command → Package → List ℕ → EditedArgument → Type 0
 EditsLines depth command home lines Unchanged = (args : List Segment) → lines ≡ argument_lines args → AreReadAlone depth args → args_done command home args ≡ told_line false None
-EditsLines depth command home lines (Lines new) = (args : List Segment) → lines ≡ argument_lines args → AreReadAlone depth args → ChangesArgs command home args new.items
+EditsLines depth command home lines (Lines new) = (args : List Segment) → lines ≡ argument_lines args → AreReadAlone depth args → ChangesArgs command home args new.now
 
 -- what stands in the small rule, where this was told
 abbrev pub AreLinesAfter : Done → Option Statement → EditedArgument → Type 0
 AreLinesAfter done slot Unchanged = done ≡ told_line false None
-AreLinesAfter done slot (Lines new) = (done ≡ told_line true None) × (new.items ≡ [] → ⊥)
-    × ((s : Statement) (args : List Segment) → slot ≡ Some s → layout_text s ≡ small_text (argument_lines args) → new.items ≡ argument_lines args)
+AreLinesAfter done slot (Lines new) = (done ≡ told_line true None) × (new.now ≡ [] → ⊥)
+    × ((s : Statement) (args : List Segment) → slot ≡ Some s → layout_text s ≡ small_text (argument_lines args) → new.now ≡ argument_lines args)

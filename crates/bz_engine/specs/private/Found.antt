@@ -12,7 +12,7 @@ use Rattle.bz_command.specs.Labels.{Package, Target}
 use Rattle.bz_rule.specs.declared.command.Action.TheVariants.{Remove, Replace}
 use Rattle.bz_attribute.specs.Rules.{first_named, rule_of}
 use Rattle.bz_attribute.specs.Marks.{marks}
-use Rattle.bz_canonical.specs.Canonical.{HasArgumentName, HasName, HasPlace, between, rule_args}
+use Rattle.bz_canonical.specs.Canonical.{HasName, HasPlace, between, rule_args}
 use Rattle.bz_rule.specs.Commands.{Command, after, done_of}
 use Rattle.bz_passes.specs.Exchange.{Kept}
 use Rattle.bz_passes.specs.declared.entry.Entry.{Entry}
@@ -38,7 +38,6 @@ pub record IsFound (depth : ℕ) (found : Found) (s : Statement) : Type 0 where
   pub class_is : s.class ≡ found.chunk.class
   pub named : HasName (option_map (λ name. name.now) found.chunk.name) s
   pub written : layout_text s ≡ found.chunk.written.now
-  pub absent : (attr : List ℕ) → (HasArgumentName attr found.chunk.written.now → ⊥) → first_named attr (rule_args (rule_of s.nodes)) ≡ None
   pub has : IfSome (option_map between found.chunk.place) (HasPlace depth found.attr.now s)
 
 -- the target marks the statement of the chunk, which is a rule
@@ -50,11 +49,6 @@ pub record IsMarked (depth : ℕ) (target : Target) (found : Found) : Type 0 whe
 -- no argument of this name stands in a rule
 abbrev pub IsWithout : List ℕ → Statement → Type 0
 IsWithout attr s = first_named attr (rule_args (rule_of s.nodes)) ≡ None
-
--- a rule of this name, without each argument whose name stands nowhere in a text with an equals sign
-pub record IsRuleOf (name text : List ℕ) (s : Statement) : Type 0 where
-  pub named : HasName (Some name) s
-  pub absent : (attr : List ℕ) → (HasArgumentName attr text → ⊥) → IsWithout attr s
 
 -- the command makes t of a rule, where it tells this
 pub record Makes (command : Command) (home : Package) (s t : Statement) (told : Done) : Type 0 where
@@ -70,6 +64,6 @@ looked_at (Remove (Named attr) values) = Some attr
 looked_at (Replace (Named attr) old new) = Some attr
 looked_at _ = None
 
--- the command leaves each rule of this name and this text
-abbrev pub LeavesRule : Command → Package → List ℕ → List ℕ → Unchanged → Type 0
-LeavesRule command home name text unchanged = (s : Statement) → IsRuleOf name text s → Makes command home s s (told_line false unchanged.line)
+-- the command leaves each rule of which this is known
+abbrev pub LeavesRule : Command → Package → Found → Unchanged → Type 0
+LeavesRule command home found unchanged = (depth : ℕ) (s : Statement) → IsFound depth found s → Makes command home s s (told_line false unchanged.line)

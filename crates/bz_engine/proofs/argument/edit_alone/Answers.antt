@@ -13,6 +13,6 @@ returns c =
     let home = c.args.script.home.now in
     let read = subst (λ o. IfSome o (λ row. (s : Statement) × IsStatementIn 1 c.args.script.max_depth c.as_str.result.now s × IsRowOf s row)) c.in-Ok-Some.field-0-is c.in-Ok-Some.ensures.statement in
     let same : c.in_ok-of_row.field-0 ≡ read.0 = c.in_ok-of_row.ensures read.0 read.2 in
-    edited_alone c.args.script.max_depth command c.requires.0 home c.args.lines.now c.as_str.result.now c.requires.1 (c.as_str.ensures.value ∙ c.in_ok-text.ensures) 1 read.0 read.1
+    edited_alone c.args.script.max_depth command c.requires.0 home c.args.lines.now c.as_str.result.now c.requires.1 (c.as_str.ensures.value ∙ c.in_ok-put_small_rule.ensures) 1 read.0 read.1
     c.in_ok-done.done (c.in_ok-done.ensures.done ∙ ap (λ (z : Statement). done_of command home (Some z)) same)
     c.execute.new.slot (c.in_ok-done.ensures.slot ∙ ap (λ (z : Statement). after command home (Some z)) same) c.lines_after.result c.lines_after.ensures

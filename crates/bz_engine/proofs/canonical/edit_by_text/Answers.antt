@@ -31,8 +31,8 @@ returns-in_ok-put_canonical-in-Some-2-clause-done c = λ done s is.
     let command = c.args.only.command.now in
     let name : List ℕ = c.in-Some.name.now in
     let named : HasName (Some name) s = subst (λ (o : Option (Bor (List ℕ))). HasName (option_map (λ name. name.now) o) s) c.in-Some.is is.named in
-    let leaves = subst (λ o. IfSome o (LeavesRule command home name c.args.found.chunk.written.now)) c.in-Some-2.is c.in_ok-unchanged_by_text.ensures in
-    let makes = leaves s (record { named = named; absent = is.absent }) in
+    let leaves = subst (λ o. IfSome o (LeavesRule command home c.args.found)) c.in-Some-2.is c.in_ok-unchanged_by_text.ensures in
+    let makes = leaves c.args.script.max_depth s is in
     stays_laid (run_of c.args.script) c.args.only.target.now command _ c.args.found.chunk.class s c.args.progress.now c.keep_line.new.self c.put_canonical.new.progress
     c.args.text.now.items c.put_canonical.new.text.items c.requires.only (c.marks_name.ensures c.if-not-marks_name.false s named) makes.after_is makes.done is.class_is
     c.in_ok-keep_line-in-Some-2.ensures put.last (put.text s is.class_is is.written)

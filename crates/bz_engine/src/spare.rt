@@ -1,0 +1,21 @@
+//! Buffers that are used again.
+
+use std::alloc::Global;
+
+/// Buffers for the text of one argument at a time. What they hold does not count.
+#[derive(Drop)]
+pub(crate) struct Spare {
+    /// The small rule that is read.
+    pub(crate) small: String,
+    /// What is laid out.
+    pub(crate) laid: Vec<u8>,
+}
+
+impl Spare {
+    pub(crate) fn new(alloc: Global) -> Spare {
+        Spare {
+            small: String::new(alloc),
+            laid: Vec::new(alloc),
+        }
+    }
+}
