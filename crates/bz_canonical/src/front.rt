@@ -69,6 +69,7 @@ pub(crate) fn number(text: &[u8]) -> Option<&[u8]>
 }
 
 /// What follows the comment here.
+#[inline(never)]
 pub(crate) fn comment(text: &[u8]) -> Option<&[u8]>
     ensures { IfSome result (λ rest. IsTokenFront Comment text.now rest.now) }
 {

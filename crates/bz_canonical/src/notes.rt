@@ -17,7 +17,22 @@ pub(crate) struct AfterNotes<'t> {
 }
 
 /// What follows the comments here, each on a line of its own at this level.
+#[inline(always)]
 pub(crate) fn notes(text: &[u8], level: u8) -> AfterNotes<'_>
+    ensures { AreNotesFront level text.now result.rest.now result.some }
+{
+    // Most lines are none: where a comment would begin, one look shows it.
+    if text.get(1 + 4 * level as usize).copied() != Some(b'#') {
+        return AfterNotes {
+            rest: text,
+            some: false,
+        };
+    }
+    read_notes(text, level)
+}
+
+#[inline(never)]
+fn read_notes(text: &[u8], level: u8) -> AfterNotes<'_>
     ensures { AreNotesFront level text.now result.rest.now result.some }
 {
     let mut rest = text;
@@ -36,10 +51,6 @@ pub(crate) fn notes(text: &[u8], level: u8) -> AfterNotes<'_>
 fn note(text: &[u8], level: u8) -> Option<&[u8]>
     ensures { IfSome result (λ rest. (inner : List ℕ) × (text.now ≡ 10 ∷ (indent level ++ inner)) × IsTokenFront Comment inner rest.now) }
 {
-    // Most lines are none: where a comment would begin, one look shows it.
-    if text.get(1 + 4 * level as usize).copied() != Some(b'#') {
-        return None;
-    }
     let inner = line(text, level)?;
     let rest = comment(inner)?;
     Some(rest)
@@ -60,6 +71,7 @@ pub(crate) fn lines(text: &[u8]) -> &[u8]
 }
 
 /// What follows the comment here and its newline.
+#[inline(always)]
 fn note_line(text: &[u8]) -> Option<&[u8]>
     ensures { IfSome result (λ rest. IsTokenFront Comment text.now (10 ∷ rest.now)) }
 {
@@ -69,6 +81,7 @@ fn note_line(text: &[u8]) -> Option<&[u8]>
 }
 
 /// What follows the comment that stands beside a segment, or the segment, where there is none.
+#[inline(always)]
 pub(crate) fn beside(text: &[u8]) -> Option<AfterNotes<'_>>
     ensures { IfSome result (λ read. IsBesideFront text.now read.rest.now read.some) }
 {

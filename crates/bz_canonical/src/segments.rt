@@ -119,6 +119,7 @@ fn in_place(rest: &[u8], one: bool, two: bool, holds: bool) -> AfterSegments<'_>
 
 /// What follows the segment here, of a group of this kind.
 #[cycle(values)]
+#[inline(always)]
 fn segment(kind: GroupKind, text: &[u8], level: u8, depth: u8) -> Option<Value<'_>>
     requires { level + depth < 255 }
     ensures { IfSome result (λ read. IsSegmentFront kind level depth text.now read.rest.now read.holds) }
@@ -128,6 +129,18 @@ fn segment(kind: GroupKind, text: &[u8], level: u8, depth: u8) -> Option<Value<'
             let read = nodes(text, level, depth)?;
             Some(read)
         }
+        _ => named_segment(kind, text, level, depth),
+    }
+}
+
+/// What follows the entry of a dict here, or the argument of a call.
+#[cycle(values)]
+#[inline(never)]
+fn named_segment(kind: GroupKind, text: &[u8], level: u8, depth: u8) -> Option<Value<'_>>
+    requires { level + depth < 255 }
+    ensures { IfSome result (λ read. IsSegmentFront kind level depth text.now read.rest.now read.holds) }
+{
+    match kind {
         GroupKind::Dict => {
             let colon = leaf(text)?;
             let value = after_colon(colon)?;

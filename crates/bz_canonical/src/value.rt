@@ -1,7 +1,9 @@
 //! Values that stand as they would be written: operands, calls of names, and sums of them.
 
 ghost use Rattle.std.specs.Prelude.{◌≡◌, ◌+◌, ◌<◌, ◌∷◌, ◌||◌, ℕ, IfSome, false};
+ghost use Rattle.bz_token.specs.declared.token.Kind.TheVariants.{String};
 ghost use Rattle.bz_canonical.specs.private.Chains.{IsTermFront};
+ghost use Rattle.bz_canonical.specs.private.Fronts.{IsTokenFront};
 ghost use Rattle.bz_canonical.specs.private.Values.{AreNodesFront, IsValueFront};
 
 use crate::front::{after_plus, identifier, number, string};
@@ -67,25 +69,25 @@ fn dict(text: &[u8], level: u8, depth: u8) -> Option<Value<'_>>
     Some(read)
 }
 
-/// What follows the call here, of a name that ends at this bracket.
+/// What follows the name here, or its call.
 #[cycle(values)]
-fn call(text: &[u8], level: u8, depth: u8) -> Option<Value<'_>>
+fn name_or_call(text: &[u8], level: u8, depth: u8) -> Option<Value<'_>>
     requires { level + depth < 255 }
     ensures { IfSome result (λ v. IsTermFront level depth text.now v.rest.now v.holds) }
 {
-    if depth == 0 {
-        return None;
-    }
-    let bracket = identifier(text)?;
-    let read = group(GroupKind::Call, bracket, level, depth - 1)?;
-    Some(read)
-}
-
-/// Whether a call of a name begins here.
-fn begins_call(text: &[u8]) -> bool {
-    match identifier(text) {
-        Some([b'(', ..]) => true,
-        _ => false,
+    let end = identifier(text)?;
+    match end {
+        [b'(', ..] => {
+            if depth == 0 {
+                return None;
+            }
+            let read = group(GroupKind::Call, end, level, depth - 1)?;
+            Some(read)
+        }
+        _ => Some(Value {
+            rest: end,
+            holds: false,
+        }),
     }
 }
 
@@ -98,19 +100,44 @@ fn term(text: &[u8], level: u8, depth: u8) -> Option<Value<'_>>
     match text {
         [b'[', ..] => list(text, level, depth),
         [b'{', ..] => dict(text, level, depth),
-        _ => {
-            if begins_call(text) {
-                return call(text, level, depth);
-            }
+        [b'"' | b'0'..=b'9', ..] => {
             let rest = leaf(text)?;
             Some(Value { rest, holds: false })
         }
+        _ => name_or_call(text, level, depth),
+    }
+}
+
+/// What follows the string here, where no operator may follow it.
+#[inline(always)]
+fn lone_string(text: &[u8]) -> Option<&[u8]>
+    ensures { IfSome result (λ rest. IsTokenFront String text.now rest.now) }
+{
+    let rest = string(text)?;
+    match rest {
+        [b' ', ..] => None,
+        _ => Some(rest),
     }
 }
 
 /// What follows the value here.
 #[cycle(values)]
+#[inline(always)]
 pub(crate) fn nodes(text: &[u8], level: u8, depth: u8) -> Option<Value<'_>>
+    requires { level + depth < 255 }
+    ensures { IfSome result (λ v. AreNodesFront level depth text.now v.rest.now v.holds) }
+{
+    // Most values are a string alone.
+    match lone_string(text) {
+        Some(rest) => Some(Value { rest, holds: false }),
+        None => sum(text, level, depth),
+    }
+}
+
+/// What follows the operands here, with operators between them.
+#[cycle(values)]
+#[inline(never)]
+fn sum(text: &[u8], level: u8, depth: u8) -> Option<Value<'_>>
     requires { level + depth < 255 }
     ensures { IfSome result (λ v. AreNodesFront level depth text.now v.rest.now v.holds) }
 {

@@ -3,21 +3,21 @@ use Rattle.std.specs.Prelude.{codes}
 use Rattle.bz_canonical.specs.private.Chains.{IsTermFront}
 use Rattle.bz_canonical.specs.private.Segments.{Continues, ContinuesFlat, IsSegmentFront}
 use Rattle.bz_canonical.proofs.GroupSegments.{begin, more, finish, begin_flat, more_flat, finish_flat, none_flat, element_segment, positional_segment, keyword_segment, entry_segment, first_of_more, second_of_more, four_or, in_place_front}
-use Rattle.bz_canonical.proofs.Operands.{list_value, dict_value, broken_group, flat_group}
-use Rattle.bz_canonical.proofs.Chained.{Chains, begin_chain, more_chain, finish_chain, value_term, call_term}
+use Rattle.bz_canonical.proofs.Operands.{list_value, dict_value, name_value, string_value, broken_group, flat_group}
+use Rattle.bz_canonical.proofs.Chained.{Chains, begin_chain, more_chain, finish_chain, value_nodes, value_term, call_term}
 use Rattle.bz_canonical.proofs.+values.Goals as goal
 
 pub segments::segments-loop-init : goal.segments::segments-loop-init
 segments::segments-loop-init m c = (0, refl, refl, begin c.args.kind c.args.level c.args.depth c.args.text.now)
 
-pub value::nodes-loop-init : goal.value::nodes-loop-init
-value::nodes-loop-init m c = begin_chain c.args.level c.args.depth c.args.text.now c.in_ok-first.first.rest.now c.in_ok-first.first.holds c.in_ok-first.ensures
+pub value::sum-loop-init : goal.value::sum-loop-init
+value::sum-loop-init m c = begin_chain c.args.level c.args.depth c.args.text.now c.in_ok-first.first.rest.now c.in_ok-first.first.holds c.in_ok-first.ensures
 
-pub value::nodes-returns-in_default : goal.value::nodes-returns-in_default
-value::nodes-returns-in_default m c = finish_chain c.args.level c.args.depth c.args.text.now c.loop.rest.now c.loop.holds c.loop.invariant
+pub value::sum-returns-in_default : goal.value::sum-returns-in_default
+value::sum-returns-in_default m c = finish_chain c.args.level c.args.depth c.args.text.now c.loop.rest.now c.loop.holds c.loop.invariant
 
-pub value::nodes-loop-preserved : goal.value::nodes-loop-preserved
-value::nodes-loop-preserved m c =
+pub value::sum-loop-preserved : goal.value::sum-loop-preserved
+value::sum-loop-preserved m c =
     subst (λ h. Chains c.args.level c.args.depth c.args.text.now c.in_ok-read.read.rest.now h) (sym c.either-holds.ensures)
     (more_chain c.args.level c.args.depth c.args.text.now c.loop.rest.now c.in-Some.next.now c.in_ok-read.read.rest.now c.loop.holds c.in_ok-read.read.holds c.loop.invariant c.in-Some.ensures c.in_ok-read.ensures)
 
@@ -91,19 +91,19 @@ segments::segment-returns-in_ok-read-in-List m c =
     subst (λ k. IsSegmentFront k c.args.level c.args.depth c.args.text.now c.in_ok-read-in-List.read.rest.now c.in_ok-read-in-List.read.holds) (sym c.in-List.is)
     (element_segment c.args.level c.args.depth c.args.text.now c.in_ok-read-in-List.read.rest.now c.in_ok-read-in-List.read.holds c.in_ok-read-in-List.ensures)
 
-pub segments::segment-returns-in_ok-read-in-Dict : goal.segments::segment-returns-in_ok-read-in-Dict
-segments::segment-returns-in_ok-read-in-Dict m c =
+pub segments::named_segment-returns-in_ok-read-in-Dict : goal.segments::named_segment-returns-in_ok-read-in-Dict
+segments::named_segment-returns-in_ok-read-in-Dict m c =
     subst (λ k. IsSegmentFront k c.args.level c.args.depth c.args.text.now c.in_ok-read-in-Dict.read.rest.now c.in_ok-read-in-Dict.read.holds) (sym c.in-Dict.is)
     (entry_segment c.args.level c.args.depth c.args.text.now c.in_ok-colon-in-Dict.colon.now c.in_ok-read-in-Dict.read.rest.now c.in_ok-value-in-Dict.value.now c.in_ok-read-in-Dict.read.holds
     (c.in_ok-colon-in-Dict.ensures c.args.level c.args.depth) c.in_ok-value-in-Dict.ensures c.in_ok-read-in-Dict.ensures)
 
-pub segments::segment-returns-in_ok-read-in-Some : goal.segments::segment-returns-in_ok-read-in-Some
-segments::segment-returns-in_ok-read-in-Some m c =
+pub segments::named_segment-returns-in_ok-read-in-Some : goal.segments::named_segment-returns-in_ok-read-in-Some
+segments::named_segment-returns-in_ok-read-in-Some m c =
     keyword_segment c.args.kind c.args.level c.args.depth c.args.text.now (codes " = " ++ c.in-Some.value.now) c.in_ok-read-in-Some.read.rest.now c.in-Some.value.now c.in_ok-read-in-Some.read.holds
     (sym c.is_call.ensures ∙ c.if-not-is_call.false) c.in-Some.ensures refl c.in_ok-read-in-Some.ensures
 
-pub segments::segment-returns-in_ok-read-in-None : goal.segments::segment-returns-in_ok-read-in-None
-segments::segment-returns-in_ok-read-in-None m c =
+pub segments::named_segment-returns-in_ok-read-in-None : goal.segments::named_segment-returns-in_ok-read-in-None
+segments::named_segment-returns-in_ok-read-in-None m c =
     positional_segment c.args.kind c.args.level c.args.depth c.args.text.now c.in_ok-read-in-None.read.rest.now c.in_ok-read-in-None.read.holds
     (sym c.is_call.ensures ∙ c.if-not-is_call.false) c.in_ok-read-in-None.ensures
 
@@ -121,12 +121,20 @@ value::dict-returns m c =
     (value_term c.args.level (c.args.depth - 1 + 1) c.args.text.now c.in_ok-read.read.rest.now c.in_ok-read.read.holds
     (dict_value c.args.level (c.args.depth - 1) c.args.text.now c.in_ok-read.read.rest.now c.in_ok-read.read.holds c.in_ok-read.ensures))
 
-pub value::call-returns : goal.value::call-returns
-value::call-returns m c =
+pub value::name_or_call-returns-in_ok-read-in-40 : goal.value::name_or_call-returns-in_ok-read-in-40
+value::name_or_call-returns-in_ok-read-in-40 m c =
     let deeper : c.args.depth - 1 + 1 ≡ c.args.depth = omega (arith, c.if-depth-eq0.false) in
-    subst (λ d. IsTermFront c.args.level d c.args.text.now c.in_ok-read.read.rest.now c.in_ok-read.read.holds) deeper
-    (call_term c.args.level (c.args.depth - 1) c.args.text.now c.in_ok-bracket.bracket.now c.in_ok-read.read.rest.now c.in_ok-read.read.holds c.in_ok-bracket.ensures c.in_ok-read.ensures)
+    subst (λ d. IsTermFront c.args.level d c.args.text.now c.in_ok-read-in-40.read.rest.now c.in_ok-read-in-40.read.holds) deeper
+    (call_term c.args.level (c.args.depth - 1) c.args.text.now c.in_ok-end.end.now c.in_ok-read-in-40.read.rest.now c.in_ok-read-in-40.read.holds c.in_ok-end.ensures c.in_ok-read-in-40.ensures)
 
-pub value::term-returns-in_ok-rest-in_default : goal.value::term-returns-in_ok-rest-in_default
-value::term-returns-in_ok-rest-in_default m c =
-    value_term c.args.level c.args.depth c.args.text.now c.in_ok-rest-in_default.rest.now false (c.in_ok-rest-in_default.ensures c.args.level c.args.depth)
+pub value::name_or_call-returns-in_default : goal.value::name_or_call-returns-in_default
+value::name_or_call-returns-in_default m c =
+    value_term c.args.level c.args.depth c.args.text.now c.in_ok-end.end.now false (name_value c.args.text.now c.in_ok-end.end.now c.in_ok-end.ensures c.args.level c.args.depth)
+
+pub value::nodes-returns-in-Some : goal.value::nodes-returns-in-Some
+value::nodes-returns-in-Some m c =
+    value_nodes c.args.level c.args.depth c.args.text.now c.in-Some.rest.now false (string_value c.args.text.now c.in-Some.rest.now c.in-Some.ensures c.args.level c.args.depth)
+
+pub value::term-returns-in_ok-rest-in-34 : goal.value::term-returns-in_ok-rest-in-34
+value::term-returns-in_ok-rest-in-34 m c =
+    value_term c.args.level c.args.depth c.args.text.now c.in_ok-rest-in-34.rest.now false (c.in_ok-rest-in-34.ensures c.args.level c.args.depth)
