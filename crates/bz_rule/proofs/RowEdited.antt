@@ -1,8 +1,8 @@
 -- What a command makes of the row of a rule.
-use Rattle.std.proofs.Common.{◌≡◌, ◌+◌, ◌∷◌, [], ℕ, List, length, length-append, arith, Bool, true, false, Option, None, Some, is_some, refl, ap, sym, ◌∙◌, if◌then◌else◌, rules, not, ◌++◌}
+use Rattle.std.proofs.Common.{◌≡◌, ◌+◌, ◌∷◌, [], ℕ, List, length, length-append, arith, true, false, Option, None, Some, is_some, refl, ap, sym, ◌∙◌, if◌then◌else◌, not, ◌++◌}
 use Rattle.std.specs.Prelude.{bytes_eq}
 use Rattle.std.proofs.lemmas.Bool.{false≢true}
-use Rattle.bz_tree.specs.Tree.{Item, Segment, Statement, segs_of}
+use Rattle.bz_tree.specs.Tree.{Segment, Statement, segs_of}
 use Rattle.bz_tree.specs.Rows.{RowPart, parts_of}
 use Rattle.bz_tree.specs.Statement.{class_of}
 use Rattle.bz_tree.specs.declared.stmt.Class.TheVariants.{Rule as RuleClass}
@@ -22,7 +22,6 @@ use Rattle.bz_rule.specs.private.RowEdits.{HasMore, IsEditOf, IsNextOf, edits_ar
 use Rattle.bz_command.specs.declared.arguments.Field.{Field}
 use Rattle.bz_attribute_commands.specs.Print.{prints, fields_of, printed}
 use Rattle.bz_rule.proofs.Commands.{lawful}
-use Rattle.bz_rule.proofs.Lawful.{Lawful}
 use Rattle.bz_rule.proofs.Rebuilt.{kind_dotted}
 use Rattle.bz_rule.proofs.RuleClass.{call_class, class_after, rule_class}
 use Rattle.bz_token.specs.Common.{map_or}
