@@ -1,10 +1,9 @@
 -- A statement whose arguments were edited, read and edited again.
-use Rattle.std.proofs.Common.{◌≡◌, List, [], ◌∷◌, ◌++◌, true, false, ◌&&◌, Option, Some, None, option_map, if◌then◌else◌, refl, ap, sym, ◌∙◌}
+use Rattle.std.proofs.Common.{◌≡◌, List, [], true, false, Option, Some, None, option_map, refl, ap, ◌∙◌}
 use Rattle.bz_attribute.proofs.RuleParts.{rule_dotted}
-use Rattle.std.proofs.lemmas.Bool.{and_parts}
 use Rattle.bz_tree.specs.declared.stmt.GroupKind.TheVariants.{RuleCall}
 use Rattle.bz_tree.specs.Tree.{Item, group, Segment, Statement, segs_of}
-use Rattle.bz_attribute.specs.Rules.{Rule, call_at, dotted, elements, rule_from, rule_of}
+use Rattle.bz_attribute.specs.Rules.{Rule, dotted, rule_of}
 use Rattle.bz_attribute.specs.declared.done.Done.{Done}
 use Rattle.bz_attribute.specs.Effects.{nodes_after, nodes_of, slot_done, with_args, done}
 use Rattle.bz_attribute.proofs.Views.{segments_of}

@@ -8,12 +8,12 @@ use Rattle.bz_command.specs.declared.arguments.Attributes.TheVariants.{Named}
 use Rattle.bz_command.specs.declared.arguments.Commented.TheVariants.{Rule as Above, Attribute, Value}
 use Rattle.bz_command.specs.declared.arguments.Moved.TheVariants.{Values}
 use Rattle.bz_command.specs.declared.arguments.Setting.TheVariants.{ToKind, ToValues}
-use Rattle.bz_attribute.specs.Rules.{Rule, first_named, is_named, is_text, name_of, rule_of, value, string_value}
+use Rattle.bz_attribute.specs.Rules.{first_named, is_named, is_text, name_of, value, string_value}
 use Rattle.bz_attribute.specs.Lists.{edit_first_part, edit_parts, equals, parts, with_value}
 use Rattle.bz_attribute.specs.Add.{add, new_elements, with_added}
 use Rattle.bz_attribute.specs.Comment.{comment_attribute, comment_element, edit_element, comment_line, comment_note, comment_rule, comment_value, with_comment}
 use Rattle.bz_attribute.specs.Effects.{argument, edit_first, filtered, has, list_item, loses_all, unchosen, with_args}
-use Rattle.bz_attribute.specs.Heads.{HasHead, IsHeadOf}
+use Rattle.bz_attribute.specs.Heads.{HasHead}
 use Rattle.bz_attribute.specs.Replace.{replace, replaced, replaced_in}
 use Rattle.bz_attribute.specs.RowPlaces.{IsLocal}
 use Rattle.bz_attribute.specs.Set.{is_value, new_of, new_value, set, set_if_absent, set_in}

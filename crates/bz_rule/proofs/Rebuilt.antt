@@ -1,13 +1,12 @@
 -- A statement with other arguments: the rule that it is.
-use Rattle.std.proofs.Common.{◌≡◌, ℕ, ◌<◌, ◌==◌, List, [], ◌∷◌, ◌++◌, true, false, ◌&&◌, Option, Some, None, is_some, option_map, length, if◌then◌else◌, refl, ap, sym, ◌∙◌, arith, not}
+use Rattle.std.proofs.Common.{◌≡◌, ℕ, ◌<◌, ◌==◌, List, [], ◌∷◌, ◌++◌, true, false, Option, Some, None, is_some, option_map, length, if◌then◌else◌, refl, ap, sym, ◌∙◌, arith, not}
 use Rattle.bz_attribute.proofs.RuleParts.{rule_dotted}
 use Rattle.std.specs.Prelude.{bytes_eq}
 use Rattle.std.specs.List.{slice_split}
-use Rattle.std.proofs.lemmas.Bool.{and_parts}
 use Rattle.bz_tree.specs.declared.stmt.GroupKind.TheVariants.{RuleCall}
 use Rattle.bz_tree.specs.Tree.{Item, group, Segment, Statement, segs_of}
 use Rattle.bz_command.proofs.Cuts.{some_part}
-use Rattle.bz_attribute.specs.Rules.{Rule, call_at, dotted, elements, kind_text, rule_from, rule_of}
+use Rattle.bz_attribute.specs.Rules.{Rule, dotted, kind_text, rule_of}
 use Rattle.bz_attribute.specs.declared.done.Done.{Done}
 use Rattle.bz_attribute.specs.Effects.{holds_rule, nodes_after, nodes_of, slot_done, with_args, done}
 use Rattle.bz_attribute.specs.Set.{joined_by_dots, kind_after, kind_items, sets_kind_of, with_kind}

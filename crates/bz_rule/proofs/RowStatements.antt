@@ -1,8 +1,8 @@
 -- A row is of one statement, and what is known of that by its head.
-use Rattle.std.proofs.Common.{◌≡◌, ◌≤◌, ◌∙◌, ℕ, length, List, Bool, [], false, Option, None, Some, is_some, map, option_map, ap, refl, sym, subst, ◌++◌}
+use Rattle.std.proofs.Common.{◌≡◌, ◌≤◌, ◌∙◌, ℕ, length, List, [], false, Option, None, Some, is_some, map, option_map, ap, refl, sym, subst, ◌++◌}
 use Rattle.std.specs.Prelude.{unwrap_or, ◌∷◌}
-use Rattle.bz_tree.specs.Tree.{Item, Statement}
-use Rattle.bz_tree.specs.Rows.{RowPart, part_view, parts_of}
+use Rattle.bz_tree.specs.Tree.{Statement}
+use Rattle.bz_tree.specs.Rows.{part_view, parts_of}
 use Rattle.bz_tree.specs.declared.row.Part.{Part}
 use Rattle.bz_tree.specs.declared.stmt.Class.{Class}
 use Rattle.bz_tree.specs.private.PartSteps.{content_of, last_beside}

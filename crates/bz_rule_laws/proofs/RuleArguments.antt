@@ -1,13 +1,13 @@
 -- The arguments of a rule after an edit of them, and after another kind.
-use Rattle.std.proofs.Common.{◌≡◌, ℕ, ◌<◌, ◌==◌, List, [], ◌∷◌, ◌++◌, Bool, true, false, ◌&&◌, Option, Some, None, option_map, is_some, length, if◌then◌else◌, refl, ap, sym, ◌∙◌, arith}
+use Rattle.std.proofs.Common.{◌≡◌, ℕ, ◌<◌, ◌==◌, List, [], ◌∷◌, Bool, true, false, Option, Some, None, option_map, is_some, length, if◌then◌else◌, refl, ap, sym, ◌∙◌, arith}
 use Rattle.bz_attribute.proofs.RuleParts.{rule_dotted}
 use Rattle.std.specs.Prelude.{bytes_eq}
 use Rattle.std.specs.List.{slice_split}
-use Rattle.std.proofs.lemmas.Bool.{and_parts, false≢true}
+use Rattle.std.proofs.lemmas.Bool.{false≢true}
 use Rattle.bz_tree.specs.declared.stmt.GroupKind.TheVariants.{RuleCall}
-use Rattle.bz_tree.specs.Tree.{Item, group, Segment, Statement, segs_of}
+use Rattle.bz_tree.specs.Tree.{group, Segment, Statement, segs_of}
 use Rattle.bz_command.proofs.Cuts.{some_part}
-use Rattle.bz_attribute.specs.Rules.{Rule, call_at, dotted, elements, kind_text, rule_from, rule_of}
+use Rattle.bz_attribute.specs.Rules.{Rule, dotted, kind_text, rule_of}
 use Rattle.bz_attribute.specs.Effects.{nodes_after, nodes_of, with_args}
 use Rattle.bz_attribute.specs.Set.{joined_by_dots, kind_after, kind_items, with_kind}
 use Rattle.bz_attribute.proofs.Calls.{rule_from_end}

@@ -1,5 +1,5 @@
 -- Strings that are spelled otherwise: the same rule, the same names and lists.
-use Rattle.std.proofs.Common.{◌≡◌, ℕ, List, [], ◌∷◌, ◌++◌, Bool, true, false, ◌&&◌, if◌then◌else◌, Some, None, option_map, is_some, drop, map, codes, refl, ap, sym, ◌∙◌, option_and_then}
+use Rattle.std.proofs.Common.{◌≡◌, ℕ, List, [], ◌∷◌, ◌++◌, Bool, true, false, if◌then◌else◌, Some, None, option_map, is_some, drop, map, codes, refl, ap, sym, ◌∙◌}
 use Rattle.std.specs.List.{list_all}
 use Rattle.std.proofs.lemmas.Bool.{and_parts, false≢true}
 use Rattle.std.proofs.lemmas.List.{map-append}
@@ -12,7 +12,6 @@ use Rattle.bz_attribute.specs.Rules.{call_at, dotted, elements, first_named, ide
 use Rattle.bz_attribute.specs.Lists.{ends, is_attribute, is_joint, is_list, is_part, is_plus, parts, parts_from}
 use Rattle.bz_attribute.specs.Effects.{has}
 use Rattle.bz_rule_laws.proofs.RuleArguments.{kind_there, there}
-use Rattle.bz_command.specs.Values.{value_of}
 
 abbrev pub respelled : Segment → Segment
 respelled a = record a { nodes = map spelled a.nodes }

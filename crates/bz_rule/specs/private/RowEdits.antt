@@ -1,14 +1,14 @@
 -- For private clauses: where the arguments stand that a command looks at, and a row with its head.
-use Rattle.std.specs.Prelude.{◌≡◌, ℕ, ◌-◌, List, ◌++◌, Bool, true, false, Option, Some, map, take, drop, ◌≤◌, ◌+◌, length}
+use Rattle.std.specs.Prelude.{◌≡◌, ℕ, List, Bool, true, false, Option, Some, map, drop, ◌≤◌, ◌+◌, length}
 use Rattle.bz_tree.specs.Statement.{class_of}
 use Rattle.bz_tree.specs.declared.stmt.Class.TheVariants.{Rule as RuleClass}
-use Rattle.bz_tree.specs.Tree.{Segment, Statement, segs_of}
-use Rattle.bz_tree.specs.Rows.{RowPart, part_view, parts_of, segs_parts}
+use Rattle.bz_tree.specs.Tree.{Statement}
+use Rattle.bz_tree.specs.Rows.{RowPart, part_view, parts_of}
 use Rattle.bz_command.specs.Labels.{Package}
 use Rattle.bz_command.specs.declared.arguments.Commented.TheVariants.{Rule as Above}
 use Rattle.bz_command.specs.declared.arguments.Setting.TheVariants.{ToKind}
 use Rattle.bz_rule.specs.Commands.{Command, args_after, args_done, done_of}
-use Rattle.bz_rule.specs.declared.command.Action.TheVariants.{Comment, Delete, Print, Set}
+use Rattle.bz_rule.specs.declared.command.Action.TheVariants.{Comment, Delete, Print, Set, Rename}
 use Rattle.bz_attribute.specs.Comment.{comment_rule}
 use Rattle.bz_attribute.specs.Effects.{with_args}
 use Rattle.bz_attribute.specs.Heads.{HasHead}

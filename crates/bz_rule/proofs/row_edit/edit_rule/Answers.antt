@@ -1,12 +1,10 @@
-use Rattle.std.proofs.Common.{◌≡◌, ◌≤◌, ◌+◌, ◌-◌, ◌∙◌, ◌++◌, ℕ, List, length, map, take, drop, ap, sym, subst, arith}
+use Rattle.std.proofs.Common.{◌≡◌, ◌-◌, ◌∙◌, ◌++◌, ℕ, List, length, map, take, drop, ap, sym, subst, arith}
 use Rattle.std.proofs.lemmas.List.{length-drop, length-map}
-use Rattle.bz_tree.specs.Tree.{Statement}
 use Rattle.bz_tree.specs.Rows.{RowPart, above, part_view, parts_of}
-use Rattle.bz_attribute.specs.Rules.{Rule, rule_of}
 use Rattle.bz_attribute.specs.RowEdits.{IsWithin, replaced_at}
 use Rattle.bz_attribute.specs.RowPlaces.{IsRuleRow}
 use Rattle.bz_attribute.proofs.Slices.{rest_seen}
-use Rattle.bz_rule.specs.private.RowEdits.{IsEditOf, below, rule_after}
+use Rattle.bz_rule.specs.private.RowEdits.{below}
 use Rattle.bz_rule.proofs.Below.{after_off, first_off, parts_below, replaced_behind, told_below}
 use Rattle.bz_rule.proofs.row_edit.edit_rule.Goals as goal
 

@@ -1,4 +1,4 @@
-use Rattle.std.proofs.Common.{◌≡◌, ◌∙◌, false, sym}
+use Rattle.std.proofs.Common.{◌∙◌, sym}
 use Rattle.bz_rule.proofs.HeadKept.{head_stays}
 use Rattle.bz_rule.proofs.row_edit.keeps_head.Goals as goal
 

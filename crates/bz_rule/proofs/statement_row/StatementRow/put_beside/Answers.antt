@@ -1,6 +1,6 @@
-use Rattle.std.proofs.Common.{◌≡◌, ◌∙◌, ap, length, map, subst, sym, arith}
+use Rattle.std.proofs.Common.{◌∙◌, ap, length, subst, sym, arith}
 use Rattle.bz_tree.specs.Tree.{Statement}
-use Rattle.bz_tree.specs.Rows.{part_view, parts_of}
+use Rattle.bz_tree.specs.Rows.{parts_of}
 use Rattle.bz_attribute.specs.Heads.{HasHead}
 use Rattle.bz_rule.specs.private.PartsOf.{parts_in}
 use Rattle.bz_rule.proofs.RowStatements.{has_head, statement_of}
