@@ -1,9 +1,9 @@
 -- The call of a rule by what was read of it.
-use Rattle.std.proofs.Common.{◌≡◌, ℕ, ◌-◌, List, [], ◌∷◌, ◌++◌, Bool, true, false, ◌||◌, ◌&&◌, refl, sym, ap, ◌∙◌, arith, append_assoc, subst, length, take, bytes_eq, nat_eq, rules, option_and_then, suc}
+use Rattle.std.proofs.Common.{◌≡◌, ℕ, ◌-◌, List, [], ◌∷◌, ◌++◌, Bool, true, false, ◌||◌, ◌&&◌, refl, sym, ap, ◌∙◌, arith, append_assoc, subst, length, take, bytes_eq, nat_eq, rules, option_and_then, suc, ◌+◌}
 use Rattle.std.specs.Prelude.{codes, nat_le, Option, Some, None, IfSome, if◌then◌else◌}
 use Rattle.std.proofs.lemmas.Bool.{false≢true}
 use Rattle.std.specs.List.{starts_with}
-use Rattle.std.proofs.lemmas.Slice.Eq.{bytes_eq-Decides}
+use Rattle.bz_token.proofs.Classes.{same_bytes}
 use Rattle.bz_token.specs.declared.token.Kind.TheVariants.{Identifier, String, Operator}
 use Rattle.bz_token.specs.Lexical.{is_text, keywords}
 use Rattle.bz_tree.specs.declared.stmt.GroupKind.TheVariants.{RuleCall}
@@ -86,9 +86,6 @@ only_named_front depth attr text start last rest name is q closes =
     (record { holds = false; group = flat_group RuleCall 0 depth first last rest 41 1 false refl all refl closes; named = q.value; has = tt })
 
 -- no argument has a name that does not stand in the text
-
-same_bytes : (xs ys : List ℕ) → bytes_eq xs ys ≡ true → xs ≡ ys
-same_bytes xs ys h = search (rules, bytes_eq-Decides)
 
 pub after_it : (attr xs ys : List ℕ) → HasArgumentName attr ys → HasArgumentName attr (xs ++ ys)
 after_it attr xs ys h = record { before = xs ++ h.before; after = h.after; is = ap (λ (t : List ℕ). xs ++ t) h.is ∙ sym (append_assoc xs h.before (attr ++ (codes " =" ++ h.after))) }
