@@ -118,12 +118,20 @@ pub(crate) fn after_name(text: &[u8]) -> Option<&[u8]>
     }
 }
 
+// Four spaces, looked at as one word.
+const FOUR_SPACES: u32 = 0x2020_2020;
+
 #[inline(always)]
 fn spaces(text: &[u8]) -> Option<&[u8]>
     ensures { IfSome result (λ rest. text.now ≡ 32 ∷ 32 ∷ 32 ∷ 32 ∷ rest.now) }
 {
     match text {
-        [b' ', b' ', b' ', b' ', rest @ ..] => Some(rest),
+        [a, b, c, d, rest @ ..] => {
+            if u32::from_le_bytes([*a, *b, *c, *d]) != FOUR_SPACES {
+                return None;
+            }
+            Some(rest)
+        }
         _ => None,
     }
 }

@@ -47,6 +47,7 @@ fn breaks(kind: GroupKind, one: bool, two: bool, holds: bool) -> bool
 
 /// What follows the group of this kind here.
 #[cycle(values)]
+#[inline(always)]
 pub(crate) fn group(kind: GroupKind, text: &[u8], level: u8, depth: u8) -> Option<Value<'_>>
     requires commas { (n : ℕ) → has_commas kind false n ≡ true }
     requires deep { level + depth + 1 < 255 }
@@ -61,6 +62,7 @@ pub(crate) fn group(kind: GroupKind, text: &[u8], level: u8, depth: u8) -> Optio
 
 /// What follows the group on lines here, its first bracket left out.
 #[cycle(values)]
+#[inline(always)]
 fn broken_group(kind: GroupKind, inside: &[u8], level: u8, depth: u8) -> Option<Value<'_>>
     requires commas { (n : ℕ) → has_commas kind false n ≡ true }
     requires deep { level + depth + 1 < 255 }
@@ -80,6 +82,7 @@ fn broken_group(kind: GroupKind, inside: &[u8], level: u8, depth: u8) -> Option<
 
 /// What follows the group in place here, its first bracket left out.
 #[cycle(values)]
+#[inline(always)]
 fn flat_group(kind: GroupKind, inside: &[u8], level: u8, depth: u8) -> Option<Value<'_>>
     requires { level + depth < 255 }
     ensures { IfSome result (λ v. IsGroupFront kind level depth (opening kind ++ inside.now) v.rest.now v.holds) }

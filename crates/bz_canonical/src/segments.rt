@@ -31,6 +31,7 @@ pub(crate) struct AfterSegments<'t> {
 
 /// What follows the segments here, each on lines of its own and with its comma, and the comments after them.
 #[cycle(values)]
+#[inline(never)]
 pub(crate) fn segments(
     kind: GroupKind,
     text: &[u8],
@@ -74,6 +75,7 @@ pub(crate) fn segments(
 
 /// What follows the segments here in place.
 #[cycle(values)]
+#[inline(always)]
 pub(crate) fn flat_segments(
     kind: GroupKind,
     text: &[u8],

@@ -25,6 +25,7 @@ pub(crate) fn either(a: bool, b: bool) -> bool
 }
 
 /// What follows the string, number or name here.
+#[inline(always)]
 pub(crate) fn leaf(text: &[u8]) -> Option<&[u8]>
     ensures { IfSome result (λ rest. (level depth : ℕ) → IsValueFront level depth text.now rest.now false) }
 {
@@ -46,6 +47,7 @@ pub(crate) fn leaf(text: &[u8]) -> Option<&[u8]>
 
 /// What follows the group of this kind here, an operand.
 #[cycle(values)]
+#[inline(always)]
 fn list(text: &[u8], level: u8, depth: u8) -> Option<Value<'_>>
     requires { level + depth < 255 }
     ensures { IfSome result (λ v. IsTermFront level depth text.now v.rest.now v.holds) }
@@ -58,6 +60,7 @@ fn list(text: &[u8], level: u8, depth: u8) -> Option<Value<'_>>
 }
 
 #[cycle(values)]
+#[inline(always)]
 fn dict(text: &[u8], level: u8, depth: u8) -> Option<Value<'_>>
     requires { level + depth < 255 }
     ensures { IfSome result (λ v. IsTermFront level depth text.now v.rest.now v.holds) }
@@ -71,6 +74,7 @@ fn dict(text: &[u8], level: u8, depth: u8) -> Option<Value<'_>>
 
 /// What follows the name here, or its call.
 #[cycle(values)]
+#[inline(always)]
 fn name_or_call(text: &[u8], level: u8, depth: u8) -> Option<Value<'_>>
     requires { level + depth < 255 }
     ensures { IfSome result (λ v. IsTermFront level depth text.now v.rest.now v.holds) }
@@ -93,6 +97,7 @@ fn name_or_call(text: &[u8], level: u8, depth: u8) -> Option<Value<'_>>
 
 /// What follows the operand or call here.
 #[cycle(values)]
+#[inline(always)]
 fn term(text: &[u8], level: u8, depth: u8) -> Option<Value<'_>>
     requires { level + depth < 255 }
     ensures { IfSome result (λ v. IsTermFront level depth text.now v.rest.now v.holds) }
@@ -141,16 +146,18 @@ fn sum(text: &[u8], level: u8, depth: u8) -> Option<Value<'_>>
     requires { level + depth < 255 }
     ensures { IfSome result (λ v. AreNodesFront level depth text.now v.rest.now v.holds) }
 {
-    let first = term(text, level, depth)?;
-    let mut rest = first.rest;
-    let mut holds = first.holds;
+    let mut next = text;
+    let mut holds = false;
     for _ in 0..text.len() {
-        let Some(next) = after_plus(rest) else {
-            return Some(Value { rest, holds });
-        };
         let read = term(next, level, depth)?;
-        rest = read.rest;
         holds = either(holds, read.holds);
+        let Some(operand) = after_plus(read.rest) else {
+            return Some(Value {
+                rest: read.rest,
+                holds,
+            });
+        };
+        next = operand;
     }
     None
 }

@@ -1,6 +1,7 @@
 use Rattle.std.proofs.Common.{◌≡◌, true, false, ◌+◌, ◌-◌, arith, ◌∙◌, ◌||◌, ◌++◌, refl, sym, subst, ap}
 use Rattle.std.specs.Prelude.{codes}
 use Rattle.bz_canonical.specs.private.Chains.{IsTermFront}
+use Rattle.bz_canonical.specs.private.Values.{AreNodesFront}
 use Rattle.bz_canonical.specs.private.Segments.{Continues, ContinuesFlat, IsSegmentFront}
 use Rattle.bz_canonical.proofs.GroupSegments.{begin, more, finish, begin_flat, more_flat, finish_flat, none_flat, element_segment, positional_segment, keyword_segment, entry_segment, first_of_more, second_of_more, four_or, in_place_front}
 use Rattle.bz_canonical.proofs.Operands.{list_value, dict_value, name_value, string_value, broken_group, flat_group}
@@ -11,15 +12,19 @@ pub segments::segments-loop-init : goal.segments::segments-loop-init
 segments::segments-loop-init m c = (0, refl, refl, begin c.args.kind c.args.level c.args.depth c.args.text.now)
 
 pub value::sum-loop-init : goal.value::sum-loop-init
-value::sum-loop-init m c = begin_chain c.args.level c.args.depth c.args.text.now c.in_ok-first.first.rest.now c.in_ok-first.first.holds c.in_ok-first.ensures
+value::sum-loop-init m c = begin_chain c.args.level c.args.depth c.args.text.now
 
 pub value::sum-returns-in_default : goal.value::sum-returns-in_default
-value::sum-returns-in_default m c = finish_chain c.args.level c.args.depth c.args.text.now c.loop.rest.now c.loop.holds c.loop.invariant
+value::sum-returns-in_default m c =
+    subst (λ h. AreNodesFront c.args.level c.args.depth c.args.text.now c.in_ok-read.read.rest.now h) (sym c.either-holds.ensures)
+    (finish_chain c.args.level c.args.depth c.args.text.now c.in_ok-read.read.rest.now _ (c.loop.invariant c.in_ok-read.read.rest.now c.in_ok-read.read.holds c.in_ok-read.ensures))
 
 pub value::sum-loop-preserved : goal.value::sum-loop-preserved
-value::sum-loop-preserved m c =
-    subst (λ h. Chains c.args.level c.args.depth c.args.text.now c.in_ok-read.read.rest.now h) (sym c.either-holds.ensures)
-    (more_chain c.args.level c.args.depth c.args.text.now c.loop.rest.now c.in-Some.next.now c.in_ok-read.read.rest.now c.loop.holds c.in_ok-read.read.holds c.loop.invariant c.in-Some.ensures c.in_ok-read.ensures)
+value::sum-loop-preserved m c = λ rest k t.
+    let holds = c.loop.holds || c.in_ok-read.read.holds in
+    subst (λ h. Chains c.args.level c.args.depth c.args.text.now rest (h || k)) (sym c.either-holds.ensures)
+    (more_chain c.args.level c.args.depth c.args.text.now c.in_ok-read.read.rest.now c.in-Some.operand.now rest holds k
+    (c.loop.invariant c.in_ok-read.read.rest.now c.in_ok-read.read.holds c.in_ok-read.ensures) c.in-Some.ensures t)
 
 pub segments::segments-loop-preserved : goal.segments::segments-loop-preserved
 segments::segments-loop-preserved m c =

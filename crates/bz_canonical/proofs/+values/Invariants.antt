@@ -1,6 +1,7 @@
-use Rattle.std.proofs.Common.{◌≡◌, ℕ, ◌+◌, ◌*◌, true}
+use Rattle.std.proofs.Common.{◌≡◌, ℕ, ◌+◌, ◌*◌, List, Bool, true, ◌||◌}
 use Rattle.std.specs.Prelude.{nat_le}
 use Rattle.bz_canonical.specs.private.Segments.{Continues, ContinuesFlat}
+use Rattle.bz_canonical.specs.private.Chains.{IsTermFront}
 use Rattle.bz_canonical.proofs.Chained.{Chains}
 use Rattle.bz_canonical.proofs.+values.Given as goal
 
@@ -51,4 +52,4 @@ abbrev pub invariant-segments::flat_segments-loop : goal.invariant-segments::fla
 invariant-segments::flat_segments-loop l = (n : ℕ) × (true ≡ nat_le 1 n) × (l.two ≡ nat_le 2 n) × ContinuesFlat l.kind true l.level l.depth l.text l.rest n l.holds
 
 abbrev pub invariant-value::sum-loop : goal.invariant-value::sum-loop
-invariant-value::sum-loop l = Chains l.level l.depth l.text l.rest l.holds
+invariant-value::sum-loop l = (rest : List ℕ) (k : Bool) → IsTermFront l.level l.depth l.next rest k → Chains l.level l.depth l.text rest (l.holds || k)
