@@ -9,7 +9,7 @@ use Rattle.bz_attribute.specs.declared.done.Done.{Done}
 use Rattle.bz_attribute.specs.Effects.{done, has}
 use Rattle.bz_attribute.specs.Rules.{Rule, first_named, is_named, rule_of}
 use Rattle.bz_canonical.specs.Canonical.{HasArgumentName, rule_args, Between, HasPlace, first_args}
-use Rattle.bz_rule.specs.declared.command.Action.TheVariants.{Remove, Replace, Add, Set, SetIfAbsent, Delete, Rename, Move, Comment, Print}
+use Rattle.bz_rule.specs.declared.command.Action.TheVariants.{Remove, Replace}
 use Rattle.bz_canonical.proofs.SmallRules.{no_lines}
 use Rattle.bz_rule.specs.Commands.{Command, after, args_after, args_done, done_of}
 use Rattle.bz_rule.proofs.Commands.{lawful}

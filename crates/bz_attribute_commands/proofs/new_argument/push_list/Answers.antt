@@ -5,7 +5,6 @@ use Rattle.bz_tree.specs.Tree.{segs_of}
 use Rattle.bz_tree.specs.Rows.{RowPart, closing, opening, part_view, segs_parts}
 use Rattle.bz_attribute.specs.Effects.{string}
 use Rattle.bz_attribute.proofs.Slices.{one_more}
-use Rattle.bz_attribute_commands.proofs.KindWritten.{one_more}
 use Rattle.bz_attribute_commands.proofs.new_argument.push_list.Goals as goal
 
 -- the parts of a list
