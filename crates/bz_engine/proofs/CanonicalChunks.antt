@@ -1,5 +1,5 @@
 -- A canonical chunk of a statement that the script passes by is the next chunk, and is done.
-use Rattle.std.proofs.Common.{◌≡◌, ℕ, true, ◌≤◌, ◌+◌, List, [], ◌∷◌, ◌++◌, length, take, refl, sym, ◌∙◌, ap, subst, arith, bytes_eq, rules, Bor, false}
+use Rattle.std.proofs.Common.{◌≡◌, ℕ, true, ◌≤◌, ◌+◌, List, ◌++◌, length, take, refl, sym, ◌∙◌, ap, subst, arith, bytes_eq, rules, Bor, false}
 use Rattle.std.proofs.Math.Seq.{take-append_seam}
 use Rattle.std.proofs.lemmas.Bool.{false≢true}
 use Rattle.std.proofs.lemmas.List.{length-append}

@@ -10,7 +10,6 @@ use Rattle.bz_engine.specs.File.{Gives}
 use Rattle.bz_engine.specs.Outcome.{Run, slots_of, is_query}
 use Rattle.bz_command.specs.Passes.{slots_after}
 use Rattle.bz_engine.specs.Progress.{Progress, IsKeptOf, last_class, text_following}
-use Rattle.bz_engine.specs.declared.edit.Edited.TheVariants.{Done}
 use Rattle.bz_engine.specs.declared.edit.Scripted.{Scripted}
 use Rattle.bz_engine.specs.declared.edit.Scripted.TheVariants as scripts
 use Rattle.bz_engine.specs.private.Edits.{IsDone, IsLaidOut, IsScripted, IsEdited, edited_of}

@@ -2,13 +2,12 @@
 use Rattle.std.proofs.Common.{◌≡◌, ℕ, Bool, true, false, ◌||◌, List, [], ◌∷◌, ◌++◌, length, refl, sym, ◌∙◌, ap, subst, append-nil}
 use Rattle.bz_passes.specs.declared.entry.Entry.TheVariants.{Line}
 use Rattle.std.specs.Prelude.{Option, None, Some, if◌then◌else◌, map, option_to_list}
-use Rattle.std.proofs.lemmas.Bool.{false≢true}
 use Rattle.bz_tree.specs.declared.stmt.Class.{Class}
 use Rattle.bz_tree.specs.declared.stmt.Class.TheVariants.{Rule as RuleClass}
 use Rattle.bz_tree.specs.Statement.{class_of}
 use Rattle.bz_tree.specs.Tree.{Statement}
 use Rattle.bz_command.specs.Labels.{Package, Target}
-use Rattle.bz_command.specs.Passes.{Pass, Slot}
+use Rattle.bz_command.specs.Passes.{Slot}
 use Rattle.bz_attribute.specs.declared.done.Done.{Done}
 use Rattle.bz_attribute.specs.Effects.{fails}
 use Rattle.bz_attribute.specs.Marks.{marks, marks_rule}
@@ -16,7 +15,7 @@ use Rattle.bz_attribute.specs.Rules.{Rule, name_in, rule_of}
 use Rattle.bz_attribute.proofs.Headed.{other_class}
 use Rattle.bz_canonical.specs.Canonical.{HasName, rule_name}
 use Rattle.bz_rule.specs.Commands.{Command, after, done_of}
-use Rattle.bz_passes.specs.Exchange.{Fits, IsLeftBy, IsPassedBy, Kept, kept_alone, kept_and, logs_and, slot_after, some_alone}
+use Rattle.bz_passes.specs.Exchange.{Fits, IsPassedBy, Kept, kept_alone, kept_and, logs_and, slot_after, some_alone}
 use Rattle.bz_passes.specs.declared.entry.Entry.{Entry}
 use Rattle.bz_passes.proofs.ExchangeLaw.{left_more}
 use Rattle.bz_passes.proofs.PassedBy.{unmarked_passed}

@@ -7,7 +7,6 @@ use Rattle.bz_rule.specs.Commands.{Command, after, done_of}
 use Rattle.bz_attribute.specs.Marks.{marks}
 use Rattle.bz_attribute.specs.Texts.{shown_text}
 use Rattle.bz_attribute.specs.Effects.{fails}
-use Rattle.bz_attribute.specs.declared.done.Done.{Done}
 use Rattle.bz_attribute.specs.declared.done.Note.{Note}
 use Rattle.bz_attribute.specs.declared.done.Note.TheVariants.{Missing}
 use Rattle.bz_passes.specs.declared.entry.Entry.{Entry}

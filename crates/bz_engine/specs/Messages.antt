@@ -3,7 +3,6 @@ use Rattle.std.specs.Prelude.{ℕ, List, ◌++◌, codes}
 use Rattle.std.specs.Fmt.{decimal}
 use Rattle.bz_token.specs.declared.fault.LexFault.{LexFault}
 use Rattle.bz_token.specs.declared.fault.LexFault.TheVariants.{OutOfMemory, BadCharacter, BadNumber, OpenText, BadBracket, OpenBracket, TooDeep, BadBackslash}
-use Rattle.bz_tree.specs.declared.fault.ParseFault.{ParseFault}
 use Rattle.bz_tree.specs.declared.fault.ParseFault.TheVariants as parse
 use Rattle.bz_attribute.specs.declared.done.Note.{Note}
 use Rattle.bz_attribute.specs.declared.done.Note.TheVariants.{Missing, NoAttribute, AttributeExists, NotAList, NoValue}

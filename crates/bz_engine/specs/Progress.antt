@@ -1,5 +1,5 @@
 -- What a run keeps of the chunks that are done.
-use Rattle.std.specs.Prelude.{◌≡◌, ℕ, Bool, if◌then◌else◌, List, [], ◌∷◌, ◌++◌, Option, None, Some, codes}
+use Rattle.std.specs.Prelude.{◌≡◌, ℕ, Bool, if◌then◌else◌, List, [], ◌∷◌, ◌++◌, Option, None, Some}
 use Rattle.std.specs.List.{concat}
 use Rattle.bz_token.specs.Places.{line_at}
 use Rattle.bz_tree.specs.Tree.{Statement}

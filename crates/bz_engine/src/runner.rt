@@ -19,7 +19,7 @@ use bz_rule::{Command, Package, Target};
 /// Makes the passes, one after another, over the whole list of the statements of the input, and writes what they leave.
 ///
 /// One statement is held at a time. With `keep_going` every execution takes place; without, the run ends at the first
-/// statement on which one fails. A fault of the file ends its statements, and is then the only message. Memory comes from
+/// statement on which one fails. A fault of the file ends its statements, and is then the only message. Memory is from
 /// the allocator of `passes`.
 pub fn run<S: Source, W: Sink>(
     home: Package,

@@ -1,8 +1,8 @@
 -- The text of statements is read as a file.
-use Rattle.std.proofs.Common.{◌≡◌, ℕ, List, [], ◌∷◌, ◌++◌, map, Bool, true, false, refl, sym, ap, append-nil, subst, ◌∙◌, inl, inr, arith}
+use Rattle.std.proofs.Common.{◌≡◌, ℕ, List, [], ◌∷◌, ◌++◌, map, refl, sym, ap, append-nil, subst, ◌∙◌, inl, inr, arith}
 use Rattle.bz_tree.specs.declared.stmt.Class.TheVariants.{Comment, Block}
 use Rattle.bz_tree.specs.declared.stmt.Class.{Class}
-use Rattle.std.specs.Prelude.{codes, Option, None, Some, Ok, if◌then◌else◌, zero, suc, replicate}
+use Rattle.std.specs.Prelude.{codes, Option, None, Some, Ok, zero, suc, replicate}
 use Rattle.std.specs.List.{AllByRecursion}
 use Rattle.std.specs.Str.{IsUtf8}
 use Rattle.std.proofs.lemmas.Str.{IsUtf8-append, IsUtf8-nil}
@@ -12,7 +12,7 @@ use Rattle.bz_tree.specs.Tree.{Statement}
 use Rattle.bz_layout.specs.Gaps.{lines_between, gap_text}
 use Rattle.bz_layout.specs.Layout.{layout_text}
 use Rattle.bz_layout_laws.specs.FileRead.{IsFound, AreFound, AreStatementsIn}
-use Rattle.bz_layout_laws.specs.FileText.{text_from, takes_line, lines_after, own_chunks, chunks_from, own_text, lines_left}
+use Rattle.bz_layout_laws.specs.FileText.{text_from, lines_after, own_chunks, chunks_from, own_text, lines_left}
 use Rattle.bz_layout_laws.specs.ReadBack.{IsReadBack}
 use Rattle.bz_layout_laws.specs.Spelled.{spelled_statement}
 use Rattle.bz_layout_laws.specs.Lineless.{lineless}

@@ -2,7 +2,6 @@
 -- private clauses.
 use Rattle.std.specs.Prelude.{◌≡◌, ℕ, List, [], ◌∷◌, Bool, false, true, Option, None, Some, option_map, IfSome, map, option_to_list}
 use Rattle.bz_passes.specs.declared.entry.Entry.TheVariants.{Line}
-use Rattle.bz_tree.specs.declared.stmt.Class.{Class}
 use Rattle.bz_tree.specs.Statement.{class_of}
 use Rattle.bz_tree.specs.Tree.{Statement}
 use Rattle.bz_layout.specs.Layout.{layout_text}

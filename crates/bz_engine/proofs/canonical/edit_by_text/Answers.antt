@@ -1,5 +1,5 @@
-use Rattle.std.proofs.Common.{ℕ, List, Bor, true, ◌∙◌, sym, ap, subst}
-use Rattle.std.specs.Prelude.{Option, None, Some, IfSome, option_map}
+use Rattle.std.proofs.Common.{ℕ, List, Bor, ◌∙◌, sym, ap, subst}
+use Rattle.std.specs.Prelude.{Option, Some, IfSome, option_map}
 use Rattle.bz_canonical.specs.Canonical.{HasName}
 use Rattle.bz_passes.specs.Exchange.{Fits}
 use Rattle.bz_engine.specs.Progress.{Progress}
