@@ -5,6 +5,8 @@ ghost use Rattle.std.specs.Prelude.{⊤, List, ◌≡◌, ◌≤◌, ◌<◌, �
 
 use crate::no_memory::{NoMemory, refused};
 use std::alloc::{Allocator, Global};
+use std::cmp::min;
+use std::mem::size_of_val;
 
 /// Puts a value at the end of a list.
 #[inline(always)]
@@ -62,7 +64,7 @@ pub fn reserve<T, A: Allocator>(list: &mut Vec<T, A>, few: usize) -> Result<(), 
 
 /// Makes room for as many values more as another list has.
 #[inline(always)]
-pub fn reserve_for<T, U, A: Allocator>(list: &mut Vec<T, A>, like: &[U]) -> Result<(), NoMemory>
+pub fn reserve_for<T, A: Allocator>(list: &mut Vec<T, A>, like: &[T]) -> Result<(), NoMemory>
     ensures items { list.new.items ≡ list.old.items }
     ensures ok { OnOk result (vec_len list.new + length like.now ≤ vec_capacity list.new) }
     ensures full { OnErr result (vec_capacity list.old < vec_len list.old + length like.now) }
@@ -110,7 +112,7 @@ pub fn with_room_for<T, U, A: Allocator>(
     requires { few ≤ 131072 }
     ensures { IfOk result (λ v. v.items ≡ []) }
 {
-    with_room_within(alloc, like.len().saturating_add(few), like)
+    with_capacity_of(alloc, held(like).saturating_add(few))
 }
 
 /// An empty list with room for as many values as two other lists have, and a few.
@@ -124,11 +126,7 @@ pub fn with_room_for_both<T, U, A: Allocator>(
     requires { few ≤ 131072 }
     ensures { IfOk result (λ v. v.items ≡ []) }
 {
-    let room = first.len().saturating_add(second.len()).saturating_add(few);
-    match Vec::with_capacity(alloc, room) {
-        Ok(list) => Ok(list),
-        Err(_) => Err(refused()),
-    }
+    with_capacity_of(alloc, held(first).saturating_add(held(second)).saturating_add(few))
 }
 
 /// An empty list with room for so many values: at most as many as another list has, and a few.
@@ -139,6 +137,19 @@ pub fn with_room_within<T, U, A: Allocator>(
     like: &[U],
 ) -> Result<Vec<T, A>, NoMemory>
     requires { room ≤ length like.now + 131072 }
+    ensures { IfOk result (λ v. v.items ≡ []) }
+{
+    with_capacity_of(alloc, min(room, held(like).saturating_add(131_072)))
+}
+
+// How many values the list holds in memory: those of no size are in none, however many there are.
+#[inline(always)]
+fn held<U>(list: &[U]) -> usize {
+    min(list.len(), size_of_val(list))
+}
+
+#[inline(always)]
+fn with_capacity_of<T, A: Allocator>(alloc: A, room: usize) -> Result<Vec<T, A>, NoMemory>
     ensures { IfOk result (λ v. v.items ≡ []) }
 {
     match Vec::with_capacity(alloc, room) {
