@@ -36,11 +36,7 @@ impl Model for Asked {
 
 impl Asked {
     /// Makes the passes over the statements of the source, one pass after another, and writes what they leave.
-    pub fn run<S: Source, W: Sink>(
-        self,
-        source: &mut S,
-        sink: &mut W,
-    ) -> Result<Report, RunFault>
+    pub fn run<S: Source, W: Sink>(self, source: &mut S, sink: &mut W) -> Result<Report, RunFault>
         ensures ran { IfOk result
             (λ report. spec.Ran S.gave W.took self source.old source.new sink.old sink.new report) }
         // Where it answers no report, a front of the text was written.

@@ -1,17 +1,15 @@
 -- What the one command of a script makes of a rule, by the rule's name and text.
 use Rattle.std.proofs.Common.{◌≡◌, ℕ, ◌+◌, ◌<◌, Bool, true, false, ◌||◌, not, List, [], ◌∷◌, ◌++◌, length, get_or, refl, sym, ◌∙◌, ap, subst, arith, append_assoc}
-use Rattle.std.specs.Prelude.{Option, None, Some, if◌then◌else◌, option_to_list, codes, slice_index}
+use Rattle.std.specs.Prelude.{Option, None, Some, if◌then◌else◌, option_to_list}
 use Rattle.std.proofs.lemmas.Bool.{false≢true}
 use Rattle.bz_tree.specs.Tree.{Segment, Statement}
-use Rattle.bz_command.specs.declared.arguments.Attributes.TheVariants.{Named, Every}
-use Rattle.std.proofs.lemmas.List.{get_or_append_left, get_or-append-add, length-append}
-use Rattle.memchr.specs.Find.{FindsNeedle}
+use Rattle.bz_command.specs.declared.arguments.Attributes.TheVariants.{Named}
 use Rattle.bz_command.specs.Labels.{Package}
 use Rattle.bz_attribute.specs.declared.done.Done.{Done}
 use Rattle.bz_attribute.specs.Effects.{done, has}
 use Rattle.bz_attribute.specs.Rules.{Rule, first_named, is_named, rule_of}
-use Rattle.bz_canonical.specs.Canonical.{HasArgumentName, rule_args, Between, HasPlace, first_args}
-use Rattle.bz_rule.specs.declared.command.Action.TheVariants.{Remove, Replace, Add, Set, SetIfAbsent, Delete, Rename, Move, Comment, Print}
+use Rattle.bz_canonical.specs.Canonical.{Between, HasPlace, first_args, rule_args}
+use Rattle.bz_rule.specs.declared.command.Action.TheVariants.{Remove, Replace}
 use Rattle.bz_canonical.proofs.SmallRules.{no_lines}
 use Rattle.bz_rule.specs.Commands.{Command, after, args_after, args_done, done_of}
 use Rattle.bz_rule.proofs.Commands.{lawful}

@@ -126,7 +126,10 @@ pub fn with_room_for_both<T, U, A: Allocator>(
     requires { few ≤ 131072 }
     ensures { IfOk result (λ v. v.items ≡ []) }
 {
-    with_capacity_of(alloc, held(first).saturating_add(held(second)).saturating_add(few))
+    with_capacity_of(
+        alloc,
+        held(first).saturating_add(held(second)).saturating_add(few),
+    )
 }
 
 /// An empty list with room for so many values: at most as many as another list has, and a few.
