@@ -1,4 +1,5 @@
 -- What `add` does (buildozer README, edit commands; which values are left out is this project's own rule).
+-- Begin with `add` and `adds`.
 use Rattle.std.specs.Prelude.{ℕ, List, [], ◌∷◌, ◌++◌, Bool, true, ◌||◌, not, if◌then◌else◌, Option, map}
 use Rattle.std.specs.List.{list_any}
 use Rattle.bz_tree.specs.Tree.{Segment}

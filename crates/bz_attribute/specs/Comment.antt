@@ -1,4 +1,5 @@
 -- What `comment` does (buildozer README, edit commands; where the line stands is this project's own rule).
+-- Begin with `comment_args` and `comment_rule`.
 use Rattle.std.specs.Prelude.{ℕ, ◌==◌, List, [], ◌∷◌, ◌++◌, Bool, true, false, ◌&&◌, ◌||◌, if◌then◌else◌, Option, Some, None, is_some, option_and_then}
 use Rattle.std.specs.List.{list_any, list_all}
 use Rattle.bz_tree.specs.Tree.{Item, Segment, Statement}

@@ -1,4 +1,5 @@
 -- The list parts of a value, and which elements equal a word (this project's own rule).
+-- Begin with `edit_parts` and `equals`.
 use Rattle.std.specs.Prelude.{ℕ, List, [], ◌∷◌, ◌++◌, Bool, true, false, ◌&&◌, ◌||◌, not, if◌then◌else◌, codes, filter, take, is_some, bytes_eq}
 use Rattle.std.specs.List.{list_any, list_all}
 use Rattle.bz_token.specs.declared.token.Kind.TheVariants.{Keyword, Operator}

@@ -1,4 +1,5 @@
 -- Which statements a target marks (buildozer README, targets).
+-- Begin with `marks`.
 use Rattle.std.specs.Prelude.{ℕ, ◌==◌, Bool, true, false, codes, bytes_eq}
 use Rattle.bz_tree.specs.Tree.{Statement}
 use Rattle.bz_command.specs.Labels.{Target, Name, Pkg, All, Kind, Line}

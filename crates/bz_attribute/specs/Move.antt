@@ -1,4 +1,5 @@
 -- What `move` does (buildozer README, edit commands; the failures and what becomes of repeats are this project's own rule).
+-- Begin with `move`.
 use Rattle.std.specs.Prelude.{ℕ, List, [], ◌∷◌, ◌++◌, Bool, false, if◌then◌else◌, Option, is_some, filter}
 use Rattle.std.specs.List.{list_any, flat_map}
 use Rattle.bz_tree.specs.Tree.{Segment}

@@ -1,4 +1,5 @@
 -- What `remove` does (buildozer README, edit commands).
+-- Begin with `remove` and `removes`.
 use Rattle.std.specs.Prelude.{ℕ, List, [], ◌∷◌, Bool, ◌&&◌, not, if◌then◌else◌, filter, codes, false}
 use Rattle.std.specs.List.{list_any, flat_map}
 use Rattle.bz_tree.specs.Tree.{Segment}

@@ -1,4 +1,5 @@
 -- What `rename` does (buildozer README, edit commands; the failures are this project's own rule).
+-- Begin with `rename`.
 use Rattle.std.specs.Prelude.{ℕ, List, [], ◌∷◌, if◌then◌else◌, Option, Some, None, is_some, drop}
 use Rattle.bz_token.specs.declared.token.Kind.TheVariants.{Identifier}
 use Rattle.bz_tree.specs.Tree.{leaf, Segment}

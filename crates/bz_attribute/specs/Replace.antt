@@ -1,4 +1,5 @@
 -- What `replace` does (buildozer README, edit commands).
+-- Begin with `replace` and `replaces`.
 use Rattle.std.specs.Prelude.{ℕ, List, [], ◌∷◌, Bool, false, ◌&&◌, not, if◌then◌else◌, map}
 use Rattle.std.specs.List.{list_any}
 use Rattle.bz_tree.specs.Tree.{Segment}

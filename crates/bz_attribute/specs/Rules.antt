@@ -1,5 +1,6 @@
 -- A rule: identifiers joined by dots, one call and nothing more (buildozer README). Its kind is what stands before the call, its
 -- attributes are the keyword arguments.
+-- Begin with `rule_of`.
 use Rattle.std.specs.Prelude.{ℕ, List, [], ◌∷◌, ◌++◌, Bool, true, false, ◌&&◌, if◌then◌else◌, Option, Some, None, codes, drop, bytes_eq, find, option_and_then}
 use Rattle.std.specs.List.{flat_map}
 use Rattle.bz_token.specs.declared.token.Kind.TheVariants.{Identifier, String, Operator}

@@ -1,4 +1,5 @@
 -- What `set` and `set_if_absent` do (buildozer README, edit commands; what a word stands for is this project's own rule).
+-- Begin with `set`, `set_if_absent` and `with_kind`.
 use Rattle.std.specs.Prelude.{ℕ, ◌==◌, List, [], ◌∷◌, ◌++◌, Bool, true, false, ◌&&◌, ◌||◌, not, if◌then◌else◌, Option, Some, None, map, codes, bytes_eq}
 use Rattle.std.specs.List.{list_any, list_all, slice_split}
 use Rattle.bz_token.specs.declared.token.Kind.TheVariants.{Identifier, Integer, Operator}

@@ -1,4 +1,5 @@
 -- How labels and rules are shown (this project's own rule).
+-- Begin with `shown_text`.
 use Rattle.std.specs.Prelude.{ℕ, List, [], ◌∷◌, ◌++◌, Some, None, codes, unwrap_or}
 use Rattle.std.specs.Fmt.{decimal}
 use Rattle.bz_tree.specs.Tree.{Statement}

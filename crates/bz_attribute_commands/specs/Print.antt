@@ -1,4 +1,5 @@
 -- What `print` prints of a rule (buildozer README, print; how a value is shown is this project's own rule).
+-- Begin with `prints`.
 use Rattle.std.specs.Prelude.{ℕ, ◌==◌, List, [], ◌∷◌, ◌++◌, Bool, false, ◌&&◌, ◌||◌, not, if◌then◌else◌, Option, Some, None, option_map, map, is_some, codes, nat_le}
 use Rattle.std.specs.List.{list_any, list_all, join_with_byte}
 use Rattle.std.specs.Fmt.{decimal}

@@ -1,4 +1,5 @@
 -- Which labels are the same: a label in full (this project's own rule, after Bazel's short forms of labels).
+-- Begin with `completed`.
 use Rattle.std.specs.Prelude.{◌≡◌, ℕ, nat_eq, List, [], ◌∷◌, ◌++◌, Bool, ◌&&◌, not, if◌then◌else◌, None, Some, codes, bytes_eq}
 use Rattle.std.specs.List.{list_any, starts_with}
 use Rattle.bz_command.specs.Labels.{Package, is_colon, parts_of, last_of}

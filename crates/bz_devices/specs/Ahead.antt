@@ -1,4 +1,5 @@
 -- The bytes of an input that were read and not yet taken, and the chunk that they begin with.
+-- Begin with `IsUndecided` and `HasTooLong`.
 use Rattle.std.specs.Prelude.{◌≡◌, ℕ, ◌+◌, ◌*◌, ◌<◌, ◌≤◌, Bool, false, ◌||◌, IsTrue, List, [], ◌∷◌, ◌++◌, length, take, drop, ⊤}
 use Rattle.std.specs.List.{concat}
 use Rattle.bz_token.specs.Places.{line_at}

@@ -1,4 +1,5 @@
 -- The reads of a run: each was needed (this project's own rule).
+-- Begin with `AreReads`.
 use Rattle.std.specs.Prelude.{◌≡◌, ℕ, ◌+◌, ◌≤◌, false, List, [], ◌∷◌, ◌++◌, length, None, ⊤}
 use Rattle.std.specs.List.{concat}
 use Rattle.bz_token.specs.Chunks.{chunks}

@@ -1,4 +1,5 @@
 -- What a run over a file gives: the passes one after another on the whole list of its statements, and the result laid out.
+-- Begin with `IsOutcome`.
 use Rattle.std.specs.Prelude.{◌≡◌, ◌⊎◌, ℕ, Bool, true, false, ◌||◌, if◌then◌else◌, List, [], ◌∷◌, ◌++◌, map, Option, None, Some, take, filter_map}
 use Rattle.std.specs.List.{list_all, flat_map}
 use Rattle.bz_token.specs.Chunks.{chunks}

@@ -1,4 +1,6 @@
-//! A run, a chunk at a time.
+//! A run, a chunk at a time. `run` (`runner.rt`) makes a session, steps it to its end and finishes it. A step finds the
+//! next chunk (`next_chunk.rt`, and bz_devices `ahead` where more is to be read), has the script run on it (`edit.rt`),
+//! and writes its text. It begins with `Stopped`: after a fault the session is of no use.
 
 ghost use Rattle.bz_memory.specs.NoMemory.{no_memory};
 ghost use Rattle.std.specs.Prelude.{◌≡◌, ◌≢◌, ℕ, ◌+◌, ◌<◌, ◌≤◌, ◌^◌, ◌++◌, false, List, [], length, take, drop, IfOk, OnOk, OnErr, IfSome, IfNone, IsTrue};

@@ -1,4 +1,5 @@
 -- Which groups are broken over lines (this project's own rule).
+-- Begin with `is_broken`.
 use Rattle.std.specs.Prelude.{ℕ, suc, List, Bool, false, ◌&&◌, ◌||◌, is_some, nat_le}
 use Rattle.bz_tree.specs.declared.stmt.GroupKind.{GroupKind}
 use Rattle.bz_tree.specs.declared.stmt.GroupKind.TheVariants.{RuleCall, List as ListKind, Dict}

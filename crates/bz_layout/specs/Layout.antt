@@ -1,4 +1,5 @@
 -- The canonical text of a statement (this project's own layout): its tokens and comments in order, each after its gap.
+-- Begin with `layout_text`.
 use Rattle.std.specs.Prelude.{codes, ℕ, ◌+◌, List, [], ◌∷◌, ◌++◌, Bool, true, false, ◌||◌, if◌then◌else◌, Option, nat_le}
 use Rattle.std.specs.Prelude.Option.{Some, None}
 use Rattle.bz_token.specs.declared.token.Kind.TheVariants.{Operator, Newline}

@@ -1,4 +1,5 @@
 -- The written form of a token (this project's own rule): a plain string in single quotes gets double quotes, anything else stands as it is.
+-- Begin with `respell`.
 use Rattle.std.specs.Prelude.{ℕ, ◌-◌, List, [], ◌∷◌, ◌++◌, Bool, not, ◌&&◌, ◌==◌, if◌then◌else◌, length, take, drop}
 use Rattle.std.specs.List.{list_all}
 use Rattle.std.specs.Str.{bytes_eq}

@@ -1,4 +1,5 @@
 -- The ten commands: how their words are read (buildozer README, edit commands; the refusals are this project's own rule), which attributes they mention, a test of their words; the statement after each, what it tells, and which leave all comments.
+-- Begin with `after` and `done_of`.
 use Rattle.std.specs.Prelude.{◌≡◌, ℕ, ◌==◌, List, [], ◌∷◌, Bool, true, false, ◌&&◌, ◌||◌, not, if◌then◌else◌, Option, Some, None, Result, Ok, Err, map, length, codes, bytes_eq, option_map}
 use Rattle.std.specs.List.{list_all, list_any}
 use Rattle.std.specs.Str.{is_utf8}

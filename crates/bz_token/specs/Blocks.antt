@@ -1,5 +1,6 @@
 -- Where a block begins and which lines go on with it (this project's own rule): a statement line that begins in column 1
 -- with `def`, `for` or `if`, and the lines after it that are indented or empty; after an `if` also those of its branches.
+-- Begin with `goes_on` and `opener`.
 use Rattle.std.specs.Prelude.{take, cond, bytes_eq, Option, Some, None, ℕ, List, [], ◌∷◌, Bool, true, false, ◌&&◌, ◌||◌, ◌==◌, codes}
 use Rattle.std.specs.List.{take_while}
 use Rattle.bz_token.specs.Lexical.{is_word_byte}

@@ -1,5 +1,6 @@
 -- The chunks of a file (this project's own rule): a blank line; or comment lines with the blank line after them, or the
 -- end of the file; or comment lines, if any, with a statement line and, where that begins a block, the block's lines.
+-- Begin with `chunks`.
 use Rattle.std.specs.Prelude.{Option, Some, None, ℕ, List, [], ◌∷◌, map, Bool, true, false, not, ◌&&◌}
 use Rattle.std.specs.List.{concat, list_any}
 use Rattle.bz_token.specs.declared.cutter.scan.LineKind.{LineKind}

@@ -1,4 +1,5 @@
 -- What the answers of a cutter say of the chunks of a file.
+-- Begin with `EndsBefore`.
 use Rattle.std.specs.Prelude.{◌≡◌, ◌<◌, ◌++◌, length, ℕ, List, [], ◌∷◌, Bool, true, false, not, ◌&&◌, ◌==◌}
 use Rattle.bz_token.specs.declared.cutter.block.Opener.{Opener}
 use Rattle.bz_token.specs.declared.cutter.Cut.{Cut}

@@ -1,4 +1,5 @@
 -- The first lexical fault of a text, and its place: what stands after the gaps and tokens that could be read.
+-- Begin with `IsFault`.
 use Rattle.bz_memory.specs.NoMemory.{no_memory}
 use Rattle.std.specs.Prelude.{◌≡◌, ◌≢◌, ℕ, ◌≤◌, ◌<◌, List, [], ◌∷◌, ◌++◌, length, true, false, not, ◌&&◌, ◌==◌, is_some}
 use Rattle.std.specs.Char.{is_ascii_digit}

@@ -1,5 +1,6 @@
 -- The texts of each kind of token (Starlark specification, "Lexical elements"), each a test of a whole text, and which of
 -- them count at a place.
+-- Begin with `IsToken`.
 use Rattle.std.specs.Prelude.{ℕ, ◌+◌, ◌≡◌, List, [], ◌∷◌, ◌++◌, length, drop, Bool, true, false, not, ◌&&◌, ◌||◌, ◌==◌, if◌then◌else◌, nat_le, codes, bytes_eq, Option, Some, None}
 use Rattle.std.specs.List.{list_all, list_any, prefix_len}
 use Rattle.std.specs.Char.{is_ascii_digit, is_ascii_hexdigit, is_ascii_alphabetic}

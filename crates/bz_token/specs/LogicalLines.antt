@@ -1,5 +1,6 @@
 -- The logical lines of a file: what a newline outside brackets and strings ends, as in Starlark. A newline that breaks
 -- off a short string ends one too.
+-- Begin with `lines`.
 use Rattle.std.specs.Prelude.{ℕ, ◌+◌, ◌-◌, List, [], ◌∷◌, map, Bool, false, not, ◌&&◌, ◌||◌, ◌==◌, if◌then◌else◌, codes}
 use Rattle.std.specs.List.{list_all, list_any, concat}
 use Rattle.bz_token.specs.declared.cutter.scan.LineKind.{LineKind}

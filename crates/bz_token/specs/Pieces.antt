@@ -1,4 +1,5 @@
 -- What a file is made of, as far as cutting it goes: strings, comments, continued lines and single bytes.
+-- Begin with `is_piece`.
 use Rattle.std.specs.Prelude.{ℕ, ◌+◌, List, [], ◌∷◌, Bool, true, false, not, ◌&&◌, ◌||◌, ◌==◌, bytes_eq}
 use Rattle.std.specs.List.{list_any}
 use Rattle.bz_token.specs.Groups.{grouped}

@@ -1,5 +1,6 @@
 -- What a text is read as: gaps and tokens in turn, each token the longest at its place (Starlark specification, "Lexical
 -- elements").
+-- Begin with `AreTokensOf`.
 use Rattle.std.specs.Prelude.{◌≡◌, ℕ, List, [], ◌∷◌, ◌++◌, take, Bool, true, false, not, ◌&&◌, ◌||◌, ◌==◌, bytes_eq}
 use Rattle.std.specs.List.{list_any}
 use Rattle.bz_token.specs.declared.token.Kind.{Kind}

@@ -1,4 +1,5 @@
 -- Blocks: a statement that begins with `def`, `for` or `if` is kept as it was written (this project's own rule).
+-- Begin with `IsBlockOf`.
 use Rattle.std.specs.Prelude.{codes, ℕ, ◌+◌, ◌-◌, List, [], ◌∷◌, ◌++◌, Bool, true, false, not, if◌then◌else◌, ◌≡◌, ◌==◌, ◌&&◌, ◌||◌, nat_lt, Option, Some, None}
 use Rattle.std.specs.Str.{bytes_eq}
 use Rattle.bz_token.specs.declared.token.Kind.{Kind}

@@ -1,4 +1,5 @@
 -- The brackets of a list of tokens: a tree that loses no token, and what its brackets are as groups.
+-- Begin with `AreWell`.
 use Rattle.std.specs.Prelude.{ℕ, List, [], ◌∷◌, ◌++◌, Bool, true, false, if◌then◌else◌, ◌==◌, ◌+◌, ◌≡◌, ◌&&◌, ◌||◌, length, map, count_by}
 use Rattle.bz_token.specs.Places.{Placed}
 use Rattle.bz_tree.specs.declared.stmt.GroupKind.{GroupKind}

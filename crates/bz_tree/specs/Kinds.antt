@@ -1,4 +1,5 @@
 -- What a token is to the brackets, and what kind of group a bracket is (Starlark's grammar: calls, indexes, lists, dicts, comprehensions).
+-- Begin with `mark_of` and `group_kind`.
 use Rattle.std.specs.Prelude.{codes, ℕ, List, Bool, true, false, if◌then◌else◌, Option, Some}
 use Rattle.std.specs.Str.{bytes_eq}
 use Rattle.bz_token.specs.declared.token.Kind.{Kind}

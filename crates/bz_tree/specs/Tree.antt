@@ -1,4 +1,5 @@
 -- What a statement is: tokens and bracket groups, split at commas, with their comments.
+-- Begin with `Statement`.
 use Rattle.std.specs.Prelude.{ℕ, List, [], ◌∷◌, Bool, Option}
 use Rattle.bz_token.specs.declared.token.Kind.{Kind}
 use Rattle.bz_tree.specs.declared.stmt.GroupKind.{GroupKind}
