@@ -2,6 +2,8 @@ pub mod Respelled
 pub mod SpelledValues
 pub mod SpelledAgain
 pub mod Pieces
+pub mod OwnLayout
+pub mod TextOf
 pub mod Texts
 pub mod NoBrackets
 pub mod Fitting

@@ -25,7 +25,7 @@ use Rattle.bz_layout_laws.specs.Inside.{without_newlines}
 use Rattle.bz_layout_laws.specs.Legible.{IsLegible}
 use Rattle.bz_layout_laws.specs.Lexemes.{Lexeme, lexeme, end_after, is_on, lexemes_from, token_lexemes, suffix_lexemes, items_lexemes, comment_line_lexemes, line_lexemes, lexemes_of}
 use Rattle.bz_layout_laws.specs.ReadPieces.{piece_lexemes, read_pieces}
-use Rattle.bz_layout_laws.proofs.NoLines.{items_no_line}
+use Rattle.bz_layout_laws.proofs.NoLines.{layout_no_line}
 use Rattle.bz_layout_laws.proofs.Pieces.{items_pieces_are}
 use Rattle.bz_layout_laws.proofs.Taken.{no_tokens}
 use Rattle.bz_token.specs.Common.{is_filled}
@@ -96,7 +96,7 @@ any_line (p ∷ ps) = ap (λ b. is_line p.kind || b) (any_line ps)
 nodes_none : (s : Statement) → IsLegible s → list_any (λ l. is_line l.kind) (items_lexemes (items_of s.nodes)) ≡ false
 nodes_none s h =
     let ps = items_pieces Broken 0 None Closed Start (items_of s.nodes) in
-    ap (list_any (λ l. is_line l.kind)) (sym (items_pieces_are 0 None Closed Start (items_of s.nodes) refl)) ∙ any_line ps ∙ (items_no_line Broken 0 None Closed Start (items_of s.nodes) h.nodes).none
+    ap (list_any (λ l. is_line l.kind)) (sym (items_pieces_are 0 None Closed Start (items_of s.nodes) refl)) ∙ any_line ps ∙ (layout_no_line s h).none
 
 newline_last : (suffix : Option (List ℕ)) (aside : Bool) → newlines_end aside (suffix_lexemes suffix ++ lexeme Newline (codes "\n") ∷ []) ≡ true
 newline_last None true = refl

@@ -35,7 +35,7 @@ use Rattle.bz_layout_laws.specs.Legible.{IsLegible, IsLegibleItem, AreLegible, a
 use Rattle.bz_layout_laws.specs.ReadPieces.{read_piece, read_pieces}
 use Rattle.bz_layout_laws.proofs.NoBrackets.{leaf_line}
 use Rattle.bz_layout_laws.proofs.Texts.{line_whole}
-use Rattle.bz_layout_laws.proofs.NoLines.{join, items_no_line, suffix_no_line}
+use Rattle.bz_layout_laws.proofs.NoLines.{join, layout_no_line, suffix_no_line}
 use Rattle.bz_layout_laws.proofs.Ended.{read_bytes, line_ended}
 use Rattle.bz_layout_laws.proofs.TokensBack.{layout_read, read_lines, comments_end, tokens_back}
 
@@ -60,7 +60,7 @@ line_is_one : (s : Statement) → IsLegible s → lines_of (read_pieces (stateme
 line_is_one s h =
     let newline : List Piece = piece Closed Newline (codes "\n") ∷ [] in
     let nodes = items_pieces Broken 0 None Closed Start (items_of s.nodes) in
-    let none = join (items_no_line Broken 0 None Closed Start (items_of s.nodes) h.nodes) (suffix_no_line s.suffix) in
+    let none = join (layout_no_line s h) (suffix_no_line s.suffix) in
     let parts : read_pieces (statement_line s) ≡ read_pieces (nodes ++ suffix_piece s.suffix) ++ read_piece (piece Closed Newline (codes "\n")) ∷ [] =
     ap read_pieces (sym (append_assoc nodes (suffix_piece s.suffix) newline)) ∙ map-append read_piece (nodes ++ suffix_piece s.suffix) newline in
     ap (λ ps. lines_of ps []) parts ∙ one_line (read_pieces (nodes ++ suffix_piece s.suffix)) (read_piece (piece Closed Newline (codes "\n"))) none.none refl ∙ sym (ap (λ ps. line_of ps [] ∷ []) parts)

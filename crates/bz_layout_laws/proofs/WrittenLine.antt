@@ -18,7 +18,7 @@ use Rattle.bz_layout_laws.specs.Inside.{entries_lexemes, own_segment, without_ne
 use Rattle.bz_layout_laws.specs.Legible.{IsLegible}
 use Rattle.bz_layout_laws.specs.Lexemes.{Lexeme, lexeme, comment_lexemes, suffix_lexemes, items_lexemes, comment_line_lexemes, line_lexemes, lexemes_of}
 use Rattle.bz_layout_laws.specs.ReadPieces.{piece_lexemes, read_pieces}
-use Rattle.bz_layout_laws.proofs.NoLines.{items_no_line}
+use Rattle.bz_layout_laws.proofs.NoLines.{layout_no_line}
 use Rattle.bz_layout_laws.proofs.Pieces.{items_pieces_are}
 use Rattle.bz_layout_laws.proofs.Written.{own_lines_are, segment_is}
 
@@ -42,7 +42,7 @@ nodes_stay : (s : Statement) → IsLegible s → without_newlines (items_lexemes
 nodes_stay s h =
     let ps = items_pieces Broken 0 None Closed Start (items_of s.nodes) in
     let are = items_pieces_are 0 None Closed Start (items_of s.nodes) refl in
-    ap without_newlines (sym are) ∙ pieces_stay ps (items_no_line Broken 0 None Closed Start (items_of s.nodes) h.nodes).none ∙ are
+    ap without_newlines (sym are) ∙ pieces_stay ps (layout_no_line s h).none ∙ are
 
 above : (texts : List (List ℕ)) → without_newlines (comment_line_lexemes texts) ≡ comment_lexemes texts
 above [] = refl
