@@ -22,6 +22,8 @@ pub mod NoBranch
 pub mod CommentRead
 pub mod StatementReadBack
 pub mod Written
+pub mod FreeLexemes
+pub mod FreePieces
 pub mod WrittenLine
 pub mod Taken
 pub mod ReadSteps

@@ -80,11 +80,11 @@ ended_false (seg before nodes suffix no_segs) end h =
     spread before nodes suffix y = simp append_assoc
 
 -- on one line
-no_comments : (before : List (List ℕ)) → is_filled before ≡ false → comment_lexemes before ≡ []
+pub no_comments : (before : List (List ℕ)) → is_filled before ≡ false → comment_lexemes before ≡ []
 no_comments [] h = refl
 no_comments (text ∷ texts) h = absurd (false≢true (sym h))
 
-no_suffix : (suffix : Option (List ℕ)) → is_some suffix ≡ false → suffix_lexemes suffix ≡ []
+pub no_suffix : (suffix : Option (List ℕ)) → is_some suffix ≡ false → suffix_lexemes suffix ≡ []
 no_suffix None h = refl
 no_suffix (Some text) h = absurd (false≢true (sym h))
 
@@ -119,7 +119,7 @@ separated_are (seg before nodes suffix (seg b n s ss)) false none some =
     spread x y z = simp append_assoc
 
 -- where no comma is written after a segment, there is one at most
-few : (kind : GroupKind) (one_comma : Bool) (ss : Segs) → HasShape kind ss one_comma → has_commas kind one_comma (count ss) ≡ false → nat_le (count ss) 1 ≡ true
+pub few : (kind : GroupKind) (one_comma : Bool) (ss : Segs) → HasShape kind ss one_comma → has_commas kind one_comma (count ss) ≡ false → nat_le (count ss) 1 ≡ true
 few ListComp one_comma ss h none = h.one refl
 few DictComp one_comma ss h none = h.one refl
 few Index one_comma ss h none = h.one refl
@@ -133,7 +133,7 @@ ended_are : (kind : GroupKind) (one_comma : Bool) (ss : Segs) (end : List (List 
 ended_are kind one_comma ss end h true e = ended_true ss end
 ended_are kind one_comma ss end h false e = ended_false ss end (few kind one_comma ss h e)
 
-no_end : (end : List (List ℕ)) → is_filled end ≡ false → end ≡ []
+pub no_end : (end : List (List ℕ)) → is_filled end ≡ false → end ≡ []
 no_end [] h = refl
 no_end (text ∷ texts) h = absurd (false≢true (sym h))
 
