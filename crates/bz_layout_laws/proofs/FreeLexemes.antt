@@ -1,16 +1,16 @@
 -- The lexemes of a statement in a free layout: what stands in a bracket in one form, whether on lines or in place.
--- Begin with `items_lexemes_by`.
+-- Begin with `lexemes_by`.
 use Rattle.std.proofs.Common.{ℕ, ◌||◌, List, [], ◌∷◌, ◌++◌, Bool}
-use Rattle.std.specs.Prelude.{if◌then◌else◌}
-use Rattle.bz_token.specs.declared.token.Kind.TheVariants.{Operator}
+use Rattle.std.specs.Prelude.{codes, if◌then◌else◌}
+use Rattle.bz_token.specs.declared.token.Kind.TheVariants.{Operator, Newline}
 use Rattle.bz_token.specs.Common.{is_filled}
 use Rattle.bz_tree.specs.declared.stmt.GroupKind.{GroupKind}
-use Rattle.bz_tree.specs.Tree.{Item, leaf, group, Items, no_items, item, Segs, no_segs, seg, segments}
+use Rattle.bz_tree.specs.Tree.{Item, leaf, group, Items, no_items, item, Segs, no_segs, seg, Statement, items_of, segments}
 use Rattle.bz_layout.specs.Broken.{count, is_broken, segs_hold}
-use Rattle.bz_layout.specs.Layout.{opening, closing, has_commas}
+use Rattle.bz_layout.specs.Layout.{opening, closing, has_commas, is_comment}
 use Rattle.bz_layout_laws.specs.FreeLayout.{Choice, breaks_by, inside, following, text_of}
 use Rattle.bz_layout_laws.specs.Inside.{HasShape}
-use Rattle.bz_layout_laws.specs.Lexemes.{Lexeme, lexeme, comment_lexemes, suffix_lexemes, comma_lexemes}
+use Rattle.bz_layout_laws.specs.Lexemes.{Lexeme, lexeme, comment_lexemes, suffix_lexemes, comma_lexemes, comment_line_lexemes}
 
 -- a comma is written after the last segment
 abbrev pub last_comma : Bool → GroupKind → Segs → Bool → Bool
@@ -30,6 +30,12 @@ abbrev mutual
   segs_lexemes_by c trailing no_segs end = comment_lexemes end
   segs_lexemes_by c trailing (seg before nodes suffix ss) end =
       comment_lexemes before ++ (items_lexemes_by (inside c) nodes ++ (comma_lexemes (trailing || is_filled (segments ss)) ++ (suffix_lexemes suffix ++ segs_lexemes_by (following c) trailing ss end)))
+
+abbrev pub line_lexemes_by : Choice → Statement → List Lexeme
+line_lexemes_by c s = items_lexemes_by c (items_of s.nodes) ++ (suffix_lexemes s.suffix ++ lexeme Newline (codes "\n") ∷ [])
+
+abbrev pub lexemes_by : Choice → Statement → List Lexeme
+lexemes_by c s = comment_line_lexemes s.before ++ (if is_comment s.class then [] else line_lexemes_by c s)
 
 -- each bracket has as many segments as its kind allows
 abbrev mutual

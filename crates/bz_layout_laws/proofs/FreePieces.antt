@@ -1,25 +1,26 @@
 -- The pieces of a free layout without gaps are its lexemes.
-use Rattle.std.proofs.Common.{◌≡◌, ℕ, suc, ◌+◌, ◌||◌, List, [], ◌∷◌, ◌++◌, Bool, true, false, Option, Some, None, refl, sym, ap, ◌∙◌, append_assoc, append-nil, arith}
+use Rattle.std.proofs.Common.{◌≡◌, ℕ, suc, ◌+◌, ◌||◌, List, [], ◌∷◌, ◌++◌, Bool, true, false, Option, Some, None, refl, sym, ap, ◌∙◌, append_assoc, arith}
 use Rattle.std.specs.Prelude.{codes, nat_le, is_some, if◌then◌else◌}
-use Rattle.std.proofs.lemmas.Bool.{or_parts, false≢true}
+use Rattle.std.proofs.lemmas.Bool.{or_parts}
 use Rattle.std.proofs.lemmas.Bool.Decides.{nat_tests}
-use Rattle.bz_token.specs.declared.token.Kind.TheVariants.{Operator as OperatorToken}
+use Rattle.bz_token.specs.declared.token.Kind.TheVariants.{Operator as OperatorToken, Newline}
 use Rattle.bz_token.specs.Common.{is_filled}
 use Rattle.bz_tree.specs.declared.stmt.GroupKind.{GroupKind}
-use Rattle.bz_tree.specs.Tree.{Item, leaf, group, Items, no_items, item, Segs, no_segs, seg, segments}
+use Rattle.bz_tree.specs.Tree.{Item, leaf, group, Items, no_items, item, Segs, no_segs, seg, Statement, items_of, segments}
 use Rattle.bz_layout.specs.declared.spacing.Edge.{Edge}
 use Rattle.bz_layout.specs.declared.spacing.Edge.TheVariants.{Start}
 use Rattle.bz_layout.specs.declared.spacing.Gap.{Gap}
 use Rattle.bz_layout.specs.declared.spacing.Gap.TheVariants.{Closed, Space, Line}
 use Rattle.bz_layout.specs.Spacing.{edge_after, gap_before}
 use Rattle.bz_layout.specs.Broken.{count, have_comments, is_broken, segs_hold}
-use Rattle.bz_layout.specs.Pieces.{Piece, piece, comma_if, comments, suffix_piece}
-use Rattle.bz_layout.specs.Layout.{opening, closing, has_commas}
-use Rattle.bz_layout_laws.specs.FreeLayout.{Choice, breaks_by, inside, following, item_by, items_by, broken_by, flat_by, Stands, Stand, SegsStand}
+use Rattle.bz_layout.specs.Pieces.{Piece, piece, comma_if, comments, comment_lines, suffix_piece}
+use Rattle.bz_layout.specs.Layout.{opening, closing, has_commas, is_comment}
+use Rattle.bz_layout_laws.specs.FreeLayout.{Choice, breaks_by, inside, following, item_by, items_by, broken_by, flat_by, statement_by, Stands, Stand, SegsStand}
 use Rattle.bz_layout_laws.specs.Lexemes.{Lexeme, lexeme, comment_lexemes, suffix_lexemes, comma_lexemes}
 use Rattle.bz_layout_laws.specs.ReadPieces.{is_apart, piece_lexemes}
-use Rattle.bz_layout_laws.proofs.FreeLexemes.{last_comma, item_lexemes_by, items_lexemes_by, segs_lexemes_by, HasShapes, HaveShapes, SegsHaveShapes}
-use Rattle.bz_layout_laws.proofs.Pieces.{pieces_join, comma_pieces, comment_pieces, suffix_pieces, gap_is}
+use Rattle.bz_layout_laws.proofs.FreeLexemes.{last_comma, item_lexemes_by, items_lexemes_by, segs_lexemes_by, line_lexemes_by, lexemes_by, HasShapes, HaveShapes, SegsHaveShapes}
+use Rattle.bz_layout_laws.proofs.Pieces.{pieces_join, comma_pieces, comment_pieces, suffix_pieces, line_pieces, gap_is}
+use Rattle.bz_layout_laws.proofs.OwnLayout.{line_by}
 use Rattle.bz_layout_laws.proofs.Written.{too_many, no_comments, no_suffix, few, no_end}
 
 spread : {A : Type 0} (a b d e r z : List A) → (a ++ (b ++ (d ++ (e ++ r)))) ++ z ≡ a ++ (b ++ (d ++ (e ++ (r ++ z))))
@@ -143,3 +144,18 @@ mutual
       ap piece_lexemes (append_assoc own_nodes rest ps) ∙ pieces_join own_nodes (rest ++ ps)
       ∙ rw (items_written (inside c) level (Some kind) Closed Start nodes refl stands.0 shapes.0, rest_written (following c) level kind ss ps stands.1 shapes.1 b.rest) refl
       ∙ in_place (items_lexemes_by (inside c) nodes) (comma_lexemes (is_filled (segments ss))) after before suffix ss (piece_lexemes ps) b
+
+either : (b : Bool) (ps : List Piece) → piece_lexemes (if b then [] else ps) ≡ (if b then [] else piece_lexemes ps)
+either true ps = refl
+either false ps = refl
+
+line_written : (c : Choice) (s : Statement) → Stand c (items_of s.nodes) → HaveShapes (items_of s.nodes) → piece_lexemes (line_by c s) ≡ line_lexemes_by c s
+line_written c s stands shapes =
+    let newline : List Piece = piece Closed Newline (codes "\n") ∷ [] in
+    pieces_join (items_by c 0 None Closed Start (items_of s.nodes)) (suffix_piece s.suffix ++ newline)
+    ∙ rw (pieces_join (suffix_piece s.suffix) newline, items_written c 0 None Closed Start (items_of s.nodes) refl stands shapes, suffix_pieces s.suffix) refl
+
+pub statement_pieces : (c : Choice) (s : Statement) → Stand c (items_of s.nodes) → HaveShapes (items_of s.nodes) → piece_lexemes (statement_by c s) ≡ lexemes_by c s
+statement_pieces c s stands shapes =
+    pieces_join (comment_lines s.before) (if is_comment s.class then [] else line_by c s)
+    ∙ rw (line_pieces s.before, either (is_comment s.class) (line_by c s), line_written c s stands shapes) refl

@@ -31,8 +31,10 @@ pub mod Fors
 pub mod SameInside
 pub mod ReadGroup
 pub mod ReadTree
+pub mod FreeSpelled
 pub mod Unlined
 pub mod SameTests
+pub mod Shapes
 pub mod ReadStatement
 pub mod SameGrammar
 pub mod FirstToken
@@ -49,6 +51,7 @@ pub mod Roles
 pub mod Neighbours
 pub mod GrammarFollows
 pub mod WellFormed
+pub mod FreeRead
 pub mod SameFormed
 pub mod BlockTokens
 pub mod BlockEnds
@@ -69,6 +72,7 @@ pub mod KeptStays
 pub mod KeptChunk
 pub mod KeptReadBack
 mod Examples
+mod FreeExamples
 mod ParsedExamples
 mod WellFormedExamples
 pub mod Utf8Tokens

@@ -1,6 +1,6 @@
 -- The layout is one of the free layouts.
-use Rattle.std.proofs.Common.{◌≡◌, ℕ, ◌+◌, List, [], ◌∷◌, ◌++◌, Bool, true, false, Option, Some, None, refl}
-use Rattle.std.specs.Prelude.{codes, if◌then◌else◌}
+use Rattle.std.proofs.Common.{◌≡◌, ℕ, ◌+◌, List, [], ◌∷◌, ◌++◌, Bool, true, false, Option, Some, None, refl, ap}
+use Rattle.std.specs.Prelude.{codes}
 use Rattle.bz_token.specs.declared.token.Kind.TheVariants.{Newline}
 use Rattle.bz_tree.specs.declared.stmt.GroupKind.{GroupKind}
 use Rattle.bz_tree.specs.Tree.{Item, leaf, group, Items, no_items, item, Segs, no_segs, seg, Statement, items_of}
@@ -10,9 +10,9 @@ use Rattle.bz_layout.specs.declared.spacing.Gap.{Gap}
 use Rattle.bz_layout.specs.declared.spacing.Gap.TheVariants.{Closed, Space, Line}
 use Rattle.bz_layout.specs.declared.broken.Style.TheVariants.{Broken}
 use Rattle.bz_layout.specs.Spacing.{edge_after, gap_before}
-use Rattle.bz_layout.specs.Pieces.{Piece, piece, suffix_piece}
-use Rattle.bz_layout.specs.Layout.{item_pieces, items_pieces, broken_segs, flat_segs, statement_line, layout}
-use Rattle.bz_layout_laws.specs.FreeLayout.{Choice, own, item_by, items_by, broken_by, flat_by, statement_by}
+use Rattle.bz_layout.specs.Pieces.{Piece, piece, bytes_of, suffix_piece}
+use Rattle.bz_layout.specs.Layout.{item_pieces, items_pieces, broken_segs, flat_segs, statement_line, layout, layout_text}
+use Rattle.bz_layout_laws.specs.FreeLayout.{Choice, own, item_by, items_by, broken_by, flat_by, statement_by, text_by}
 
 -- the nodes of a statement, the comment beside them, a newline
 abbrev pub line_by : Choice → Statement → List Piece
@@ -40,3 +40,6 @@ line_own s = rw (items_own 0 None Closed Start (items_of s.nodes)) refl
 
 pub statement_own : (s : Statement) → statement_by own s ≡ layout s
 statement_own s = rw (items_own 0 None Closed Start (items_of s.nodes)) refl
+
+pub text_own : (s : Statement) → text_by own s ≡ layout_text s
+text_own s = ap bytes_of (statement_own s)

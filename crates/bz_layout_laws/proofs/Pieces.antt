@@ -32,7 +32,7 @@ pub suffix_pieces : (suffix : Option (List ℕ)) → piece_lexemes (suffix_piece
 suffix_pieces None = refl
 suffix_pieces (Some text) = refl
 
-line_pieces : (texts : List (List ℕ)) → piece_lexemes (comment_lines texts) ≡ comment_line_lexemes texts
+pub line_pieces : (texts : List (List ℕ)) → piece_lexemes (comment_lines texts) ≡ comment_line_lexemes texts
 line_pieces [] = refl
 line_pieces (text ∷ texts) = ap (λ l. lexeme Comment text ∷ lexeme Newline (codes "\n") ∷ l) (line_pieces texts)
 

@@ -36,7 +36,7 @@ nothing_spelled [] = refl
 nothing_spelled (x ∷ xs) = refl
 
 mutual
-  rule_spelled : (xs : List Item) → is_rule (map spelled xs) ≡ is_rule xs
+  pub rule_spelled : (xs : List Item) → is_rule (map spelled xs) ≡ is_rule xs
   rule_spelled [] = refl
   rule_spelled (leaf kind text ∷ xs) = ap (λ b. is_ident kind && b) (after_spelled xs)
   rule_spelled (group kind segs one_comma end ∷ xs) = refl

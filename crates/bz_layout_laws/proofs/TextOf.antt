@@ -1,5 +1,5 @@
 -- The text of a token is one of its kind, whether it stands as it is or as the layout spells it.
-use Rattle.std.proofs.Common.{◌≡◌, ℕ, List, true, false, refl}
+use Rattle.std.proofs.Common.{◌≡◌, ℕ, List, true, refl}
 use Rattle.bz_token.specs.declared.token.Kind.{Kind}
 use Rattle.bz_token.specs.Lexical.{is_text}
 use Rattle.bz_tree.specs.Kinds.{kind_mark, kind_after}

@@ -19,7 +19,7 @@ use Rattle.bz_layout.specs.Spacing.{edge_after, gap_before}
 use Rattle.bz_layout.specs.Broken.{count, is_broken, segs_hold}
 use Rattle.bz_layout.specs.Pieces.{Piece, piece, comma_if, comments, comment_lines, suffix_piece}
 use Rattle.bz_layout.specs.Layout.{opening, closing, has_commas, statement_line, is_comment as is_comment_class, layout}
-use Rattle.bz_layout_laws.specs.FreeLayout.{Choice, own, breaks_by, inside, following, text_of, item_by, items_by, broken_by, flat_by, statement_by}
+use Rattle.bz_layout_laws.specs.FreeLayout.{Choice, own, breaks_by, inside, following, item_by, items_by, broken_by, flat_by, statement_by}
 use Rattle.bz_layout_laws.specs.Legible.{AreComments, IsLegibleItem, AreLegible, AreLegibleSegs, IsLegible}
 use Rattle.bz_layout_laws.specs.ReadPieces.{read_pieces}
 use Rattle.bz_layout_laws.proofs.OwnLayout.{line_by, line_own, statement_own}
