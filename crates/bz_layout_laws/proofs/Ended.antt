@@ -1,5 +1,5 @@
 -- Each text of a layout is ended by what follows it.
-use Rattle.std.proofs.Common.{◌≡◌, ℕ, ◌+◌, List, [], ◌∷◌, ◌++◌, Bool, true, false, Option, Some, None, refl, sym, ap, subst, ◌∙◌, append_assoc}
+use Rattle.std.proofs.Common.{◌≡◌, ℕ, ◌+◌, List, [], ◌∷◌, ◌++◌, Bool, true, false, Option, Some, None, refl, sym, ap, ◌∙◌, append_assoc}
 use Rattle.bz_layout.specs.private.RowLayout.{is_start}
 use Rattle.std.specs.Prelude.{codes}
 use Rattle.std.proofs.lemmas.Bool.{false≢true, eqb-true}
@@ -22,11 +22,11 @@ use Rattle.bz_layout.specs.declared.spacing.Gap.TheVariants.{Closed, Space, Apar
 use Rattle.bz_layout.specs.Spacing.{edge_after, gap_before}
 use Rattle.bz_layout.specs.Broken.{count, is_broken, segs_hold}
 use Rattle.bz_layout.specs.Pieces.{Piece, piece, gap_bytes, bytes_of, comma_if, comments, comment_lines, suffix_piece}
-use Rattle.bz_layout.specs.Layout.{opening, closing, has_commas, statement_line, is_comment as is_comment_class, layout}
-use Rattle.bz_layout_laws.specs.FreeLayout.{Choice, own, breaks_by, inside, following, item_by, items_by, broken_by, flat_by, statement_by}
+use Rattle.bz_layout.specs.Layout.{opening, closing, has_commas, is_comment as is_comment_class}
+use Rattle.bz_layout_laws.specs.FreeLayout.{Choice, breaks_by, inside, following, item_by, items_by, broken_by, flat_by, statement_by}
 use Rattle.bz_layout_laws.specs.Legible.{IsLegibleItem, AreLegible, AreLegibleSegs, IsLegible, are_some}
 use Rattle.bz_layout_laws.specs.ReadPieces.{read_piece, read_pieces}
-use Rattle.bz_layout_laws.proofs.OwnLayout.{line_by, line_own, statement_own}
+use Rattle.bz_layout_laws.proofs.OwnLayout.{line_by}
 use Rattle.bz_layout_laws.proofs.Texts.{both, either_way}
 use Rattle.bz_layout_laws.proofs.Stopping.{before, stops_all, may_stand, stops_may, newline_stops_all, leaf_ended, edge_started, next_stands}
 
@@ -197,16 +197,10 @@ suffix_stops : (suffix : Option (List ℕ)) (rest : List ℕ) → stops_all (bef
 suffix_stops None rest = refl
 suffix_stops (Some text) rest = refl
 
-pub line_ended_by : (c : Choice) (s : Statement) (rest : List ℕ) → IsLegible s → AreEnded (line_by c s) rest
-line_ended_by c s rest h =
+pub line_ended : (c : Choice) (s : Statement) (rest : List ℕ) → IsLegible s → AreEnded (line_by c s) rest
+line_ended c s rest h =
     join (items_ended c 0 None Closed Start (items_of s.nodes) _ h.nodes (suffix_stops s.suffix rest))
     (join (suffix_ended s.suffix _ refl) (one Closed Newline (codes "\n") (newline_ends rest)))
 
 pub ended_by : (c : Choice) (s : Statement) (rest : List ℕ) → IsLegible s → AreEnded (statement_by c s) rest
-ended_by c s rest h = join (lines_ended s.before _) (either_way (λ ps. AreEnded ps rest) (is_comment_class s.class) [] (line_by c s) ended_none (line_ended_by c s rest h))
-
-pub line_ended : (s : Statement) (rest : List ℕ) → IsLegible s → AreEnded (statement_line s) rest
-line_ended s rest h = subst (λ ps. AreEnded ps rest) (line_own s) (line_ended_by own s rest h)
-
-pub layout_ended : (s : Statement) (rest : List ℕ) → IsLegible s → AreEnded (layout s) rest
-layout_ended s rest h = subst (λ ps. AreEnded ps rest) (statement_own s) (ended_by own s rest h)
+ended_by c s rest h = join (lines_ended s.before _) (either_way (λ ps. AreEnded ps rest) (is_comment_class s.class) [] (line_by c s) ended_none (line_ended c s rest h))

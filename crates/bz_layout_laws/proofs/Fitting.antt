@@ -1,5 +1,5 @@
 -- The gaps and brackets of a layout fit: each group leaves the open brackets as they were.
-use Rattle.std.proofs.Common.{◌≡◌, ℕ, zero, suc, ◌+◌, ◌≤◌, ◌&&◌, List, [], ◌∷◌, ◌++◌, length, Bool, true, false, Option, Some, None, refl, ap, subst, ◌∙◌, arith}
+use Rattle.std.proofs.Common.{◌≡◌, ℕ, zero, suc, ◌+◌, ◌≤◌, ◌&&◌, List, [], ◌∷◌, ◌++◌, length, Bool, true, false, Option, Some, None, refl, ap, ◌∙◌, arith}
 use Rattle.std.specs.Prelude.{codes, max, nat_lt, if◌then◌else◌}
 use Rattle.std.specs.List.{list_all}
 use Rattle.std.proofs.Math.Nat.{le-max_left, le-max_right}
@@ -24,11 +24,11 @@ use Rattle.bz_layout.specs.declared.spacing.Gap.TheVariants.{Closed, Space, Apar
 use Rattle.bz_layout.specs.Spacing.{closes_up, edge_after, gap_before}
 use Rattle.bz_layout.specs.Broken.{count, is_broken, segs_hold}
 use Rattle.bz_layout.specs.Pieces.{Piece, piece, indent, gap_bytes, comma_if, comments, comment_lines, suffix_piece}
-use Rattle.bz_layout.specs.Layout.{opening, closing, has_commas, is_comment as is_comment_class, layout}
-use Rattle.bz_layout_laws.specs.FreeLayout.{Choice, own, breaks_by, inside, following, text_of, item_by, items_by, broken_by, flat_by, statement_by}
+use Rattle.bz_layout.specs.Layout.{opening, closing, has_commas, is_comment as is_comment_class}
+use Rattle.bz_layout_laws.specs.FreeLayout.{Choice, breaks_by, inside, following, text_of, item_by, items_by, broken_by, flat_by, statement_by}
 use Rattle.bz_layout_laws.specs.Legible.{AreComments, IsLegibleItem, AreLegible, AreLegibleSegs, IsLegible, is_leaf_mark, item_depth, items_depth, segs_depth, depth_of}
 use Rattle.bz_layout_laws.specs.ReadPieces.{read_piece, read_pieces}
-use Rattle.bz_layout_laws.proofs.OwnLayout.{line_by, statement_own}
+use Rattle.bz_layout_laws.proofs.OwnLayout.{line_by}
 use Rattle.bz_layout_laws.proofs.TextOf.{text_is, mark_is}
 use Rattle.bz_layout_laws.proofs.Texts.{both, either_way}
 use Rattle.bz_layout_laws.proofs.NoBrackets.{is_free, free_fits, free_open, other_free, leaf_free, leaf_line}
@@ -197,6 +197,3 @@ line_fits depth c s h room =
 
 pub fits_by : (depth : ℕ) (c : Choice) (s : Statement) → IsLegible s → depth_of s ≤ depth → Fits depth [] (statement_by c s) []
 fits_by depth c s h room = fits_join (lines_fit depth s.before h.before) (either_way (λ ps. Fits depth [] ps []) (is_comment_class s.class) [] (line_by c s) fits_none (line_fits depth c s h room))
-
-pub layout_fits : (depth : ℕ) (s : Statement) → IsLegible s → depth_of s ≤ depth → Fits depth [] (layout s) []
-layout_fits depth s h room = subst (λ ps. Fits depth [] ps []) (statement_own s) (fits_by depth own s h room)

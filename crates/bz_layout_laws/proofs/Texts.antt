@@ -1,5 +1,5 @@
 -- Each piece of a layout is a text of its kind.
-use Rattle.std.proofs.Common.{◌≡◌, ℕ, ◌+◌, ◌&&◌, List, [], ◌∷◌, ◌++◌, Bool, true, false, Option, Some, None, refl, subst}
+use Rattle.std.proofs.Common.{◌≡◌, ℕ, ◌+◌, ◌&&◌, List, [], ◌∷◌, ◌++◌, Bool, true, false, Option, Some, None, refl}
 use Rattle.std.specs.Prelude.{codes, if◌then◌else◌}
 use Rattle.std.specs.List.{list_all}
 use Rattle.std.proofs.lemmas.Bool.{and_parts}
@@ -18,11 +18,11 @@ use Rattle.bz_layout.specs.declared.spacing.Gap.TheVariants.{Closed, Space, Line
 use Rattle.bz_layout.specs.Spacing.{edge_after, gap_before}
 use Rattle.bz_layout.specs.Broken.{count, is_broken, segs_hold}
 use Rattle.bz_layout.specs.Pieces.{Piece, piece, comma_if, comments, comment_lines, suffix_piece}
-use Rattle.bz_layout.specs.Layout.{opening, closing, has_commas, statement_line, is_comment as is_comment_class, layout}
-use Rattle.bz_layout_laws.specs.FreeLayout.{Choice, own, breaks_by, inside, following, item_by, items_by, broken_by, flat_by, statement_by}
+use Rattle.bz_layout.specs.Layout.{opening, closing, has_commas, is_comment as is_comment_class}
+use Rattle.bz_layout_laws.specs.FreeLayout.{Choice, breaks_by, inside, following, item_by, items_by, broken_by, flat_by, statement_by}
 use Rattle.bz_layout_laws.specs.Legible.{AreComments, IsLegibleItem, AreLegible, AreLegibleSegs, IsLegible}
 use Rattle.bz_layout_laws.specs.ReadPieces.{read_pieces}
-use Rattle.bz_layout_laws.proofs.OwnLayout.{line_by, line_own, statement_own}
+use Rattle.bz_layout_laws.proofs.OwnLayout.{line_by}
 use Rattle.bz_layout_laws.proofs.TextOf.{text_is}
 
 pub both : (x y : Bool) → x ≡ true → y ≡ true → (x && y) ≡ true
@@ -123,15 +123,9 @@ mutual
 newline_whole : AreWhole (piece Closed Newline (codes "\n") ∷ [])
 newline_whole = whole refl
 
-pub line_whole_by : (c : Choice) (s : Statement) → IsLegible s → AreWhole (line_by c s)
-line_whole_by c s h =
+pub line_whole : (c : Choice) (s : Statement) → IsLegible s → AreWhole (line_by c s)
+line_whole c s h =
     whole_join (items_whole c 0 None Closed Start (items_of s.nodes) h.nodes) (whole_join (suffix_whole s.suffix h.suffix) newline_whole)
 
 pub whole_by : (c : Choice) (s : Statement) → IsLegible s → AreWhole (statement_by c s)
-whole_by c s h = whole_join (lines_whole s.before h.before) (either_way AreWhole (is_comment_class s.class) [] (line_by c s) (whole refl) (line_whole_by c s h))
-
-pub line_whole : (s : Statement) → IsLegible s → AreWhole (statement_line s)
-line_whole s h = subst AreWhole (line_own s) (line_whole_by own s h)
-
-pub layout_whole : (s : Statement) → IsLegible s → AreWhole (layout s)
-layout_whole s h = subst AreWhole (statement_own s) (whole_by own s h)
+whole_by c s h = whole_join (lines_whole s.before h.before) (either_way AreWhole (is_comment_class s.class) [] (line_by c s) (whole refl) (line_whole c s h))

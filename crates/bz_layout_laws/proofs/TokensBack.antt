@@ -16,7 +16,7 @@ use Rattle.bz_tree.specs.Statement.{is_aside}
 use Rattle.bz_tree.specs.Tree.{Statement, items_of}
 use Rattle.bz_layout.specs.declared.spacing.Edge.TheVariants.{Start}
 use Rattle.bz_layout.specs.declared.spacing.Gap.TheVariants.{Closed}
-use Rattle.bz_layout.specs.Pieces.{Piece, piece, gap_bytes, comment_lines, suffix_piece}
+use Rattle.bz_layout.specs.Pieces.{Piece, piece, bytes_of, gap_bytes, comment_lines, suffix_piece}
 use Rattle.bz_layout.specs.Layout.{is_comment, layout, layout_text}
 use Rattle.bz_layout_laws.specs.FreeLayout.{Choice, own, items_by, statement_by, text_by, Stand}
 use Rattle.bz_layout_laws.specs.Legible.{IsLegible, depth_of}
@@ -26,10 +26,10 @@ use Rattle.bz_layout_laws.proofs.Pieces.{layout_lexemes}
 use Rattle.bz_layout_laws.proofs.OwnLayout.{line_by, statement_own}
 use Rattle.bz_layout_laws.proofs.FreeLexemes.{lexemes_by, HaveShapes}
 use Rattle.bz_layout_laws.proofs.FreePieces.{statement_pieces}
-use Rattle.bz_layout_laws.proofs.Texts.{layout_whole, whole_by}
+use Rattle.bz_layout_laws.proofs.Texts.{whole_by}
 use Rattle.bz_layout_laws.proofs.Beside.{is_beside, AllBeside, layout_beside, beside_by}
-use Rattle.bz_layout_laws.proofs.Fitting.{layout_fits, fits_by}
-use Rattle.bz_layout_laws.proofs.Ended.{read_bytes, layout_ended, ended_by}
+use Rattle.bz_layout_laws.proofs.Fitting.{fits_by}
+use Rattle.bz_layout_laws.proofs.Ended.{read_bytes, ended_by}
 
 -- where the piece before ends, if it is a token
 abbrev ended_on : Bool → ℕ → Option ℕ
@@ -103,16 +103,10 @@ read_by depth c s rest h room =
 pub layout_read : (depth : ℕ) (s : Statement) (rest : List ℕ) → IsLegible s → depth_of s ≤ depth
     → (are_texts (read_pieces (layout s)) ≡ true) × (are_ended (read_pieces (layout s)) rest ≡ true) × (are_fitting depth [] (read_pieces (layout s)) ≡ true) × (open_after [] (read_pieces (layout s)) ≡ [])
 layout_read depth s rest h room =
-    let fits = layout_fits depth s h room in
-    ((layout_whole s h).texts, (layout_ended s rest h).ended, fits.fitting, fits.leaves)
+    subst (λ ps. (are_texts (read_pieces ps) ≡ true) × (are_ended (read_pieces ps) rest ≡ true) × (are_fitting depth [] (read_pieces ps) ≡ true) × (open_after [] (read_pieces ps) ≡ [])) (statement_own s) (read_by depth own s rest h room)
 
 abbrev pub tokens_back : ℕ → Statement → List Placed
 tokens_back first s = tokens_of first [] [] (read_pieces (layout s))
-
-pub read_lines : (first depth : ℕ) (s : Statement) → IsLegible s → depth_of s ≤ depth → AreLinesOf first depth (layout_text s) (tokens_back first s)
-read_lines first depth s h room =
-    let tests = layout_read depth s [] h room in
-    subst (λ bytes. AreLinesOf first depth bytes (tokens_back first s)) (read_bytes (layout s)) (laid_lines first depth (read_pieces (layout s)) tests.0 tests.1 tests.2 tests.3 (layout_ends s))
 
 -- in a free layout
 abbrev pub tokens_by : ℕ → Choice → Statement → List Placed
@@ -125,6 +119,10 @@ lines_by first depth c s h room =
 
 pub lexemes_back : (first : ℕ) (c : Choice) (s : Statement) → IsLegible s → Stand c (items_of s.nodes) → HaveShapes (items_of s.nodes) → token_lexemes (tokens_by first c s) ≡ lexemes_by c s
 lexemes_back first c s h stands shapes = pieces_read first [] [] false (statement_by c s) (beside_by c s h) ∙ statement_pieces c s stands shapes
+
+-- of the layout
+pub read_lines : (first depth : ℕ) (s : Statement) → IsLegible s → depth_of s ≤ depth → AreLinesOf first depth (layout_text s) (tokens_back first s)
+read_lines first depth s h room = subst (λ ps. AreLinesOf first depth (bytes_of ps) (tokens_of first [] [] (read_pieces ps))) (statement_own s) (lines_by first depth own s h room)
 
 back_lexemes : (first : ℕ) (s : Statement) → IsLegible s → token_lexemes (tokens_back first s) ≡ lexemes_of s
 back_lexemes first s h = pieces_read first [] [] false (layout s) (layout_beside s h) ∙ layout_lexemes s

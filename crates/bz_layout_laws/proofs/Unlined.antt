@@ -90,7 +90,7 @@ no_newline (l ∷ ls) rest aside none h =
     let parts = or_parts (is_line l.kind) (list_any (λ l. is_line l.kind) ls) none in
     ap (λ b. (if b then aside || not (is_filled (ls ++ rest)) else true) && newlines_end (is_aside l.kind) (ls ++ rest)) parts.0 ∙ no_newline ls rest (is_aside l.kind) parts.1 h
 
-any_line : (ps : List Piece) → list_any (λ l. is_line l.kind) (piece_lexemes ps) ≡ list_any is_newline_piece (read_pieces ps)
+pub any_line : (ps : List Piece) → list_any (λ l. is_line l.kind) (piece_lexemes ps) ≡ list_any is_newline_piece (read_pieces ps)
 any_line [] = refl
 any_line (p ∷ ps) = ap (λ b. is_line p.kind || b) (any_line ps)
 

@@ -35,9 +35,9 @@ use Rattle.bz_layout_laws.specs.Legible.{IsLegible, IsLegibleItem, AreLegible, a
 use Rattle.bz_layout_laws.specs.ReadPieces.{read_piece, read_pieces}
 use Rattle.bz_layout_laws.proofs.OwnLayout.{line_by, text_own}
 use Rattle.bz_layout_laws.proofs.NoBrackets.{leaf_line}
-use Rattle.bz_layout_laws.proofs.Texts.{line_whole_by}
+use Rattle.bz_layout_laws.proofs.Texts.{line_whole}
 use Rattle.bz_layout_laws.proofs.NoLines.{join, items_no_line, suffix_no_line}
-use Rattle.bz_layout_laws.proofs.Ended.{read_bytes, line_ended_by}
+use Rattle.bz_layout_laws.proofs.Ended.{read_bytes, line_ended}
 use Rattle.bz_layout_laws.proofs.TokensBack.{read_by, lines_by, comments_end, tokens_by}
 
 -- the logical lines of a text are those of its pieces
@@ -120,7 +120,7 @@ chunked_by c s h class none =
     let are : lines (text_by c s) ≡ comments ++ last ∷ [] =
     text_lines c s h ∙ ap (λ ps. lines_of ps []) parts ∙ lines_of_join (read_pieces (comment_lines s.before)) (read_pieces (line_by c s)) [] (comments_end s.before) ∙ ap (λ ls. comments ++ ls) (line_is_one c s h) in
     let ends : ends_chunk last ≡ true =
-    nodes_end c (items_of s.nodes) (suffix_piece s.suffix ++ piece Closed Newline (codes "\n") ∷ []) (h.some class) h.nodes none (line_whole_by c s h).texts (line_ended_by c s [] h).ended in
+    nodes_end c (items_of s.nodes) (suffix_piece s.suffix ++ piece Closed Newline (codes "\n") ∷ []) (h.some class) h.nodes none (line_whole c s h).texts (line_ended c s [] h).ended in
     statement_chunk 1 (depth_of s) (text_by c s) (tokens_by 1 c s) comments last (lines_by 1 (depth_of s) c s h (omega arith)) are (comments_are s.before) ends
 
 pub statement_chunked : (s : Statement) → IsLegible s → is_comment s.class ≡ false → begins_block (items_of s.nodes) ≡ false → IsChunk (layout_text s)
