@@ -11,7 +11,7 @@ use Rattle.bz_layout.specs.declared.spacing.Gap.TheVariants.{Closed, Space, Line
 use Rattle.bz_layout.specs.declared.broken.Style.TheVariants.{Broken}
 use Rattle.bz_layout.specs.Spacing.{edge_after, gap_before}
 use Rattle.bz_layout.specs.Pieces.{Piece, piece, bytes_of, suffix_piece}
-use Rattle.bz_layout.specs.Layout.{item_pieces, items_pieces, broken_segs, flat_segs, statement_line, layout, layout_text}
+use Rattle.bz_layout.specs.Layout.{item_pieces, items_pieces, broken_segs, flat_segs, layout, layout_text}
 use Rattle.bz_layout_laws.specs.FreeLayout.{Choice, own, item_by, items_by, broken_by, flat_by, statement_by, text_by}
 
 -- the nodes of a statement, the comment beside them, a newline
@@ -34,9 +34,6 @@ mutual
   flat_own : (level : ℕ) (kind : GroupKind) (first : Bool) (ss : Segs) → flat_by own level kind first ss ≡ flat_segs Broken level kind first ss
   flat_own level kind first no_segs = refl
   flat_own level kind first (seg before nodes suffix ss) = rw (items_own level (Some kind) Closed Start nodes, items_own level (Some kind) Space Start nodes, flat_own level kind false ss) refl
-
-pub line_own : (s : Statement) → line_by own s ≡ statement_line s
-line_own s = rw (items_own 0 None Closed Start (items_of s.nodes)) refl
 
 pub statement_own : (s : Statement) → statement_by own s ≡ layout s
 statement_own s = rw (items_own 0 None Closed Start (items_of s.nodes)) refl
