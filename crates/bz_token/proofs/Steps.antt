@@ -1,10 +1,10 @@
 -- What stands at a place, before it is read.
-use Rattle.std.proofs.Common.{◌≡◌, ℕ, ◌-◌, zero, suc, drop, ◌+◌, ◌<◌, ◌≤◌, List, [], ◌∷◌, length, take, get_or, ◌||◌, Bool, true, false, refl, ap, sym, subst, ◌∙◌, arith, inl, inr, one-add}
+use Rattle.std.proofs.Common.{◌≡◌, ℕ, ◌-◌, zero, suc, drop, ◌+◌, ◌<◌, ◌≤◌, List, [], ◌∷◌, length, take, get_or, ◌||◌, Bool, true, false, refl, ap, subst, ◌∙◌, arith, inl, inr, one-add}
 use Rattle.std.specs.Prelude.{Result, Ok, Err, IfOk, IfErr}
 use Rattle.std.specs.List.{prefix_len}
 use Rattle.std.proofs.lemmas.List.{length-take-le}
 use Rattle.std.proofs.lemmas.List.Sums.{prefix_len-le-length}
-use Rattle.std.proofs.lemmas.Bool.{false≢true}
+use Rattle.std.proofs.lemmas.Bool.{false≢true, or_parts}
 use Rattle.std.proofs.lemmas.Bool.Decides.{nat_tests}
 use Rattle.bz_token.specs.declared.gap.TokenGap.{TokenGap}
 use Rattle.bz_token.specs.Brackets.{is_opening_bracket, is_closing_bracket, is_inside, bracket_fits, open_after_token}
@@ -141,16 +141,12 @@ bad_step inside bytes (Err bad) none is = (none, is)
 pub step_taken : (depth : ℕ) (opened bytes : List ℕ) (s : GapOrToken) → (is_opening_bracket (get_or bytes 0 0) || is_closing_bracket (get_or bytes 0 0)) ≡ false → IsStep (is_inside opened) bytes s → IsTaken depth opened opened bytes s
 step_taken depth opened bytes (step.Gap gap) none is = (is, refl)
 step_taken depth opened bytes (step.Token s) none is =
-    let parts = neither (is_opening_bracket (get_or bytes 0 0)) (is_closing_bracket (get_or bytes 0 0)) none in
+    let parts = or_parts (is_opening_bracket (get_or bytes 0 0)) (is_closing_bracket (get_or bytes 0 0)) none in
     let opens = parts.0 in
     let closes = parts.1 in
     let fits : bracket_fits depth opened (get_or bytes 0 0) ≡ true = rw (opens, closes) refl in
     let same : opened ≡ open_after_token opened (get_or bytes 0 0 ∷ []) = rw (opens, closes) refl in
     (is.0, is.1, fits, same)
-  where
-    neither : (x y : Bool) → (x || y) ≡ false → (x ≡ false) × (y ≡ false)
-    neither true y h = absurd (false≢true (sym h))
-    neither false y h = (refl, h)
 
 pub bad_refused : (depth : ℕ) (opened bytes : List ℕ) (line col : ℕ) (bad : Bad) → IsBadStep (is_inside opened) bytes bad → IsRefused depth opened bytes line col (bad_fault bad line col)
 bad_refused depth opened bytes line col bad is = (is.0, inl (bad, is.1, refl))
