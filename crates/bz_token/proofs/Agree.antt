@@ -3,7 +3,7 @@ use Rattle.std.proofs.Common.{◌≡◌, ℕ, zero, suc, ◌+◌, ◌-◌, ◌<�
 use Rattle.std.specs.Prelude.{Some, if◌then◌else◌}
 use Rattle.std.specs.List.{list_all, list_any, prefix_len}
 use Rattle.std.specs.Char.{is_ascii_digit}
-use Rattle.std.proofs.lemmas.Bool.{cases_Bool, and_parts, or_cases, false≢true, eqb-true}
+use Rattle.std.proofs.lemmas.Bool.{cases_Bool, and_parts, or_cases, false≢true, eqb-true, not-true, or_parts}
 use Rattle.std.proofs.Math.Seq.{drop-append-add}
 use Rattle.std.proofs.lemmas.Bool.Decides.{nat_tests, Decides-eqb}
 use Rattle.bz_token.specs.declared.token.Kind.{Kind}
@@ -195,10 +195,6 @@ mutual
     ]
   ]
 
-not_true : (x : Bool) → not x ≡ true → x ≡ false
-not_true true h = absurd (false≢true h)
-not_true false h = refl
-
 -- after a carriage return another byte than a newline is not escaped
 pub unescaped : (q : Quote) (x : ℕ) (xs : List ℕ) → (x == 10) ≡ false → closes (long_quotes q false) 0 AfterReturn (x ∷ xs) ≡ true → closes (long_quotes q false) 0 Unescaped (x ∷ xs) ≡ true
 unescaped q x xs other h = elim (cases_Bool (x == byte_of q)) [
@@ -219,7 +215,7 @@ short_step q d x xs s k step closed = elim (cases_Bool (x == byte_of q)) [
       done (rw (hit, closes) at closed) (subst (λ t. IsAt t Plain d) (sym (step ∙ quoted)) (stands Plain d k))
   | inr miss ↦
       let parts = and_parts (not (x == 10)) (closes (long_quotes q false) 0 (if x == 92 then AfterBackslash else Unescaped) xs) (rw (miss, closes) at closed) in
-      let line = not_true (x == 10) parts.0 in
+      let line = not-true (x == 10) parts.0 in
       elim (cases_Bool (x == 92)) [
         | inl slash ↦
             let escaped : in_short q d k x ≡ at (ShortEscape q) d k = rw (miss, line, slash) refl in
@@ -445,20 +441,16 @@ pub operator_plain : (text : List ℕ) → is_operator_text text ≡ true → is
 unfolding operators
 operator_plain text is = one_of is_plain_operator operators text refl is
 
-or_none : (x y : Bool) → (x || y) ≡ false → (x ≡ false) × (y ≡ false)
-or_none true y h = absurd (false≢true (sym h))
-or_none false y h = (refl, h)
-
 -- a bracket, or another byte of an operator
 operator_step : (d : ℕ) (k : LineKind) (b : ℕ) → is_operator_plain b ≡ true → outside d k b ≡ (if is_opening_bracket b then at Plain (d + 1) Statement else (if is_closing_bracket b then at Plain (d - 1) Statement else at Plain d Statement))
 operator_step d k b h =
-    let p39 = or_none (b == 10 || b == 32 || b == 9 || b == 13 || b == 35 || b == 92 || b == 34) (b == 39) (not_true _ h) in
-    let p34 = or_none (b == 10 || b == 32 || b == 9 || b == 13 || b == 35 || b == 92) (b == 34) p39.0 in
-    let p92 = or_none (b == 10 || b == 32 || b == 9 || b == 13 || b == 35) (b == 92) p34.0 in
-    let p35 = or_none (b == 10 || b == 32 || b == 9 || b == 13) (b == 35) p92.0 in
-    let p13 = or_none (b == 10 || b == 32 || b == 9) (b == 13) p35.0 in
-    let p9 = or_none (b == 10 || b == 32) (b == 9) p13.0 in
-    let p32 = or_none (b == 10) (b == 32) p9.0 in
+    let p39 = or_parts (b == 10 || b == 32 || b == 9 || b == 13 || b == 35 || b == 92 || b == 34) (b == 39) (not-true _ h) in
+    let p34 = or_parts (b == 10 || b == 32 || b == 9 || b == 13 || b == 35 || b == 92) (b == 34) p39.0 in
+    let p92 = or_parts (b == 10 || b == 32 || b == 9 || b == 13 || b == 35) (b == 92) p34.0 in
+    let p35 = or_parts (b == 10 || b == 32 || b == 9 || b == 13) (b == 35) p92.0 in
+    let p13 = or_parts (b == 10 || b == 32 || b == 9) (b == 13) p35.0 in
+    let p9 = or_parts (b == 10 || b == 32) (b == 9) p13.0 in
+    let p32 = or_parts (b == 10) (b == 32) p9.0 in
     let n39 = p39.1 in
     let n34 = p34.1 in
     let n92 = p92.1 in
@@ -474,7 +466,7 @@ operators_run [] s d h all none = h
 operators_run (x ∷ xs) s d h all none =
     let p = and_parts (is_operator_plain x) (list_all is_operator_plain xs) all in
     let q = and_parts (not (is_bracket_byte x)) (list_all (λ b. not (is_bracket_byte b)) xs) none in
-    let brackets = or_none (is_opening_bracket x) (is_closing_bracket x) (not_true _ q.0) in
+    let brackets = or_parts (is_opening_bracket x) (is_closing_bracket x) (not-true _ q.0) in
     let o = brackets.0 in
     let c = brackets.1 in
     let m = step_from s Plain d x h in
@@ -501,7 +493,7 @@ operator_token_run s opened b bs after is m =
       ]
     ]
     first (c ∷ cs) is step =
-        let none = or_none (is_opening_bracket b) (is_closing_bracket b) (no_bracket Operator b c cs is) in
+        let none = or_parts (is_opening_bracket b) (is_closing_bracket b) (no_bracket Operator b c cs is) in
         let n = none.0 in
         let o = none.1 in
         subst (λ t. IsAt t Plain (length opened)) (sym (step ∙ rw (n, o) refl)) (stands Plain (length opened) Statement)
@@ -509,7 +501,7 @@ operator_token_run s opened b bs after is m =
 comment_run : (xs : List ℕ) (s : Scan) (d : ℕ) → IsAt s Comment d → list_any is_newline xs ≡ false → IsAt (run s xs) Comment d
 comment_run [] s d h none = h
 comment_run (x ∷ xs) s d h none =
-    let p = or_none (is_newline x) (list_any is_newline xs) none in
+    let p = or_parts (is_newline x) (list_any is_newline xs) none in
     let other = p.0 in
     comment_run xs (next s x) d (moves s Comment Comment d x h (λ k. rw other refl)) p.1
 
@@ -518,7 +510,7 @@ comment_token_run s opened b bs after token m =
     let parts = comment_parts (b ∷ bs) token.whole in
     let same : b ≡ 35 = eqb-true b 35 parts.0 in
     let here : IsAt (next s b) Comment (length opened) = subst (λ t. IsAt t Comment (length opened)) (sym (m.1 ∙ ap (outside (length opened) m.0) same)) (stands Comment (length opened) (with_comment m.0)) in
-    let end = comment_run bs (next s b) (length opened) here (or_none (is_newline b) (list_any is_newline bs) parts.1).1 in
+    let end = comment_run bs (next s b) (length opened) here (or_parts (is_newline b) (list_any is_newline bs) parts.1).1 in
     same_depth (run s (b ∷ bs)) (length opened) _ CommentToken after (ap length (sym (open_same opened b bs (ap is_opening_bracket same) (ap is_closing_bracket same))))
     (record { ready = comments end (token_ends CommentToken (b ∷ bs) after token); ended = λ e. absurd (not_ended (run s (b ∷ bs)) Comment (length opened) end refl e) })
 
@@ -674,7 +666,7 @@ string_token_run s opened b bs after token m =
     let tail : drop (opening_length o) text ≡ drop (closing_row o.quotes.long - 1) parts.inside = ap (λ n. drop (n + closing_row o.quotes.long) text) parts.prefix ∙ ap (drop (length parts.letters + closing_row o.quotes.long)) parts.text_is ∙ drop-append-add parts.letters (o.quotes.byte ∷ parts.inside) (closing_row o.quotes.long) ∙ after_quote o.quotes.long o.quotes.byte parts.inside in
     let closed : closes (long_quotes q o.quotes.long) 0 Unescaped (drop (closing_row o.quotes.long - 1) parts.inside) ≡ true = ap₂ (λ x y. closes x 0 Unescaped y) (sym quotes) (sym tail) ∙ found.2 in
     let end : Found q d parts.inside o.quotes.long (run s1 parts.inside) = quoted_run q d parts.inside o.quotes.long s1 opened_at (ap (λ x. are_two x parts.inside) (sym quote.1) ∙ parts.long) closed in
-    let brackets = or_none (is_opening_bracket b) (is_closing_bracket b) (text_no_bracket b bs token.whole) in
+    let brackets = or_parts (is_opening_bracket b) (is_closing_bracket b) (text_no_bracket b bs token.whole) in
     same_depth (run s text) d _ String after (ap length (sym (open_same opened b bs brackets.0 brackets.1)))
     (subst (λ t. AfterToken t d String after) (sym (ap (run s) whole ∙ run_append (parts.letters ++ byte_of q ∷ []) parts.inside s))
     (elim end [

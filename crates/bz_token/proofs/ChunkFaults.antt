@@ -2,7 +2,7 @@
 use Rattle.std.proofs.Common.{◌≡◌, ℕ, ◌<◌, ◌==◌, ◌&&◌, ◌||◌, List, [], ◌∷◌, ◌++◌, length, Bool, true, false, not, refl, sym, ap, ap₂, subst, ◌∙◌, arith, inl, inr, append_assoc, append-nil}
 use Rattle.std.specs.Prelude.{Option, Some, None, is_some}
 use Rattle.std.specs.Char.{is_ascii_digit}
-use Rattle.std.proofs.lemmas.Bool.{cases_Bool, false≢true}
+use Rattle.std.proofs.lemmas.Bool.{cases_Bool, false≢true, or_parts, or_right}
 use Rattle.bz_token.specs.declared.fault.LexFault.{LexFault}
 use Rattle.bz_token.specs.declared.fault.LexFault.TheVariants as faults
 use Rattle.bz_token.specs.declared.scan_string.Opening.{Opening}
@@ -42,11 +42,7 @@ ended_newline b (c ∷ cs) s ended = ended_newline c cs (next s b) ended
 newline_there : (xs : List ℕ) → ends_in_newline xs ≡ true → has_newline xs ≡ true
 newline_there [] h = absurd (false≢true h)
 newline_there (b ∷ []) h = rw h refl
-newline_there (b ∷ c ∷ cs) h = either (b == 10) (has_newline (c ∷ cs)) (newline_there (c ∷ cs) h)
-  where
-    either : (x y : Bool) → y ≡ true → (x || y) ≡ true
-    either true y h = refl
-    either false y h = h
+newline_there (b ∷ c ∷ cs) h = or_right (b == 10) (has_newline (c ∷ cs)) (newline_there (c ∷ cs) h)
 
 -- the end of a text that a newline ends holds the newline
 pub last_newline : (xs : List ℕ) (y : ℕ) (ys : List ℕ) → ends_in_newline (xs ++ y ∷ ys) ≡ true → has_newline (y ∷ ys) ≡ true
@@ -152,10 +148,6 @@ ready_after depth opened (p ∷ ps) rest bytes s r ready =
     let all : run s (p.gap ++ (p.text ++ bytes_of ps)) ≡ run (run (run s p.gap) p.text) (bytes_of ps) = run_append p.gap (p.text ++ bytes_of ps) s ∙ run_append p.text (bytes_of ps) (run s p.gap) in
     subst (λ x. Ready x (length (open_after (open_after_token opened p.text) ps)) rest) (sym all) (ready_after depth (open_after_token opened p.text) ps rest after (run (run s p.gap) p.text) r.2 t.ready)
 
-or_none : (x y : Bool) → (x || y) ≡ false → (x ≡ false) × (y ≡ false)
-or_none true y h = absurd (false≢true (sym h))
-or_none false y h = (refl, h)
-
 -- a string that no quotes close in a chunk is not closed by what follows
 text_more : (first depth : ℕ) (c r : List ℕ) (line col : ℕ) (f : IsFaultAt first depth c (λ opened. IsOpenText) line col) → is_ended (run start c).inside ≡ true → has_newline f.place ≡ true → IsOpenText (f.place ++ r)
 text_more first depth c r line col f ended h =
@@ -173,8 +165,8 @@ text_more first depth c r line col f ended h =
   where
     at_first : (place : List ℕ) (s : Scan) (d : ℕ) (inside : Bool) → Ready s d place → begins_gap inside place ≡ false → (b : ℕ) (bs : List ℕ) → place ≡ b ∷ bs → (k : LineKind) × (next s b ≡ outside d k b)
     at_first place s d inside ready none b bs e =
-        let white = (or_none (is_white inside b) (continues (b ∷ bs)) (subst (λ x. begins_gap inside x ≡ false) e none)).0 in
-        let visible = (or_none (is_blank b) (inside && b == 10) white).0 in
+        let white = (or_parts (is_white inside b) (continues (b ∷ bs)) (subst (λ x. begins_gap inside x ≡ false) e none)).0 in
+        let visible = (or_parts (is_blank b) (inside && b == 10) white).0 in
         ready_first s d b bs (subst (λ x. Ready s d x) e ready) visible
 
     later : (o : Opening) → opening f.place ≡ Some o → (s : Scan) (d : ℕ) → ((b : ℕ) (bs : List ℕ) → f.place ≡ b ∷ bs → (k : LineKind) × (next s b ≡ outside d k b)) → is_ended (run s f.place).inside ≡ true → (more : List ℕ) → 0 < length more → is_string (f.place ++ more) ≡ true → ⊥

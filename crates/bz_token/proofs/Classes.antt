@@ -3,7 +3,7 @@ use Rattle.std.proofs.Common.{◌≡◌, ℕ, ◌==◌, ◌&&◌, List, [], ◌�
 use Rattle.std.specs.Prelude.{codes, bytes_eq, Option, Some, None, is_some, if◌then◌else◌}
 use Rattle.std.specs.List.{list_all, list_any}
 use Rattle.std.specs.Char.{is_ascii_digit}
-use Rattle.std.proofs.lemmas.Bool.{cases_Bool, and_parts, or_cases, false≢true, eqb-true}
+use Rattle.std.proofs.lemmas.Bool.{cases_Bool, and_parts, or_cases, false≢true, eqb-true, not-true}
 use Rattle.std.proofs.lemmas.Bool.Decides.{nat_tests}
 use Rattle.std.proofs.lemmas.Slice.Eq.{bytes_eq-Decides}
 use Rattle.bz_token.specs.declared.token.Kind.{Kind}
@@ -80,11 +80,7 @@ pub name_parts : (b : ℕ) (bs : List ℕ) → is_name (b ∷ bs) ≡ true → (
 name_parts b bs is =
     let both = and_parts (not (is_ascii_digit b)) (list_all is_word_byte (b ∷ bs)) is in
     let word = and_parts (is_word_byte b) (list_all is_word_byte bs) both.1 in
-    (not_true (is_ascii_digit b) both.0, word.0, word.1)
-  where
-    not_true : (x : Bool) → not x ≡ true → x ≡ false
-    not_true true h = absurd (false≢true h)
-    not_true false h = refl
+    (not-true (is_ascii_digit b) both.0, word.0, word.1)
 
 pub keyword_name : (text : List ℕ) → is_keyword text ≡ true → is_name text ≡ true
 unfolding keywords

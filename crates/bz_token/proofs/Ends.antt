@@ -3,7 +3,7 @@ use Rattle.std.proofs.Common.{◌≡◌, ℕ, zero, suc, ◌+◌, ◌<◌, ◌�
 use Rattle.std.specs.Prelude.{Option, Some, None, nat_le}
 use Rattle.std.specs.List.{list_all, list_any, prefix_len}
 use Rattle.std.specs.Char.{is_ascii_digit, is_ascii_hexdigit}
-use Rattle.std.proofs.lemmas.Bool.{cases_Bool, cases_lt, and_parts, or_cases, false≢true, eqb-true}
+use Rattle.std.proofs.lemmas.Bool.{cases_Bool, cases_lt, and_parts, or_cases, false≢true, eqb-true, not-true, or_parts}
 use Rattle.std.proofs.lemmas.Bool.Decides.{nat_tests, Decides-eqb}
 use Rattle.std.proofs.lemmas.List.{drop-append-le, take_at}
 use Rattle.std.proofs.Math.Seq.{drop-nil}
@@ -45,10 +45,6 @@ stops_first kind text after m more rest h split = rw split at h
 pub counts_free : (place text : List ℕ) (kind : Kind) → opening place ≡ None → begins is_ascii_digit place ≡ false → counts place kind text ≡ true
 counts_free place text kind unquoted plain = rw (unquoted, plain, counts) refl
 
-not_true : (x : Bool) → not x ≡ true → x ≡ false
-not_true true h = absurd (false≢true h)
-not_true false h = refl
-
 all_last : (p : ℕ → Bool) (bs more : List ℕ) (m : ℕ) → list_all p (bs ++ m ∷ more) ≡ true → p m ≡ true
 all_last p [] more m h = (and_parts (p m) (list_all p more) h).0
 all_last p (b ∷ bs) more m h = all_last p bs more m (and_parts (p b) (list_all p (bs ++ m ∷ more)) h).1
@@ -84,7 +80,7 @@ name_token_at kind b bs after whole name unquoted stop =
 
     ends_word : (m : ℕ) (more rest : List ℕ) → after ≡ (m ∷ more) ++ rest → is_word_byte m ≡ false
     ends_word m more rest split =
-        not_true (is_word_byte m) (rw split at stop)
+        not-true (is_word_byte m) (rw split at stop)
 
     longer_name : (m : ℕ) (more rest : List ℕ) → after ≡ (m ∷ more) ++ rest → is_name ((b ∷ bs) ++ m ∷ more) ≡ true → ⊥
     longer_name m more rest split is =
@@ -121,7 +117,7 @@ run_length p (b ∷ bs) after all none =
 
 pub stops_run : (after : List ℕ) → stops_at Integer [] after ≡ true → prefix_len is_word_byte after ≡ 0
 stops_run [] stop = refl
-stops_run (b ∷ bs) stop = rw (not_true (is_word_byte b) stop) refl
+stops_run (b ∷ bs) stop = rw (not-true (is_word_byte b) stop) refl
 
 digit_word : (b : ℕ) → is_ascii_digit b ≡ true → is_word_byte b ≡ true
 digit_word b h = grind (arith, nat_tests)
@@ -253,7 +249,7 @@ operator_token b bs after whole stop = free Operator b bs after whole (ap (can_s
 
     longer : NoLonger (b ∷ bs) after
     longer Operator m more rest split is counted =
-        false≢true (sym (not_true (is_operator_text ((b ∷ bs) ++ m ∷ [])) (stops_first Operator (b ∷ bs) after m more rest stop split)) ∙ operator_goes_on b bs more m is)
+        false≢true (sym (not-true (is_operator_text ((b ∷ bs) ++ m ∷ [])) (stops_first Operator (b ∷ bs) after m more rest stop split)) ∙ operator_goes_on b bs more m is)
     longer Identifier m more rest split is counted = false≢true (started Identifier m more is)
     longer Keyword m more rest split is counted = false≢true (started Keyword m more is)
     longer Integer m more rest split is counted = false≢true (started Integer m more is)
@@ -280,17 +276,13 @@ pub comment_parts : (text : List ℕ) → is_comment text ≡ true → (begins (
 comment_parts text is =
     let front = and_parts (begins (λ b. b == 35) text && not (list_any is_newline text)) (not (ends_blank text)) is in
     let parts = and_parts (begins (λ b. b == 35) text) (not (list_any is_newline text)) front.0 in
-    (parts.0, not_true (list_any is_newline text) parts.1, not_true (ends_blank text) front.1)
-
-or_none : (x y : Bool) → (x || y) ≡ false → (x ≡ false) × (y ≡ false)
-or_none true y h = absurd (false≢true (sym h))
-or_none false y h = (refl, h)
+    (parts.0, not-true (list_any is_newline text) parts.1, not-true (ends_blank text) front.1)
 
 -- white space up to the line's end covers what stands there without a newline
 blank_front : (xs rest : List ℕ) → list_any is_newline xs ≡ false → list_all is_blank (take (prefix_len (λ b. not (is_newline b)) (xs ++ rest)) (xs ++ rest)) ≡ true → list_all is_blank xs ≡ true
 blank_front [] rest none blank = refl
 blank_front (x ∷ xs) rest none blank =
-    let parts = or_none (is_newline x) (list_any is_newline xs) none in
+    let parts = or_parts (is_newline x) (list_any is_newline xs) none in
     let here = parts.0 in
     let b = and_parts (is_blank x) (list_all is_blank (take (prefix_len (λ c. not (is_newline c)) (xs ++ rest)) (xs ++ rest))) (rw (here, one-add) at blank) in
     rw (b.0, blank_front xs rest parts.1 b.1) refl
@@ -313,7 +305,7 @@ comment_token b bs after whole stop = free Comment b bs after whole (ap (can_sta
     longer_comment : (m : ℕ) (more rest : List ℕ) → after ≡ (m ∷ more) ++ rest → is_comment ((b ∷ bs) ++ m ∷ more) ≡ true → ⊥
     longer_comment m more rest split is =
         let parts = comment_parts ((b ∷ bs) ++ m ∷ more) is in
-        let lines = or_none (list_any is_newline (b ∷ bs)) (list_any is_newline (m ∷ more)) (sym (list_any-append is_newline (b ∷ bs) (m ∷ more)) ∙ parts.1) in
+        let lines = or_parts (list_any is_newline (b ∷ bs)) (list_any is_newline (m ∷ more)) (sym (list_any-append is_newline (b ∷ bs) (m ∷ more)) ∙ parts.1) in
         let blank = blank_front (m ∷ more) rest lines.1 (rw split at stop) in
         false≢true (sym parts.2 ∙ blank_end (b ∷ bs) more m blank)
 

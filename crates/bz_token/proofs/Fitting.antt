@@ -1,6 +1,6 @@
 -- Tokens and the brackets that are open where they stand.
 use Rattle.std.proofs.Common.{◌≡◌, ℕ, zero, suc, ◌<◌, ◌≤◌, ◌==◌, ◌&&◌, ◌||◌, List, [], ◌∷◌, ◌++◌, length, take, get_or, Bool, true, false, not, refl, sym, ap, subst, ◌∙◌, arith, inl, inr}
-use Rattle.std.proofs.lemmas.Bool.{cases_Bool, or_cases, false≢true, eqb-true}
+use Rattle.std.proofs.lemmas.Bool.{cases_Bool, or_cases, false≢true, eqb-true, and_from, or_parts}
 use Rattle.bz_token.specs.declared.token.Kind.{Kind}
 use Rattle.bz_token.specs.declared.token.Kind.TheVariants.{Identifier, Keyword, Integer, String, Operator, Newline, Comment, Kept}
 use Rattle.bz_token.specs.Lexical.{operators, is_operator_text, is_text}
@@ -57,15 +57,11 @@ no_bracket kind b c bs is = elim (cases_Bool (is_bracket_byte b)) [
       absurd (false≢true (sym (ap not hit) ∙ operator_alone (b ∷ c ∷ bs) (subst (λ k. is_text k (b ∷ c ∷ bs) ≡ true) operator is)))
 ]
 
-or_none : (x y : Bool) → (x || y) ≡ false → (x ≡ false) × (y ≡ false)
-or_none true y h = absurd (false≢true (sym h))
-or_none false y h = (refl, h)
-
 -- the open brackets after a token are those after its first byte
 pub open_after_first_byte : (kind : Kind) (opened : List ℕ) (b : ℕ) (bs : List ℕ) → is_text kind (b ∷ bs) ≡ true → open_after_token opened (b ∷ []) ≡ open_after_token opened (b ∷ bs)
 open_after_first_byte kind opened b [] is = refl
 open_after_first_byte kind opened b (c ∷ bs) is =
-    let none = or_none (is_opening_bracket b) (is_closing_bracket b) (no_bracket kind b c bs is) in
+    let none = or_parts (is_opening_bracket b) (is_closing_bracket b) (no_bracket kind b c bs is) in
     plain none.0 none.1
   where
     plain : is_opening_bracket b ≡ false → is_closing_bracket b ≡ false → open_after_token opened (b ∷ []) ≡ opened
@@ -74,17 +70,14 @@ open_after_first_byte kind opened b (c ∷ bs) is =
 -- no newline is a token within brackets, since it is white space there
 pub fits_first : (depth : ℕ) (kind : Kind) (opened : List ℕ) (b : ℕ) (bs following : List ℕ) → is_text kind (b ∷ bs) ≡ true → begins_gap (is_inside opened) (b ∷ bs ++ following) ≡ false → bracket_fits depth opened b ≡ true → fits depth opened kind (b ∷ bs) ≡ true
 fits_first depth kind opened b (c ∷ bs) following is gap fit = refl
-fits_first depth kind opened b [] following is gap fit = both _ _ (outside kind is) fit
+fits_first depth kind opened b [] following is gap fit = and_from _ _ (outside kind is) fit
   where
-    both : (x y : Bool) → x ≡ true → y ≡ true → (x && y) ≡ true
-    both x y p q = rw (p, q) refl
-
     newline : (opened : List ℕ) → b ≡ 10 → is_white (is_inside opened) b ≡ false → not (is_inside opened) ≡ true
     newline [] same none = refl
     newline (a ∷ opened) same none = absurd (false≢true (sym none ∙ rw same refl))
 
     outside : (kind : Kind) → is_text kind (b ∷ []) ≡ true → not (is_line kind && is_inside opened) ≡ true
-    outside Newline is = newline opened (first_same (same_bytes (b ∷ []) (10 ∷ []) is)) (or_none (is_white (is_inside opened) b) (continues (b ∷ following)) gap).0
+    outside Newline is = newline opened (first_same (same_bytes (b ∷ []) (10 ∷ []) is)) (or_parts (is_white (is_inside opened) b) (continues (b ∷ following)) gap).0
       where
         first_same : b ∷ [] ≡ 10 ∷ [] → b ≡ 10
         first_same e = cc

@@ -1,6 +1,6 @@
 -- Gaps, a step at a time.
 use Rattle.std.proofs.Common.{◌≡◌, ℕ, zero, suc, ◌+◌, ◌-◌, ◌<◌, ◌≤◌, ◌==◌, ◌&&◌, List, [], ◌∷◌, ◌++◌, length, take, get_or, true, false, not, cond, refl, sym, ap, ◌∙◌, arith, Bool, inl, inr, sub-one, drop, map, replicate, eqb, subst, w8, ◌^◌, ◌%◌}
-use Rattle.std.proofs.lemmas.Bool.{cases_Bool, false≢true}
+use Rattle.std.proofs.lemmas.Bool.{cases_Bool, false≢true, not_from_false}
 use Rattle.std.proofs.lemmas.List.{length-take-le, get_or-take}
 use Rattle.std.proofs.lemmas.List.Sums.{prefix_len-le-length, prefix_len_passes}
 use Rattle.std.proofs.lemmas.Grind.{common_steps}
@@ -52,9 +52,6 @@ none_before p (x ∷ xs) (suc n) h =
       | inr miss ↦ rw miss (none_before p xs n (omega (arith, rw miss at h)))
     ]
 
-not_false : (b : Bool) → b ≡ false → not b ≡ true
-not_false b h = rw h refl
-
 -- a number operator is no blank
 hash_no_blank : (b : ℕ) → (b == 35) ≡ true → is_blank b ≡ false
 hash_no_blank b h = grind (arith, nat_tests)
@@ -73,7 +70,7 @@ comment_front [] n r hash whole some fits trimmed = absurd (false≢true hash)
 comment_front (b ∷ bs) n zero hash whole some fits trimmed = absurd (omega arith)
 comment_front (b ∷ bs) n (suc r) hash whole some fits trimmed =
     let within : n ≤ suc (length bs) = omega (arith, prefix_len-le-length (λ c. not (is_newline c)) (b ∷ bs)) in
-    simp (hash, none_before is_newline (b ∷ bs) (suc r) (omega arith), last_blank b (take r bs)) (not_false _ (last_trimmed b bs n r hash within fits trimmed))
+    simp (hash, none_before is_newline (b ∷ bs) (suc r) (omega arith), last_blank b (take r bs)) (not_from_false _ (last_trimmed b bs n r hash within fits trimmed))
 
 -- sixteen bytes at once: those that are no space, as a mask
 abbrev pub others_of : List ℕ → ℕ

@@ -2,7 +2,7 @@
 use Rattle.std.proofs.Common.{◌≡◌, ℕ, ◌<◌, ◌≤◌, ◌==◌, ◌||◌, List, [], ◌∷◌, ◌++◌, length, take, Bool, true, false, not, refl, sym, ap, ap₂, subst, ◌∙◌, arith, inl, inr, append_assoc, append-nil, one-add}
 use Rattle.std.specs.Prelude.{nat_lt}
 use Rattle.std.specs.List.{list_all, list_any, prefix_len}
-use Rattle.std.proofs.lemmas.Bool.{cases_Bool, and_parts, false≢true}
+use Rattle.std.proofs.lemmas.Bool.{cases_Bool, and_parts, false≢true, or_right}
 use Rattle.std.proofs.lemmas.Bool.Decides.{nat_tests}
 use Rattle.std.proofs.lemmas.List.Folds.{list_any-append}
 use Rattle.bz_token.specs.declared.token.Kind.{Kind}
@@ -58,10 +58,6 @@ line_kind Kept h = absurd (false≢true h)
 
 pub line_text : (kind : Kind) (text : List ℕ) → is_line kind ≡ true → is_text kind text ≡ true → text ≡ 10 ∷ []
 line_text kind text line is = same_bytes text (10 ∷ []) (subst (λ k. is_text k text ≡ true) (line_kind kind line) is)
-
-or_right : (x y : Bool) → y ≡ true → (x || y) ≡ true
-or_right true y h = refl
-or_right false y h = h
 
 pub any_right : (p : ℕ → Bool) (xs ys : List ℕ) → list_any p ys ≡ true → list_any p (xs ++ ys) ≡ true
 any_right p xs ys h = list_any-append p xs ys ∙ or_right (list_any p xs) (list_any p ys) h

@@ -2,7 +2,7 @@
 use Rattle.std.proofs.Common.{◌≡◌, ℕ, ◌==◌, ◌||◌, ◌<◌, zero, suc, List, [], ◌∷◌, ◌++◌, length, drop, get_or, map, Bool, true, false, not, refl, sym, ap, ◌∙◌, arith, inl, inr}
 use Rattle.std.specs.Prelude.{codes, bytes_eq, is_some, None, if◌then◌else◌}
 use Rattle.std.specs.List.{list_all, list_any}
-use Rattle.std.proofs.lemmas.Bool.{cases_Bool, and_parts, or_parts, false≢true, eqb-true}
+use Rattle.std.proofs.lemmas.Bool.{cases_Bool, and_parts, or_parts, false≢true, eqb-true, or_left}
 use Rattle.std.proofs.lemmas.Bool.Decides.{nat_tests}
 use Rattle.bz_token.specs.declared.token.Token.{Token}
 use Rattle.bz_token.specs.declared.cutter.scan.LineKind.TheVariants.{CommentLine}
@@ -22,9 +22,6 @@ use Rattle.bz_token.proofs.BlockWords.{no_block_from}
 
 blank_white : (b : ℕ) → is_blank b ≡ true → is_white b ≡ true
 blank_white b h = grind (arith, nat_tests)
-
-left : (x y : Bool) → x ≡ true → (x || y) ≡ true
-left x y h = rw h refl
 
 or_false : (x : Bool) → (x || false) ≡ true → x ≡ true
 or_false true h = refl
@@ -46,7 +43,7 @@ mutual
   gap_opens (b ∷ bs) ys first h none = elim (cases_Bool (is_gap_white false b)) [
     | inl white ↦
         let more = rw (white, is_gap) at h in
-        let here = left (is_white b) (continues b (bs ++ ys)) (blank_white b (or_false (is_blank b) white)) in
+        let here = or_left (is_white b) (continues b (bs ++ ys)) (blank_white b (or_false (is_blank b) white)) in
         ap (λ x. opener_of (word_at x)) (head_passes first b (bs ++ ys) here) ∙ gap_opens bs ys (b == 10) more none
     | inr other ↦
         let parts = and_parts (b == 92) (continues_gap false bs) (rw (other, is_gap) at h) in

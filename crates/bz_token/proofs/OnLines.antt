@@ -1,9 +1,9 @@
 -- On which lines tokens and faults stand.
 use Rattle.bz_memory.specs.NoMemory.{no_memory}
-use Rattle.std.proofs.Common.{◌≡◌, ℕ, ◌<◌, ◌≤◌, ◌&&◌, List, [], ◌∷◌, ◌++◌, length, drop, Bool, true, false, refl, sym, ap, subst, ◌∙◌, arith, inl, inr, append_assoc, append-nil}
+use Rattle.std.proofs.Common.{◌≡◌, ℕ, ◌<◌, ◌≤◌, List, [], ◌∷◌, ◌++◌, length, drop, Bool, true, false, refl, sym, ap, subst, ◌∙◌, arith, inl, inr, append_assoc, append-nil}
 use Rattle.std.specs.Prelude.{Option, Some, None, nat_le, nat_lt}
 use Rattle.std.specs.List.{list_all, filter}
-use Rattle.std.proofs.lemmas.Bool.{cases_Bool, and_parts}
+use Rattle.std.proofs.lemmas.Bool.{cases_Bool, and_parts, and_from, and_left, and_right}
 use Rattle.std.proofs.lemmas.Bool.Decides.{nat_tests}
 use Rattle.bz_token.specs.declared.fault.LexFault.{LexFault}
 use Rattle.bz_token.specs.declared.fault.LexFault.TheVariants as faults
@@ -24,9 +24,6 @@ use Rattle.bz_token.proofs.OneReading.{read_stops}
 use Rattle.bz_token.proofs.Joins.{some_newlines, lines_newline}
 use Rattle.bz_token.proofs.ChunkFaults.{last_newline}
 
-both_true : (x y : Bool) → x ≡ true → y ≡ true → (x && y) ≡ true
-both_true x y p q = rw (p, q) refl
-
 less_test : (x y : ℕ) → x < y → nat_lt x y ≡ true
 less_test x y h = grind (arith, nat_tests)
 
@@ -36,7 +33,7 @@ at_most_test x y h = grind (arith, nat_tests)
 -- a place in a text stands on one of its lines
 place_line : (first : ℕ) (d x y : List ℕ) → d ≡ x ++ y → 0 < length y → is_line_of first d (line_at first x) ≡ true
 place_line first d x [] e some = absurd (omega arith)
-place_line first d x (y ∷ ys) e some = both_true _ _ (at_most_test first (line_at first x) (omega arith)) (less_test (line_at first x) (line_following first d) (subst (λ z. line_at first x < line_following first z) (sym e) before))
+place_line first d x (y ∷ ys) e some = and_from _ _ (at_most_test first (line_at first x) (omega arith)) (less_test (line_at first x) (line_following first d) (subst (λ z. line_at first x < line_following first z) (sym e) before))
   where
     before : line_at first x < line_following first (x ++ y ∷ ys)
     before = elim (cases_Bool (ends_in_newline (x ++ y ∷ ys))) [
@@ -54,7 +51,7 @@ pieces_lines first depth d opened before lines [] rest bytes whole r = refl
 pieces_lines first depth d opened before lines (p ∷ ps) rest bytes whole r =
     let e : d ≡ (before ++ p.gap) ++ (p.text ++ r.0) = whole ∙ ap (λ x. before ++ x) r.1.bytes_are ∙ sym (append_assoc before p.gap (p.text ++ r.0)) in
     let next : d ≡ (before ++ (p.gap ++ p.text)) ++ r.0 = e ∙ simp append_assoc in
-    both_true _ _ (place_line first d (before ++ p.gap) (p.text ++ r.0) e (some_text p.kind p.text r.0 r.1.token.whole))
+    and_from _ _ (place_line first d (before ++ p.gap) (p.text ++ r.0) e (some_text p.kind p.text r.0 r.1.token.whole))
     (pieces_lines first depth d (open_after_token opened p.text) (before ++ (p.gap ++ p.text)) (line_at first (before ++ p.gap) ∷ lines) ps rest r.0 next r.2)
 
 pub read_lines : (first depth : ℕ) (d : List ℕ) (us : List Placed) (fault : Option LexFault) → IsReadAs first depth d us fault → list_all (λ t. is_line_of first d t.line) us ≡ true
@@ -75,7 +72,7 @@ open_among test opened (u ∷ ts) o h =
     dropped (x ∷ xs) h = (and_parts (test x) (list_all test xs) h).1
 
     stepped : (opens closes : Bool) → is_bracket is_opening_bracket u.text ≡ opens → is_bracket is_closing_bracket u.text ≡ closes → test u ≡ true → list_all test (step opened u) ≡ true
-    stepped true closes a b is = rw a (both_true _ _ is o)
+    stepped true closes a b is = rw a (and_from _ _ is o)
     stepped false true a b is = rw (a, b) (dropped opened o)
     stepped false false a b is = rw (a, b) o
 
@@ -107,7 +104,7 @@ tokens_before_line first depth opened before lines (p ∷ ps) bytes bound r line
     let e : before ++ (p.gap ++ (p.text ++ bytes_of ps)) ≡ (before ++ p.gap) ++ (p.text ++ bytes_of ps) = simp append_assoc in
     let less : line_at first (before ++ p.gap) < bound = omega (arith, is, ap newlines e, newlines-append (before ++ p.gap) (p.text ++ bytes_of ps), some) in
     let same : before ++ (p.gap ++ (p.text ++ bytes_of ps)) ≡ (before ++ (p.gap ++ p.text)) ++ bytes_of ps = simp append_assoc in
-    both_true _ _ (less_test (line_at first (before ++ p.gap)) bound less)
+    and_from _ _ (less_test (line_at first (before ++ p.gap)) bound less)
     (tokens_before_line first depth (open_after_token opened p.text) (before ++ (p.gap ++ p.text)) (line_at first (before ++ p.gap) ∷ lines) ps r.0 bound r.2 (following ps line) (is ∙ ap (line_at first) same))
   where
     following : (ps : List Piece) → ends_in_line (p ∷ ps) ≡ true → ends_in_line ps ≡ true
@@ -136,23 +133,16 @@ none_kept other test apart (t ∷ ts) h =
 
 -- a line before those of a text, and a line after them
 pub line_before : (first line : ℕ) (d : List ℕ) → nat_lt line first ≡ true → is_line_of first d line ≡ false
-line_before first line d h = none _ _ (apart first line h)
+line_before first line d h = and_left _ _ (apart first line h)
   where
     apart : (first line : ℕ) → nat_lt line first ≡ true → nat_le first line ≡ false
     apart first line h = grind (arith, nat_tests)
 
-    none : (x y : Bool) → x ≡ false → (x && y) ≡ false
-    none x y p = rw p refl
-
 pub line_after : (first line : ℕ) (d r : List ℕ) → ends_in_newline d ≡ true → is_line_of (line_at first d) r line ≡ true → is_line_of first d line ≡ false
-line_after first line d r ends h = none _ _ (ap (nat_lt line) (same ends) ∙ apart (line_at first d) line (and_parts (nat_le (line_at first d) line) (nat_lt line (line_following (line_at first d) r)) h).0)
+line_after first line d r ends h = and_right _ _ (ap (nat_lt line) (same ends) ∙ apart (line_at first d) line (and_parts (nat_le (line_at first d) line) (nat_lt line (line_following (line_at first d) r)) h).0)
   where
     same : ends_in_newline d ≡ true → line_following first d ≡ line_at first d
     same ends = rw ends refl
 
     apart : (first line : ℕ) → nat_le first line ≡ true → nat_lt line first ≡ false
     apart first line h = grind (arith, nat_tests)
-
-    none : (x y : Bool) → y ≡ false → (x && y) ≡ false
-    none true y p = p
-    none false y p = refl

@@ -1,9 +1,9 @@
 -- A text has one list of tokens or one first fault.
 use Rattle.bz_memory.specs.NoMemory.{no_memory}
-use Rattle.std.proofs.Common.{◌≡◌, ℕ, ◌<◌, ◌≤◌, ◌==◌, ◌||◌, List, [], ◌∷◌, ◌++◌, length, Bool, true, false, not, refl, sym, ap, ap₂, subst, ◌∙◌, arith, inl, inr, length-append, append-nil}
+use Rattle.std.proofs.Common.{◌≡◌, ℕ, ◌<◌, ◌≤◌, ◌==◌, List, [], ◌∷◌, ◌++◌, length, Bool, true, false, not, refl, sym, ap, ap₂, subst, ◌∙◌, arith, inl, inr, length-append, append-nil}
 use Rattle.std.specs.Prelude.{Option, Some, None, is_some, nat_lt, if◌then◌else◌}
 use Rattle.std.specs.Char.{is_ascii_digit}
-use Rattle.std.proofs.lemmas.Bool.{cases_Bool, cases_lt, and_parts, false≢true, eqb-true}
+use Rattle.std.proofs.lemmas.Bool.{cases_Bool, cases_lt, and_parts, false≢true, eqb-true, not-true, or_parts, or_right}
 use Rattle.std.proofs.lemmas.Bool.Decides.{nat_tests}
 use Rattle.bz_token.specs.declared.fault.LexFault.{LexFault}
 use Rattle.bz_token.specs.declared.fault.LexFault.TheVariants as faults
@@ -149,16 +149,12 @@ not_opening b h = grind (arith, nat_tests)
 not_closing : (b : ℕ) → is_opening_bracket b ≡ true → is_closing_bracket b ≡ false
 not_closing b h = grind (arith, nat_tests)
 
-either : (x y : Bool) → y ≡ true → (x || y) ≡ true
-either true y h = refl
-either false y h = h
-
 pub bracket_sort : (depth : ℕ) (opened place : List ℕ) → IsBadBracket opened place → IsBadSort depth opened place bad_bracket
 bracket_sort depth opened [] bad = absurd (false≢true bad)
 bracket_sort depth opened (b ∷ bs) bad =
     let parts = and_parts (is_closing_bracket b) (not (closes_innermost opened b)) bad in
     let closing = parts.0 in
-    let bracket = either (is_opening_bracket b) (is_closing_bracket b) closing in
+    let bracket = or_right (is_opening_bracket b) (is_closing_bracket b) closing in
     let p = bracket_parts b bs bracket in
     let unquoted = p.0 in
     let plain = p.1 in
@@ -167,12 +163,8 @@ bracket_sort depth opened (b ∷ bs) bad =
     record {
       some = omega arith;
       sort_is = rw (unquoted, plain, slash, closing) refl;
-      never = bracket_never depth opened b bs bracket (rw (opens, closing) (not_true (closes_innermost opened b) parts.1));
+      never = bracket_never depth opened b bs bracket (rw (opens, closing) (not-true (closes_innermost opened b) parts.1));
     }
-  where
-    not_true : (x : Bool) → not x ≡ true → x ≡ false
-    not_true true h = absurd (false≢true h)
-    not_true false h = refl
 
 pub deep_sort : (depth : ℕ) (opened place : List ℕ) → IsTooDeep depth opened place → IsBadSort depth opened place too_deep
 deep_sort depth opened [] bad = absurd (false≢true bad.bracket)
@@ -216,13 +208,9 @@ character_sort depth opened (b ∷ bs) bad =
     none_of None h = refl
     none_of (Some o) h = absurd (false≢true (sym h))
 
-    or_none : (x y : Bool) → (x || y) ≡ false → (x ≡ false) × (y ≡ false)
-    or_none true y h = absurd (false≢true (sym h))
-    or_none false y h = (refl, h)
-
     no_brackets : (is_opening_bracket b ≡ false) × (is_closing_bracket b ≡ false)
     no_brackets = elim (cases_Bool (is_bracket_byte b)) [
-      | inr miss ↦ or_none (is_opening_bracket b) (is_closing_bracket b) miss
+      | inr miss ↦ or_parts (is_opening_bracket b) (is_closing_bracket b) miss
       | inl hit ↦ absurd (bad.none Operator (b ∷ []) bs refl (bracket_operator b hit) (counts_free (b ∷ bs) (b ∷ []) Operator (none_of (opening (b ∷ bs)) bad.unquoted) bad.no_digit))
     ]
 

@@ -2,7 +2,7 @@
 use Rattle.std.proofs.Common.{◌≡◌, ℕ, ◌+◌, ◌<◌, List, [], ◌∷◌, ◌++◌, length, map, Bool, true, false, not, refl, sym, ap, subst, ◌∙◌, arith, inl, inr, append_assoc, append-nil}
 use Rattle.std.specs.Prelude.{if◌then◌else◌}
 use Rattle.std.specs.List.{list_any}
-use Rattle.std.proofs.lemmas.Bool.{cases_Bool, and_parts, or_parts, false≢true}
+use Rattle.std.proofs.lemmas.Bool.{cases_Bool, and_parts, or_parts, false≢true, not-true}
 use Rattle.bz_token.specs.declared.cutter.scan.LineKind.{LineKind}
 use Rattle.bz_token.specs.declared.cutter.scan.LineKind.TheVariants.{Blank}
 use Rattle.bz_token.specs.declared.cutter.scan.Scan.{Scan}
@@ -35,7 +35,7 @@ use Rattle.bz_token.proofs.FaultFronts.{has_newline}
 use Rattle.bz_token.proofs.FirstLines.{lines_reading, closed_lines, split_reading}
 use Rattle.bz_token.proofs.Joins.{join_reading, open_after-append, some_newlines}
 use Rattle.bz_token.proofs.Progress.{newlines, reading_bytes, bytes_of-push, places_fit}
-use Rattle.bz_token.proofs.Quiet.{is_quiet, not_true, quiet_append, quiet_end, plain_quiet}
+use Rattle.bz_token.proofs.Quiet.{is_quiet, quiet_append, quiet_end, plain_quiet}
 use Rattle.bz_token.proofs.Stands.{Stands, After, stands_plain, kind_with, gap_after, token_after}
 use Rattle.bz_token.proofs.TokenLines.{some_open, lines_before}
 use Rattle.bz_token.specs.Common.{is_empty}
@@ -75,13 +75,13 @@ chunk_quiet [] rest s phase before part h q = ap (λ t. seen_chunks s phase befo
 chunk_quiet (b ∷ bs) rest s phase before part h q =
     let p = and_parts (not (is_ended (next s b).inside)) (is_quiet (next s b) bs) q in
     chunk_step s phase before part b (bs ++ rest) h
-    ∙ chunk_quiet bs rest (next s b) phase before (part ++ b ∷ []) (not_true (is_ended (next s b).inside) p.0) p.1
+    ∙ chunk_quiet bs rest (next s b) phase before (part ++ b ∷ []) (not-true (is_ended (next s b).inside) p.0) p.1
     ∙ ap (λ t. seen_chunks (run (next s b) bs) phase before t rest) (append_assoc part (b ∷ []) bs)
 
 quiet_chunks : (b : ℕ) (bs rest : List ℕ) → is_quiet start (b ∷ bs) ≡ true → chunks ((b ∷ bs) ++ rest) ≡ seen_chunks (run start (b ∷ bs)) Comments [] (b ∷ bs) rest
 quiet_chunks b bs rest q =
     let p = and_parts (not (is_ended (next start b).inside)) (is_quiet (next start b) bs) q in
-    chunks_are (b ∷ (bs ++ rest)) ∙ chunk_quiet bs rest (next start b) Comments [] (b ∷ []) (not_true (is_ended (next start b).inside) p.0) p.1
+    chunks_are (b ∷ (bs ++ rest)) ∙ chunk_quiet bs rest (next start b) Comments [] (b ∷ []) (not-true (is_ended (next start b).inside) p.0) p.1
 
 quiet_longer : (b : ℕ) (bs rest line after : List ℕ) → is_quiet start (b ∷ bs) ≡ true → 0 < length rest → line ≡ first_line rest → line ++ after ≡ rest → is_physical_line line ≡ true → 0 < length line → IsLonger (b ∷ bs) rest
 quiet_longer b bs rest [] after q some first split physical long = absurd (omega (arith, long))

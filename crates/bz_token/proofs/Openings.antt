@@ -2,7 +2,7 @@
 use Rattle.std.proofs.Common.{◌≡◌, ℕ, zero, suc, ◌+◌, ◌<◌, ◌≤◌, ◌==◌, ◌&&◌, ◌||◌, List, [], ◌∷◌, ◌++◌, length, take, drop, Bool, true, false, not, refl, sym, ap, ◌∙◌, arith, inl, inr, get_or, ◌-◌, sub-one, subst, length-drop, take-append-drop, one-add}
 use Rattle.std.specs.Prelude.{Option, Some, None, is_some}
 use Rattle.std.specs.List.{list_all, list_any}
-use Rattle.std.proofs.lemmas.Bool.{cases_Bool, and_parts, false≢true, eqb-true}
+use Rattle.std.proofs.lemmas.Bool.{cases_Bool, and_parts, false≢true, eqb-true, not-true}
 use Rattle.std.proofs.lemmas.List.{drop-drop}
 use Rattle.std.proofs.Math.Seq.{take-nil}
 use Rattle.std.proofs.lemmas.Bool.Decides.{nat_tests}
@@ -127,15 +127,11 @@ abbrev pub ends_name : List ℕ → List ℕ → Bool
 ends_name text [] = true
 ends_name text (b ∷ bs) = not (is_word_byte b) && not (is_quote b && is_prefix text)
 
-not_true : (x : Bool) → not x ≡ true → x ≡ false
-not_true true h = absurd (false≢true h)
-not_true false h = refl
-
 -- after a prefix that is the whole name no quote stands
 opens_after_name : (n : ℕ) (text after : List ℕ) → is_prefix text ≡ true → ends_name text after ≡ true → opens_after n after ≡ None
 opens_after_name n text [] is ends = refl
 opens_after_name n text (q ∷ qs) is ends =
-    opens_none n q qs (quoteless (is_quote q) (not_true (is_quote q && is_prefix text) (and_parts (not (is_word_byte q)) (not (is_quote q && is_prefix text)) ends).1))
+    opens_none n q qs (quoteless (is_quote q) (not-true (is_quote q && is_prefix text) (and_parts (not (is_word_byte q)) (not (is_quote q && is_prefix text)) ends).1))
   where
     quoteless : (x : Bool) → (x && is_prefix text) ≡ false → x ≡ false
     quoteless true h = absurd (false≢true (sym h ∙ is))
@@ -157,7 +153,7 @@ name_opening a bs after word words ends =
       where
         first : (xs : List ℕ) → ends_name (a ∷ []) xs ≡ true → begins (λ b. b == c) xs ≡ false
         first [] h = refl
-        first (x ∷ xs) h = no_word_other x c (not_true (is_word_byte x) (and_parts (not (is_word_byte x)) (not (is_quote x && is_prefix (a ∷ []))) h).0) is
+        first (x ∷ xs) h = no_word_other x c (not-true (is_word_byte x) (and_parts (not (is_word_byte x)) (not (is_quote x && is_prefix (a ∷ []))) h).0) is
 
     is_r : (a == 114) ≡ true → is_prefix (a ∷ []) ≡ true
     is_r r = let same : a ≡ 114 = eqb-true a 114 r in rw same refl

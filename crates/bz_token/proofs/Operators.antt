@@ -3,7 +3,7 @@ use Rattle.std.proofs.Common.{◌≡◌, ℕ, zero, suc, ◌<◌, ◌≤◌, ◌
 use Rattle.std.specs.Prelude.{nat_le, nat_lt}
 use Rattle.std.specs.List.{list_all}
 use Rattle.std.proofs.Math.Seq.{take-nil}
-use Rattle.std.proofs.lemmas.Bool.{and_parts, false≢true}
+use Rattle.std.proofs.lemmas.Bool.{and_parts, false≢true, false_from_ne_true}
 use Rattle.std.proofs.lemmas.Bool.Decides.{nat_tests}
 use Rattle.bz_token.specs.declared.token.Kind.TheVariants.{Operator}
 use Rattle.bz_token.specs.Lexical.{operators, is_operator_text}
@@ -23,13 +23,9 @@ no_empty_operator : is_operator_text [] ≡ false
 unfolding operators
 no_empty_operator = refl
 
-not_true_of : (x : Bool) → (x ≡ true → ⊥) → x ≡ false
-not_true_of true h = absurd (h refl)
-not_true_of false h = refl
-
 -- four bytes are no operator
 no_long_operator : (a b c d : ℕ) (more : List ℕ) → is_operator_text (a ∷ b ∷ c ∷ d ∷ more) ≡ false
-no_long_operator a b c d more = not_true_of _ (λ is. too_long (length more) (and_parts (is_operator_text (a ∷ b ∷ [])) (nat_le (length (a ∷ b ∷ c ∷ d ∷ more)) 3) (operator_steps (a ∷ b ∷ c ∷ d ∷ more) is)).1)
+no_long_operator a b c d more = false_from_ne_true _ (λ is. too_long (length more) (and_parts (is_operator_text (a ∷ b ∷ [])) (nat_le (length (a ∷ b ∷ c ∷ d ∷ more)) 3) (operator_steps (a ∷ b ∷ c ∷ d ∷ more) is)).1)
   where
     too_long : (x : ℕ) → nat_le (suc (suc (suc (suc x)))) 3 ≡ true → ⊥
     too_long x h = grind (arith, nat_tests)

@@ -2,7 +2,9 @@
 use Rattle.std.proofs.Common.{◌≡◌, ℕ, ◌==◌, ◌&&◌, ◌||◌, List, [], ◌∷◌, ◌++◌, Bool, true, false, not, refl, sym, ap, subst, ◌∙◌, arith, inl, inr, append_assoc, append-nil}
 use Rattle.std.specs.List.{list_all}
 use Rattle.std.specs.Char.{is_ascii_digit}
-use Rattle.std.proofs.lemmas.Bool.{cases_Bool, and_parts, false≢true}
+use Rattle.std.proofs.lemmas.Bool.{cases_Bool, and_parts, false≢true, and_from, not-true, not_from_false, or_right}
+-- for bz_layout_laws
+pub use Rattle.std.proofs.lemmas.Bool.{and_from as both}
 use Rattle.std.proofs.lemmas.Bool.Decides.{nat_tests}
 use Rattle.bz_token.specs.declared.token.Kind.{Kind}
 use Rattle.bz_token.specs.declared.token.Kind.TheVariants.{Identifier, Keyword, Integer, String, Operator, Newline, Comment as CommentToken, Kept}
@@ -27,27 +29,17 @@ abbrev pub is_quiet : Scan → List ℕ → Bool
 is_quiet s [] = true
 is_quiet s (b ∷ bs) = not (is_ended (next s b).inside) && is_quiet (next s b) bs
 
-pub not_true : (x : Bool) → not x ≡ true → x ≡ false
-not_true true h = absurd (false≢true h)
-not_true false h = refl
-
-pub both : (x y : Bool) → x ≡ true → y ≡ true → (x && y) ≡ true
-both x y p q = rw (p, q) refl
-
-pub not_false : (x : Bool) → x ≡ false → not x ≡ true
-not_false x h = rw h refl
-
 pub quiet_append : (xs ys : List ℕ) (s : Scan) → is_quiet s xs ≡ true → is_quiet (run s xs) ys ≡ true → is_quiet s (xs ++ ys) ≡ true
 quiet_append [] ys s h g = g
 quiet_append (x ∷ xs) ys s h g =
     let p = and_parts (not (is_ended (next s x).inside)) (is_quiet (next s x) xs) h in
-    both (not (is_ended (next s x).inside)) (is_quiet (next s x) (xs ++ ys)) p.0 (quiet_append xs ys (next s x) p.1 g)
+    and_from (not (is_ended (next s x).inside)) (is_quiet (next s x) (xs ++ ys)) p.0 (quiet_append xs ys (next s x) p.1 g)
 
 pub quiet_end : (xs : List ℕ) (s : Scan) → is_ended s.inside ≡ false → is_quiet s xs ≡ true → is_ended (run s xs).inside ≡ false
 quiet_end [] s h q = h
 quiet_end (x ∷ xs) s h q =
     let p = and_parts (not (is_ended (next s x).inside)) (is_quiet (next s x) xs) q in
-    quiet_end xs (next s x) (not_true (is_ended (next s x).inside) p.0) p.1
+    quiet_end xs (next s x) (not-true (is_ended (next s x).inside) p.0) p.1
 
 -- such bytes stay in the line that they stand in
 pub seen_quiet : (xs after : List ℕ) (s : Scan) (seen : List ℕ) → is_ended s.inside ≡ false → is_quiet s xs ≡ true → seen_lines s seen (xs ++ after) ≡ seen_lines (run s xs) (seen ++ xs) after
@@ -55,7 +47,7 @@ seen_quiet [] after s seen h q = ap (λ x. seen_lines s x after) (sym (append-ni
 seen_quiet (x ∷ xs) after s seen h q =
     let p = and_parts (not (is_ended (next s x).inside)) (is_quiet (next s x) xs) q in
     seen_step s seen x (xs ++ after) h
-    ∙ seen_quiet xs after (next s x) (seen ++ x ∷ []) (not_true (is_ended (next s x).inside) p.0) p.1
+    ∙ seen_quiet xs after (next s x) (seen ++ x ∷ []) (not-true (is_ended (next s x).inside) p.0) p.1
     ∙ ap (λ y. seen_lines (run (next s x) xs) y after) (append_assoc seen (x ∷ []) xs)
 
 -- what begins a statement makes its line one
@@ -83,7 +75,7 @@ pub statement_run : (xs : List ℕ) (s : Scan) → is_ended s.inside ≡ false �
 statement_run [] s h q k = k
 statement_run (x ∷ xs) s h q k =
     let p = and_parts (not (is_ended (next s x).inside)) (is_quiet (next s x) xs) q in
-    statement_run xs (next s x) (not_true (is_ended (next s x).inside) p.0) p.1 (statement_step s x h k)
+    statement_run xs (next s x) (not-true (is_ended (next s x).inside) p.0) p.1 (statement_step s x h k)
 
 -- a line ends after a newline
 pub ended_newline : (b : ℕ) (bs : List ℕ) (s : Scan) → is_ended (run s (b ∷ bs)).inside ≡ true → has_newline (b ∷ bs) ≡ true
@@ -91,21 +83,17 @@ ended_newline b [] s ended = elim (cases_Bool (b == 10)) [
   | inl hit ↦ rw hit refl
   | inr miss ↦ absurd (false≢true (sym (next_inside s.inside s.depth s.kind b miss) ∙ ended))
 ]
-ended_newline b (c ∷ cs) s ended = later (is_newline b) (has_newline (c ∷ cs)) (ended_newline c cs (next s b) ended)
-  where
-    later : (x y : Bool) → y ≡ true → (x || y) ≡ true
-    later true y h = refl
-    later false y h = h
+ended_newline b (c ∷ cs) s ended = or_right (is_newline b) (has_newline (c ∷ cs)) (ended_newline c cs (next s b) ended)
 
 -- where no front ends a line
 pub quiet_fronts : (bs : List ℕ) (s : Scan) → ((x : ℕ) (xs ys : List ℕ) → bs ≡ (x ∷ xs) ++ ys → is_ended (run s (x ∷ xs)).inside ≡ true → ⊥) → is_quiet s bs ≡ true
 quiet_fronts [] s none = refl
 quiet_fronts (b ∷ bs) s none =
-    both (not (is_ended (next s b).inside)) (is_quiet (next s b) bs) here (quiet_fronts bs (next s b) (λ x xs ys e ended. none b (x ∷ xs) ys (ap (λ t. b ∷ t) e) ended))
+    and_from (not (is_ended (next s b).inside)) (is_quiet (next s b) bs) here (quiet_fronts bs (next s b) (λ x xs ys e ended. none b (x ∷ xs) ys (ap (λ t. b ∷ t) e) ended))
   where
     here : not (is_ended (next s b).inside) ≡ true
     here = elim (cases_Bool (is_ended (next s b).inside)) [
-      | inr miss ↦ not_false (is_ended (next s b).inside) miss
+      | inr miss ↦ not_from_false (is_ended (next s b).inside) miss
       | inl hit ↦ absurd (none b [] bs refl hit)
     ]
 

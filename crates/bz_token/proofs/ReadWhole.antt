@@ -1,6 +1,7 @@
 -- What a reader has given at the end of its text.
 use Rattle.std.proofs.Common.{◌≡◌, ℕ, List, [], ◌++◌, Bool, true, false, not, refl, sym, ap, subst, ◌∙◌, append-nil, ap₂, ◌∷◌}
 use Rattle.std.specs.Prelude.{◌↔◌, IsTrue}
+use Rattle.std.proofs.lemmas.Bool.{not-true}
 use Rattle.bz_token.specs.declared.reader.TokenReader.{TokenReader}
 use Rattle.bz_token.specs.Places.{Placed}
 use Rattle.bz_token.specs.Brackets.{is_inside, open_after_token}
@@ -29,13 +30,9 @@ complete first depth text given reader inside h none is = (λ out. (none, whole 
     end : IsReading depth [] h.read.pieces h.read.gap text × (is_gap (is_inside (open_after [] h.read.pieces)) h.read.gap ≡ true)
     end = at_end first depth text given reader h none
 
-    off : (b : Bool) → not b ≡ true → b ≡ false
-    off true e = sym e
-    off false e = refl
-
     whole : IsTrue (not inside) → AreTokensOf first depth text given
     whole out =
-        let outer : open_after [] h.read.pieces ≡ [] = sym h.read.opened_are ∙ outside (opened reader.lexer.brackets) (sym is ∙ off inside out) in
+        let outer : open_after [] h.read.pieces ≡ [] = sym h.read.opened_are ∙ outside (opened reader.lexer.brackets) (sym is ∙ not-true inside out) in
         (h.read.pieces, h.read.gap, end.0, rw outer at end.1, outer, h.read.tokens_are)
 
     closed : AreTokensOf first depth text given → IsTrue (not inside)

@@ -1,5 +1,5 @@
 -- What the scan of a token finds.
-use Rattle.std.proofs.Common.{◌≡◌, ℕ, zero, suc, ◌+◌, ◌-◌, ◌<◌, ◌≤◌, ◌==◌, ◌||◌, List, [], ◌∷◌, ◌++◌, length, take, drop, get_or, Bool, true, false, not, refl, sym, ap, subst, ◌∙◌, arith, inl, inr, length-drop, take-append-drop, sub-one, one-add, IsUtf8}
+use Rattle.std.proofs.Common.{◌≡◌, ℕ, zero, suc, ◌+◌, ◌-◌, ◌<◌, ◌≤◌, ◌==◌, List, [], ◌∷◌, ◌++◌, length, take, drop, get_or, Bool, true, false, not, refl, sym, ap, subst, ◌∙◌, arith, inl, inr, length-drop, take-append-drop, sub-one, one-add, IsUtf8}
 use Rattle.std.specs.Prelude.{Some, None, is_some}
 use Rattle.std.specs.List.{list_all, list_any, prefix_len}
 use Rattle.std.specs.Str.{IsCharBoundary}
@@ -8,7 +8,7 @@ use Rattle.std.proofs.Math.Seq.{take-add, take-nil, drop-nil}
 use Rattle.std.proofs.lemmas.List.{drop-take, get_or-drop, get_or-take, length-take-le}
 use Rattle.std.proofs.lemmas.List.Sums.{prefix_len_passes, prefix_len_stops, prefix_len-le-length}
 use Rattle.std.proofs.lemmas.List.Folds.{list_any-append}
-use Rattle.std.proofs.lemmas.Bool.{cases_Bool, cases_lt, and_parts, false≢true, eqb-true}
+use Rattle.std.proofs.lemmas.Bool.{cases_Bool, cases_lt, and_parts, false≢true, eqb-true, not-false, or_from}
 use Rattle.std.proofs.lemmas.Bool.Decides.{nat_tests}
 use Rattle.std.proofs.lemmas.Str.{IsCharBoundary-after_ascii, IsCharBoundary-before_ascii, IsCharBoundary-end}
 use Rattle.bz_token.specs.declared.scan_string.Opening.{Opening}
@@ -47,9 +47,6 @@ blank_ascii b h = grind (arith, nat_tests)
 newline_ascii : (b : ℕ) → is_newline b ≡ true → b < 128
 newline_ascii b h = grind (arith, nat_tests)
 
-or_no : (x y : Bool) → x ≡ false → y ≡ false → (x || y) ≡ false
-or_no x y a b = rw (a, b) refl
-
 -- a string up to its closing quotes
 pub string_scanned : (bytes : List ℕ) (o : Opening) (n : ℕ) (nl : Bool) → opening bytes ≡ Some o → 0 < n → n ≤ length (drop (opening_length o) bytes) → closes o.quotes 0 Unescaped (take n (drop (opening_length o) bytes)) ≡ true
     → (nl ≡ false → list_any is_newline (take n (drop (opening_length o) bytes)) ≡ false) → IsScanned bytes (record { kind = String; len = opening_length o + n; has_newline = nl })
@@ -67,7 +64,7 @@ string_scanned bytes o n nl opens some fits closed one_line =
       some = omega arith;
       within = within;
       token = string_token_at (take (s + n) bytes) (drop (s + n) bytes) o (front.front (s + n) (omega arith)) (ap opening whole ∙ opens) (ap (closes o.quotes 0 Unescaped) inside ∙ closed);
-      one_line = λ h. ap (list_any is_newline) (take-add s n bytes) ∙ list_any-append is_newline (take s bytes) (take n (drop s bytes)) ∙ or_no _ _ front.one_line (one_line h);
+      one_line = λ h. ap (list_any is_newline) (take-add s n bytes) ∙ list_any-append is_newline (take s bytes) (take n (drop s bytes)) ∙ or_from _ _ front.one_line (one_line h);
       boundary = boundary_after bytes (s + n) (omega arith) within (subst (λ x. x < 128) (sym at_end) (quote_ascii o.quotes.byte (opening_facts bytes o opens).quoted));
     }
   where
@@ -95,7 +92,7 @@ words_line : (xs : List ℕ) → list_all is_word_byte xs ≡ true → list_any 
 words_line [] h = refl
 words_line (x ∷ xs) h =
     let parts = and_parts (is_word_byte x) (list_all is_word_byte xs) h in
-    or_no _ _ (word_no_newline x parts.0) (words_line xs parts.1)
+    or_from _ _ (word_no_newline x parts.0) (words_line xs parts.1)
 
 no_word_after : (xs : List ℕ) → prefix_len is_word_byte xs ≡ 0 → stops_at Integer [] xs ≡ true
 no_word_after [] h = refl
@@ -164,7 +161,7 @@ operators_line : (xs : List ℕ) → list_all is_operator_byte xs ≡ true → l
 operators_line [] h = refl
 operators_line (x ∷ xs) h =
     let parts = and_parts (is_operator_byte x) (list_all is_operator_byte xs) h in
-    or_no _ _ (operator_no_newline x parts.0) (operators_line xs parts.1)
+    or_from _ _ (operator_no_newline x parts.0) (operators_line xs parts.1)
   where
     operator_no_newline : (x : ℕ) → is_operator_byte x ≡ true → is_newline x ≡ false
     operator_no_newline x h = grind (arith, nat_tests)
@@ -218,7 +215,7 @@ comment_boundary bytes r fits blank =
             | inl less ↦
                 let e : prefix_len (λ b. not (is_newline b)) bytes ≡ r = omega arith in
                 let stop = prefix_len_stops (λ b. not (is_newline b)) bytes 0 (omega arith) in
-                IsCharBoundary-before_ascii bytes r less (newline_ascii _ (not_false (is_newline (get_or bytes r 0)) (ap (λ k. not (is_newline (get_or bytes k 0))) (sym e) ∙ stop)))
+                IsCharBoundary-before_ascii bytes r less (newline_ascii _ (not-false (is_newline (get_or bytes r 0)) (ap (λ k. not (is_newline (get_or bytes k 0))) (sym e) ∙ stop)))
             | inr past ↦
                 let e : length bytes ≡ r = omega (arith, prefix_len-le-length (λ b. not (is_newline b)) bytes) in
                 subst (λ k. IsCharBoundary bytes k) e (IsCharBoundary-end bytes)
@@ -227,10 +224,6 @@ comment_boundary bytes r fits blank =
   where
     plus_zero : (r : ℕ) → r + 0 ≡ r
     plus_zero r = omega arith
-
-    not_false : (x : Bool) → not x ≡ false → x ≡ true
-    not_false true h = refl
-    not_false false h = absurd (false≢true (sym h))
 
 pub comment_scanned : (bytes : List ℕ) (r : ℕ) → 0 < r → r ≤ length bytes → r ≤ prefix_len (λ b. not (is_newline b)) bytes → is_comment (take r bytes) ≡ true → list_all is_blank (drop r (take (prefix_len (λ b. not (is_newline b)) bytes) bytes)) ≡ true
     → IsScanned bytes (record { kind = Comment; len = r; has_newline = false })

@@ -1,7 +1,7 @@
 -- Where the cutter stands between the tokens of a text, and in which kind of line.
 use Rattle.std.proofs.Common.{◌≡◌, ℕ, ◌<◌, ◌==◌, ◌&&◌, ◌||◌, List, [], ◌∷◌, ◌++◌, length, take, Bool, true, false, not, refl, sym, ap, subst, ◌∙◌, arith, inl, inr, one-add}
 use Rattle.std.specs.List.{list_all, list_any, prefix_len}
-use Rattle.std.proofs.lemmas.Bool.{cases_Bool, and_parts, or_cases, false≢true, eqb-true}
+use Rattle.std.proofs.lemmas.Bool.{cases_Bool, and_parts, or_cases, false≢true, eqb-true, and_from, not-true, not_from_false, or_parts}
 use Rattle.std.proofs.lemmas.Bool.Decides.{nat_tests}
 use Rattle.bz_token.specs.declared.token.Kind.{Kind}
 use Rattle.bz_token.specs.declared.token.Kind.TheVariants.{Identifier, Keyword, Integer, String, Operator, Newline, Comment as CommentToken, Kept}
@@ -19,7 +19,7 @@ use Rattle.bz_token.proofs.Ends.{comment_parts}
 use Rattle.bz_token.proofs.Stops.{token_ends}
 use Rattle.bz_token.proofs.CutSeen.{final_kind}
 use Rattle.bz_token.proofs.Agree.{IsAt, stands, Ready, acts, comments, token_run, visible}
-use Rattle.bz_token.proofs.Quiet.{is_quiet, not_true, both, not_false, quiet_end, statement_step, statement_run, short_no_newline, plain_quiet, string_quiet}
+use Rattle.bz_token.proofs.Quiet.{is_quiet, quiet_end, statement_step, statement_run, short_no_newline, plain_quiet, string_quiet}
 
 -- The cutter acts as outside strings and comments in a line of this kind; or it is in a comment of which white space is left.
 pub data Stands (s : Scan) (d : ℕ) (k : LineKind) (after : List ℕ) : Type 0 where
@@ -65,7 +65,7 @@ pub record After (s t : Scan) (d : ℕ) (k : LineKind) (after passed : List ℕ)
   pub quiet : is_quiet s passed ≡ true
 
 step_after : (s : Scan) (d : ℕ) (k : LineKind) (b : ℕ) (bs after : List ℕ) → is_ended (next s b).inside ≡ false → After (next s b) (run (next s b) bs) d k after bs → After s (run s (b ∷ bs)) d k after (b ∷ bs)
-step_after s d k b bs after none more = record { stands = more.stands; quiet = both (not (is_ended (next s b).inside)) (is_quiet (next s b) bs) (not_false (is_ended (next s b).inside) none) more.quiet }
+step_after s d k b bs after none more = record { stands = more.stands; quiet = and_from (not (is_ended (next s b).inside)) (is_quiet (next s b) bs) (not_from_false (is_ended (next s b).inside) none) more.quiet }
 
 ended_at : (s : Scan) (i : CutState) (d : ℕ) (k : LineKind) → s ≡ at i d k → is_ended i ≡ false → is_ended s.inside ≡ false
 ended_at s i d k h none = ap (λ t. is_ended t.inside) h ∙ none
@@ -207,14 +207,10 @@ ready_stands s d after (comments h blank) none k = in_comment (λ i. at (h.insid
 comment_over : (bs : List ℕ) (s : Scan) (d : ℕ) (k : LineKind) → list_any is_newline bs ≡ false → s ≡ at Comment d k → run s bs ≡ at Comment d k
 comment_over [] s d k none h = h
 comment_over (b ∷ bs) s d k none h =
-    let parts = or_none (is_newline b) (list_any is_newline bs) none in
+    let parts = or_parts (is_newline b) (list_any is_newline bs) none in
     let other = parts.0 in
     let step : next_in Comment d k b ≡ at Comment d k = rw other refl in
     comment_over bs (next s b) d k parts.1 (ap (λ t. next t b) h ∙ step)
-  where
-    or_none : (x y : Bool) → (x || y) ≡ false → (x ≡ false) × (y ≡ false)
-    or_none true y h = absurd (false≢true (sym h))
-    or_none false y h = (refl, h)
 
 first_hash : (opened : List ℕ) (b : ℕ) (bs : List ℕ) → b ≡ 35 → open_after_token opened (b ∷ bs) ≡ opened
 first_hash opened b [] same = ap (λ x. open_after_token opened (x ∷ [])) same
@@ -225,17 +221,13 @@ comment_after s opened k b bs after token st =
     let d = length opened in
     let parts = comment_parts (b ∷ bs) token.whole in
     let same : b ≡ 35 = eqb-true b 35 parts.0 in
-    let clean : list_any is_newline bs ≡ false = (or_none (is_newline b) (list_any is_newline bs) parts.1).1 in
+    let clean : list_any is_newline bs ≡ false = (or_parts (is_newline b) (list_any is_newline bs) parts.1).1 in
     let here : next s b ≡ at Comment d (with_comment k) = stands_first s d k b (bs ++ after) st (ap is_blank same) ∙ ap (outside d k) same in
     let end = comment_over bs (next s b) d (with_comment k) clean here in
     record {
       stands = subst (λ n. Stands (run s (b ∷ bs)) n (with_comment k) after) (ap length (sym (first_hash opened b bs same))) (in_comment end (token_ends CommentToken (b ∷ bs) after token));
       quiet = plain_quiet (b ∷ bs) s parts.1;
     }
-  where
-    or_none : (x y : Bool) → (x || y) ≡ false → (x ≡ false) × (y ≡ false)
-    or_none true y h = absurd (false≢true (sym h))
-    or_none false y h = (refl, h)
 
 -- over a token of a statement
 statement_after : (depth : ℕ) (s : Scan) (opened : List ℕ) (k : LineKind) (kind : Kind) (b : ℕ) (bs after : List ℕ) → IsToken kind (b ∷ bs) after → fits depth opened kind (b ∷ bs) ≡ true → Stands s (length opened) k (b ∷ bs ++ after)
@@ -248,7 +240,7 @@ statement_after depth s opened k kind b bs after token fit st none noline line c
     let begun : (next s b).kind ≡ Statement = ap (λ t. t.kind) first ∙ statement_starts d k kind b bs token.whole line comment other in
     let t = token_run depth s opened kind (b ∷ bs) after token fit (stands_ready s d k (b ∷ bs ++ after) st) in
     record {
-      stands = ready_stands (run s (b ∷ bs)) (length (open_after_token opened (b ∷ bs))) after t.ready (quiet_end (b ∷ bs) s none quiet) (statement_run bs (next s b) (not_true (is_ended (next s b).inside) parts.0) parts.1 begun);
+      stands = ready_stands (run s (b ∷ bs)) (length (open_after_token opened (b ∷ bs))) after t.ready (quiet_end (b ∷ bs) s none quiet) (statement_run bs (next s b) (not-true (is_ended (next s b).inside) parts.0) parts.1 begun);
       quiet = quiet;
     }
 

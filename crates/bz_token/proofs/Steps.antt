@@ -1,18 +1,16 @@
 -- What stands at a place, before it is read.
-use Rattle.std.proofs.Common.{◌≡◌, ℕ, ◌-◌, zero, suc, drop, ◌+◌, ◌<◌, ◌≤◌, List, [], ◌∷◌, length, take, get_or, ◌||◌, Bool, true, false, refl, ap, sym, subst, ◌∙◌, arith, inl, inr, one-add}
+use Rattle.std.proofs.Common.{◌≡◌, ℕ, ◌-◌, zero, suc, drop, ◌+◌, ◌<◌, ◌≤◌, List, [], ◌∷◌, length, take, get_or, ◌||◌, Bool, true, false, refl, ap, subst, ◌∙◌, arith, inl, one-add}
 use Rattle.std.specs.Prelude.{Result, Ok, Err, IfOk, IfErr}
 use Rattle.std.specs.List.{prefix_len}
 use Rattle.std.proofs.lemmas.List.{length-take-le}
 use Rattle.std.proofs.lemmas.List.Sums.{prefix_len-le-length}
-use Rattle.std.proofs.lemmas.Bool.{false≢true}
-use Rattle.std.proofs.lemmas.Bool.Decides.{nat_tests}
+use Rattle.std.proofs.lemmas.Bool.{false≢true, or_parts}
 use Rattle.bz_token.specs.declared.gap.TokenGap.{TokenGap}
 use Rattle.bz_token.specs.Brackets.{is_opening_bracket, is_closing_bracket, is_inside, bracket_fits, open_after_token}
 use Rattle.bz_token.specs.Lexical.{begins, is_blank}
 use Rattle.bz_token.specs.Reading.{is_gap, begins_gap}
-use Rattle.bz_token.specs.private.Scans.{IsBadPlace, bad_fault, IsMisfit, misfit_fault}
+use Rattle.bz_token.specs.private.Scans.{IsBadPlace, bad_fault}
 use Rattle.bz_token.specs.private.Steps.{IsTaken, IsRefused, IsGapHere, IsStep, IsTokenStep, IsBadStep}
-use Rattle.bz_token.specs.declared.brackets.Misfit.{Misfit}
 use Rattle.bz_token.specs.declared.scan_token.Bad.{Bad}
 use Rattle.bz_token.specs.declared.scan_token.Scanned.{Scanned}
 use Rattle.bz_token.specs.declared.scan_token.GapOrToken.{GapOrToken}
@@ -141,27 +139,14 @@ bad_step inside bytes (Err bad) none is = (none, is)
 pub step_taken : (depth : ℕ) (opened bytes : List ℕ) (s : GapOrToken) → (is_opening_bracket (get_or bytes 0 0) || is_closing_bracket (get_or bytes 0 0)) ≡ false → IsStep (is_inside opened) bytes s → IsTaken depth opened opened bytes s
 step_taken depth opened bytes (step.Gap gap) none is = (is, refl)
 step_taken depth opened bytes (step.Token s) none is =
-    let parts = neither (is_opening_bracket (get_or bytes 0 0)) (is_closing_bracket (get_or bytes 0 0)) none in
+    let parts = or_parts (is_opening_bracket (get_or bytes 0 0)) (is_closing_bracket (get_or bytes 0 0)) none in
     let opens = parts.0 in
     let closes = parts.1 in
     let fits : bracket_fits depth opened (get_or bytes 0 0) ≡ true = rw (opens, closes) refl in
     let same : opened ≡ open_after_token opened (get_or bytes 0 0 ∷ []) = rw (opens, closes) refl in
     (is.0, is.1, fits, same)
-  where
-    neither : (x y : Bool) → (x || y) ≡ false → (x ≡ false) × (y ≡ false)
-    neither true y h = absurd (false≢true (sym h))
-    neither false y h = (refl, h)
 
 pub bad_refused : (depth : ℕ) (opened bytes : List ℕ) (line col : ℕ) (bad : Bad) → IsBadStep (is_inside opened) bytes bad → IsRefused depth opened bytes line col (bad_fault bad line col)
 bad_refused depth opened bytes line col bad is = (is.0, inl (bad, is.1, refl))
 
 -- no gap begins with a bracket
-pub bracket_gap : (inside : Bool) (bytes : List ℕ) → 0 < length bytes → (is_opening_bracket (get_or bytes 0 0) || is_closing_bracket (get_or bytes 0 0)) ≡ true → begins_gap inside bytes ≡ false
-bracket_gap inside bytes some bracket = solid_gap inside bytes some (solid (get_or bytes 0 0) bracket)
-  where
-    solid : (b : ℕ) → (is_opening_bracket b || is_closing_bracket b) ≡ true → IsSolid b
-    solid b h = (grind (arith, nat_tests), grind (arith, nat_tests), grind (arith, nat_tests))
-
-pub misfit_refused : (depth : ℕ) (opened bytes : List ℕ) (line col : ℕ) (misfit : Misfit) → 0 < length bytes → (is_opening_bracket (get_or bytes 0 0) || is_closing_bracket (get_or bytes 0 0)) ≡ true → IsMisfit depth opened (get_or bytes 0 0) misfit
-    → IsRefused depth opened bytes line col (misfit_fault misfit line col)
-misfit_refused depth opened bytes line col misfit some bracket is = (bracket_gap (is_inside opened) bytes some bracket, inr (misfit, is, refl))

@@ -2,7 +2,7 @@
 use Rattle.std.proofs.Common.{◌≡◌, ℕ, ◌+◌, ◌<◌, ◌==◌, ◌&&◌, ◌||◌, List, [], ◌∷◌, ◌++◌, length, take, drop, Bool, true, false, not, refl, sym, ap, subst, ◌∙◌, arith, inl, inr, length-drop, append_assoc, one-add, take-append-drop}
 use Rattle.std.specs.Prelude.{Option, Some, None, is_some, bytes_eq, codes}
 use Rattle.std.specs.List.{list_all, list_any, prefix_len}
-use Rattle.std.proofs.lemmas.Bool.{cases_Bool, and_parts, or_cases, false≢true, eqb-true}
+use Rattle.std.proofs.lemmas.Bool.{cases_Bool, and_parts, or_cases, false≢true, eqb-true, and_right, not-true, not_from_false, or_from, or_parts}
 use Rattle.std.proofs.lemmas.Bool.Decides.{nat_tests}
 use Rattle.std.proofs.lemmas.List.{drop-append-le}
 use Rattle.std.proofs.lemmas.List.Folds.{list_any-append}
@@ -24,13 +24,6 @@ keyword_no_prefix : (text : List ℕ) → is_keyword text ≡ true → not (is_p
 unfolding keywords
 keyword_no_prefix text is = one_of (λ s. not (is_prefix s)) keywords text refl is
 
-not_true : (x : Bool) → not x ≡ true → x ≡ false
-not_true true h = absurd (false≢true h)
-not_true false h = refl
-
-not_false : (x : Bool) → x ≡ false → not x ≡ true
-not_false x h = rw h refl
-
 -- a text is the token where what follows ends it
 pub token_ended : (kind : Kind) (text after : List ℕ) → is_text kind text ≡ true → ends kind text after ≡ true → IsToken kind text after
 token_ended kind [] after is end = absurd (empty_no_text kind is)
@@ -43,7 +36,7 @@ token_ended Keyword (b ∷ bs) after is end = name_token Keyword b bs after is (
   where
     named : (after : List ℕ) → stops_at Keyword (b ∷ bs) after ≡ true → ends_name (b ∷ bs) after ≡ true
     named [] h = refl
-    named (c ∷ cs) h = both (is_word_byte c) (is_quote c) (is_prefix (b ∷ bs)) h (not_true (is_prefix (b ∷ bs)) (keyword_no_prefix (b ∷ bs) is))
+    named (c ∷ cs) h = both (is_word_byte c) (is_quote c) (is_prefix (b ∷ bs)) h (not-true (is_prefix (b ∷ bs)) (keyword_no_prefix (b ∷ bs) is))
       where
         both : (x y z : Bool) → not x ≡ true → z ≡ false → (not x && not (y && z)) ≡ true
         both x true z h none = rw (h, none) refl
@@ -75,7 +68,7 @@ all_last p (b ∷ bs) m h = all_last p bs m (and_parts (p b) (list_all p (bs ++ 
 pub operator_stops : (text : List ℕ) (b : ℕ) → is_text Operator text ≡ true → is_later b ≡ false → stops Operator text b ≡ true
 operator_stops [] b is later = absurd (empty_no_text Operator is)
 operator_stops (a ∷ bs) b is later = elim (cases_Bool (is_operator_text ((a ∷ bs) ++ b ∷ []))) [
-  | inr miss ↦ not_false _ miss
+  | inr miss ↦ not_from_false _ miss
   | inl hit ↦ absurd (false≢true (sym later ∙ all_last is_later bs b (operator_later ((a ∷ bs) ++ b ∷ []) hit)))
 ]
 
@@ -86,12 +79,8 @@ plain_stops Keyword text b is comment word quoted later = rw word refl
 plain_stops Integer text b is comment word quoted later = rw word refl
 plain_stops String text b is comment word quoted later =
     let s = string_opens text is in
-    not_false _ (ap (λ o. is_empty_string o text b) s.1 ∙ apart (not s.0.quotes.long && (length text == s.0.prefix + 2)) (b == s.0.quotes.byte) (other s.0.quotes.byte (opening_facts text s.0 s.1).quoted))
+    not_from_false _ (ap (λ o. is_empty_string o text b) s.1 ∙ and_right (not s.0.quotes.long && (length text == s.0.prefix + 2)) (b == s.0.quotes.byte) (other s.0.quotes.byte (opening_facts text s.0 s.1).quoted))
   where
-    apart : (x y : Bool) → y ≡ false → (x && y) ≡ false
-    apart true y h = h
-    apart false y h = refl
-
     other : (q : ℕ) → is_quote q ≡ true → (b == q) ≡ false
     other q h = elim (cases_Bool (b == q)) [
       | inr miss ↦ miss
@@ -230,10 +219,6 @@ name_ends kind b bs (c ∷ cs) no_text name token = both (is_word_byte c) (is_qu
           ])
     ]
 
-or_none : (x y : Bool) → (x || y) ≡ false → (x ≡ false) × (y ≡ false)
-or_none true y h = absurd (false≢true (sym h))
-or_none false y h = (refl, h)
-
 -- how far a run goes beyond a part of it
 run_more : (p : ℕ → Bool) (xs ys : List ℕ) → list_all p xs ≡ true → prefix_len p (xs ++ ys) ≡ length xs + prefix_len p ys
 run_more p [] ys h = omega arith
@@ -245,7 +230,7 @@ run_more p (x ∷ xs) ys h =
 number_ends : (b : ℕ) (bs after : List ℕ) → IsToken Integer (b ∷ bs) after → stops_at Integer (b ∷ bs) after ≡ true
 number_ends b bs [] token = refl
 number_ends b bs (c ∷ cs) token = elim (cases_Bool (is_word_byte c)) [
-  | inr miss ↦ not_false (is_word_byte c) miss
+  | inr miss ↦ not_from_false (is_word_byte c) miss
   | inl hit ↦
       let first = number_starts b bs token.whole in
       let unquoted = no_opening b (bs ++ c ∷ cs) (ap (can_start String) (digit_class b first)) in
@@ -259,7 +244,7 @@ number_ends b bs (c ∷ cs) token = elim (cases_Bool (is_word_byte c)) [
 operator_ends : (b : ℕ) (bs after : List ℕ) → IsToken Operator (b ∷ bs) after → stops_at Operator (b ∷ bs) after ≡ true
 operator_ends b bs [] token = refl
 operator_ends b bs (c ∷ cs) token = elim (cases_Bool (is_operator_text ((b ∷ bs) ++ c ∷ []))) [
-  | inr miss ↦ not_false (is_operator_text ((b ∷ bs) ++ c ∷ [])) miss
+  | inr miss ↦ not_from_false (is_operator_text ((b ∷ bs) ++ c ∷ [])) miss
   | inl hit ↦
       let class = mark_of b (text_class Operator b bs token.whole) in
       absurd (not_nil c [] (token.longest Operator (c ∷ []) cs refl hit
@@ -271,7 +256,7 @@ string_ends : (text after : List ℕ) → IsToken String text after → stops_at
 string_ends text [] token = refl
 string_ends text (b ∷ bs) token =
     let s = string_opens text token.whole in
-    not_false _ (ap (λ o. is_empty_string o text b) s.1 ∙ third s.0 s.1 s.2)
+    not_from_false _ (ap (λ o. is_empty_string o text b) s.1 ∙ third s.0 s.1 s.2)
   where
     third : (o : Opening) → opening text ≡ Some o → closes o.quotes 0 Unescaped (drop (opening_length o) text) ≡ true → is_empty_string (Some o) text b ≡ false
     third o opens closed = elim (cases_Bool (is_empty_string (Some o) text b)) [
@@ -279,7 +264,7 @@ string_ends text (b ∷ bs) token =
       | inl hit ↦
           let parts = and_parts (not o.quotes.long && (length text == o.prefix + 2)) (b == o.quotes.byte) hit in
           let front = and_parts (not o.quotes.long) (length text == o.prefix + 2) parts.0 in
-          let short = not_true o.quotes.long front.0 in
+          let short = not-true o.quotes.long front.0 in
           let size = eqb-true (length text) (o.prefix + 2) front.1 in
           let quotes : o.quotes ≡ record { byte = o.quotes.byte; long = false } = λ i. record { byte = o.quotes.byte; long = short i } in
           let closed' : closes (record { byte = o.quotes.byte; long = false }) 0 Unescaped (drop (o.prefix + 1) text) ≡ true =
@@ -345,8 +330,8 @@ comment_ends b bs after token = elim (cases_Bool (list_all is_blank (take (prefi
       let n = prefix_len (λ c. not (is_newline c)) after in
       let r = up_to_last (b ∷ bs) (take n after) miss in
       let parts = comment_parts (b ∷ bs) token.whole in
-      let one_line = or_none (list_any is_newline (r.0 ∷ r.1)) (list_any is_newline r.2) (sym (list_any-append is_newline (r.0 ∷ r.1) r.2) ∙ ap (list_any is_newline) (sym r.3) ∙ line_part after) in
-      let clean : list_any is_newline ((b ∷ bs) ++ r.0 ∷ r.1) ≡ false = list_any-append is_newline (b ∷ bs) (r.0 ∷ r.1) ∙ neither (list_any is_newline (b ∷ bs)) (list_any is_newline (r.0 ∷ r.1)) parts.1 one_line.0 in
+      let one_line = or_parts (list_any is_newline (r.0 ∷ r.1)) (list_any is_newline r.2) (sym (list_any-append is_newline (r.0 ∷ r.1) r.2) ∙ ap (list_any is_newline) (sym r.3) ∙ line_part after) in
+      let clean : list_any is_newline ((b ∷ bs) ++ r.0 ∷ r.1) ≡ false = list_any-append is_newline (b ∷ bs) (r.0 ∷ r.1) ∙ or_from (list_any is_newline (b ∷ bs)) (list_any is_newline (r.0 ∷ r.1)) parts.1 one_line.0 in
       let hash = parts.0 in
       let unblank = r.4 in
       let longer : is_comment ((b ∷ bs) ++ r.0 ∷ r.1) ≡ true = all_three (b == 35) (list_any is_newline ((b ∷ bs) ++ r.0 ∷ r.1)) (ends_blank ((b ∷ bs) ++ r.0 ∷ r.1)) hash clean unblank in
@@ -357,9 +342,6 @@ comment_ends b bs after token = elim (cases_Bool (list_all is_blank (take (prefi
       (counts_free ((b ∷ bs) ++ after) ((b ∷ bs) ++ r.0 ∷ r.1) Comment (no_opening b (bs ++ after) (ap (can_start String) class)) (no_digit b hash_class class refl))))
 ]
   where
-    neither : (x y : Bool) → x ≡ false → y ≡ false → (x || y) ≡ false
-    neither x y p q = rw (p, q) refl
-
     all_three : (x y z : Bool) → x ≡ true → y ≡ false → z ≡ false → (x && not y && not z) ≡ true
     all_three x y z p q r = rw (p, q, r) refl
 

@@ -4,7 +4,7 @@ use Rattle.std.specs.Prelude.{Some, None}
 use Rattle.std.specs.List.{range_with_len}
 use Rattle.std.specs.Char.{is_ascii_digit}
 use Rattle.std.proofs.lemmas.List.FromFn.{get_or-map-range_with_len}
-use Rattle.std.proofs.lemmas.Bool.{cases_Bool, or_cases, eqb-true, false≢true}
+use Rattle.std.proofs.lemmas.Bool.{cases_Bool, or_cases, eqb-true, false≢true, or_left, or_right}
 use Rattle.std.proofs.lemmas.Bool.Decides.{nat_tests}
 use Rattle.bz_token.specs.Pieces.{is_quote}
 use Rattle.bz_token.specs.Lexical.{begins, is_word_byte, is_blank, are_two, opening}
@@ -196,13 +196,6 @@ single_at b c is one = elim one [
     | inr e ↦ let f = fact_at b Point (is ∙ e) in (or_right (is_opening_bracket b || is_closing_bracket b) (is_point b) f.0, f.1)
   ]
 ]
-  where
-    or_left : (x y : Bool) → x ≡ true → (x || y) ≡ true
-    or_left x y h = rw h refl
-
-    or_right : (x y : Bool) → y ≡ true → (x || y) ≡ true
-    or_right true y h = refl
-    or_right false y h = h
 
 pub mark_at : (b : ℕ) (c : ByteClass) → class_of b ≡ c → (c ≡ Operator) ⊎ (c ≡ Unknown) → IsMark b × IsSolid b
 mark_at b c is one = elim one [

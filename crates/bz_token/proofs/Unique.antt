@@ -1,7 +1,7 @@
 -- A text is read in one way only.
 use Rattle.std.proofs.Common.{◌≡◌, ℕ, ◌<◌, ◌≤◌, ◌==◌, ◌&&◌, ◌||◌, List, [], ◌∷◌, ◌++◌, length, Bool, true, false, not, refl, sym, ap, ap₂, subst, ◌∙◌, arith, inl, inr, length-append, append-nil, ◌⊎◌}
 use Rattle.std.specs.Prelude.{Option, Some, None}
-use Rattle.std.proofs.lemmas.Bool.{cases_Bool, cases_lt, and_parts, or_cases, false≢true, eqb-true}
+use Rattle.std.proofs.lemmas.Bool.{cases_Bool, cases_lt, and_parts, or_cases, false≢true, eqb-true, not-true}
 use Rattle.bz_token.specs.declared.scan_string.Opening.{Opening}
 use Rattle.bz_token.specs.declared.token.Kind.{Kind}
 use Rattle.bz_token.specs.declared.token.Kind.TheVariants.{Identifier, Keyword, Integer, String, Operator, Newline, Comment, Kept}
@@ -240,12 +240,7 @@ kinds_same k l [] rest a b ca cb = absurd (empty_no_text k a)
 kinds_same k l (x ∷ text) rest a b ca cb = by_place (opening (x ∷ text ++ rest)) refl
   where
     apart : is_text Identifier (x ∷ text) ≡ true → is_text Keyword (x ∷ text) ≡ true → ⊥
-    apart i w = false≢true (sym (not_true _ (and_parts (is_name (x ∷ text)) (not (is_keyword (x ∷ text))) i).1) ∙ w)
-      where
-        not_true : (x : Bool) → not x ≡ true → x ≡ false
-        not_true true h = absurd (false≢true h)
-        not_true false h = refl
-
+    apart i w = false≢true (sym (not-true _ (and_parts (is_name (x ∷ text)) (not (is_keyword (x ∷ text))) i).1) ∙ w)
     by_class : (c : Class) → can_start k c ≡ true → can_start l c ≡ true → (is_string (x ∷ text) ≡ true → ⊥) → k ≡ l
     by_class letter p q none = elim (name_kind k (x ∷ text) p a none) [
       | inl i ↦ elim (name_kind l (x ∷ text) q b none) [

@@ -4,7 +4,7 @@
 use Rattle.std.specs.Prelude.{Option, Some, None, ℕ, List, [], ◌∷◌, map, Bool, true, false, not, ◌&&◌}
 use Rattle.std.specs.List.{concat, list_any}
 use Rattle.bz_token.specs.declared.cutter.scan.LineKind.{LineKind}
-use Rattle.bz_token.specs.declared.cutter.scan.LineKind.TheVariants.{Blank, CommentLine, Statement}
+use Rattle.bz_token.specs.declared.cutter.scan.LineKind.TheVariants.{CommentLine, Statement}
 use Rattle.bz_token.specs.declared.cutter.block.Opener.{Opener}
 use Rattle.bz_token.specs.Groups.{grouped}
 use Rattle.bz_token.specs.LogicalLines.{Line, lines}

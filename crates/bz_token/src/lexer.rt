@@ -8,10 +8,10 @@ ghost use Rattle.bz_token.specs.Brackets.{open_tokens, is_inside};
 ghost use Rattle.bz_token.specs.Reading.{AreTokensOf};
 ghost use Rattle.bz_token.specs.Faults.{IsFault};
 ghost use Rattle.bz_token.specs.Lexical.{is_newline};
-ghost use Rattle.bz_token.specs.private.Scans.{opened, bad_fault, misfit_fault, IsLeftOpen};
+ghost use Rattle.bz_token.specs.private.Scans.{opened, bad_fault, IsLeftOpen};
 ghost use Rattle.bz_token.specs.private.Steps.{IsGapHere, IsTaken, IsRefused};
-ghost use Rattle.bz_token.specs.private.LinesRead.{IsInLine, IsAfterLine, IsOnLine, IsOpenInLine, IsStopped, IsFaultInLine};
-ghost use Rattle.bz_token.specs.private.Progress.{HasRead, Grows, PlacesFit, IsReadTo, PassesWhite};
+ghost use Rattle.bz_token.specs.private.LinesRead.{EndsLine, StaysInLine, IsOnLine, IsOpenFrom, IsStopped, IsFaultFrom, IsFaultOfLine};
+ghost use Rattle.bz_token.specs.private.Progress.{HasRead, Grows, ReadsOn, IsReadTo, IsReadAt, PassesWhite};
 
 use crate::brackets::{Brackets, Misfit, innermost, is_bracket_byte};
 use crate::fault::LexFault;
@@ -62,17 +62,6 @@ fn bad_fault(bad: Bad, place: Position) -> LexFault
     }
 }
 
-// The fault of a bracket that does not fit.
-fn misfit_fault(misfit: Misfit, place: Position) -> LexFault
-    ensures { result ≡ misfit_fault misfit place.line place.col }
-{
-    let Position { line, col } = place;
-    match misfit {
-        Misfit::TooDeep => LexFault::TooDeep { line, col },
-        Misfit::NoMatch => LexFault::BadBracket { line, col },
-    }
-}
-
 // What stands here; a bracket is taken among the open ones.
 #[inline(always)]
 fn read_step(
@@ -91,9 +80,11 @@ fn read_step(
             Err(bad) => Err(bad_fault(bad, place)),
         };
     }
+    let Position { line, col } = place;
     match brackets.take(bytes[0], max_depth) {
         Ok(()) => Ok(GapOrToken::Token(scan_bracket(bytes))),
-        Err(misfit) => Err(misfit_fault(misfit, place)),
+        Err(Misfit::TooDeep) => Err(LexFault::TooDeep { line, col }),
+        Err(Misfit::NoMatch) => Err(LexFault::BadBracket { line, col }),
     }
 }
 
@@ -199,8 +190,7 @@ impl<'b, 'a> Lexer<'b, 'a> {
         max_depth: u8,
     ) -> Result<(Cursor<'a>, Option<Kind>), LexFault>
         requires some { 0 < length cursor.rest.now }
-        requires places { (first : ℕ) × (bytes : List ℕ) × (given : List Placed)
-            × HasRead first max_depth bytes given self.old cursor × PlacesFit first bytes }
+        requires places { IsReadAt max_depth self.old cursor }
         ensures read { (first : ℕ) (bytes : List ℕ) (given : List Placed)
             (before : HasRead first max_depth bytes given self.old cursor.entry)
             → IfOk result (λ passed. (after : HasRead first max_depth bytes given self.new passed.0)
@@ -256,30 +246,19 @@ impl<'b, 'a> Lexer<'b, 'a> {
         most: usize,
     ) -> Result<(Cursor<'a>, bool), LexFault>
         requires some { 0 < length cursor.rest.now }
-        requires places { (first : ℕ) × (bytes : List ℕ) × (given : List Placed)
-            × HasRead first max_depth bytes given self.old cursor × PlacesFit first bytes }
-        ensures read { (first : ℕ) (bytes : List ℕ) (given : List Placed)
-            → HasRead first max_depth bytes given self.old cursor.entry
-            → IfOk result (λ passed. HasRead first max_depth bytes given self.new passed.0) }
-        ensures line { (first : ℕ) (bytes : List ℕ) (start : ℕ)
-            → IsInLine first max_depth bytes self.old cursor.entry start
-            → IfOk result (λ passed. IsTrue passed.1 → IsAfterLine first max_depth bytes self.new passed.0 start) }
-        ensures in_line { (first : ℕ) (bytes : List ℕ) (start : ℕ)
-            → IsInLine first max_depth bytes self.old cursor.entry start
-            → IfOk result (λ passed. passed.1 ≡ false → IsInLine first max_depth bytes self.new passed.0 start) }
-        ensures open_text { (first : ℕ) (bytes : List ℕ) (start : ℕ)
-            → IsInLine first max_depth bytes self.old cursor.entry start
-            → IfErr result (IsOpenInLine first max_depth bytes start) }
-        ensures fault_in_line { (first : ℕ) (bytes : List ℕ) (start : ℕ)
-            → IsInLine first max_depth bytes self.old cursor.entry start
-            → IfErr result (IsFaultInLine first max_depth bytes) }
+        requires places { IsReadAt max_depth self.old cursor }
+        ensures read { IfOk result (λ passed. ReadsOn max_depth self.old cursor.entry self.new passed.0) }
+        ensures line { IfOk result (λ passed.
+            IsTrue passed.1 → EndsLine max_depth self.old cursor.entry self.new passed.0) }
+        ensures in_line { IfOk result (λ passed.
+            passed.1 ≡ false → StaysInLine max_depth self.old cursor.entry self.new passed.0) }
+        ensures open_text { IfErr result (IsOpenFrom max_depth self.old cursor.entry) }
+        ensures fault_in_line { IfErr result (IsFaultOfLine max_depth self.old cursor.entry) }
         ensures shorter { IfOk result (λ passed. length passed.0.rest.now < length cursor.entry.rest.now) }
         ensures open { IfOk result (λ passed. passed.1 ≡ false
             → (passed.0.rest.now ≡ []) ⊎ (most ≤ length self.new.tokens.items)) }
-        ensures few { IfOk result (λ passed.
-            length self.new.tokens.items ≤ max most (length self.old.tokens.items + 1)) }
-        ensures fault { (first : ℕ) (bytes : List ℕ) (given : List Placed)
-            → HasRead first max_depth bytes given self.old cursor.entry → IfErr result (IsFault first max_depth bytes) }
+        ensures few { IfOk result (λ passed. length self.new.tokens.items ≤ max most (length self.old.tokens.items + 1)) }
+        ensures fault { IfErr result (IsFaultFrom max_depth self.old cursor.entry) }
     {
         let mut cursor = cursor;
         while !cursor.rest.is_empty() {

@@ -3,7 +3,7 @@
 use Rattle.std.specs.Prelude.{codes, ℕ, ◌+◌, ◌-◌, List, [], ◌∷◌, ◌++◌, Bool, true, false, not, if◌then◌else◌, ◌≡◌, ◌==◌, ◌&&◌, ◌||◌, nat_lt, Option, Some, None}
 use Rattle.std.specs.Str.{bytes_eq}
 use Rattle.bz_token.specs.declared.token.Kind.{Kind}
-use Rattle.bz_token.specs.declared.token.Kind.TheVariants.{Keyword, Operator, Kept}
+use Rattle.bz_token.specs.declared.token.Kind.TheVariants.{Keyword, Kept}
 use Rattle.bz_token.specs.Places.{Placed, line_at, column_at}
 use Rattle.bz_tree.specs.declared.stmt.Class.TheVariants.{Block}
 use Rattle.bz_tree.specs.declared.kinds.Mark.{Mark}

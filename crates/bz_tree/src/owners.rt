@@ -224,14 +224,9 @@ impl<'a> Walk<'a> {
             trailing,
             ..
         } = self;
-        if here.nodes.is_empty() {
-            return Ok(Some(Content {
-                segs,
-                trailing,
-                end: after,
-            }));
+        if !here.nodes.is_empty() {
+            push(&mut segs, here)?;
         }
-        push(&mut segs, here)?;
         Ok(Some(Content {
             segs,
             trailing,

@@ -9,7 +9,7 @@ ghost use Rattle.bz_tree.specs.Chunk.{IsStatementIn, IsBlank, IsFaultIn};
 ghost use Rattle.bz_tree.specs.RowReads.{IsReadByTokens};
 ghost use Rattle.bz_tree.specs.Rows.{IsRowOf, part_view};
 
-use crate::chunk::parse_tokens;
+use crate::chunk::{parse, parse_tokens};
 use crate::fault::ParseFault;
 use crate::parts::push_parts;
 use crate::row::{Part, Row};
@@ -19,7 +19,7 @@ use crate::text_row::row_of_text;
 use bumpalo::Bump;
 use bumpalo::collections::into_bump_slice;
 use bz_memory::{NoMemory, alloc_str, push, with_room_for};
-use bz_token::{LexFault, Token, tokens};
+use bz_token::Token;
 use std::alloc::Global;
 
 // The same part, its text in the arena.
@@ -61,25 +61,6 @@ fn row_of_tree<'a>(alloc: Global, bump: &'a Bump, stmt: &Stmt<'_>) -> Result<Row
     })
 }
 
-// The row of a statement whose tree is read.
-#[inline(never)]
-fn read_tree<'a>(
-    alloc: Global,
-    bump: &'a Bump,
-    text: &str,
-    first_line: u64,
-    tokens: &[Token<'_>],
-) -> Result<Option<Row<'a>>, ParseFault>
-    requires lines { first_line + count_by (λ b. b == 10) text.now < 2 ^ 64 }
-    requires tokens { (depth : ℕ) × AreTokensOf first_line depth text.now (map placed tokens.now) }
-    ensures { IsReadByTokens first_line text.now (map placed tokens.now) result }
-{
-    match parse_tokens(alloc, text, first_line, tokens)? {
-        None => Ok(None),
-        Some(stmt) => Ok(Some(row_of_tree(alloc, bump, &stmt)?)),
-    }
-}
-
 /// Reads the row of the statement of a chunk from the chunk's tokens. The chunk's first line has this number. None: the
 /// chunk is blank. The rules are those of `parse`.
 pub fn read_statement<'a>(
@@ -93,9 +74,12 @@ pub fn read_statement<'a>(
     requires tokens { (depth : ℕ) × AreTokensOf first_line depth text.now (map placed tokens.now) }
     ensures { IsReadByTokens first_line text.now (map placed tokens.now) result }
 {
-    match read_row(bump, tokens)? {
-        Some(row) => Ok(Some(row)),
-        None => read_tree(alloc, bump, text, first_line, tokens),
+    if let Some(row) = read_row(bump, tokens)? {
+        return Ok(Some(row));
+    }
+    match parse_tokens(alloc, text, first_line, tokens)? {
+        None => Ok(None),
+        Some(stmt) => Ok(Some(row_of_tree(alloc, bump, &stmt)?)),
     }
 }
 
@@ -118,9 +102,8 @@ pub fn read_text<'a>(
     if let Some(row) = row_of_text(bump, text, first_line, max_depth)? {
         return Ok(Some(row));
     }
-    match tokens(bump, text, first_line, max_depth) {
-        Ok(tokens) => read_tree(alloc, bump, text, first_line, tokens),
-        Err(LexFault::OutOfMemory(why)) => Err(ParseFault::OutOfMemory(why)),
-        Err(fault) => Err(ParseFault::Lex(fault)),
+    match parse(alloc, text, first_line, max_depth)? {
+        None => Ok(None),
+        Some(stmt) => Ok(Some(row_of_tree(alloc, bump, &stmt)?)),
     }
 }

@@ -132,11 +132,9 @@ pub(crate) fn end_of(tokens: &[Token<'_>]) -> u64
     requires { EndsFit (map placed tokens.now) }
     ensures { result ≡ end_of (map placed tokens.now) }
 {
-    match last_token(tokens) {
-        Some(token) => end_line(&token),
-        None => match last_seen(tokens) {
-            Some(token) => end_line(&token),
-            None => 0,
-        },
+    match counted_end_of(tokens) {
+        Some(end) => end,
+        // The condition rules it out.
+        None => 0,
     }
 }

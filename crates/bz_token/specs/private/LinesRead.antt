@@ -6,8 +6,10 @@ use Rattle.bz_token.specs.declared.fault.LexFault.{LexFault}
 use Rattle.bz_token.specs.declared.fault.LexFault.TheVariants.{OutOfMemory, OpenText}
 use Rattle.bz_token.specs.declared.lexer.Lexer.{Lexer}
 use Rattle.bz_token.specs.declared.lexer.Cursor.{Cursor}
+use Rattle.bz_token.specs.Places.{Placed}
 use Rattle.bz_token.specs.Brackets.{is_line}
 use Rattle.bz_token.specs.Reading.{Piece}
+use Rattle.bz_token.specs.Faults.{IsFault}
 use Rattle.bz_token.specs.UpToFault.{IsFaultAfter}
 use Rattle.bz_token.specs.FirstChunk.{AreInChunk}
 use Rattle.bz_token.specs.FreshStart.{ends_in_line}
@@ -57,3 +59,28 @@ abbrev pub IsOpenInLine : ℕ → ℕ → List ℕ → ℕ → LexFault → Type
 IsOpenInLine first depth bytes start fault =
     (line : ℕ) (col : ℕ) → fault ≡ OpenText line col
     → (lexer : Lexer) × (cursor : Cursor) × IsInLine first depth bytes lexer cursor start × (cursor.place.line ≡ line)
+
+-- What was read from a cursor on, in five clauses: the line goes on at the next cursor
+abbrev pub StaysInLine : ℕ → Lexer → Cursor → Lexer → Cursor → Type 0
+StaysInLine depth before from after to =
+    (first : ℕ) (bytes : List ℕ) (start : ℕ) → IsInLine first depth bytes before from start → IsInLine first depth bytes after to start
+
+-- it ends there
+abbrev pub EndsLine : ℕ → Lexer → Cursor → Lexer → Cursor → Type 0
+EndsLine depth before from after to =
+    (first : ℕ) (bytes : List ℕ) (start : ℕ) → IsInLine first depth bytes before from start → IsAfterLine first depth bytes after to start
+
+-- it has this fault, if it is a string that nothing closes
+abbrev pub IsOpenFrom : ℕ → Lexer → Cursor → LexFault → Type 0
+IsOpenFrom depth lexer from fault =
+    (first : ℕ) (bytes : List ℕ) (start : ℕ) → IsInLine first depth bytes lexer from start → IsOpenInLine first depth bytes start fault
+
+-- it has this fault
+abbrev pub IsFaultOfLine : ℕ → Lexer → Cursor → LexFault → Type 0
+IsFaultOfLine depth lexer from fault =
+    (first : ℕ) (bytes : List ℕ) (start : ℕ) → IsInLine first depth bytes lexer from start → IsFaultInLine first depth bytes fault
+
+-- and the text has it
+abbrev pub IsFaultFrom : ℕ → Lexer → Cursor → LexFault → Type 0
+IsFaultFrom depth lexer from fault =
+    (first : ℕ) (bytes : List ℕ) (given : List Placed) → HasRead first depth bytes given lexer from → IsFault first depth bytes fault

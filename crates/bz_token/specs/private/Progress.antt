@@ -55,6 +55,15 @@ PlacesFit first bytes = (first + count_by (λ b. b == 10) bytes < 2 ^ 64) × (le
 abbrev pub IsReadTo : Lexer → Cursor → Type 0
 IsReadTo lexer cursor = (first : ℕ) × (depth : ℕ) × (bytes : List ℕ) × (given : List Placed) × HasRead first depth bytes given lexer cursor × PlacesFit first bytes
 
+-- the same, where so many brackets may be open
+abbrev pub IsReadAt : ℕ → Lexer → Cursor → Type 0
+IsReadAt depth lexer cursor = (first : ℕ) × (bytes : List ℕ) × (given : List Placed) × HasRead first depth bytes given lexer cursor × PlacesFit first bytes
+
+-- what was read up to one cursor is read up to the next
+abbrev pub ReadsOn : ℕ → Lexer → Cursor → Lexer → Cursor → Type 0
+ReadsOn depth before from after to =
+    (first : ℕ) (bytes : List ℕ) (given : List Placed) → HasRead first depth bytes given before from → HasRead first depth bytes given after to
+
 -- from one cursor to the next there is at most white space
 abbrev pub PassesWhite : Lexer → Cursor → Cursor → Type 0
 PassesWhite lexer from to =

@@ -19,12 +19,12 @@ loop-cursor-init c =
 pub tokens_from-requires : goal.tokens_from-requires
 tokens_from-requires c =
     let i = c.loop-cursor.invariant in
-    start_within _ _ _ _ _ _ (c.in-Ok.ensures.line c.args.first_line c.args.text.now c.loop-cursor.line_start i (search (rules, tests)))
+    start_within _ _ _ _ _ _ (c.in-Ok.ensures.line (search (rules, tests)) c.args.first_line c.args.text.now c.loop-cursor.line_start i)
 
 pub loop-cursor-preserved : goal.loop-cursor-preserved
 loop-cursor-preserved c =
     let i = c.loop-cursor.invariant in
-    let a = c.in-Ok.ensures.line c.args.first_line c.args.text.now c.loop-cursor.line_start i (search (rules, tests)) in
+    let a = c.in-Ok.ensures.line (search (rules, tests)) c.args.first_line c.args.text.now c.loop-cursor.line_start i in
     let told = ap (λ ts. line_end (map placed ts)) (sym c.tokens_from.ensures) ∙ sym c.line_end.ensures ∙ c.in-Joins.is in
     let count : c.len-line_start.result ≡ length c.read_line.new.self.tokens.items = search (rules, tests) in
     rw count (joined _ _ _ _ _ _ a told)
@@ -32,19 +32,19 @@ loop-cursor-preserved c =
 pub overflow_sub-text : goal.overflow_sub-text
 overflow_sub-text c =
     let i = c.loop-cursor.invariant in
-    let a = c.in-Ok.ensures.line c.args.first_line c.args.text.now c.loop-cursor.line_start i (search (rules, tests)) in
+    let a = c.in-Ok.ensures.line (search (rules, tests)) c.args.first_line c.args.text.now c.loop-cursor.line_start i in
     front_within _ _ _ (front _ _ _ _ _ _ a)
 
 pub split_at-requires : goal.split_at-requires
 split_at-requires c =
     let i = c.loop-cursor.invariant in
-    let a = c.in-Ok.ensures.line c.args.first_line c.args.text.now c.loop-cursor.line_start i (search (rules, tests)) in
+    let a = c.in-Ok.ensures.line (search (rules, tests)) c.args.first_line c.args.text.now c.loop-cursor.line_start i in
     front_boundary _ _ _ (front _ _ _ _ _ _ a) c.utf8.text
 
 pub returns-in-Ends : goal.returns-in-Ends
 returns-in-Ends c =
     let i = c.loop-cursor.invariant in
-    let a = c.in-Ok.ensures.line c.args.first_line c.args.text.now c.loop-cursor.line_start i (search (rules, tests)) in
+    let a = c.in-Ok.ensures.line (search (rules, tests)) c.args.first_line c.args.text.now c.loop-cursor.line_start i in
     let told = ap (λ ts. line_end (map placed ts)) (sym c.tokens_from.ensures) ∙ sym c.line_end.ensures ∙ c.in-Ends.is in
     let f = front _ _ _ _ _ _ a in
     record { front = first_chunk_is _ _ _ _ _ _ _ f refl c.split_at.ensures.front c.into_bump_slice.ensures (shown _ _ _ _ _ _ a told) }
@@ -70,14 +70,14 @@ returns-in-Err c =
 pub returns-then-not-ends : goal.returns-then-not-ends
 returns-then-not-ends c =
     let i = c.loop-cursor.invariant in
-    let here = c.in-Ok.ensures.in_line c.args.first_line c.args.text.now c.loop-cursor.line_start i (search (rules, tests)) in
+    let here = c.in-Ok.ensures.in_line (search (rules, tests)) c.args.first_line c.args.text.now c.loop-cursor.line_start i in
     let fits : length c.args.text.now + 1 < 2 ^ 64 = search (rules, arith) in
     record { front = text_part _ _ _ c.read_line.new.self c.in-Ok.passed.0 _ here (none_left _ (all_passed _ _ _ c.read_line.new.self c.in-Ok.passed.0 here.read fits (c.in-Ok.ensures.open (search (rules, tests))))) }
 
 pub returns-in-Block : goal.returns-in-Block
 returns-in-Block c =
     let i = c.loop-cursor.invariant in
-    let a = c.in-Ok.ensures.line c.args.first_line c.args.text.now c.loop-cursor.line_start i (search (rules, tests)) in
+    let a = c.in-Ok.ensures.line (search (rules, tests)) c.args.first_line c.args.text.now c.loop-cursor.line_start i in
     record { front = inr (may_begin _ _ _ _ _ _ a (ap (λ ts. line_end (map placed ts)) (sym c.tokens_from.ensures) ∙ sym c.line_end.ensures ∙ c.in-Block.is)) }
 
 pub returns : goal.returns

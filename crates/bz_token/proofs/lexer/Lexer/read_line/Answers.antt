@@ -1,6 +1,5 @@
 use Rattle.std.proofs.Common.{rules, tests, arith, sym, [], None, inr}
-use Rattle.bz_token.specs.Faults.{IsFault}
-use Rattle.bz_token.specs.private.LinesRead.{IsOpenInLine, IsFaultInLine}
+use Rattle.bz_token.specs.private.LinesRead.{IsOpenFrom, IsFaultFrom, IsFaultOfLine}
 use Rattle.bz_token.proofs.Progress.{passed_on}
 use Rattle.bz_token.proofs.Stopped.{in_line}
 use Rattle.bz_token.proofs.LinesRead.{stays, line_read}
@@ -12,20 +11,22 @@ step-requires-clause-places c =
     (p.0, p.1, p.2, c.loop-self.invariant.read p.0 p.1 p.2 p.3, p.4)
 
 pub returns-in_err-next-clause-fault : goal.returns-in_err-next-clause-fault
-returns-in_err-next-clause-fault c first bytes given before =
-    passed_on c.from_residual.result c.in_err-next.field-0.0 (IsFault first c.args.max_depth bytes) c.from_residual.ensures.1 (c.in_err-next.ensures.fault first bytes given (c.loop-self.invariant.read first bytes given before))
+returns-in_err-next-clause-fault c =
+    passed_on c.from_residual.result c.in_err-next.field-0.0 (IsFaultFrom c.args.max_depth c.args.self.now c.args.cursor) c.from_residual.ensures.1
+    (λ first bytes given before. c.in_err-next.ensures.fault first bytes given (c.loop-self.invariant.read first bytes given before))
 
 pub returns-in_err-next-clause-fault_in_line : goal.returns-in_err-next-clause-fault_in_line
-returns-in_err-next-clause-fault_in_line c first bytes start before =
-    let i = c.loop-self.invariant.line first bytes start before in
-    passed_on c.from_residual.result c.in_err-next.field-0.0 (IsFaultInLine first c.args.max_depth bytes) c.from_residual.ensures.1
-    (in_line first c.args.max_depth bytes c.loop-self.self c.loop-self.cursor start c.in_err-next.field-0.0 i (c.in_err-next.ensures.stands first bytes [] i.read))
+returns-in_err-next-clause-fault_in_line c =
+    passed_on c.from_residual.result c.in_err-next.field-0.0 (IsFaultOfLine c.args.max_depth c.args.self.now c.args.cursor) c.from_residual.ensures.1
+    (λ first bytes start before.
+        let i = c.loop-self.invariant.line first bytes start before in
+        in_line first c.args.max_depth bytes c.loop-self.self c.loop-self.cursor start c.in_err-next.field-0.0 i (c.in_err-next.ensures.stands first bytes [] i.read))
 
 pub returns-then-eq-clause-read : goal.returns-then-eq-clause-read
 returns-then-eq-clause-read c first bytes given before = (c.in_ok-next.ensures.read first bytes given (c.loop-self.invariant.read first bytes given before)).0
 
 pub returns-then-eq-clause-line : goal.returns-then-eq-clause-line
-returns-then-eq-clause-line c first bytes start before told =
+returns-then-eq-clause-line c told first bytes start before =
     let i = c.loop-self.invariant.line first bytes start before in
     let r = c.in_ok-next.ensures.read first bytes [] i.read in
     line_read first c.args.max_depth bytes c.loop-self.self c.step.new.self c.loop-self.cursor c.in_ok-next.next start c.in_ok-next.kind i r.0 r.1 (search (rules, tests))
@@ -57,12 +58,12 @@ pub returns-then-len-most-clause-read : goal.returns-then-len-most-clause-read
 returns-then-len-most-clause-read c first bytes given before = (c.in_ok-next.ensures.read first bytes given (c.loop-self.invariant.read first bytes given before)).0
 
 pub returns-then-len-most-clause-in_line : goal.returns-then-len-most-clause-in_line
-returns-then-len-most-clause-in_line c first bytes start before told =
+returns-then-len-most-clause-in_line c told first bytes start before =
     let i = c.loop-self.invariant.line first bytes start before in
     let r = c.in_ok-next.ensures.read first bytes [] i.read in
     stays first c.args.max_depth bytes c.loop-self.self c.step.new.self c.loop-self.cursor c.in_ok-next.next start c.in_ok-next.kind i r.0 r.1 (λ e. search (rules, tests))
 
 pub returns-in_err-next-clause-open_text : goal.returns-in_err-next-clause-open_text
-returns-in_err-next-clause-open_text c first bytes start before =
-    passed_on c.from_residual.result c.in_err-next.field-0.0 (IsOpenInLine first c.args.max_depth bytes start) c.from_residual.ensures.1
-    (λ line col is. (c.loop-self.self, c.loop-self.cursor, c.loop-self.invariant.line first bytes start before, sym (c.in_err-next.ensures.open_text line col is)))
+returns-in_err-next-clause-open_text c =
+    passed_on c.from_residual.result c.in_err-next.field-0.0 (IsOpenFrom c.args.max_depth c.args.self.now c.args.cursor) c.from_residual.ensures.1
+    (λ first bytes start before line col is. (c.loop-self.self, c.loop-self.cursor, c.loop-self.invariant.line first bytes start before, sym (c.in_err-next.ensures.open_text line col is)))
