@@ -12,7 +12,8 @@ ghost use Rattle.bz_rule.specs.OneAttribute.{one_attribute};
 ghost use Rattle.bz_engine.specs.Meaning.{meaning, changes, fails_on};
 ghost use Rattle.bz_engine.specs.Outcome.{is_query};
 ghost use Rattle.bz_engine.specs.Progress.{text_following};
-ghost use Rattle.bz_engine.specs.private.Edits.{IsLaidOut, run_of};
+ghost use Rattle.bz_engine.specs.declared.edit.Edited.TheVariants.{Done};
+ghost use Rattle.bz_engine.specs.private.Edits.{EditsChunk, IsLaidOut, run_of};
 ghost use Rattle.bz_engine.specs.private.Found.{IsFound, IsMarked, one_pass};
 ghost use Rattle.bz_engine.specs.private.NextChunks.{IsFirstEdited};
 ghost use Rattle.bz_engine.specs.private.Rows.{HasKey};
@@ -69,6 +70,35 @@ pub(crate) fn edit_canonical(
         len: found.chunk.chunk.len(),
         edited: Edited::Done,
     }))
+}
+
+/// The same of a chunk that was found line by line. False, with nothing done: it is to be read.
+pub(crate) fn edit_whole(
+    script: ScriptRun<'_>,
+    chunk: &str,
+    progress: &mut Progress,
+    text: &mut Vec<u8>,
+) -> Result<bool, NoMemory>
+    requires fits { Fits progress.old.kept script.passes.now }
+    requires lines { progress.old.line + length chunk.now < 2 ^ 64 }
+    ensures fits { OnOk result (Fits progress.new.kept script.entry.passes.now) }
+    ensures lines { OnOk result (progress.new.line ≤ progress.old.line + length chunk.now) }
+    ensures done { IfOk result (λ done. IsTrue done → EditsChunk (run_of script.entry) chunk.now
+        progress.old progress.new text.old.items text.new.items Done) }
+    ensures nothing { IfOk result (λ done. IsFalse done
+        → (progress.new ≡ progress.old) × (text.new.items ≡ text.old.items)) }
+{
+    if !may_be_known(script) {
+        return Ok(false);
+    }
+    let Some(found) = find_canonical(script, chunk, u64::MAX) else {
+        return Ok(false);
+    };
+    if found.chunk.chunk.len() != chunk.len() || !edit_found(script, found, progress, text)? {
+        return Ok(false);
+    }
+    progress.pass_lines(chunk.as_bytes());
+    Ok(true)
 }
 
 /// Whether what the script makes of some statements may be known without them.

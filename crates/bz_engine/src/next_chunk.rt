@@ -8,7 +8,7 @@ ghost use Rattle.bz_passes.specs.Exchange.{Fits};
 ghost use Rattle.bz_engine.specs.private.Edits.{EditsChunk, run_of};
 ghost use Rattle.bz_engine.specs.private.NextChunks.{IsFirst};
 
-use crate::canonical::edit_canonical;
+use crate::canonical::{edit_canonical, edit_whole};
 use crate::chunk::not_utf8;
 use crate::edit::{Edited, ScriptRun, edit_chunk};
 use crate::progress::Progress;
@@ -141,6 +141,9 @@ pub(crate) fn edit_bytes(
         Ok(whole) => whole,
         Err(valid) => return Ok(Edited::Faulty(not_utf8(line, &chunk[..valid]))),
     };
+    if edit_whole(script, whole, progress, text)? {
+        return Ok(Edited::Done);
+    }
     let read = read_text(script.alloc, script.bump, whole, line, script.max_depth);
     edit_chunk(script, whole, read, progress, text)
 }
