@@ -3,11 +3,11 @@
 ghost use Rattle.std.specs.Prelude.{◌≡◌, ◌≤◌, ◌<◌, ◌+◌, ◌^◌, ◌==◌, ◌⊎◌, ◌∷◌, [], List, ℕ, max, true, false, not, length, take, drop, count_by, map, IfOk, IfErr, IfSome, IfNone, IsTrue, Some, None, nat_eq};
 ghost use Rattle.std.specs.Option.{option_eq};
 ghost use Rattle.std.specs.List.{list_any};
-ghost use Rattle.bz_token.specs.Places.{Placed, placed, column_from};
-ghost use Rattle.bz_token.specs.Brackets.{open_tokens, is_inside};
-ghost use Rattle.bz_token.specs.Reading.{AreTokensOf};
-ghost use Rattle.bz_token.specs.Faults.{IsFault};
 ghost use Rattle.bz_token.specs.Lexical.{is_newline};
+ghost use Rattle.bz_token.specs.Faults.{IsFault};
+ghost use Rattle.bz_token.specs.Brackets.{open_tokens, is_inside};
+ghost use Rattle.bz_token.specs.Places.{Placed, placed, column_from};
+ghost use Rattle.bz_token.specs.Reading.{AreTokensOf};
 ghost use Rattle.bz_token.specs.private.Scans.{opened, bad_fault, IsLeftOpen};
 ghost use Rattle.bz_token.specs.private.Steps.{IsGapHere, IsTaken, IsRefused};
 ghost use Rattle.bz_token.specs.private.LinesRead.{EndsLine, StaysInLine, IsOnLine, IsOpenFrom, IsStopped, IsFaultFrom, IsFaultOfLine};
