@@ -1,16 +1,18 @@
 -- What stands at a place, before it is read.
-use Rattle.std.proofs.Common.{◌≡◌, ℕ, ◌-◌, zero, suc, drop, ◌+◌, ◌<◌, ◌≤◌, List, [], ◌∷◌, length, take, get_or, ◌||◌, Bool, true, false, refl, ap, subst, ◌∙◌, arith, inl, one-add}
+use Rattle.std.proofs.Common.{◌≡◌, ℕ, ◌-◌, zero, suc, drop, ◌+◌, ◌<◌, ◌≤◌, List, [], ◌∷◌, length, take, get_or, ◌||◌, Bool, true, false, refl, ap, subst, ◌∙◌, arith, inl, inr, one-add}
 use Rattle.std.specs.Prelude.{Result, Ok, Err, IfOk, IfErr}
 use Rattle.std.specs.List.{prefix_len}
 use Rattle.std.proofs.lemmas.List.{length-take-le}
 use Rattle.std.proofs.lemmas.List.Sums.{prefix_len-le-length}
 use Rattle.std.proofs.lemmas.Bool.{false≢true, or_parts}
+use Rattle.std.proofs.lemmas.Bool.Decides.{nat_tests}
 use Rattle.bz_token.specs.declared.gap.TokenGap.{TokenGap}
 use Rattle.bz_token.specs.Brackets.{is_opening_bracket, is_closing_bracket, is_inside, bracket_fits, open_after_token}
 use Rattle.bz_token.specs.Lexical.{begins, is_blank}
 use Rattle.bz_token.specs.Reading.{is_gap, begins_gap}
-use Rattle.bz_token.specs.private.Scans.{IsBadPlace, bad_fault}
+use Rattle.bz_token.specs.private.Scans.{IsBadPlace, bad_fault, IsMisfit, misfit_fault}
 use Rattle.bz_token.specs.private.Steps.{IsTaken, IsRefused, IsGapHere, IsStep, IsTokenStep, IsBadStep}
+use Rattle.bz_token.specs.declared.brackets.Misfit.{Misfit}
 use Rattle.bz_token.specs.declared.scan_token.Bad.{Bad}
 use Rattle.bz_token.specs.declared.scan_token.Scanned.{Scanned}
 use Rattle.bz_token.specs.declared.scan_token.GapOrToken.{GapOrToken}
@@ -150,3 +152,12 @@ pub bad_refused : (depth : ℕ) (opened bytes : List ℕ) (line col : ℕ) (bad 
 bad_refused depth opened bytes line col bad is = (is.0, inl (bad, is.1, refl))
 
 -- no gap begins with a bracket
+pub bracket_gap : (inside : Bool) (bytes : List ℕ) → 0 < length bytes → (is_opening_bracket (get_or bytes 0 0) || is_closing_bracket (get_or bytes 0 0)) ≡ true → begins_gap inside bytes ≡ false
+bracket_gap inside bytes some bracket = solid_gap inside bytes some (solid (get_or bytes 0 0) bracket)
+  where
+    solid : (b : ℕ) → (is_opening_bracket b || is_closing_bracket b) ≡ true → IsSolid b
+    solid b h = (grind (arith, nat_tests), grind (arith, nat_tests), grind (arith, nat_tests))
+
+pub misfit_refused : (depth : ℕ) (opened bytes : List ℕ) (line col : ℕ) (misfit : Misfit) → 0 < length bytes → (is_opening_bracket (get_or bytes 0 0) || is_closing_bracket (get_or bytes 0 0)) ≡ true → IsMisfit depth opened (get_or bytes 0 0) misfit
+    → IsRefused depth opened bytes line col (misfit_fault misfit line col)
+misfit_refused depth opened bytes line col misfit some bracket is = (bracket_gap (is_inside opened) bytes some bracket, inr (misfit, is, refl))

@@ -241,6 +241,7 @@ kinds_same k l (x ∷ text) rest a b ca cb = by_place (opening (x ∷ text ++ re
   where
     apart : is_text Identifier (x ∷ text) ≡ true → is_text Keyword (x ∷ text) ≡ true → ⊥
     apart i w = false≢true (sym (not-true _ (and_parts (is_name (x ∷ text)) (not (is_keyword (x ∷ text))) i).1) ∙ w)
+
     by_class : (c : Class) → can_start k c ≡ true → can_start l c ≡ true → (is_string (x ∷ text) ≡ true → ⊥) → k ≡ l
     by_class letter p q none = elim (name_kind k (x ∷ text) p a none) [
       | inl i ↦ elim (name_kind l (x ∷ text) q b none) [

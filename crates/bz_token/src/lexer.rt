@@ -3,12 +3,12 @@
 ghost use Rattle.std.specs.Prelude.{◌≡◌, ◌≤◌, ◌<◌, ◌+◌, ◌^◌, ◌==◌, ◌⊎◌, ◌∷◌, [], List, ℕ, max, true, false, not, length, take, drop, count_by, map, IfOk, IfErr, IfSome, IfNone, IsTrue, Some, None, nat_eq};
 ghost use Rattle.std.specs.Option.{option_eq};
 ghost use Rattle.std.specs.List.{list_any};
-ghost use Rattle.bz_token.specs.Places.{Placed, placed, column_from};
-ghost use Rattle.bz_token.specs.Brackets.{open_tokens, is_inside};
-ghost use Rattle.bz_token.specs.Reading.{AreTokensOf};
-ghost use Rattle.bz_token.specs.Faults.{IsFault};
 ghost use Rattle.bz_token.specs.Lexical.{is_newline};
-ghost use Rattle.bz_token.specs.private.Scans.{opened, bad_fault, IsLeftOpen};
+ghost use Rattle.bz_token.specs.Faults.{IsFault};
+ghost use Rattle.bz_token.specs.Brackets.{open_tokens, is_inside};
+ghost use Rattle.bz_token.specs.Places.{Placed, placed, column_from};
+ghost use Rattle.bz_token.specs.Reading.{AreTokensOf};
+ghost use Rattle.bz_token.specs.private.Scans.{opened, bad_fault, misfit_fault, IsLeftOpen};
 ghost use Rattle.bz_token.specs.private.Steps.{IsGapHere, IsTaken, IsRefused};
 ghost use Rattle.bz_token.specs.private.LinesRead.{EndsLine, StaysInLine, IsOnLine, IsOpenFrom, IsStopped, IsFaultFrom, IsFaultOfLine};
 ghost use Rattle.bz_token.specs.private.Progress.{HasRead, Grows, ReadsOn, IsReadTo, IsReadAt, PassesWhite};
@@ -62,6 +62,16 @@ fn bad_fault(bad: Bad, place: Position) -> LexFault
     }
 }
 
+// The fault of a bracket that does not fit.
+fn misfit_fault(misfit: Misfit, place: Position) -> LexFault
+    ensures { result ≡ misfit_fault misfit place.line place.col }
+{
+    match (misfit, place) {
+        (Misfit::TooDeep, Position { line, col }) => LexFault::TooDeep { line, col },
+        (Misfit::NoMatch, Position { line, col }) => LexFault::BadBracket { line, col },
+    }
+}
+
 // What stands here; a bracket is taken among the open ones.
 #[inline(always)]
 fn read_step(
@@ -80,11 +90,9 @@ fn read_step(
             Err(bad) => Err(bad_fault(bad, place)),
         };
     }
-    let Position { line, col } = place;
     match brackets.take(bytes[0], max_depth) {
         Ok(()) => Ok(GapOrToken::Token(scan_bracket(bytes))),
-        Err(Misfit::TooDeep) => Err(LexFault::TooDeep { line, col }),
-        Err(Misfit::NoMatch) => Err(LexFault::BadBracket { line, col }),
+        Err(misfit) => Err(misfit_fault(misfit, place)),
     }
 }
 

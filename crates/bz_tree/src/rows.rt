@@ -4,11 +4,11 @@ ghost use Rattle.std.specs.Prelude.{ℕ, List, [], ◌≡◌, ◌++◌, ◌&&◌
 ghost use Rattle.std.specs.Bool.{then_some};
 ghost use Rattle.bz_token.specs.Places.{Placed, placed};
 ghost use Rattle.bz_token.specs.Reading.{AreTokensOf};
+ghost use Rattle.bz_token.specs.declared.token.Kind.TheVariants.{Operator};
 ghost use Rattle.bz_tree.specs.Tree.{leaf, Statement};
 ghost use Rattle.bz_tree.specs.Statement.{end_of, is_load_word};
 ghost use Rattle.bz_tree.specs.Grammar.{leaf_role};
 ghost use Rattle.bz_tree.specs.Chunk.{IsStatementIn};
-ghost use Rattle.bz_token.specs.declared.token.Kind.TheVariants.{Operator};
 ghost use Rattle.bz_tree.specs.Kinds.{group_kind, operator_mark};
 ghost use Rattle.bz_tree.specs.RowReads.{has_row};
 ghost use Rattle.bz_tree.specs.Rows.{IsRowOf, part_view};

@@ -19,8 +19,8 @@ pub returns-in_err-next-clause-fault_in_line : goal.returns-in_err-next-clause-f
 returns-in_err-next-clause-fault_in_line c =
     passed_on c.from_residual.result c.in_err-next.field-0.0 (IsFaultOfLine c.args.max_depth c.args.self.now c.args.cursor) c.from_residual.ensures.1
     (λ first bytes start before.
-        let i = c.loop-self.invariant.line first bytes start before in
-        in_line first c.args.max_depth bytes c.loop-self.self c.loop-self.cursor start c.in_err-next.field-0.0 i (c.in_err-next.ensures.stands first bytes [] i.read))
+    let i = c.loop-self.invariant.line first bytes start before in
+    in_line first c.args.max_depth bytes c.loop-self.self c.loop-self.cursor start c.in_err-next.field-0.0 i (c.in_err-next.ensures.stands first bytes [] i.read))
 
 pub returns-then-eq-clause-read : goal.returns-then-eq-clause-read
 returns-then-eq-clause-read c first bytes given before = (c.in_ok-next.ensures.read first bytes given (c.loop-self.invariant.read first bytes given before)).0
