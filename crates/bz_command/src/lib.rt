@@ -23,7 +23,10 @@ mod target;
 mod value;
 mod words;
 
-pub use arguments::{Attributes, Commented, Field, Moved, Setting, read_field};
+pub use arguments::{
+    Attributes, Commented, FIELDS, Field, LEFT_OUT_FIELDS, Moved, Setting, is_left_out_field,
+    read_field,
+};
 pub use bytes::{Bytes, value_of};
 pub use decode::read_value;
 pub use label::{same, same_label};
