@@ -50,11 +50,9 @@ pub enum Field {
     ValueOf(Text),
 }
 
-/// The fields with a word of their own, as a message lists them.
-pub const FIELDS: &str = "label, kind, startline and endline";
-
-/// The words of `is_left_out_field`, as a message lists them.
-pub const LEFT_OUT_FIELDS: &str = "rule, attrs or path";
+/// Told of a word for which `is_left_out_field` holds: which words these are, and which fields there are.
+pub const NO_SUCH_FIELD: &str =
+    "there is no field rule, attrs or path; print attributes, or label, kind, startline and endline";
 
 /// Whether a word names a field that Bazel's buildozer prints and this program does not.
 pub fn is_left_out_field(word: &str) -> bool

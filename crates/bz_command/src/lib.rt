@@ -24,8 +24,7 @@ mod value;
 mod words;
 
 pub use arguments::{
-    Attributes, Commented, FIELDS, Field, LEFT_OUT_FIELDS, Moved, Setting, is_left_out_field,
-    read_field,
+    Attributes, Commented, Field, Moved, NO_SUCH_FIELD, Setting, is_left_out_field, read_field,
 };
 pub use bytes::{Bytes, value_of};
 pub use decode::read_value;

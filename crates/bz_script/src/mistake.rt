@@ -1,7 +1,7 @@
 //! What is wrong with the words of a call, by kind, and the text that is told of each kind.
 
 use crate::usage::{FlagFault, Refused};
-use bz_command::{FIELDS, LEFT_OUT_FIELDS, LabelFault, is_left_out_field};
+use bz_command::{LabelFault, NO_SUCH_FIELD, is_left_out_field};
 use bz_memory::NoMemory;
 use bz_rule::{CommandFault, LEFT_OUT, USAGE};
 use thiserror::Error;
@@ -61,7 +61,7 @@ pub enum Mistake {
     OneValue,
     #[error("an attribute's name is letters, digits and underscores, with no digit first, and no keyword")]
     BadAttribute,
-    #[error("there is no field {left_out}; print attributes, or {fields}", left_out = LEFT_OUT_FIELDS, fields = FIELDS)]
+    #[error("{text}", text = NO_SUCH_FIELD)]
     LeftOutField,
     #[error("a kind is a name, or names with dots between them, as in 'set kind cc_test'")]
     BadKind,
