@@ -4,7 +4,7 @@ ghost use Rattle.std.specs.Prelude.{◌≡◌, ◌∷◌, [], IfOk, None, OnOk, 
 ghost use Rattle.bz_tree.specs.Tree.{Statement};
 ghost use Rattle.bz_tree.specs.Rows.{above, part_view, parts_of};
 ghost use Rattle.bz_attribute.specs.Comment as spec;
-ghost use Rattle.bz_attribute.specs.Effects.{done, is_absent};
+ghost use Rattle.bz_attribute.specs.Effects.{done};
 ghost use Rattle.bz_attribute.specs.RowEdits.{IsRowEdit, IsWithin, replaced_at};
 ghost use Rattle.bz_attribute.specs.RowPlaces.{IsRuleRow};
 ghost use Rattle.bz_attribute.specs.Rules.{Rule};
@@ -50,7 +50,11 @@ pub fn comment<'a>(
     match commented {
         Commented::Rule => Ok(Edit::none(Done::quiet(false))),
         Commented::Attribute(attr) => {
-            comment_attribute(env.alloc, attr.as_str(), text, parts, new)
+            let Some(at) = find_argument(parts, attr.as_str()) else {
+                return Ok(Edit::none(Done::no_attribute(env.alloc, attr.as_str())?));
+            };
+            write_line(env.alloc, text, new)?;
+            Ok(insertion(at))
         }
         Commented::Value(attr, value) => {
             let element = ElementOf {
@@ -60,24 +64,6 @@ pub fn comment<'a>(
             comment_value(env, element, text, parts, new)
         }
     }
-}
-
-// Adds a comment line above the first argument of a name.
-fn comment_attribute<'a>(
-    alloc: Global,
-    attr: &str,
-    text: &str,
-    parts: &[Part<'a>],
-    new: &mut Parts<'a>,
-) -> Result<Edit, NoMemory>
-    ensures { IfOk result (IsRowEdit (spec.comment_attribute attr.now text.now)
-        (λ args. done (is_absent attr.now args) true) (map part_view parts.now) (map part_view new.new.items)) }
-{
-    let Some(at) = find_argument(parts, attr) else {
-        return Ok(Edit::none(Done::no_attribute(alloc, attr)?));
-    };
-    write_line(alloc, text, new)?;
-    Ok(insertion(at))
 }
 
 // An element of an attribute, by its value.

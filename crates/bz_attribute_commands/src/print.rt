@@ -34,7 +34,10 @@ pub fn print(env: Env<'_>, fields: &[Field], head: Head<'_>, parts: &[Part<'_>])
 {
     // Most often the name is all that is printed.
     let mut line = with_length_of(env.alloc, head.name.unwrap_or(""))?;
-    let missing = push_all(env, &mut line, fields, head, parts)?;
+    let missing = match fields {
+        [] => push_name_and_kind(env, &mut line, head, parts)?,
+        _ => push_fields(env, &mut line, fields, head, parts)?,
+    };
     Ok(Done {
         changed: false,
         line: Some(Text::from_string(line)),
@@ -91,27 +94,21 @@ fn missing_note(alloc: Global, missing: Option<&str>) -> Result<Option<Note>, No
     }
 }
 
-// Writes fields, or the name and the kind where none is named. Tells the first that is missing.
-fn push_all<'f>(
+// Writes the name and the kind. Tells that the name is missing.
+fn push_name_and_kind(
     env: Env<'_>,
     text: &mut String,
-    fields: &'f [Field],
     head: Head<'_>,
     parts: &[Part<'_>],
-) -> Result<Option<&'f str>, NoMemory>
-    ensures { IfOk result (λ missing. HasPrinted env.entry.home.now (spec.fields_of fields.now) head.entry
+) -> Result<Option<&'static str>, NoMemory>
+    ensures { IfOk result (λ missing. HasPrinted env.entry.home.now (spec.fields_of []) head.entry
         (map part_view parts.now) (string_bytes text.old) (string_bytes text.new)
         (option_map (λ name. Missing name.now) missing)) }
 {
-    match fields {
-        [] => {
-            let missing = push_attribute(env, text, head, parts, "name")?;
-            push_str(text, " ")?;
-            push_str(text, head.kind)?;
-            Ok(missing)
-        }
-        _ => push_fields(env, text, fields, head, parts),
-    }
+    let missing = push_attribute(env, "name", text, head, parts)?;
+    push_str(text, " ")?;
+    push_str(text, head.kind)?;
+    Ok(missing)
 }
 
 // Writes fields with a space between them. Tells the first that is missing.
@@ -158,7 +155,7 @@ fn push_field<'f>(
             push_str(text, name)?;
         }
         Field::ValueOf(attr) => {
-            return push_attribute(env, text, head, parts, attr.as_str());
+            return push_attribute(env, attr.as_str(), text, head, parts);
         }
         Field::Kind => push_str(text, head.kind)?,
         Field::StartLine => push_number(text, head.start)?,
@@ -170,10 +167,10 @@ fn push_field<'f>(
 // Writes the value of an attribute. Tells its name where there is no such attribute.
 fn push_attribute<'f>(
     env: Env<'_>,
+    attr: &'f str,
     text: &mut String,
     head: Head<'_>,
     parts: &[Part<'_>],
-    attr: &'f str,
 ) -> Result<Option<&'f str>, NoMemory>
     ensures { IfOk result (λ missing. HasPrinted env.entry.home.now (ValueOf attr.now ∷ []) head.entry
         (map part_view parts.now) (string_bytes text.old) (string_bytes text.new)

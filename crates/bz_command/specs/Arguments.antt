@@ -18,11 +18,11 @@ abbrev pub breaks_line : ℕ → Bool
 breaks_line b = b == 10 || b == 13
 
 -- the fields that buildozer has and this program leaves out
-abbrev pub is_left_out : List ℕ → Bool
-is_left_out word = list_any (bytes_eq word) (codes "rule" ∷ codes "attrs" ∷ codes "path" ∷ [])
+abbrev pub is_left_out_field : List ℕ → Bool
+is_left_out_field word = list_any (bytes_eq word) (codes "rule" ∷ codes "attrs" ∷ codes "path" ∷ [])
 
 abbrev pub is_field : List ℕ → Bool
-is_field word = is_identifier word && not (is_left_out word)
+is_field word = is_identifier word && not (is_left_out_field word)
 
 -- the field that such a word names
 abbrev pub field_of : List ℕ → Field

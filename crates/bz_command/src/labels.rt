@@ -1,7 +1,7 @@
 //! Labels: a package and a target in it.
 
 ghost use Rattle.bz_memory.specs.NoMemory.{no_memory};
-ghost use Rattle.std.specs.Prelude.{◌≡◌, ◌&&◌, ◌==◌, not, ◌≢◌, Some, None, Ok, Err, IsTrue};
+ghost use Rattle.std.specs.Prelude.{◌≡◌, ◌&&◌, ◌==◌, not, ◌≢◌, Some, None, Ok, Err, IfOk, OnErr, IsTrue};
 ghost use Rattle.std.specs.List.{list_all};
 ghost use Rattle.std.specs.Char.{is_ascii_digit};
 ghost use Rattle.bz_command.specs.Labels as spec;
@@ -22,17 +22,6 @@ pub enum LabelFault {
     BadPackage,
     /// What stands after the colon is no target, or there is no colon and the package has no last part.
     BadTarget,
-}
-
-impl From<NoMemory> for LabelFault {
-    ghost use Rattle.std.specs.Prelude.{◌≡◌};
-    ghost use Rattle.bz_command.specs.declared.labels.LabelFault.TheVariants.{OutOfMemory};
-
-    ghost from_gives = { λ why e. e ≡ OutOfMemory why };
-
-    fn from(why: NoMemory) -> LabelFault {
-        LabelFault::OutOfMemory(why)
-    }
 }
 
 /// Reads a label as a package and a target (buildozer README, targets): `//PATH:TARGET`, `PATH:TARGET`, `:TARGET` in the
@@ -65,7 +54,7 @@ fn read_named(alloc: Global, text: &str) -> Result<(Package, Target), LabelFault
         None | Some("") => return Err(LabelFault::BadTarget),
         Some(path) => path,
     };
-    let marked = Marked::Name(Text::from_str(alloc, last_part(path))?);
+    let marked = Marked::Name(copied(alloc, last_part(path))?);
     Ok((package, Target { marked }))
 }
 
@@ -90,7 +79,7 @@ fn read_package(alloc: Global, text: &str) -> Result<Package, LabelFault>
     if !is_path(path) {
         return Err(LabelFault::BadPackage);
     }
-    let place = PackagePlace::Path(Text::from_str(alloc, path)?);
+    let place = PackagePlace::Path(copied(alloc, path)?);
     Ok(Package { place })
 }
 
@@ -134,7 +123,7 @@ fn read_target(alloc: Global, text: &str) -> Result<Target, LabelFault>
         ("__pkg__", _) => Marked::Pkg,
         ("*", _) => Marked::All,
         (_, Some(rest)) => return read_percent(alloc, rest),
-        (_, None) => Marked::Name(Text::from_str(alloc, text)?),
+        (_, None) => Marked::Name(copied(alloc, text)?),
     };
     Ok(Target { marked })
 }
@@ -152,7 +141,7 @@ fn read_percent(alloc: Global, text: &str) -> Result<Target, LabelFault>
     let marked = if is_number(text) {
         Marked::Line(text.parse().map_err(|_| LabelFault::BadTarget)?)
     } else if is_kind(text) {
-        Marked::Kind(Text::from_str(alloc, text)?)
+        Marked::Kind(copied(alloc, text)?)
     } else {
         return Err(LabelFault::BadTarget);
     };
@@ -163,4 +152,12 @@ fn is_number(text: &str) -> bool
     ensures { result ≡ spec.is_number text.now }
 {
     text.len() != 0 && text.as_bytes().iter().all(u8::is_ascii_digit)
+}
+
+// Without memory this is the one fault that the text does not determine.
+fn copied(alloc: Global, text: &str) -> Result<Text, LabelFault>
+    ensures text { IfOk result (λ copy. copy ≡ text.now) }
+    ensures err { OnErr result (result ≡ Err (LabelFault.OutOfMemory no_memory)) }
+{
+    Text::from_str(alloc, text).map_err(LabelFault::OutOfMemory)
 }

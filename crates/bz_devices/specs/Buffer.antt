@@ -1,6 +1,6 @@
 -- A sink with a buffer before it: what it took, and what is kept back.
 use Rattle.std.specs.Prelude.{◌≡◌, ℕ, Bool, true, false, List, [], ◌++◌}
-use Rattle.std.proofs.Common.{sym, ◌∙◌, ap, subst, append_assoc, append-nil}
+use Rattle.std.proofs.Common.{sym, ◌∙◌, ap, append_assoc, append-nil}
 use Rattle.bz_devices.specs.Device.{Rises}
 
 pub record Buffer (W : Type 0) : Type 0 where

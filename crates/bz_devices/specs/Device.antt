@@ -1,9 +1,9 @@
 -- Devices: what a source gave and what a sink took. One piece stands for one read; an empty one is the end of the input.
 -- Begin with `NoneEnds` and `Rises`.
-use Rattle.std.specs.Prelude.{◌≡◌, ℕ, ◌+◌, ◌<◌, ◌≤◌, ◌-◌, ◌^◌, Bool, true, false, IsTrue, List, [], ◌∷◌, ◌++◌, Option, None, Some, ⊤}
+use Rattle.std.specs.Prelude.{◌≡◌, ℕ, ◌+◌, ◌<◌, ◌≤◌, ◌-◌, ◌^◌, Bool, false, IsTrue, List, [], ◌∷◌, ◌++◌, Option, None, Some, ⊤}
 use Rattle.bz_token.specs.Common.{is_empty, map_or}
 use Rattle.std.specs.Prelude.{length}
-use Rattle.std.specs.List.{flat_map, concat, last_or, AllByRecursion}
+use Rattle.std.specs.List.{concat, last_or, AllByRecursion}
 
 -- whether the last of these reads gave no byte, and so met the end of the input
 abbrev pub ends : List (List ℕ) → Bool

@@ -13,36 +13,41 @@ use crate::device::{Failed, Sink, Source};
 use std::io::{ErrorKind, Read, Write};
 use std::marker::Model;
 
-/// A `Source` over a reader of std. Each error of the reader counts as a failure, but for a read
-/// that was interrupted: it is made again.
+/// A reader or a writer of std, with what it did so far. Each error counts as a failure.
 #[derive(Drop)]
-pub struct FromRead<R> {
-    reader: R,
-    /// How many bytes the reads gave. It stays at its greatest value.
+pub struct StdDevice<D> {
+    device: D,
+    /// How many bytes the reads gave, or the writes appended. It stays at its greatest value.
     bytes: u64,
     failures: u64,
 }
 
-impl<R> Model for FromRead<R> {
+impl<D> Model for StdDevice<D> {
     ghost use Rattle.bz_devices.specs.Device.{Counted};
 
-    ghost Value = { Counted R };
+    ghost Value = { Counted D };
 
-    ghost view = { λ s. record { device = s.reader; bytes = s.bytes; failures = s.failures } };
+    ghost view = { λ s. record { device = s.device; bytes = s.bytes; failures = s.failures } };
 }
 
-impl<R: Read> FromRead<R> {
-    /// The reader, with no failure so far.
-    pub fn new(reader: R) -> FromRead<R>
-        ensures { result ≡ record { device = reader; bytes = 0; failures = 0 } }
+impl<D> StdDevice<D> {
+    /// The device, with no failure so far.
+    pub fn new(device: D) -> StdDevice<D>
+        ensures { result ≡ record { device = device; bytes = 0; failures = 0 } }
     {
-        FromRead {
-            reader,
+        StdDevice {
+            device,
             bytes: 0,
             failures: 0,
         }
     }
 }
+
+/// A `Source` over a reader. A read that was interrupted is no failure: it is made again.
+pub type FromRead<R> = StdDevice<R>;
+
+/// A `Sink` over a writer. A write of 0 bytes is a failure.
+pub type ToWrite<W> = StdDevice<W>;
 
 /// Reads until the system does not interrupt the read, as std's own loops do. An interrupted read
 /// gave nothing.
@@ -65,7 +70,7 @@ fn read_uninterrupted<R: Read>(reader: &mut R, buf: &mut [u8]) -> Result<usize, 
     Err(Failed)
 }
 
-impl<R: Read> Source for FromRead<R> {
+impl<R: Read> Source for StdDevice<R> {
     // By the bytes that are left, where they are known, and by their count.
     ghost gave = { λ old pieces new. Gave (R.remaining old.device) (R.remaining new.device) pieces
         × Counts old.bytes new.bytes (length (concat pieces)) };
@@ -80,7 +85,7 @@ impl<R: Read> Source for FromRead<R> {
     ) };
 
     fn read(&mut self, buf: &mut [u8]) -> Result<usize, Failed> {
-        match read_uninterrupted(&mut self.reader, buf) {
+        match read_uninterrupted(&mut self.device, buf) {
             Ok(n) => {
                 self.bytes = self.bytes.saturating_add(n as u64);
                 Ok(n)
@@ -97,38 +102,7 @@ impl<R: Read> Source for FromRead<R> {
     }
 }
 
-/// A `Sink` over a writer of std. Each error of the writer counts as a failure, and so does a
-/// write of 0 bytes.
-#[derive(Drop)]
-pub struct ToWrite<W> {
-    writer: W,
-    /// How many bytes the writes appended. It stays at its greatest value.
-    bytes: u64,
-    failures: u64,
-}
-
-impl<W> Model for ToWrite<W> {
-    ghost use Rattle.bz_devices.specs.Device.{Counted};
-
-    ghost Value = { Counted W };
-
-    ghost view = { λ s. record { device = s.writer; bytes = s.bytes; failures = s.failures } };
-}
-
-impl<W: Write> ToWrite<W> {
-    /// The writer, with no failure so far.
-    pub fn new(writer: W) -> ToWrite<W>
-        ensures { result ≡ record { device = writer; bytes = 0; failures = 0 } }
-    {
-        ToWrite {
-            writer,
-            bytes: 0,
-            failures: 0,
-        }
-    }
-}
-
-impl<W: Write> Sink for ToWrite<W> {
+impl<W: Write> Sink for StdDevice<W> {
     // By the bytes that were written, where they are known, and by their count.
     ghost took = { λ old bytes new. Appends (W.contents old.device) (W.contents new.device) bytes
         × Counts old.bytes new.bytes (length bytes) };
@@ -143,7 +117,7 @@ impl<W: Write> Sink for ToWrite<W> {
     ) };
 
     fn write(&mut self, bytes: &[u8]) -> Result<usize, Failed> {
-        match self.writer.write(bytes) {
+        match self.device.write(bytes) {
             Ok(n) if n > 0 => {
                 self.bytes = self.bytes.saturating_add(n as u64);
                 Ok(n)

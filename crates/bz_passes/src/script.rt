@@ -137,34 +137,6 @@ fn next_marked<L: Language>(
     None
 }
 
-/// The passes one after another on one slot. What they tell goes after what was kept of the slots
-/// before, and what they did is added to the facts.
-fn run_passes<L: Language>(
-    language: &L,
-    passes: &Passes<L::Target, L::Command>,
-    slot: &mut Option<L::Statement>,
-    kept: &mut [Kept],
-    facts: &mut Facts,
-) -> Result<(), NoMemory>
-    requires { Fits kept.old passes.now }
-    ensures fits { OnOk result (Fits kept.new passes.now) }
-    ensures slot { OnOk result (L.seen slot.new ≡ slot_after (L.meaning language.now) passes.now (L.seen slot.old)) }
-    ensures kept { OnOk result (kept.new
-        ≡ kept_and kept.old (kept_alone (L.meaning language.now) passes.now (L.seen slot.old))) }
-    ensures changed { OnOk result (facts.new.changed ≡ (facts.old.changed
-        || some_alone (L.meaning language.now) (L.changes language.now) passes.now (L.seen slot.old))) }
-    ensures failed { OnOk result (facts.new.failed ≡ (facts.old.failed
-        || some_alone (L.meaning language.now) (L.fails language.now) passes.now (L.seen slot.old))) }
-{
-    let mut at = 0;
-    while let Some(i) = next_marked(language, passes, slot, at) {
-        let pass = &passes.as_slice()[i];
-        run_pass(language, pass, slot, &mut kept[i], facts)?;
-        at = i + 1;
-    }
-    Ok(())
-}
-
 /// Executes the whole script on one slot. If what is kept and the facts are those of the slots before, they are then
 /// those of the slots with this one. After an `Err` neither the slot nor what is kept is of use.
 pub fn run_script<L: Language>(
@@ -187,7 +159,12 @@ pub fn run_script<L: Language>(
         → IsLeftBy (L.meaning language.now) (L.changes language.now) (L.fails language.now) passes.now
         (slots ++ L.seen slot.old ∷ []) kept.new facts.new.changed facts.new.failed) }
 {
-    run_passes(language, passes, slot, kept, facts)?;
+    let mut at = 0;
+    while let Some(i) = next_marked(language, passes, slot, at) {
+        let pass = &passes.as_slice()[i];
+        run_pass(language, pass, slot, &mut kept[i], facts)?;
+        at = i + 1;
+    }
     Ok(())
 }
 

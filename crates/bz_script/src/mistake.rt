@@ -1,7 +1,7 @@
 //! What is wrong with the words of a call, by kind, and the text that is told of each kind.
 
 use crate::usage::{FlagFault, Refused};
-use bz_command::LabelFault;
+use bz_command::{LabelFault, NO_SUCH_FIELD, is_left_out_field};
 use bz_memory::NoMemory;
 use bz_rule::{CommandFault, LEFT_OUT, USAGE};
 use thiserror::Error;
@@ -61,7 +61,7 @@ pub enum Mistake {
     OneValue,
     #[error("an attribute's name is letters, digits and underscores, with no digit first, and no keyword")]
     BadAttribute,
-    #[error("there is no field rule, attrs or path; print attributes, or label, kind, startline and endline")]
+    #[error("{text}", text = NO_SUCH_FIELD)]
     LeftOutField,
     #[error("a kind is a name, or names with dots between them, as in 'set kind cc_test'")]
     BadKind,
@@ -265,9 +265,10 @@ fn of_count(word: &str, line: u64) -> Mistake {
 
 /// Whether a field is asked for that Bazel's buildozer prints and this program does not.
 fn prints_left_out(word: &str) -> bool {
-    word.split_whitespace()
-        .any(|field| matches!(field, "rule" | "attrs" | "path"))
-        && first_word(word) == "print"
+    first_word(word) == "print"
+        && word
+            .split_whitespace()
+            .any(|field| is_left_out_field(field))
 }
 
 /// What stands before the first blank, of any kind.

@@ -8,4 +8,4 @@ pub invariant_of-result : goal.invariant_of-result
 invariant_of-result c =
     let is : package_of c.args.text.now ≡ Ok (Some c.in-Some.path.now) = sym (c.in_ok-package.ensures (λ k. cc)) ∙ ap (λ (p : Package). Ok p) (sym c.in-Some.ensures.value) in
     let some : bytes_eq c.in-Some.path.now [] ≡ false = search rules in
-    rw (c.in_ok-from_str.ensures, c.last_part.ensures) (named_target c.args.text.now c.in-Some.path.now c.requires is some)
+    rw (c.in_ok-copied.ensures.text, c.last_part.ensures) (named_target c.args.text.now c.in-Some.path.now c.requires is some)

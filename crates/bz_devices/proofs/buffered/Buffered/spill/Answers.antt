@@ -1,4 +1,4 @@
-use Rattle.std.proofs.Common.{[], ap, ◌∙◌, sym, subst, append-nil}
+use Rattle.std.proofs.Common.{[], ◌∙◌, sym, subst, append-nil}
 use Rattle.bz_devices.specs.Buffer.{Buffer, Stops}
 use Rattle.bz_devices.proofs.Stops.{stops_at_write}
 use Rattle.bz_devices.proofs.buffered.Buffered.spill.Goals as goal

@@ -1,6 +1,6 @@
 use Rattle.std.proofs.Common.{◌≡◌, ◌≤◌, ◌-◌, ◌||◌, ◌++◌, take, drop, length}
 use Rattle.bz_passes.specs.Exchange.{slot_after, kept_alone, kept_and, Fits, some_alone}
-use Rattle.bz_passes.proofs.script.run_passes.Given as goal
+use Rattle.bz_passes.proofs.script.run_script.Given as goal
 
 abbrev pub invariant-loop-i : goal.invariant-loop-i
 invariant-loop-i g l = record {
