@@ -20,6 +20,7 @@ pub mod Lengths
 pub mod ListEdits
 pub mod ListElements
 pub mod ListWalk
+pub mod LiteralEnds
 pub mod Locals
 pub mod Mapped
 pub mod NameTexts
