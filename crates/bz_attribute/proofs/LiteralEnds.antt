@@ -1,5 +1,5 @@
 -- The value of a string literal ends as its text does before the closing quote, where that is no escape.
-use Rattle.std.proofs.Common.{◌≡◌, ℕ, suc, ◌+◌, ◌-◌, ◌<◌, ◌≤◌, ◌==◌, ◌&&◌, List, [], ◌∷◌, ◌++◌, Bool, true, false, if◌then◌else◌, Option, Some, None, length, get_or, take, drop, nat_eq, refl, ap, subst, sym, ◌∙◌, arith, inl, inr, append_assoc, take_all, bytes_eq, option_and_then}
+use Rattle.std.proofs.Common.{◌≡◌, ℕ, suc, ◌+◌, ◌-◌, ◌<◌, ◌≤◌, ◌==◌, ◌&&◌, List, [], ◌∷◌, ◌++◌, true, false, Option, Some, None, length, get_or, take, drop, nat_eq, refl, ap, subst, sym, ◌∙◌, arith, inl, inr, append_assoc, take_all, bytes_eq, option_and_then}
 use Rattle.std.specs.Prelude.{option_map}
 use Rattle.std.specs.List.{concat, starts_with}
 use Rattle.std.proofs.lemmas.Bool.{cases_Bool, ne_eqb}
@@ -8,7 +8,7 @@ use Rattle.bz_token.specs.Common.{map_or}
 use Rattle.bz_token.specs.Pieces.{is_quote}
 use Rattle.bz_token.proofs.Classes.{same_bytes}
 use Rattle.bz_command.specs.Labels.{Package, is_slash}
-use Rattle.bz_command.specs.Values.{content, escapes, inner_of, is_newline, meant, opening, unit_value, units, value_of, values}
+use Rattle.bz_command.specs.Values.{content, inner_of, is_newline, unit_value, units, value_of, values}
 use Rattle.bz_command.proofs.Literals.{units_joined}
 use Rattle.bz_attribute.specs.Lists.{same}
 use Rattle.bz_attribute.proofs.LastBytes.{EndsIn, after, ends_apart, ends_at, same_end}

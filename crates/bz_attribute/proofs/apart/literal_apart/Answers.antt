@@ -1,4 +1,4 @@
-use Rattle.std.proofs.Common.{◌≡◌, ◌<◌, ◌≤◌, ◌||◌, true, length, get_or, refl, ne_eqb, sym, ap, arith, tests}
+use Rattle.std.proofs.Common.{◌≡◌, ◌<◌, ◌≤◌, true, length, get_or, refl, ne_eqb, arith, tests}
 use Rattle.bz_token.specs.Pieces.{is_quote}
 use Rattle.bz_attribute.proofs.LiteralEnds.{literal_apart, quoted_by}
 use Rattle.bz_attribute.proofs.apart.literal_apart.Goals as goal

@@ -1,4 +1,4 @@
-use Rattle.std.proofs.Common.{◌≡◌, ◌+◌, drop, map, refl, sym, ◌∙◌}
+use Rattle.std.proofs.Common.{◌+◌, map, refl, sym, ◌∙◌}
 use Rattle.bz_tree.specs.Rows.{part_view}
 use Rattle.bz_attribute.proofs.ListWalk.{none_as, not_joined, some_as}
 use Rattle.bz_attribute.proofs.OnlyLists.{alone_there}
