@@ -156,6 +156,7 @@ element_next l after ps at from token to string begins read e =
           ∙ sym (append_assoc (take at ps) own (rest_parts (found_rest p f (record l { elements = e.others })) after))
           ∙ ap (λ (qs : List RowPart). qs ++ rest_parts (found_rest p f (record l { elements = e.others })) after) (sym front);
     }
+
 pub next_here : (ps : List RowPart) (at from token to : ℕ) (string : Option (List ℕ)) (l : ListRest) (after : List RowPart) → from ≡ at → HasElement ps at token to string → drop at ps ≡ rest_parts l after
     → IsNextElement l after ps at from token to string
 next_here ps at from token to string l after begins next read = element_next l after ps at from token to string begins read (next l after read)

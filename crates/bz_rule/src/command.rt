@@ -137,10 +137,7 @@ pub enum CommandFault {
 }
 
 impl From<NoMemory> for CommandFault {
-    ghost use Rattle.std.specs.Prelude.{◌≡◌};
-    ghost use Rattle.bz_rule.specs.declared.command.CommandFault.TheVariants.{OutOfMemory};
-
-    ghost from_gives = { λ why e. e ≡ OutOfMemory why };
+    ghost from_gives = { λ why e. e ≡ CommandFault.OutOfMemory why };
 
     fn from(why: NoMemory) -> CommandFault {
         CommandFault::OutOfMemory(why)
