@@ -1,6 +1,5 @@
 -- The call of a rule, at the end of the nodes, edited.
-use Rattle.std.proofs.Common.{◌≡◌, ℕ, suc, ◌+◌, ◌-◌, List, [], ◌∷◌, ◌++◌, true, false, if◌then◌else◌, Some, None, length, get_or, set, take, refl, ap, sym, ◌∙◌, arith, is_some, Bool, ◌&&◌}
-use Rattle.std.proofs.lemmas.Bool.{and_parts}
+use Rattle.std.proofs.Common.{◌≡◌, ℕ, suc, ◌+◌, ◌-◌, List, [], ◌∷◌, ◌++◌, true, false, if◌then◌else◌, Some, None, length, get_or, set, take, refl, ap, sym, ◌∙◌, arith, is_some}
 use Rattle.std.proofs.lemmas.List.{map-append, set_split, drop_all, get_or_default}
 use Rattle.bz_tree.specs.declared.stmt.Node.{Node}
 use Rattle.bz_tree.specs.declared.stmt.GroupKind.TheVariants.{Call, RuleCall, Load, Paren, List as ListKind, Index, Dict, ListComp, DictComp}

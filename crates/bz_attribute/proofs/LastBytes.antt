@@ -10,11 +10,11 @@ use Rattle.bz_command.specs.Labels.{Package, is_colon, is_slash, last_of, parts_
 use Rattle.bz_command.specs.Same.{completed, in_package, is_local, with_name}
 use Rattle.bz_command.proofs.Cuts.{last_cons, some_part}
 
-record EndsIn (bs : List ℕ) (x : ℕ) : Type 0 where
-  front : List ℕ
-  is : bs ≡ front ++ x ∷ []
+pub record EndsIn (bs : List ℕ) (x : ℕ) : Type 0 where
+  pub front : List ℕ
+  pub is : bs ≡ front ++ x ∷ []
 
-after : (front bs : List ℕ) (x : ℕ) → EndsIn bs x → EndsIn (front ++ bs) x
+pub after : (front bs : List ℕ) (x : ℕ) → EndsIn bs x → EndsIn (front ++ bs) x
 after front bs x h = record { front = front ++ h.front; is = ap (λ (zs : List ℕ). front ++ zs) h.is ∙ sym (append_assoc front h.front (x ∷ [])) }
 
 one_of : (b : Bool) (one two : List ℕ) (x : ℕ) → EndsIn one x → EndsIn two x → EndsIn (if b then one else two) x
@@ -75,20 +75,20 @@ unfolding final
 finally d [] x = refl
 finally d (y ∷ front) x = finally y front x
 
-same_end : (a b : List ℕ) (x y : ℕ) → EndsIn a x → EndsIn b y → a ≡ b → x ≡ y
+pub same_end : (a b : List ℕ) (x y : ℕ) → EndsIn a x → EndsIn b y → a ≡ b → x ≡ y
 same_end a b x y h k is = sym (finally 0 h.front x) ∙ ap (final 0) (sym h.is ∙ is ∙ k.is) ∙ finally 0 k.front y
 
-ends_at : (a : List ℕ) (x d : ℕ) → 0 < length a → x ≡ get_or a (length a - 1) d → EndsIn a x
+pub ends_at : (a : List ℕ) (x d : ℕ) → 0 < length a → x ≡ get_or a (length a - 1) d → EndsIn a x
 ends_at a x d some is = record {
   front = take (length a - 1) a;
   is = sym (take_all (length a) a (omega arith)) ∙ ap (λ (n : ℕ). take n a) (omega (arith, some)) ∙ take_more a (length a - 1) d (omega (arith, some)) ∙ ap (λ (z : ℕ). take (length a - 1) a ++ z ∷ []) (sym is);
 }
 
-pub labels_apart : (home : Package) (a b : List ℕ) (x y d : ℕ) → 0 < length a → 0 < length b → x ≡ get_or a (length a - 1) d → y ≡ get_or b (length b - 1) d → is_slash x ≡ false → is_slash y ≡ false → (x ≡ y → ⊥)
-    → bytes_eq (completed home a) (completed home b) ≡ false
-labels_apart home a b x y d some_a some_b is_x is_y slash_x slash_y differ = elim (cases_Bool (bytes_eq (completed home a) (completed home b))) [
+-- labels that end in different bytes
+pub ends_apart : (home : Package) (v word : List ℕ) (x y : ℕ) → EndsIn v x → EndsIn word y → is_slash x ≡ false → is_slash y ≡ false → (x ≡ y → ⊥) → bytes_eq (completed home v) (completed home word) ≡ false
+ends_apart home v word x y v_ends word_ends slash_x slash_y differ = elim (cases_Bool (bytes_eq (completed home v) (completed home word))) [
   | inl same ↦
-      absurd (differ (same_end (completed home a) (completed home b) x y (completed_ends home a x slash_x (ends_at a x d some_a is_x)) (completed_ends home b y slash_y (ends_at b y d some_b is_y))
-      (same_bytes (completed home a) (completed home b) same)))
+      absurd (differ (same_end (completed home v) (completed home word) x y (completed_ends home v x slash_x v_ends) (completed_ends home word y slash_y word_ends)
+      (same_bytes (completed home v) (completed home word) same)))
   | inr other ↦ other
 ]

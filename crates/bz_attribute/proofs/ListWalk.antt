@@ -143,7 +143,7 @@ opened segs one_comma end xs after =
     let moved : ((segs_parts segs ++ (map above end ++ closing one_comma ∷ [])) ++ items_parts (items_of xs)) ++ segment_end ∷ after ≡ segs_parts segs ++ (map above end ++ closing one_comma ∷ value_parts xs after) = simp append_assoc in
     ap (λ (ps : List RowPart). opening ListKind ∷ ps) (moved ∙ ap (λ (ss : Segs). segs_parts ss ++ (map above end ++ closing one_comma ∷ value_parts xs after)) (sym (segs_back segs)))
 
-found_here : (p : Segment → Bool) (f : Segment → Segment) (segs : Segs) (one_comma : Bool) (end : List (List ℕ)) (xs : List Item) → lists.ends xs ≡ true
+pub found_here : (p : Segment → Bool) (f : Segment → Segment) (segs : Segs) (one_comma : Bool) (end : List (List ℕ)) (xs : List Item) → lists.ends xs ≡ true
     → edit_element_from p f true (group ListKind segs one_comma end ∷ xs) ≡ list_item (found_rest p f (rest_of segs one_comma end xs)) ∷ (found_rest p f (rest_of segs one_comma end xs)).items
 found_here p f segs one_comma end xs ends =
     let x : Item = group ListKind segs one_comma end in

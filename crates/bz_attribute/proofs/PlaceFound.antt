@@ -64,12 +64,18 @@ written s r front mid back from to is are from_is to_is =
           (λ i. taken i ++ (segs_parts (segs_of (f mid)) ++ left i)) ∙ sym (in_three (with_args f s) r2 front (f mid) back nodes edited);
     }
 
+-- an argument alone
+own_parts : (a : Segment) → segs_parts (segs_of (a ∷ [])) ≡ map above a.before ++ (items_parts (items_of a.nodes) ++ segment_end ∷ beside_part a.suffix)
+own_parts a = ap (λ (qs : List RowPart). map above a.before ++ (items_parts (items_of a.nodes) ++ segment_end ∷ qs)) (append-nil (beside_part a.suffix))
+
 middle : (name : List ℕ) (s : Statement) (r : Rule) (front mid back : List Segment) (from to : ℕ) → rule_of s.nodes ≡ Some r → IsMiddle name s r front mid back
     → from ≡ length (pre s r front) → to ≡ length (pre s r front ++ segs_parts (segs_of mid)) → IsPlaceOf name s r (parts_of s) from to
 middle name s r front mid back from to is m from_is to_is =
     let w = written s r front mid back from to is m.are from_is to_is in
+    let read : take (to - from) (drop from (parts_of s)) ≡ segs_parts (segs_of (alone name r)) = w.read ∙ sym (ap (λ (zs : List Segment). segs_parts (segs_of zs)) m.is) in
     record {
-      read = w.read ∙ sym (ap (λ (zs : List Segment). segs_parts (segs_of zs)) m.is);
+      read = read;
+      whole = λ a first. read ∙ ap (λ (o : Option Segment). segs_parts (segs_of (option_to_list o))) first ∙ own_parts a;
       put = λ f local. ap (λ (zs : List Segment). take from (parts_of s) ++ (segs_parts (segs_of (f zs)) ++ drop to (parts_of s))) m.is ∙ w.put f (m.edited f local);
     }
 

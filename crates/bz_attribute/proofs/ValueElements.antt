@@ -10,7 +10,7 @@ use Rattle.bz_attribute.specs.Comment.{edit_element_from, with_comment}
 use Rattle.bz_attribute.specs.Effects.{edit_first}
 use Rattle.bz_attribute.specs.Elements.{AreElementsTo, HasNoList, IsElementOf, IsListIn, IsNextElement, ListRest, elements_left, found_rest, rest_parts, value_parts}
 use Rattle.bz_attribute.specs.Lists.{parts_from}
-use Rattle.bz_attribute.specs.private.ListParts.{HasEmptied, HasPassedTo}
+use Rattle.bz_attribute.specs.private.ListParts.{HasElement, HasEmptied, HasPassedTo}
 use Rattle.bz_attribute.proofs.EditedAt.{segs_join}
 use Rattle.bz_attribute.proofs.ListEdits.{ended, long_opened, opened}
 
@@ -156,9 +156,6 @@ element_next l after ps at from token to string begins read e =
           ∙ sym (append_assoc (take at ps) own (rest_parts (found_rest p f (record l { elements = e.others })) after))
           ∙ ap (λ (qs : List RowPart). qs ++ rest_parts (found_rest p f (record l { elements = e.others })) after) (sym front);
     }
-
-abbrev HasElement : List RowPart → ℕ → ℕ → ℕ → Option (List ℕ) → Type 0
-HasElement ps at token to string = (rest : ListRest) (after : List RowPart) → drop at ps ≡ rest_parts rest after → IsElementOf rest after ps at token to string
 
 pub next_here : (ps : List RowPart) (at from token to : ℕ) (string : Option (List ℕ)) (l : ListRest) (after : List RowPart) → from ≡ at → HasElement ps at token to string → drop at ps ≡ rest_parts l after
     → IsNextElement l after ps at from token to string

@@ -1,7 +1,7 @@
 -- Where the argument of a name stands among the parts of a rule, and what becomes of the rule where others are written there.
-use Rattle.std.specs.Prelude.{◌≡◌, ℕ, ◌-◌, List, [], ◌∷◌, ◌++◌, Some, false, take, drop, option_to_list}
-use Rattle.bz_tree.specs.Tree.{Segment, Statement, segs_of}
-use Rattle.bz_tree.specs.Rows.{RowPart, parts_of, segs_parts}
+use Rattle.std.specs.Prelude.{◌≡◌, ℕ, ◌-◌, List, [], ◌∷◌, ◌++◌, Some, false, map, take, drop, option_to_list}
+use Rattle.bz_tree.specs.Tree.{Segment, Statement, items_of, segs_of}
+use Rattle.bz_tree.specs.Rows.{RowPart, above, beside_part, items_parts, parts_of, segment_end, segs_parts}
 use Rattle.bz_attribute.specs.Rules.{Rule, rule_of, first_named, is_named}
 use Rattle.bz_attribute.specs.Effects.{edit_first, has, with_args}
 
@@ -27,6 +27,9 @@ alone name r = option_to_list (first_named name r.args)
 -- The first argument of a name stands there, or none has the name and new ones go there: what an edit makes of it alone, written in its place, makes what the edit makes of the rule.
 pub record IsPlaceOf (name : List ℕ) (s : Statement) (r : Rule) (ps : List RowPart) (from to : ℕ) : Type 0 where
   pub read : take (to - from) (drop from ps) ≡ segs_parts (segs_of (alone name r))
+  -- the argument stands there with its comments, first those above it
+  pub whole : (a : Segment) → first_named name r.args ≡ Some a
+      → take (to - from) (drop from ps) ≡ map above a.before ++ (items_parts (items_of a.nodes) ++ segment_end ∷ beside_part a.suffix)
   pub put : (f : List Segment → List Segment) → IsLocal name f → take from ps ++ (segs_parts (segs_of (f (alone name r))) ++ drop to ps) ≡ parts_of (with_args f s)
 
 -- All arguments stand there: what an edit makes of them, written in their place, makes what it makes of the rule.

@@ -1,36 +1,32 @@
-//! Texts that are different labels, told by their last bytes.
+//! String tokens that are no label of a word, told by their last bytes.
 
-ghost use Rattle.std.specs.Prelude.{◌≡◌, ℕ, List, true, false};
-ghost use Rattle.std.specs.Str.{bytes_eq};
+ghost use Rattle.std.specs.Prelude.{◌≡◌, true, false};
 ghost use Rattle.bz_command.specs.Labels.{Package};
-ghost use Rattle.bz_command.specs.Same.{completed};
-ghost use Rattle.bz_command.specs.private.ByteSteps.{left};
+ghost use Rattle.bz_command.specs.Values.{value_of};
+ghost use Rattle.bz_token.specs.Common.{map_or};
+ghost use Rattle.bz_attribute.specs.Lists.{same};
 
-use bz_command::Bytes;
-
-// A label in full ends as its text does, where that ends with no slash.
-fn end_apart(a: &[u8], b: &[u8]) -> bool
-    ensures { result ≡ true → (home : Package) → bytes_eq (completed home a.now) (completed home b.now) ≡ false }
+/// A string token of this text has no value that is the same label as the word, whatever the package is. False: it may
+/// have. A label in full ends as its text does, where that ends with no slash, and the value of a literal as that does
+/// before its last quote, where no backslash stands there.
+#[inline(always)]
+pub(crate) fn literal_apart(text: &[u8], word: &[u8]) -> bool
+    ensures { result ≡ true → (home : Package)
+        → map_or false (λ value. same home value word.now) (value_of text.now) ≡ false }
 {
-    if a.is_empty() || b.is_empty() {
+    let size = text.len();
+    if size < 4 || word.is_empty() {
         return false;
     }
-    let x = a[a.len() - 1];
-    let y = b[b.len() - 1];
-    if x == b'/' || y == b'/' || x == y {
+    let quote = text[0];
+    let before = text[size - 3];
+    let end = text[size - 2];
+    let last = word[word.len() - 1];
+    if quote != b'"' && quote != b'\'' {
+        return false;
+    }
+    if before == b'\\' || end == quote || end == b'/' || last == b'/' || end == last {
         return false;
     }
     true
-}
-
-/// The value is not the same label as the word, whatever the package is. False: it may be.
-#[inline(always)]
-pub(crate) fn are_apart(value: Bytes<'_>, word: &[u8]) -> bool
-    ensures { result ≡ true
-        → (home : Package) → bytes_eq (completed home (left value.entry)) (completed home word.now) ≡ false }
-{
-    match value {
-        Bytes::Plain(text) => end_apart(text, word),
-        Bytes::Inner(_) => false,
-    }
 }

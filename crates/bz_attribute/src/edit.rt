@@ -1,7 +1,7 @@
 //! What a command makes of the parts of a rule: others come to stand in a place of them.
 
 ghost use Rattle.std.specs.Prelude.{◌≡◌, None, false, true};
-ghost use Rattle.bz_attribute.specs.Effects.{done};
+ghost use Rattle.bz_attribute.specs.Effects as effects;
 
 use crate::done::Done;
 use crate::place::Place;
@@ -17,7 +17,7 @@ pub struct Edit {
 impl Edit {
     /// A change at a place.
     pub fn at(place: Place) -> Edit
-        ensures { result ≡ record { done = done None true; place = place } }
+        ensures { result ≡ record { done = effects.done None true; place = place } }
     {
         Edit {
             done: Done::quiet(true),

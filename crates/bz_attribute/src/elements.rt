@@ -5,15 +5,16 @@ ghost use Rattle.std.specs.List.{list_all};
 ghost use Rattle.bz_tree.specs.Tree.{Item, Statement};
 ghost use Rattle.bz_tree.specs.Rows.{RowPart, part_view};
 ghost use Rattle.bz_attribute.specs.Elements.{AreElementsTo, HasNoList, IsElementOf, IsListIn, IsNextElement, IsValueAt, ListRest, elements_left, rest_parts, value_parts};
-ghost use Rattle.bz_attribute.specs.Lists as lists;
 ghost use Rattle.bz_attribute.specs.Effects.{has};
 ghost use Rattle.bz_attribute.specs.Rules.{Rule};
 ghost use Rattle.bz_attribute.specs.RowPlaces.{IsRuleRow};
 ghost use Rattle.bz_attribute.specs.private.ListParts as spec;
+ghost use Rattle.bz_attribute.specs.Lists as lists;
 
 use crate::finder::find_argument;
 use crate::head_parts::{is_end, text_of};
 use crate::place::{comments_len, segment_len};
+use crate::value::is_one_list;
 use bz_token::Kind;
 use bz_tree::{GroupKind, Part};
 
@@ -165,6 +166,10 @@ pub fn first_list(parts: &[Part<'_>], value: usize) -> Option<usize>
         → drop value (map part_view parts.now) ≡ value_parts nodes after → HasNoList true nodes) }
     ensures within { IfSome result (λ to. (value < to) × (to ≤ length parts.now)) }
 {
+    // Most values are one list.
+    if is_one_list(&parts[value..]) {
+        return Some(value + 1);
+    }
     if !are_joints(parts, value) {
         return None;
     }
@@ -231,6 +236,38 @@ pub fn next_element<'a>(parts: &[Part<'a>], at: usize) -> Option<Element<'a>>
     })
 }
 
+/// The text of the element that they begin with, where it is one string token without comments: its parts are two.
+#[inline(always)]
+pub(crate) fn bare_string<'a>(parts: &[Part<'a>]) -> Option<&'a str>
+    ensures text { option_map (λ text. text.now) result ≡ spec.bare_string (map part_view parts.now) }
+    ensures within { IfSome result (λ text. 2 ≤ length parts.now) }
+{
+    match parts {
+        [Part::Token(Kind::String, text), Part::End, next, ..] => match next {
+            Part::Beside(_) => None,
+            _ => Some(*text),
+        },
+        _ => None,
+    }
+}
+
+// Where the element ends that begins at a place in a list part. None: its elements end there.
+fn next_end(parts: &[Part<'_>], at: usize) -> Option<usize>
+    requires { at ≤ length parts.now }
+    ensures some { IfSome result (λ to. spec.EndsAt (map part_view parts.now) at to) }
+    ensures none { IfNone result ((rest : ListRest) (after : List RowPart)
+        → drop at (map part_view parts.now) ≡ rest_parts rest after → rest.elements ≡ []) }
+    ensures within { IfSome result (λ to. (at < to) × (to ≤ length parts.now)) }
+{
+    if bare_string(&parts[at..]).is_some() {
+        return Some(at + 2);
+    }
+    match next_element(parts, at) {
+        None => None,
+        Some(element) => Some(element.to),
+    }
+}
+
 /// Where the elements of a list part end, which begin at a place.
 pub fn elements_end(parts: &[Part<'_>], from: usize) -> usize
     requires { from ≤ length parts.now }
@@ -240,8 +277,8 @@ pub fn elements_end(parts: &[Part<'_>], from: usize) -> usize
     ensures within { (from ≤ result) × (result ≤ length parts.now) }
 {
     let mut at = from;
-    while let Some(element) = next_element(parts, at) {
-        at = element.to;
+    while let Some(to) = next_end(parts, at) {
+        at = to;
     }
     at
 }

@@ -1,6 +1,6 @@
 //! Which elements equal a word.
 
-ghost use Rattle.std.specs.Prelude.{◌≡◌, IsTrue, IfSome, IfNone, None, Some, false};
+ghost use Rattle.std.specs.Prelude.{◌≡◌, IsTrue, IfSome, IfNone, None, Some, false, true};
 ghost use Rattle.bz_tree.specs.View.{seg_view};
 ghost use Rattle.bz_attribute.specs.Rules.{string_value};
 ghost use Rattle.bz_attribute.specs.Lists as spec;
@@ -8,10 +8,12 @@ ghost use Rattle.bz_command.specs.Values as values;
 ghost use Rattle.bz_command.specs.private.ByteSteps.{left, is_good};
 ghost use Rattle.bz_token.specs.Common.{map_or};
 ghost use Rattle.std.specs.List.{list_any};
+ghost use Rattle.std.specs.Str.{bytes_eq};
+ghost use Rattle.bz_command.specs.Labels as labels;
 
-use crate::apart::are_apart;
+use crate::apart::literal_apart;
 use crate::rule::only_text;
-use bz_command::{Bytes, Package, plain_text, same_label, value_of};
+use bz_command::{Bytes, Package, same_label, value_of};
 use bz_tree::Seg;
 
 /// The value of an element that is one string.
@@ -27,26 +29,22 @@ pub fn string_of<'n>(element: &'n Seg<'_>) -> Option<Bytes<'n>>
 pub fn text_equals(home: &Package, text: &str, word: &str) -> bool
     ensures { result ≡ map_or false (λ value. spec.same home.now value word.now) (values.value_of text.now) }
 {
-    // Most values stand as they are.
-    match plain_text(text) {
-        Some(value) => plain_equals(home, value, word),
-        None => match value_of(text) {
-            Some(value) => same_label(home, value, Bytes::Plain(word.as_bytes())),
-            None => false,
-        },
+    // Most are told apart at once.
+    if literal_apart(text.as_bytes(), word.as_bytes()) {
+        return false;
+    }
+    match value_of(text) {
+        Some(Bytes::Plain(value)) if are_local(value, word.as_bytes()) => value == word.as_bytes(),
+        Some(value) => same_label(home, value, Bytes::Plain(word.as_bytes())),
+        None => false,
     }
 }
 
-// The value is the same label as the word: most are told apart at once.
-#[inline(always)]
-fn plain_equals(home: &Package, value: &str, word: &str) -> bool
-    ensures { result ≡ spec.same home.now value.now word.now }
+// Both are targets of the package itself: no label in full is made.
+fn are_local(value: &[u8], word: &[u8]) -> bool
+    ensures { result ≡ true → (home : labels.Package) → spec.same home value.now word.now ≡ bytes_eq value.now word.now }
 {
-    let bytes = Bytes::Plain(value.as_bytes());
-    if are_apart(bytes, word.as_bytes()) {
-        return false;
-    }
-    same_label(home, bytes, Bytes::Plain(word.as_bytes()))
+    value.starts_with(b":") && word.starts_with(b":")
 }
 
 /// The element is one string whose value is the same label as the word.

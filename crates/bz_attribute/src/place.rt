@@ -112,7 +112,7 @@ fn is_stop(part: Part<'_>) -> bool
     matches!(part, Part::End | Part::Open(_))
 }
 
-#[inline(always)]
+// How many comments stand beside the segment that ends before these parts.
 #[inline(always)]
 fn besides(parts: &[Part<'_>]) -> usize
     ensures { result ≡ spec.besides (map part_view parts.now) }
@@ -148,8 +148,8 @@ pub fn new_place(parts: &[Part<'_>]) -> Place
     Place { from: end, to: end }
 }
 
-/// Where the first argument of a name stands among the parts of a rule, with its comments. Where none has the name, it
-/// is an empty place after the last argument.
+/// Where the first argument of a name stands among the parts of a rule: from the comments above it up to the one beside
+/// it. Where none has the name, it is an empty place after the last argument.
 pub fn place_of(parts: &[Part<'_>], name: &str) -> Place
     ensures within { (result.from ≤ result.to) × (result.to ≤ length parts.now) }
     ensures place { (s : Statement) (r : Rule) → IsRuleRow s r (map part_view parts.now)

@@ -18,9 +18,9 @@ use bz_tree::Part;
 // An element that is meant goes, or its string becomes another. The others stay.
 fn edit_element<'a>(
     edit: StringEdit<'_, '_, '_>,
-    parts: &[Part<'a>],
     written: Written,
     element: Element<'_>,
+    parts: &[Part<'a>],
     out: &mut Parts<'a>,
 ) -> Result<Written, NoMemory>
     requires within { IsWithin written (length parts.now) }
@@ -57,8 +57,8 @@ fn edit_element<'a>(
 // The elements of a list part, up to their end.
 fn edit_list<'a>(
     edit: StringEdit<'_, '_, '_>,
-    parts: &[Part<'a>],
     written: Written,
+    parts: &[Part<'a>],
     out: &mut Parts<'a>,
 ) -> Result<Written, NoMemory>
     requires { IsWithin written (length parts.now) }
@@ -71,7 +71,7 @@ fn edit_list<'a>(
 {
     let mut next = written;
     while let Some(element) = next_element(parts, next.at) {
-        let edited = edit_element(edit, parts, next, element, out)?;
+        let edited = edit_element(edit, next, element, parts, out)?;
         next = edited;
     }
     Ok(next)
@@ -95,7 +95,7 @@ pub fn edit_value<'a>(
     let mut list = first_list(parts, written.at);
     while let Some(from) = list {
         let start = Written { at: from, ..next };
-        let edited = edit_list(edit, parts, start, out)?;
+        let edited = edit_list(edit, start, parts, out)?;
         list = next_list(parts, edited.at);
         next = edited;
     }

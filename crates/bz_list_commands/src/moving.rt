@@ -9,8 +9,7 @@ ghost use Rattle.bz_attribute.specs.RowEdits.{IsRowEdit, replaced_at};
 ghost use Rattle.bz_attribute.specs.RowPlaces.{IsRuleRow};
 ghost use Rattle.bz_attribute.specs.Rules.{Rule};
 ghost use Rattle.bz_attribute.specs.Move as spec;
-ghost use Rattle.bz_list_commands.specs.private.ListPlaces.{IsListAt, IsTarget};
-ghost use Rattle.bz_list_commands.specs.private.MoveSteps.{AreWithin, parts_at};
+ghost use Rattle.bz_list_commands.specs.private.MoveSteps.{AreFound, AreWithin, HasPut, parts_at};
 ghost use Rattle.bz_list_commands.specs.private.StringEdits.{is_meant, literal_of, means};
 
 use crate::arrivals::{Lists, arrivals};
@@ -70,10 +69,7 @@ fn move_chosen<'a>(
     written: &mut Parts<'a>,
 ) -> Result<Edit, NoMemory>
     requires within { (lists.from ≤ length parts.now) × (IfSome lists.to (λ to. to ≤ length parts.now)) }
-    requires from { (s : Statement) (r : Rule) → IsRuleRow s r (map part_view parts.now)
-        → IsListAt change.old.now s r (map part_view parts.now) lists.from }
-    requires to { (s : Statement) (r : Rule) → IsRuleRow s r (map part_view parts.now)
-        → IsTarget change.new.now s r (map part_view parts.now) lists.to }
+    requires found { AreFound change.old.now change.new.now lists (map part_view parts.now) }
     ensures { IfOk result (IsRowEdit
         (spec.moved_where env.entry.home.now change.entry.old.now change.entry.new.now change.entry.moved.now)
         (λ args. done Nothing (spec.moves env.entry.home.now change.entry.old.now change.entry.moved.now args))
@@ -82,29 +78,26 @@ fn move_chosen<'a>(
     match change.moved {
         Moved::All => {
             let meant = Meant::Any;
-            move_meant(StringEdit { env, meant }, change, lists, parts, written)
+            move_meant(lists, change, StringEdit { env, meant }, parts, written)
         }
         Moved::Values(values) => {
             let words = WordSet::new(env.alloc, env.home, values.as_slice())?;
             let meant = Meant::Words(&words);
-            move_meant(StringEdit { env, meant }, change, lists, parts, written)
+            move_meant(lists, change, StringEdit { env, meant }, parts, written)
         }
     }
 }
 
 // The same of the elements that are meant: they go, and then those that arrive are put into the rule that is left.
 fn move_meant<'a>(
-    edit: StringEdit<'_, '_, '_>,
-    change: Move<'_>,
     lists: Lists,
+    change: Move<'_>,
+    edit: StringEdit<'_, '_, '_>,
     parts: &[Part<'a>],
     written: &mut Parts<'a>,
 ) -> Result<Edit, NoMemory>
     requires within { (lists.from ≤ length parts.now) × (IfSome lists.to (λ to. to ≤ length parts.now)) }
-    requires from { (s : Statement) (r : Rule) → IsRuleRow s r (map part_view parts.now)
-        → IsListAt change.old.now s r (map part_view parts.now) lists.from }
-    requires to { (s : Statement) (r : Rule) → IsRuleRow s r (map part_view parts.now)
-        → IsTarget change.new.now s r (map part_view parts.now) lists.to }
+    requires found { AreFound change.old.now change.new.now lists (map part_view parts.now) }
     ensures { IfOk result (λ e. (moved : Choice) → literal_of edit.entry ≡ Nothing
         → is_meant (means edit.entry) ≡ is_chosen edit.entry.env.home.now moved
         → IsRowEdit (spec.moved_where edit.entry.env.home.now change.entry.old.now change.entry.new.now moved)
@@ -161,16 +154,15 @@ fn push_places<'a>(
 // Writes the parts `left` of a rule with elements, which stand in places of `parts`, in a new attribute.
 fn write_new<'a>(
     attr: &str,
+    left: &[Part<'a>],
     parts: &[Part<'a>],
     elements: &[Place],
-    left: &[Part<'a>],
     written: &mut Parts<'a>,
 ) -> Result<(), NoMemory>
-    requires { AreWithin elements.now (length parts.now) }
-    ensures { OnOk result ((ss : List Segment) (s : Statement) (r : Rule)
-        → parts_at (map part_view parts.now) elements.now ≡ segs_parts (segs_of ss)
-        → IsRuleRow s r (map part_view left.now) → has attr.now r.args ≡ false
-        → map part_view written.new.items ≡ parts_of (with_args (spec.put_in attr.now ss) s)) }
+    requires within { AreWithin elements.now (length parts.now) }
+    requires absent { (s : Statement) (r : Rule) → IsRuleRow s r (map part_view left.now) → has attr.now r.args ≡ false }
+    ensures { OnOk result (HasPut attr.now (map part_view parts.now) elements.now
+        (map part_view left.now) (map part_view written.new.items)) }
 {
     let place = place_of(left, attr);
     written.clear();
@@ -212,13 +204,11 @@ fn write_with<'a>(
     written: &mut Parts<'a>,
 ) -> Result<(), NoMemory>
     requires { AreWithin elements.now (length parts.now) }
-    ensures { OnOk result ((ss : List Segment) (s : Statement) (r : Rule)
-        → parts_at (map part_view parts.now) elements.now ≡ segs_parts (segs_of ss)
-        → IsRuleRow s r (map part_view left.now)
-        → map part_view written.new.items ≡ parts_of (with_args (spec.put_in attr.now ss) s)) }
+    ensures { OnOk result (HasPut attr.now (map part_view parts.now) elements.now
+        (map part_view left.now) (map part_view written.new.items)) }
 {
     match list_place(left, attr) {
-        ListPlace::Absent => write_new(attr, parts, elements, left, written),
+        ListPlace::Absent => write_new(attr, left, parts, elements, written),
         ListPlace::NoList => write_at(0, parts, &[], left, written),
         ListPlace::At(list) => write_at(elements_end(left, list), parts, elements, left, written),
     }

@@ -2,9 +2,9 @@
 
 ghost use Rattle.std.specs.Prelude.{◌≡◌, ◌||◌, None as Nothing, Some as Something, map, option_map};
 ghost use Rattle.std.specs.List.{list_any};
+ghost use Rattle.bz_list_commands.specs.private.StringEdits as spec;
 ghost use Rattle.bz_command.specs.Values.{quoted};
 ghost use Rattle.bz_tree.specs.Rows.{part_view};
-ghost use Rattle.bz_list_commands.specs.private.StringEdits as spec;
 
 use bz_attribute::equals::text_equals;
 use bz_attribute::{Env, WordSet};

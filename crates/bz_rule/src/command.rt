@@ -7,6 +7,7 @@ ghost use Rattle.bz_attribute.specs.RowEdits.{IsRowEdit};
 ghost use Rattle.bz_rule.specs.Commands as spec;
 ghost use Rattle.bz_rule.specs.OneAttribute.{one_attribute};
 ghost use Rattle.bz_rule.specs.declared.command.Action.TheVariants.{Set};
+ghost use Rattle.bz_rule.specs.declared.command.CommandFault.TheVariants.{OutOfMemory};
 ghost use Rattle.bz_rule.specs.private.RowEdits.{edits_arguments};
 
 use crate::reader::{
@@ -137,9 +138,6 @@ pub enum CommandFault {
 }
 
 impl From<NoMemory> for CommandFault {
-    ghost use Rattle.std.specs.Prelude.{◌≡◌};
-    ghost use Rattle.bz_rule.specs.declared.command.CommandFault.TheVariants.{OutOfMemory};
-
     ghost from_gives = { λ why e. e ≡ OutOfMemory why };
 
     fn from(why: NoMemory) -> CommandFault {

@@ -1,16 +1,19 @@
 -- For private clauses alone: which of the elements that leave arrive, and where they come to stand.
 use Rattle.std.specs.Prelude.{◌≡◌, ℕ, ◌-◌, ◌≤◌, List, [], ◌∷◌, ◌++◌, Bool, false, ◌||◌, ◌&&◌, not, if◌then◌else◌, Option, Some, None, take, drop, filter}
 use Rattle.std.specs.List.{All, flat_map}
-use Rattle.bz_tree.specs.Rows.{RowPart, segs_parts}
-use Rattle.bz_tree.specs.Tree.{Segment, segs_of}
+use Rattle.bz_tree.specs.Rows.{RowPart, parts_of, segs_parts}
+use Rattle.bz_tree.specs.Tree.{Segment, Statement, segs_of}
 use Rattle.bz_command.specs.Labels.{Package}
 use Rattle.bz_command.specs.LabelSetViews.{has}
 use Rattle.bz_command.specs.declared.label_set.LabelSet.{LabelSet}
 use Rattle.bz_attribute.specs.Elements.{AreLists, ListRest, elements_left, rest_parts}
 use Rattle.bz_attribute.specs.Lists.{equals}
-use Rattle.bz_attribute.specs.Move.{arrivals}
-use Rattle.bz_attribute.specs.Rules.{string_value}
+use Rattle.bz_attribute.specs.Effects.{with_args}
+use Rattle.bz_attribute.specs.Move.{arrivals, put_in}
+use Rattle.bz_attribute.specs.RowPlaces.{IsRuleRow}
+use Rattle.bz_attribute.specs.Rules.{Rule, string_value}
 use Rattle.bz_attribute.specs.declared.place.Place.{Place}
+use Rattle.bz_list_commands.specs.private.ListPlaces.{IsListAt, IsTarget}
 use Rattle.bz_list_commands.specs.private.StringEdits.{is_meant}
 use Rattle.bz_list_commands.specs.declared.arrivals.Lists.{Lists}
 
@@ -51,3 +54,13 @@ abbrev pub HaveArrivals : Package → (Option (List ℕ) → Bool) → Lists →
 HaveArrivals home p at ps places =
     (l : ListRest) (after : List RowPart) (lists : List (List Segment)) → drop at.from ps ≡ rest_parts l after → AreLists ps at.to lists
     → parts_at ps places ≡ segs_parts (segs_of (arrivals home (flat_map (λ ss. ss) lists) (filter (is_meant p) (elements_left l))))
+
+-- the lists from which and to which elements go stand there
+abbrev pub AreFound : List ℕ → List ℕ → Lists → List RowPart → Type 0
+AreFound old new at ps =
+    ((s : Statement) (r : Rule) → IsRuleRow s r ps → IsListAt old s r ps at.from) × ((s : Statement) (r : Rule) → IsRuleRow s r ps → IsTarget new s r ps at.to)
+
+-- the elements that stand there came to an attribute of the rule that has the parts `left`
+abbrev pub HasPut : List ℕ → List RowPart → List Place → List RowPart → List RowPart → Type 0
+HasPut attr ps places left out =
+    (ss : List Segment) (s : Statement) (r : Rule) → parts_at ps places ≡ segs_parts (segs_of ss) → IsRuleRow s r left → out ≡ parts_of (with_args (put_in attr ss) s)

@@ -8,14 +8,13 @@ ghost use Rattle.bz_command.specs.declared.arguments.Attributes.TheVariants.{Eve
 ghost use Rattle.bz_command.specs.declared.arguments.Setting.TheVariants.{ToKind, ToValues};
 ghost use Rattle.bz_command.specs.declared.arguments.Moved.TheVariants.{Values};
 ghost use Rattle.bz_rule.specs.declared.command.Action.TheVariants.{Add, Set};
-ghost use Rattle.bz_attribute.specs.Add as add;
-ghost use Rattle.bz_attribute.specs.Effects as effects;
-ghost use Rattle.bz_attribute.specs.Remove as remove;
 ghost use Rattle.bz_command.specs.Labels.{Package};
 ghost use Rattle.bz_attribute.specs.Lists.{is_attribute};
 ghost use Rattle.bz_attribute.specs.Rules.{first_named, is_named};
 ghost use Rattle.bz_token.specs.Common.{map_or};
-ghost use Rattle.bz_attribute.specs.Effects.{edit_first};
+ghost use Rattle.bz_attribute.specs.Add as add;
+ghost use Rattle.bz_attribute.specs.Effects as effects;
+ghost use Rattle.bz_attribute.specs.Remove as remove;
 
 /// Where `add` does not fail, an element equals each of its values afterwards, so `remove` finds them.
 pub fn added_values_are_found()
@@ -58,6 +57,6 @@ pub fn removed_is_gone()
         ≡ false }
     ensures rest { (home : Package) (attr : List ℕ) (values : List (List ℕ)) (front rest : List Segment) (a : Segment)
         → effects.has attr front ≡ false → is_named attr a ≡ true
-        → edit_first (is_named attr) (effects.filtered (effects.unchosen home (Values values))) (front ++ a ∷ rest)
+        → effects.edit_first (is_named attr) (effects.filtered (effects.unchosen home (Values values))) (front ++ a ∷ rest)
         ≡ front ++ (effects.filtered (effects.unchosen home (Values values)) a ++ rest) }
 {}

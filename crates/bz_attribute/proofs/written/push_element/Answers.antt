@@ -1,4 +1,4 @@
-use Rattle.std.proofs.Common.{◌≡◌, ◌∙◌, ◌++◌, ◌∷◌, [], ℕ, List, ap, map, append_assoc}
+use Rattle.std.proofs.Common.{◌∙◌, ◌++◌, ◌∷◌, [], List, ap, map, append_assoc}
 use Rattle.bz_token.specs.declared.token.Kind.TheVariants.{String as StringKind}
 use Rattle.bz_command.specs.Values.{quoted}
 use Rattle.bz_tree.specs.Rows.{RowPart, a_token, part_view, segment_end}

@@ -1,6 +1,6 @@
-use Rattle.std.proofs.Common.{◌≡◌, ◌∙◌, ◌++◌, ◌∷◌, [], ℕ, List, ap, map}
+use Rattle.std.proofs.Common.{◌∙◌, ◌++◌, ◌∷◌, [], ℕ, List, ap, map}
 use Rattle.bz_token.specs.declared.token.Kind.TheVariants.{String as StringKind}
-use Rattle.bz_tree.specs.Rows.{RowPart, a_token, part_view}
+use Rattle.bz_tree.specs.Rows.{a_token, part_view}
 use Rattle.bz_attribute.proofs.Slices.{one_more}
 use Rattle.bz_attribute.proofs.written.push_string.Goals as goal
 

@@ -1,5 +1,5 @@
-use Rattle.std.proofs.Common.{◌≡◌, ◌∙◌, ◌++◌, ◌∷◌, [], ℕ, List, ap, map}
-use Rattle.bz_tree.specs.Rows.{RowPart, a_token, part_view}
+use Rattle.std.proofs.Common.{◌∙◌, ◌++◌, ◌∷◌, [], ℕ, List, ap, map}
+use Rattle.bz_tree.specs.Rows.{a_token, part_view}
 use Rattle.bz_attribute.proofs.Slices.{one_more}
 use Rattle.bz_attribute.proofs.written.push_token.Goals as goal
 

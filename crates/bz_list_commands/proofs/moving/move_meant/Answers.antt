@@ -34,5 +34,5 @@ returns c moved plain same =
     has_moved home c.args.change.old.now c.args.change.new.now moved p c.args.lists ps one (map part_view c.deref-3.result.now) (map part_view c.write_with.new.written.items) c.deref-2.result.now c.in_ok-gone.gone c.at.result same gone
     (not-false c.in_ok-gone.gone.done.changed c.if-not-gone.false)
     (ap (map part_view) c.deref-3.ensures.value ∙ c.in_ok-left.ensures ∙ (λ i. replaced_at c.in_ok-gone.gone.place (map part_view (c.deref.ensures.value i)) ps))
-    c.requires.from c.requires.to (subst (λ (places : List Place). HaveArrivals home p c.args.lists ps places) (sym c.deref-2.ensures.value) c.in_ok-arriving.ensures.arrivals) c.in_ok-write_with.ensures
+    c.requires.found.0 c.requires.found.1 (subst (λ (places : List Place). HaveArrivals home p c.args.lists ps places) (sym c.deref-2.ensures.value) c.in_ok-arriving.ensures.arrivals) c.in_ok-write_with.ensures
     (c.at.ensures ∙ ap (λ (n : ℕ). record { done = done None true; place = record { from = 0; to = n } }) (sym (length-map c.args.parts.now part_view)))

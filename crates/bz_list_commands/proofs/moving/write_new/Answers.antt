@@ -12,7 +12,7 @@ use Rattle.bz_list_commands.proofs.Named.{put_local}
 use Rattle.bz_list_commands.proofs.moving.write_new.Goals as goal
 
 pub returns : goal.returns
-returns c ss s r are row none =
+returns c ss s r are row =
     let attr = c.args.attr.now in
     let place = c.place_of-place.result in
     let new = argument attr (list_item ss ∷ []) ∷ [] in
@@ -21,4 +21,4 @@ returns c ss s r are row none =
     (attribute_written attr ss (map part_view c.extend_from_slice.new.list.items) (map part_view c.open_attribute.new.written.items) (map part_view c.push_places.new.written.items) (map part_view c.close_attribute.new.written.items)
     c.in_ok-open_attribute.ensures (c.in_ok-push_places.ensures ∙ ap (λ (qs : List RowPart). map part_view c.open_attribute.new.written.items ++ qs) are) c.in_ok-close_attribute.ensures)
     c.in_ok-extend_from_slice-2.ensures.items
-    ∙ put_new attr (put_in attr ss) s r (map part_view c.args.left.now) (segs_parts (segs_of new)) place (put_local attr (λ a. with_value (edit_first_part (λ there. there ++ ss) (value a)) a ∷ []) new) none (c.place_of-place.ensures.place s r row) refl
+    ∙ put_new attr (put_in attr ss) s r (map part_view c.args.left.now) (segs_parts (segs_of new)) place (put_local attr (λ a. with_value (edit_first_part (λ there. there ++ ss) (value a)) a ∷ []) new) (c.requires.absent s r row) (c.place_of-place.ensures.place s r row) refl

@@ -8,9 +8,6 @@ use Rattle.bz_list_commands.proofs.Adding.{put_there}
 use Rattle.bz_list_commands.proofs.MovedRules.{put_nowhere}
 use Rattle.bz_list_commands.proofs.moving.write_with.Goals as goal
 
-pub returns-in-Absent : goal.returns-in-Absent
-returns-in-Absent c = on_ok_weaker c.write_new.result (λ written. λ ss s r are row. written ss s r are row (c.in-Absent.ensures.place s r row)) c.write_new.ensures
-
 pub returns-in-NoList : goal.returns-in-NoList
 returns-in-NoList c = on_ok_weaker c.write_at.result (λ written. λ ss s r are row. written ∙ put_nowhere c.args.attr.now ss s r (map part_view c.args.left.now) row (c.in-NoList.ensures.place s r row)) c.write_at.ensures
 
