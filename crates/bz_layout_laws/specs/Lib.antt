@@ -14,3 +14,4 @@ pub mod WellFormed
 pub mod EachText
 pub mod BlockIn
 pub mod KeptBlock
+pub mod FreeLayout
