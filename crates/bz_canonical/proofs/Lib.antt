@@ -11,3 +11,6 @@ pub mod CanonicalChunks
 pub mod Places
 pub mod ArgumentLines
 pub mod SmallRules
+pub mod SingleStrings
+pub mod OwnLayout
+pub mod ElementLists

@@ -90,5 +90,5 @@ none_alone [] = refl
 none_alone (x ∷ xs) = by (argument_lines (x ∷ xs)) (no_lines (x ∷ xs))
   where
     by : (lines : List ℕ) → (lines ≡ [] → x ∷ xs ≡ []) → is_empty lines ≡ false
-    by [] none = absurd (none refl)
+    by [] none = let no : x ∷ xs ≡ [] = none refl in absurd cc
     by (b ∷ bs) none = refl

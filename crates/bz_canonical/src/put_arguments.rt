@@ -1,7 +1,7 @@
 //! The arguments of a rule as they would be written, where lists of strings among them stand otherwise.
 
 ghost use Rattle.std.specs.Prelude.{◌≡◌, ◌<◌, ◌∷◌, ◌++◌, ℕ, List, length, option_map, IfOk, IfSome};
-ghost use Rattle.bz_canonical.specs.private.Rewritten.{AreArgumentsRead, AreOthersRead, IsArgumentRead, IsNamedRead, put_ends};
+ghost use Rattle.bz_canonical.specs.private.Rewritten.{AreArgumentsRead, AreOthersRead, IsArgumentRead, IsHeadRead, IsNamedRead, put_ends};
 
 use crate::arguments::{Lines, argument};
 use crate::front::{after, after_equals, before, identifier, line};
@@ -53,6 +53,7 @@ struct ListValue<'t> {
 
 /// The value of the argument here.
 fn list_value<'t>(text: &'t [u8], attr: &[u8]) -> Option<ListValue<'t>>
+    ensures { IfSome result (λ list. IsHeadRead attr.now text.now list.value.now list.named) }
 {
     let above = notes(text, 1);
     let inner = line(above.rest, 1)?;
@@ -156,7 +157,8 @@ fn put_others<'t>(
 
 /// The arguments end here.
 #[inline(always)]
-fn is_end(text: &[u8]) -> bool {
+fn is_end(text: &[u8]) -> bool
+{
     matches!(text, [b'\n', b')', ..])
 }
 

@@ -1,5 +1,8 @@
 //! A rule as it would be written, where lists of strings in it stand otherwise.
 
+ghost use Rattle.std.specs.Prelude.{◌≡◌, ◌+◌, ◌<◌, codes, option_map, IfOk, IfSome, bytes_eq, false};
+ghost use Rattle.bz_canonical.specs.private.Rewritten.{IsRuleEnd, IsRuleHead, IsRuleRead, put_ends};
+
 use crate::front::{after, after_name, before, identifier, line, simple_string};
 use crate::notes::{beside, lines};
 use crate::put_arguments::{PutPlace, put_arguments};
@@ -22,6 +25,8 @@ pub(crate) fn put_rule<'t>(
     written: &mut Vec<u8>,
 ) -> Result<Option<PutRule<'t>>, NoMemory>
     requires { depth < 253 }
+    ensures { IfOk result (λ told. IfSome told (λ read. IsRuleRead (depth + 1) attr.now read.name.now text.now read.rest.now
+        written.new.items (option_map put_ends read.place))) }
 {
     let Some(head) = rule_head(text) else {
         return Ok(None);
@@ -58,7 +63,9 @@ struct RuleHead<'t> {
     rest: &'t [u8],
 }
 
-fn rule_head(text: &[u8]) -> Option<RuleHead<'_>> {
+fn rule_head(text: &[u8]) -> Option<RuleHead<'_>>
+    ensures { IfSome result (λ head. IsRuleHead text.now head.name.now head.rest.now) }
+{
     let start = lines(text);
     let bracket = identifier(start)?;
     let inside = after(bracket, b'(')?;
@@ -73,7 +80,9 @@ fn rule_head(text: &[u8]) -> Option<RuleHead<'_>> {
 }
 
 /// What follows the bracket that closes a rule, the comment beside it and its newline.
-fn rule_end(text: &[u8]) -> Option<&[u8]> {
+fn rule_end(text: &[u8]) -> Option<&[u8]>
+    ensures { IfSome result (λ rest. IsRuleEnd text.now rest.now) }
+{
     let end = line(text, 0)?;
     let close = after(end, b')')?;
     let side = beside(close)?;
@@ -83,6 +92,8 @@ fn rule_end(text: &[u8]) -> Option<&[u8]> {
 
 /// The place of an argument that is not the name.
 fn place_of_other<'t>(place: PutPlace<'t>, attr: &[u8]) -> Option<PutPlace<'t>>
+    ensures { IfSome (option_map put_ends result) (λ kept. (bytes_eq attr.now (codes "name") ≡ false)
+        × (put_ends place.entry ≡ kept)) }
 {
     if attr == b"name".as_slice() {
         return None;

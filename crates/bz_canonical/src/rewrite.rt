@@ -1,7 +1,8 @@
 //! The rule that a text begins with, where it stands as it would be written but for lists of strings.
 
-ghost use Rattle.std.specs.Prelude.{◌≡◌, option_map, IfOk, IfSome};
+ghost use Rattle.std.specs.Prelude.{◌≡◌, ℕ, List, option_map, IfOk, IfSome};
 ghost use Rattle.bz_canonical.specs.Canonical.{IsCanonical, between};
+ghost use Rattle.bz_canonical.specs.private.Rewritten.{IsPutPlaceIn, IsRuleRead, put_ends};
 
 use crate::chunk::{ArgumentPlace, CanonicalChunk, DEEPEST, without};
 use crate::put_arguments::PutPlace;
@@ -35,7 +36,11 @@ pub fn rewritten<'t>(
 }
 
 /// The chunk of the rule of which this is written.
-fn chunk_of<'t>(text: &'t str, written: &'t [u8], read: PutRule<'t>) -> Option<CanonicalChunk<'t>> {
+fn chunk_of<'t>(text: &'t str, written: &'t [u8], read: PutRule<'t>) -> Option<CanonicalChunk<'t>>
+    ensures { IfSome result (λ found. (depth : ℕ) (attr : List ℕ) → IsRuleRead depth attr read.entry.name.now text.now
+        read.entry.rest.now written.now (option_map put_ends read.entry.place) → IsCanonical depth attr found.class
+        (option_map (λ name. name.now) found.name) (option_map between found.place) found.chunk.now found.written.now text.now) }
+{
     let chunk = without(text, read.rest.len())?;
     let Ok(all) = check_utf8(written) else {
         return None;
@@ -58,6 +63,7 @@ fn place_in_both<'t>(
     written: &'t str,
     place: Option<PutPlace<'_>>,
 ) -> Option<ArgumentPlace<'t>>
+    ensures { IsPutPlaceIn text.now written.now (option_map put_ends place.entry) (option_map between result) }
 {
     let PutPlace { lines, start, end } = place?;
     let front = without(text, lines.to.len())?;
