@@ -23,7 +23,7 @@ use Rattle.bz_canonical.proofs.Places.{place_cut}
 use Rattle.bz_canonical.proofs.Taken.{taken}
 use Rattle.bz_token.specs.Common.{is_empty}
 
-chunk_some : (chunk : List ℕ) → IsChunk chunk → 0 < length chunk
+pub chunk_some : (chunk : List ℕ) → IsChunk chunk → 0 < length chunk
 chunk_some [] ends = let none : [] ≡ [] ∷ chunks [] = ends [] in absurd cc
 chunk_some (b ∷ bs) ends = omega arith
 

@@ -1,25 +1,25 @@
 -- Lists of strings by what was read of them.
-use Rattle.std.proofs.Common.{◌≡◌, ℕ, suc, ◌+◌, List, [], ◌∷◌, ◌++◌, length, Bool, true, false, ◌||◌, ◌&&◌, refl, sym, ap, ◌∙◌, arith, append_assoc, append-nil, subst}
+use Rattle.std.proofs.Common.{◌≡◌, ℕ, suc, ◌+◌, ◌-◌, take, List, [], ◌∷◌, ◌++◌, length, Bool, true, false, ◌||◌, ◌&&◌, refl, sym, ap, ◌∙◌, arith, append_assoc, append-nil}
 use Rattle.std.specs.Prelude.{codes, flat_map, nat_le, None, if◌then◌else◌}
 use Rattle.std.specs.List.{list_any}
 use Rattle.std.proofs.lemmas.Bool.{false≢true}
 use Rattle.std.proofs.lemmas.Bool.Decides.{nat_tests}
 use Rattle.std.proofs.lemmas.List.Folds.{list_any-append}
 use Rattle.bz_token.specs.Common.{is_filled}
-use Rattle.bz_token.specs.Lexical.{is_text}
 use Rattle.bz_token.specs.declared.token.Kind.TheVariants.{Operator, String}
 use Rattle.bz_tree.specs.declared.stmt.GroupKind.TheVariants.{List as ListKind}
 use Rattle.bz_layout.specs.Broken.{count, have_comments, is_broken}
-use Rattle.bz_layout.specs.Layout.{breaks, broken_segs, flat_segs, item_pieces}
+use Rattle.bz_layout.specs.Layout.{breaks, broken_segs, item_pieces}
 use Rattle.bz_layout.specs.Pieces.{Piece, piece, bytes_of, comments, indent, suffix_piece}
 use Rattle.bz_layout.specs.Respell.{respell}
 use Rattle.bz_layout.specs.declared.broken.Style.TheVariants.{Broken}
-use Rattle.bz_layout.specs.declared.spacing.Gap.TheVariants.{Closed, Line, Space}
+use Rattle.bz_layout.specs.declared.spacing.Gap.TheVariants.{Closed, Line}
 use Rattle.bz_layout.proofs.Pieces.{bytes_append}
-use Rattle.bz_layout_laws.specs.FreeLayout.{broken_by, flat_by, free, item_by, own}
-use Rattle.bz_layout_laws.specs.Legible.{AreComments}
+use Rattle.bz_layout_laws.specs.FreeLayout.{broken_by, flat_by}
 use Rattle.bz_canonical.specs.private.Rewritten.{AreElements, AreInPlaceRead, AreLinesRead, Element, IsElementRead, IsListRead, IsStringRead, as_is, element_line, element_lines, element_list, element_segs, elements_as_is, is_noted, others_in_place}
+use Rattle.bz_canonical.specs.private.Segments.{AreNotesFront, IsBesideFront}
 use Rattle.bz_canonical.proofs.GroupSegments.{or_no, second_of_more}
+use Rattle.bz_canonical.proofs.Taken.{taken}
 
 -- their texts
 
@@ -188,9 +188,12 @@ place_list text middle rest w two l some ends =
       spells = ap (λ (t : List ℕ). 91 ∷ (t ++ closed)) l.spells ∙ sym (written_broken all (or_yes (list_any is_noted all) (nat_le 2 (length all)) (sym l.two_is ∙ some)));
     }
   where
+    last : (T O : List ℕ) → 91 ∷ (T ++ (O ++ (93 ∷ rest))) ≡ (91 ∷ (T ++ (O ++ 93 ∷ []))) ++ rest
+    last T O = simp append_assoc
+
     by : (P : List Piece) → bytes_of P ≡ others_in_place l.others
         → 91 ∷ (l.first.token ++ (others_in_place l.others ++ (93 ∷ rest))) ≡ bytes_of (piece Closed Operator (codes "[") ∷ ((piece Closed String l.first.token ∷ P) ++ (piece Closed Operator (codes "]") ∷ []))) ++ rest
-    by P is = rw (bytes_append P (piece Closed Operator (codes "]") ∷ []), is) (simp append_assoc)
+    by P is = rw (bytes_append P (piece Closed Operator (codes "]") ∷ []), is) (last l.first.token (others_in_place l.others))
 
 pub one_in_place : (text middle rest w : List ℕ) → IsStringRead text middle w → middle ≡ 93 ∷ rest → IsListRead (91 ∷ text) rest (91 ∷ (w ++ 93 ∷ []))
 one_in_place text middle rest w s ends = record {
@@ -217,3 +220,29 @@ one_on_line text end back rest w line s ends = record {
   where
     by : 91 ∷ (10 ∷ (indent 2 ++ (s.token ++ (44 ∷ 10 ∷ (indent 1 ++ 93 ∷ rest))))) ≡ (91 ∷ (10 ∷ (indent 2 ++ (s.token ++ (44 ∷ 10 ∷ (indent 1 ++ 93 ∷ [])))))) ++ rest
     by = simp append_assoc
+
+-- what is put after a text, and then after that
+pub put_two : (a b c x y : List ℕ) → b ≡ a ++ x → c ≡ b ++ y → c ≡ a ++ (x ++ y)
+put_two a b c x y first second = second ∙ ap (λ (t : List ℕ). t ++ y) first ∙ append_assoc a x y
+
+pub put_three : (a b c d x y z : List ℕ) → b ≡ a ++ x → c ≡ b ++ y → d ≡ c ++ z → d ≡ a ++ (x ++ (y ++ z))
+put_three a b c d x y z first second third = put_two a c d (x ++ y) z (put_two a b c x y first second) third ∙ ap (λ (t : List ℕ). a ++ t) (append_assoc x y z)
+
+-- an element with its comments
+pub element_read : (text below inner end comma next front back w : List ℕ) (d e k : Bool) → AreNotesFront 2 text below d → below ≡ 10 ∷ (indent 2 ++ inner) → front ≡ take (length text - length inner) text
+    → IsStringRead inner end w → end ≡ 44 ∷ comma → IsBesideFront comma next e → back ≡ take (length end - length next) end → k ≡ (d || e) → IsElementRead text next (front ++ (w ++ back)) k
+element_read text below inner end comma next front back w d e k above line front_is s is side back_is noted_is =
+    let C : List ℕ = bytes_of (comments 2 above.notes) in
+    let S : List ℕ = bytes_of (suffix_piece side.note) in
+    let begins : text ≡ (C ++ (10 ∷ indent 2)) ++ inner = above.front ∙ ap (λ (t : List ℕ). C ++ t) line ∙ sym (append_assoc C (10 ∷ indent 2) inner) in
+    let ends : end ≡ (44 ∷ S) ++ next = is ∙ ap (λ (t : List ℕ). 44 ∷ t) side.front in
+    record {
+      element = record { before = above.notes; token = s.token; suffix = side.note };
+      are = (above.are, s.is, side.is, tt);
+      front = begins ∙ ap (λ (t : List ℕ). (C ++ (10 ∷ indent 2)) ++ t) (s.front ∙ ap (λ (t : List ℕ). s.token ++ t) ends) ∙ whole C S;
+      spells = (λ i. (front_is ∙ taken text (C ++ (10 ∷ indent 2)) inner begins) i ++ (s.spells i ++ (back_is ∙ taken end (44 ∷ S) next ends) i)) ∙ append_assoc C (10 ∷ indent 2) (respell String s.token ++ (44 ∷ S));
+      noted_is = (λ i. above.some_is i || side.some_is i) ∙ sym noted_is;
+    }
+  where
+    whole : (C S : List ℕ) → (C ++ (10 ∷ indent 2)) ++ (s.token ++ ((44 ∷ S) ++ next)) ≡ (C ++ (10 ∷ (indent 2 ++ (s.token ++ (44 ∷ S))))) ++ next
+    whole C S = simp append_assoc

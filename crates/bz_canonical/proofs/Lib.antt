@@ -14,3 +14,5 @@ pub mod SmallRules
 pub mod SingleStrings
 pub mod OwnLayout
 pub mod ElementLists
+pub mod PutArguments
+pub mod PutRules

@@ -1,5 +1,5 @@
 -- A text in single quotes that double quotes would leave as it is is a string, and is written in double quotes.
-use Rattle.std.proofs.Common.{take, drop, take-append-drop, append_assoc, ◌≡◌, ℕ, ◌==◌, ◌&&◌, List, [], ◌∷◌, ◌++◌, true, false, not, refl, sym, ap, ◌∙◌, bytes_eq, rules}
+use Rattle.std.proofs.Common.{take, drop, take-append-drop, append_assoc, ◌≡◌, ℕ, ◌==◌, ◌&&◌, List, [], ◌∷◌, ◌++◌, true, not, refl, sym, ap, ◌∙◌, bytes_eq, rules}
 use Rattle.std.specs.Prelude.{Some, if◌then◌else◌}
 use Rattle.std.specs.List.{list_all, prefix_len}
 use Rattle.std.proofs.lemmas.Bool.{and_parts, not-true}

@@ -15,4 +15,3 @@ pub mod WellFormed
 pub mod EachText
 pub mod BlockIn
 pub mod KeptBlock
-pub mod FreeLayout

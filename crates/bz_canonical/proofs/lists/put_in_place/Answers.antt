@@ -1,9 +1,13 @@
-use Rattle.std.proofs.Common.{rules, ◌≡◌, ◌∷◌, ◌++◌, [], ℕ, List, IfOk, IfSome, OnOk, ◌+◌, ◌-◌, ◌*◌, ◌<◌, ◌≤◌, length, ◌/◌, ◌%◌, Bool, true, false, nat_eq, nat_lt, slice_index_or, slice_set, bit_and, bit_or, Fits, w8, w32, w64, Bor, MutBor}
-use Rattle.bz_layout.specs.Pieces.{indent}
-use Rattle.bz_canonical.specs.private.Segments.{IsBesideFront}
-use Rattle.bz_canonical.specs.private.Rewritten.{AreInPlaceRead, AreLinesRead, IsElementRead, IsListRead, IsStringRead, spelling}
+use Rattle.std.proofs.Common.{◌∷◌, ◌++◌, []}
+use Rattle.bz_canonical.specs.private.Rewritten.{spelling}
+use Rattle.bz_canonical.proofs.ElementLists.{one_in_place, put_two}
 use Rattle.bz_canonical.proofs.lists.put_in_place.Goals as goal
 
--- src/lists.rt:206:1
 pub returns-in_ok-push-in-Some-after : goal.returns-in_ok-push-in-Some-after
-returns-in_ok-push-in-Some-after c = ?
+returns-in_ok-push-in-Some-after c =
+    let first = c.in-Some.first in
+    let w = spelling first.single first.body.now in (
+      w ++ 93 ∷ [],
+      put_two c.args.written.now.items c.put_string.new.written.items c.push.new.list.items w (93 ∷ []) c.in_ok-put_string-in-Some-after.ensures c.in_ok-push-in-Some-after.ensures.items,
+      one_in_place c.args.inside.now first.rest.now c.in-Some-after.rest.now w c.in-Some.ensures c.in-Some-after.ensures,
+    )
