@@ -23,7 +23,7 @@ use Rattle.bz_canonical.proofs.Places.{place_cut}
 use Rattle.bz_canonical.proofs.Taken.{taken}
 use Rattle.bz_token.specs.Common.{is_empty}
 
-chunk_some : (chunk : List ℕ) → IsChunk chunk → 0 < length chunk
+pub chunk_some : (chunk : List ℕ) → IsChunk chunk → 0 < length chunk
 chunk_some [] ends = let none : [] ≡ [] ∷ chunks [] = ends [] in absurd cc
 chunk_some (b ∷ bs) ends = omega arith
 
@@ -49,8 +49,8 @@ place_read depth attr s t text written end same whole None g (Some place) is = a
 place_read depth attr s t text written end same whole (Some ends) g None is = tt
 place_read depth attr s t text written end same whole (Some ends) g (Some place) is =
     subst (HasPlace depth attr t) (sym (place_cut text written end ends g.between g.front g.lines g.ends whole place is.0 is.1 is.2)) (record {
-      lines = g.has.lines ∙ ap (λ (z : Statement). argument_lines (first_args attr z)) (sym same);
-      reads = subst (AreReadAlone depth) (ap (λ (z : Statement). first_args attr z) (sym same)) g.has.reads;
+      none = g.has.none ∙ ap (λ (z : Statement). is_empty (first_args attr z)) (sym same);
+      reads = subst (AreReadAlone depth g.between.lines) (ap (λ (z : Statement). first_args attr z) (sym same)) g.has.reads;
       takes = λ f local some. ap (λ (z : Statement). layout_text (with_args f z)) same ∙ g.has.takes f local (ap (λ (z : Statement). is_empty (f (first_args attr z))) (sym same) ∙ some)
           ∙ ap (λ (z : Statement). g.between.before ++ (argument_lines (f (first_args attr z)) ++ g.between.after)) (sym same);
     })

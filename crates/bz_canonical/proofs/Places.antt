@@ -23,7 +23,7 @@ use Rattle.bz_canonical.specs.private.Arguments.{Ends, HasLines, alone}
 use Rattle.bz_canonical.specs.private.Segments.{AreLinesFront, IsBesideFront}
 use Rattle.bz_canonical.specs.private.Statements.{HasGroupPlace, HasNodesPlace, HasStatementPlace}
 use Rattle.bz_canonical.proofs.ArgumentLines.{counted, lines_append}
-use Rattle.bz_canonical.proofs.SmallRules.{read_alone}
+use Rattle.bz_canonical.proofs.SmallRules.{none_alone, read_alone}
 use Rattle.bz_canonical.proofs.Taken.{taken}
 use Rattle.bz_token.specs.Common.{is_empty, is_filled}
 
@@ -73,7 +73,7 @@ group_place depth attr n args end inside next middle below rest place other insi
       front = ap (λ (t : List ℕ). 40 ∷ t) (inside_is ∙ ap (λ (t : List ℕ). argument_lines (n ∷ []) ++ t) h.front ∙ sym (append_assoc (argument_lines (n ∷ [])) (argument_lines h.before) place.from));
       lines = h.lines ∙ ap (λ xs. argument_lines xs ++ place.to) (sym same);
       ends = h.ends ∙ ap (λ (t : List ℕ). argument_lines h.after ++ t) (notes ∙ ap (λ (t : List ℕ). bytes_of (comments 1 end) ++ t) closes) ∙ simp append_assoc;
-      reads = subst (AreReadAlone (suc depth)) (sym same) (read_alone depth (alone attr args) h.are);
+      reads = subst (λ xs. AreReadAlone (suc depth) (argument_lines xs) xs) (sym same) (read_alone depth (alone attr args) h.are);
       takes = λ f local some.
           let new : List Segment = f (alone attr args) in
           let all : List Segment = n ∷ (h.before ++ (new ++ h.after)) in
@@ -144,7 +144,7 @@ statement_place depth attr s text start middle end rest e above beside ends othe
   lines = g.lines;
   ends = g.ends ∙ ap (λ (t : List ℕ). g.after ++ t) (beside.front ∙ ap (λ (t : List ℕ). bytes_of (suffix_piece beside.note) ++ t) ends) ∙ simp append_assoc;
   has = record {
-    lines = refl;
+    none = none_alone (first_args attr s);
     reads = g.reads;
     takes = λ f local some. by (is_comment s.class) other s.before before_is s.suffix suffix_is (items_pieces Broken 0 None Closed Start (items_of (nodes_after f s.nodes (rule_of s.nodes)))) (argument_lines (f (first_args attr s))) (g.takes f local some);
   };

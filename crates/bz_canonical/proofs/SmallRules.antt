@@ -26,6 +26,7 @@ use Rattle.bz_attribute.proofs.Views.{segments_of}
 use Rattle.bz_canonical.specs.Canonical.{AreReadAlone, argument_lines, small_rule, small_text}
 use Rattle.bz_canonical.specs.private.Segments.{AreSegments}
 use Rattle.bz_canonical.proofs.GroupSegments.{most}
+use Rattle.bz_token.specs.Common.{is_empty}
 
 kind_text : is_text Identifier (codes "k") ≡ true
 unfolding keywords
@@ -59,7 +60,7 @@ written args = by (broken_segs Broken 1 RuleCall true (segs_of args))
       bytes_append P (piece (Line 1) Comment (codes "#") ∷ piece (Line 0) Operator (codes ")") ∷ []),
     ) (simp append_assoc)
 
-pub read_alone : (depth : ℕ) (args : List Segment) → AreSegments RuleCall depth (segs_of args) → AreReadAlone (suc depth) args
+pub read_alone : (depth : ℕ) (args : List Segment) → AreSegments RuleCall depth (segs_of args) → AreReadAlone (suc depth) (argument_lines args) args
 read_alone depth args are = λ first t read.
     let only = formed_only first (suc depth) (small_rule args) t (small_formed depth args are) (subst (λ text. IsStatementIn first (suc depth) text t) (sym (written args)) read) in
     only.0 ∙ ap (λ ss. record { before = []; nodes = leaf Identifier (codes "k") ∷ group RuleCall ss false (codes "#" ∷ []) ∷ []; suffix = None; class = RuleClass; start = 0; end = 0 }) are.stays
@@ -82,3 +83,12 @@ no_lines (x ∷ xs) is = absurd (by (comments 1 x.before) (items_pieces Broken 1
         ap length (bytes_append C (P ++ (piece Closed Operator (codes ",") ∷ R))) ∙ length-append (bytes_of C) (bytes_of (P ++ (piece Closed Operator (codes ",") ∷ R)))
         ∙ ap (λ (n : ℕ). length (bytes_of C) + n) (ap length (bytes_append P (piece Closed Operator (codes ",") ∷ R)) ∙ length-append (bytes_of P) (44 ∷ bytes_of R)) in
         omega (arith, size, ap length none)
+
+-- lines, where there is an argument
+pub none_alone : (args : List Segment) → is_empty (argument_lines args) ≡ is_empty args
+none_alone [] = refl
+none_alone (x ∷ xs) = by (argument_lines (x ∷ xs)) (no_lines (x ∷ xs))
+  where
+    by : (lines : List ℕ) → (lines ≡ [] → x ∷ xs ≡ []) → is_empty lines ≡ false
+    by [] none = let no : x ∷ xs ≡ [] = none refl in absurd cc
+    by (b ∷ bs) none = refl

@@ -11,11 +11,16 @@ mod bare;
 mod chunk;
 mod front;
 mod group;
+mod lists;
 mod load;
 mod notes;
+mod put_arguments;
+mod put_rule;
+mod rewrite;
 mod rule;
 mod segments;
 mod statement;
 mod value;
 
 pub use chunk::{ArgumentPlace, CanonicalChunk, canonical};
+pub use rewrite::rewritten;
