@@ -13,7 +13,7 @@ use Rattle.buildozer.specs.declared.file_run.Ended.TheVariants.{Told, Failed, No
 use Rattle.buildozer.specs.Runs.{Asked, IsRun, IsKeptText, is_kept, is_whole}
 use Rattle.buildozer.specs.FileRuns.{GaveText, Gives}
 use Rattle.buildozer.specs.Files.{IsFileOf, MayBe, MayHold, MayHoldNothing, IsEdited}
-use Rattle.buildozer.specs.Handled.{IsStatusOver, IsFileStatus, IsStatusAt}
+use Rattle.buildozer.specs.Handled.{IsStatusOver, IsFileStatus, IsStatusAt, LeavesFiles}
 use Rattle.bz_engine.specs.Outcome.{status_of}
 use Rattle.bz_script.specs.Groups.{Step}
 use Rattle.bz_script.specs.Names.{IsBuildPath}
@@ -85,6 +85,10 @@ module _ {S : Type 0} (gave : S → List (List ℕ) → S → Type 0) (failures 
 -- a folder of which no call was made
 pub untouched : {D : Type 0} (did : D → List Event → D → Type 0) (May : List ℕ → Content → Type 0) → ((s : D) → did s [] s) → (s : D) → SafeRun did May s s
 untouched did May nothing s = run_nothing did May nothing s
+
+pub left_alone : {D : Type 0} (did : D → List Event → D → Type 0) (May : List ℕ → Content → Type 0) (is_shown : Bool) → ((s : D) → did s [] s) → (s : D) (status : ℕ)
+    → LeavesFiles did May is_shown s s status
+left_alone did May is_shown nothing s status = record { safe = untouched did May nothing s; idle = λ three. untouched did MayHoldNothing nothing s; shown = λ is. nothing s }
 
 each_weaker : (May More : List ℕ → Content → Type 0) → ((file : List ℕ) (content : Content) → May file content → More file content)
     → (wants : List Wanted) → EachMay May wants → EachMay More wants

@@ -1,11 +1,13 @@
 -- The packages of a script are handled one after another, each with its status (buildozer README, "Error codes").
 use Rattle.std.specs.Prelude.{◌≡◌, ◌⊎◌, ℕ, ◌==◌, Bool, true, false, ◌&&◌, not, List, [], ◌∷◌, None, Some}
+use Rattle.bz_folder.specs.Files.{Content, Event}
+use Rattle.bz_folder.specs.Sequence.{SafeRun}
 use Rattle.bz_engine.specs.Outcome.{status_of}
 use Rattle.bz_engine.specs.declared.report.Report.{Report}
 use Rattle.bz_command.specs.Labels.{Package}
 use Rattle.bz_script.specs.Groups.{Step}
 use Rattle.bz_script.specs.Packages.{by_package}
-use Rattle.buildozer.specs.Files.{IsFileOf}
+use Rattle.buildozer.specs.Files.{IsFileOf, MayHoldNothing}
 use Rattle.buildozer.specs.Program.{Task, asked_for}
 use Rattle.buildozer.specs.Runs.{Asked, IsRun}
 use Rattle.bz_script.specs.Statuses.{whole_status}
@@ -41,6 +43,14 @@ module _ {F S : Type 0} (leads : List ℕ → List ℕ → F → Type 0) (gave :
   -- A package failed, which its run may tell or not, or it has the status of its run.
   abbrev pub IsStatusOf : Asked → S → S → ℕ → Type 0
   IsStatusOf asked input input_after status = IsStatusAt asked.home asked input input_after status
+
+-- What a run for one package, with this status, left of a folder. At each moment each file has what it had, or what it may hold. At
+-- status 3 no file was touched, but for a temporary one. A run that is shown changes no folder.
+pub record LeavesFiles {D : Type 0} (did : D → List Event → D → Type 0) (May : List ℕ → Content → Type 0) (is_shown : Bool)
+    (folder folder_after : D) (status : ℕ) : Type 0 where
+  pub safe : SafeRun did May folder folder_after
+  pub idle : status ≡ 3 → SafeRun did MayHoldNothing folder folder_after
+  pub shown : is_shown ≡ true → did folder [] folder_after
 
 -- whether no package comes after one with this status
 abbrev pub is_last : Bool → ℕ → Bool

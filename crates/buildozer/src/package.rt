@@ -1,9 +1,8 @@
 //! What is done for one package.
 
-ghost use Rattle.std.specs.Prelude.{◌≡◌, ◌⊎◌, [], IfOk, if◌then◌else◌, string_bytes, true};
-ghost use Rattle.bz_folder.specs.Sequence.{SafeRun};
-ghost use Rattle.buildozer.specs.Files.{IsFileOf, MayHold, MayHoldNothing};
-ghost use Rattle.buildozer.specs.Handled.{IsFileStatus, IsStatusOf, IsStatusOver};
+ghost use Rattle.std.specs.Prelude.{◌≡◌, ◌⊎◌, IfOk, if◌then◌else◌, string_bytes};
+ghost use Rattle.buildozer.specs.Files.{IsFileOf, MayHold};
+ghost use Rattle.buildozer.specs.Handled.{IsFileStatus, IsStatusOf, IsStatusOver, LeavesFiles};
 ghost use Rattle.buildozer.specs.Program.{is_shown};
 ghost use Rattle.bz_script.specs.Names.{IsBuildPath};
 
@@ -41,14 +40,9 @@ pub fn edit_package<D: Folder, S: Source, O: Sink, E: Sink>(
     asked: Asked,
     devices: &mut Devices<D, S, O, E>,
 ) -> u8
-    ensures safe { SafeRun D.did (MayHold D.leads D.File.gave asked)
-        devices.old.draft.folder devices.new.draft.folder }
+    ensures files { LeavesFiles D.did (MayHold D.leads D.File.gave asked) (is_shown flags.now.stdout asked.passes)
+        devices.old.draft.folder devices.new.draft.folder result }
     ensures status { IsStatusOf D.leads D.File.gave S.gave asked devices.old.input devices.new.input result }
-    // At status 3 no file was touched, but for a temporary one.
-    ensures idle { result ≡ 3 → SafeRun D.did MayHoldNothing devices.old.draft.folder devices.new.draft.folder }
-    // What is shown changes no folder.
-    ensures shown { is_shown flags.now.stdout asked.passes ≡ true
-        → D.did devices.old.draft.folder [] devices.new.draft.folder }
 {
     let status = edit_home(alloc, flags, asked, devices);
     match devices.console.flush() {
@@ -64,14 +58,9 @@ fn edit_home<D: Folder, S: Source, O: Sink, E: Sink>(
     asked: Asked,
     devices: &mut Devices<D, S, O, E>,
 ) -> u8
-    ensures safe { SafeRun D.did (MayHold D.leads D.File.gave asked)
-        devices.old.draft.folder devices.new.draft.folder }
+    ensures files { LeavesFiles D.did (MayHold D.leads D.File.gave asked) (is_shown flags.now.stdout asked.passes)
+        devices.old.draft.folder devices.new.draft.folder result }
     ensures status { IsStatusOf D.leads D.File.gave S.gave asked devices.old.input devices.new.input result }
-    // At status 3 no file was touched, but for a temporary one.
-    ensures idle { result ≡ 3 → SafeRun D.did MayHoldNothing devices.old.draft.folder devices.new.draft.folder }
-    // What is shown changes no folder.
-    ensures shown { is_shown flags.now.stdout asked.passes ≡ true
-        → D.did devices.old.draft.folder [] devices.new.draft.folder }
 {
     let Some(folder) = asked.home.path() else {
         return edit_shown(alloc, asked, "-", &mut devices.input, &mut devices.console);
@@ -111,15 +100,10 @@ fn edit_found<D: Folder, S, O: Sink, E: Sink>(
 ) -> u8
     requires first { IsBuildPath asked.home (string_bytes files.now.first) }
     requires second { IsBuildPath asked.home (string_bytes files.now.second) }
-    ensures safe { SafeRun D.did (MayHold D.leads D.File.gave asked)
-        devices.old.draft.folder devices.new.draft.folder }
+    ensures files { LeavesFiles D.did (MayHold D.leads D.File.gave asked) (is_shown flags.now.stdout asked.passes)
+        devices.old.draft.folder devices.new.draft.folder result }
     ensures input { devices.new.input ≡ devices.old.input }
     ensures status { (result ≡ 2) ⊎ IsFileStatus D.leads D.File.gave asked result }
-    // At status 3 no file was touched, but for a temporary one.
-    ensures idle { result ≡ 3 → SafeRun D.did MayHoldNothing devices.old.draft.folder devices.new.draft.folder }
-    // What is shown changes no folder.
-    ensures shown { is_shown flags.now.stdout asked.passes ≡ true
-        → D.did devices.old.draft.folder [] devices.new.draft.folder }
 {
     match open_first(devices.draft.folder(), files, purpose_of(flags, &asked)) {
         Ok((opened, name)) => edit_opened(alloc, flags, asked, name, opened, devices),
@@ -180,15 +164,10 @@ fn edit_opened<D: Folder, S, O: Sink, E: Sink>(
     devices: &mut Devices<D, S, O, E>,
 ) -> u8
     requires { IsFileOf D.leads asked.home (string_bytes opened.path) opened.source }
-    ensures safe { SafeRun D.did (MayHold D.leads D.File.gave asked)
-        devices.old.draft.folder devices.new.draft.folder }
+    ensures files { LeavesFiles D.did (MayHold D.leads D.File.gave asked) (is_shown flags.now.stdout asked.passes)
+        devices.old.draft.folder devices.new.draft.folder result }
     ensures input { devices.new.input ≡ devices.old.input }
     ensures status { (result ≡ 2) ⊎ IsFileStatus D.leads D.File.gave asked result }
-    // At status 3 no file was touched, but for a temporary one.
-    ensures idle { result ≡ 3 → SafeRun D.did MayHoldNothing devices.old.draft.folder devices.new.draft.folder }
-    // What is shown changes no folder.
-    ensures shown { is_shown flags.now.stdout asked.passes ≡ true
-        → D.did devices.old.draft.folder [] devices.new.draft.folder }
 {
     if purpose_of(flags, &asked) == Purpose::Read {
         let mut source = opened.source;

@@ -1,6 +1,6 @@
 -- What `print` prints of a rule (buildozer README, print; how a value is shown is this project's own rule).
 -- Begin with `prints`.
-use Rattle.std.specs.Prelude.{ℕ, ◌==◌, List, [], ◌∷◌, ◌++◌, Bool, false, ◌&&◌, ◌||◌, not, if◌then◌else◌, Option, Some, None, option_map, map, is_some, codes, nat_le}
+use Rattle.std.specs.Prelude.{ℕ, ◌==◌, List, [], ◌∷◌, ◌++◌, Bool, false, true, ◌&&◌, ◌||◌, not, if◌then◌else◌, Option, Some, None, option_map, map, is_some, bytes_eq, codes, nat_le}
 use Rattle.std.specs.List.{list_any, list_all, join_with_byte}
 use Rattle.std.specs.Fmt.{decimal}
 use Rattle.bz_tree.specs.declared.stmt.GroupKind.TheVariants.{RuleCall}
@@ -68,6 +68,16 @@ field_name (ValueOf attr) = attr
 abbrev pub missing : Package → Statement → Rule → List Field → Option Note
 missing home s r [] = None
 missing home s r (field ∷ fields) = if is_some (field_text home s r field) then missing home s r fields else Some (Missing (field_name field))
+
+-- the fields that the name alone determines
+abbrev pub is_of_name : Field → Bool
+is_of_name Label = true
+is_of_name (ValueOf attr) = bytes_eq attr (codes "name")
+is_of_name _ = false
+
+abbrev pub is_name_alone : List Field → Bool
+is_name_alone (field ∷ []) = is_of_name field
+is_name_alone _ = false
 
 abbrev pub printed : Package → Statement → Rule → List Field → Done
 printed home s r fields = record { changed = false; line = Some (line_of home s r fields); note = missing home s r fields }

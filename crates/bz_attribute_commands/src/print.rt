@@ -47,7 +47,8 @@ pub fn print(env: Env<'_>, fields: &[Field], head: Head<'_>, parts: &[Part<'_>])
 
 /// The line that is printed of a rule of this name, where its name or its label is the one field. None: more is asked.
 pub fn print_name(env: Env<'_>, fields: &[Field], name: &str) -> Result<Option<Text>, NoMemory>
-    ensures { IfOk result (λ line. IfSome line (λ text. (s : Statement) (r : Rule) → rule_of s.nodes ≡ Some r
+    ensures is { IfOk result (λ line. is_some line ≡ spec.is_name_alone fields.now) }
+    ensures line { IfOk result (λ line. IfSome line (λ text. (s : Statement) (r : Rule) → rule_of s.nodes ≡ Some r
         → name_in r.args ≡ Some name.now
         → spec.prints env.entry.home.now fields.now (Some s) ≡ spec.printed_line text)) }
 {
@@ -68,7 +69,8 @@ fn push_of_name(
     field: &Field,
     name: &str,
 ) -> Result<bool, NoMemory>
-    ensures { IfOk result (λ known. IsTrue known
+    ensures is { IfOk result (λ known. known ≡ spec.is_of_name field.now) }
+    ensures text { IfOk result (λ known. IsTrue known
         → IsFieldOfName env.entry.home.now field.now name.now (string_bytes text.old) (string_bytes text.new)) }
 {
     match field {

@@ -31,7 +31,7 @@ loop-home-preserved g c =
     record {
       safe = run_more g.D.Folder.did (MayHold g.D.Folder.leads g.D.File.Source.gave c.args.flags.now.k c.args.script.items) g.met.D.Folder.did_more c.args.devices.now.draft.folder c.loop-home.devices.draft.folder
           c.edit_package-status.new.devices.draft.folder inv.safe
-          (of_package g.D.Folder.did g.D.Folder.leads g.D.File.Source.gave c.args.flags.now.k c.args.script.items _ (contains_next _ _ _ _ here) _ _ c.edit_package-status.ensures.safe);
+          (of_package g.D.Folder.did g.D.Folder.leads g.D.File.Source.gave c.args.flags.now.k c.args.script.items _ (contains_next _ _ _ _ here) _ _ c.edit_package-status.ensures.files.safe);
       handled = handled_more g.D.Folder.leads g.D.File.Source.gave g.S.Source.gave c.args.flags.now.k c.args.script.items c.args.devices.now.input _ c.loop-home.yielded (c.in-Some.home, c.in-Some.passes)
           c.loop-home.devices.input c.edit_package-status.new.devices.input c.loop-home.whole _ c.edit_package-status.result inv.handled c.edit_package-status.ensures.status
           (elim c.else-status-eq-FAILED.branch [
@@ -43,10 +43,10 @@ loop-home-preserved g c =
           let both = three_both g.D.Folder.leads g.D.File.Source.gave g.S.Source.gave c.args.flags.now.k c.args.script.items c.args.devices.now.input _ _ c.loop-home.devices.input c.edit_package-status.new.devices.input
           c.loop-home.whole _ c.edit_package-status.result inv.handled c.edit_package-status.ensures.status c.whole_status-whole-in-loop-home.ensures three in
           run_more g.D.Folder.did MayHoldNothing g.met.D.Folder.did_more c.args.devices.now.draft.folder c.loop-home.devices.draft.folder c.edit_package-status.new.devices.draft.folder
-          (inv.idle both.0) (c.edit_package-status.ensures.idle both.1);
+          (inv.idle both.0) (c.edit_package-status.ensures.files.idle both.1);
       shown = λ all.
           g.met.D.Folder.did_more _ _ _ [] [] (inv.shown all)
-          (c.edit_package-status.ensures.shown (test_next (λ task. is_shown c.args.flags.now.stdout task.1) _ _ _ _ here all));
+          (c.edit_package-status.ensures.files.shown (test_next (λ task. is_shown c.args.flags.now.stdout task.1) _ _ _ _ here all));
     }
 
 pub returns-clause-safe : goal.returns-clause-safe
@@ -60,7 +60,7 @@ returns-clause-safe g c =
           w.edit_package-status.new.devices.draft.folder c.loop-home.invariant.safe
           (of_package g.D.Folder.did g.D.Folder.leads g.D.File.Source.gave c.args.flags.now.k c.args.script.items _
           (contains_next _ _ _ _ (turn _ _ _ c.in_ok-packages.ensures c.loop-home.yielded _ _ _ c.into_iter-home-iterator.ensures.into_iter_gives.0 c.loop-home.yielded_by _ c.next.ensures.steps (w.in-Some.home, w.in-Some.passes) w.in-Some.is))
-          _ _ w.edit_package-status.ensures.safe))
+          _ _ w.edit_package-status.ensures.files.safe))
     ]
 
 pub returns-clause-status : goal.returns-clause-status
@@ -91,7 +91,7 @@ returns-clause-idle g c three =
           c.loop-home.whole _ w.edit_package-status.result c.loop-home.invariant.handled w.edit_package-status.ensures.status w.whole_status-whole-in-loop-home.ensures (sym w.whole-is ∙ ok_is _ _ three) in
           subst (λ d. SafeRun g.D.Folder.did MayHoldNothing c.args.devices.now.draft.folder d.draft.folder) (sym w.devices-is)
           (run_more g.D.Folder.did MayHoldNothing g.met.D.Folder.did_more c.args.devices.now.draft.folder c.loop-home.devices.draft.folder w.edit_package-status.new.devices.draft.folder
-          (c.loop-home.invariant.idle both.0) (w.edit_package-status.ensures.idle both.1))
+          (c.loop-home.invariant.idle both.0) (w.edit_package-status.ensures.files.idle both.1))
     ]
 
 pub returns-clause-shown : goal.returns-clause-shown
@@ -102,6 +102,6 @@ returns-clause-shown g c all =
       | in-Some+then-status-eq-FAILED+then-not-flags w ↦
           subst (λ d. g.D.Folder.did c.args.devices.now.draft.folder [] d.draft.folder) (sym w.devices-is)
           (g.met.D.Folder.did_more _ _ _ [] [] (c.loop-home.invariant.shown all)
-          (w.edit_package-status.ensures.shown (test_next (λ task. is_shown c.args.flags.now.stdout task.1) _ _ _ _
+          (w.edit_package-status.ensures.files.shown (test_next (λ task. is_shown c.args.flags.now.stdout task.1) _ _ _ _
           (turn _ _ _ c.in_ok-packages.ensures c.loop-home.yielded _ _ _ c.into_iter-home-iterator.ensures.into_iter_gives.0 c.loop-home.yielded_by _ c.next.ensures.steps (w.in-Some.home, w.in-Some.passes) w.in-Some.is) all)))
     ]

@@ -1,6 +1,5 @@
 use Rattle.std.proofs.Common.{inl, refl}
-use Rattle.buildozer.specs.Files.{MayHoldNothing}
-use Rattle.buildozer.proofs.Edited.{untouched, file_of}
+use Rattle.buildozer.proofs.Edited.{left_alone, file_of}
 use Rattle.buildozer.proofs.package.edit_found.Goals as goal
 
 pub edit_opened-requires : goal.edit_opened-requires
@@ -8,9 +7,7 @@ edit_opened-requires g c = file_of g.D.Folder.leads c.args.asked.home _ _ _ _ c.
 
 pub returns-in-Err : goal.returns-in-Err
 returns-in-Err g c = record {
-  safe = untouched g.D.Folder.did _ g.met.D.Folder.did_nothing c.args.devices.now.draft.folder;
+  files = left_alone g.D.Folder.did _ _ g.met.D.Folder.did_nothing c.args.devices.now.draft.folder _;
   input = refl;
   status = inl c.put_unopened.ensures;
-  idle = λ three. untouched g.D.Folder.did MayHoldNothing g.met.D.Folder.did_nothing c.args.devices.now.draft.folder;
-  shown = λ is. g.met.D.Folder.did_nothing c.args.devices.now.draft.folder;
 }

@@ -1,10 +1,11 @@
-use Rattle.std.proofs.Common.{◌≡◌, false, refl, inr, sym, ◌∙◌, ap, subst}
+use Rattle.std.proofs.Common.{◌≡◌, ℕ, false, refl, inr, sym, ◌∙◌, ap, subst}
 use Rattle.std.proofs.lemmas.Bool.{false≢true}
 use Rattle.bz_folder.specs.declared.folder.Purpose.{Purpose}
 use Rattle.bz_folder.specs.declared.folder.Purpose.TheVariants.{Read, Replace}
-use Rattle.bz_folder.specs.Sequence.{SafeRun}
-use Rattle.buildozer.specs.Files.{MayHold, MayHoldNothing}
-use Rattle.buildozer.proofs.Edited.{untouched, of_file, edited_status, shown_status, three_unkept, if_reads}
+use Rattle.buildozer.specs.Files.{MayHold}
+use Rattle.buildozer.specs.Handled.{LeavesFiles}
+use Rattle.buildozer.specs.Program.{is_shown}
+use Rattle.buildozer.proofs.Edited.{left_alone, of_file, edited_status, shown_status, three_unkept, if_reads}
 use Rattle.buildozer.proofs.package.edit_opened.Goals as goal
 use Rattle.buildozer.proofs.package.edit_opened.Goals.{then-replaced+then-not-flags, else-replaced}
 
@@ -12,23 +13,30 @@ use Rattle.buildozer.proofs.package.edit_opened.Goals.{then-replaced+then-not-fl
 not_read : (purpose : Purpose) → false ≡ denote.Enum.Bare.sameb Rattle.bz_folder.specs.contracts.folder.Purpose.the_type purpose Read → purpose ≡ Read → ⊥
 not_read purpose other read = false≢true (other ∙ ap (λ p. denote.Enum.Bare.sameb Rattle.bz_folder.specs.contracts.folder.Purpose.the_type p Read) read)
 
+two_three : (status : ℕ) → status ≡ 2 → status ≡ 3 → ⊥
+two_three status two three = let both : 2 ≡ 3 = sym two ∙ three in cc
+
 pub returns-then-eq : goal.returns-then-eq
 returns-then-eq g c = record {
-  safe = untouched g.D.Folder.did _ g.met.D.Folder.did_nothing c.args.devices.now.draft.folder;
+  files = left_alone g.D.Folder.did _ _ g.met.D.Folder.did_nothing c.args.devices.now.draft.folder _;
   input = refl;
   status = shown_status g.D.Folder.leads g.D.File.Source.gave c.args.asked _ _ _ c.requires _ c.edit_shown.ensures;
-  idle = λ three. untouched g.D.Folder.did MayHoldNothing g.met.D.Folder.did_nothing c.args.devices.now.draft.folder;
-  shown = λ is. g.met.D.Folder.did_nothing c.args.devices.now.draft.folder;
 }
 
-pub returns-after-replaced-clause-safe : goal.returns-after-replaced-clause-safe
-returns-after-replaced-clause-safe g c =
-    let safe = of_file g.D.Folder.did g.D.Folder.leads g.D.File.Source.gave c.args.asked _ _ c.requires _ _ c.edit_file.ensures.safe in
+pub returns-after-replaced-clause-files : goal.returns-after-replaced-clause-files
+returns-after-replaced-clause-files g c =
+    let did = g.D.Folder.did in
+    let May = MayHold g.D.Folder.leads g.D.File.Source.gave c.args.asked in
+    let old = c.args.devices.now.draft.folder in
+    let shown = is_shown c.args.flags.now.stdout c.args.asked.passes in
+    let edited : LeavesFiles did May shown old c.edit_file.new.draft.folder c.status.result = record {
+      safe = of_file did g.D.Folder.leads g.D.File.Source.gave c.args.asked _ _ c.requires _ _ c.edit_file.ensures.safe;
+      idle = λ three. c.in-Ok.ensures.idle (c.in-Ok.ensures.edited.replaced_is ∙ three_unkept c.args.asked.keep_going c.in-Ok.report (sym c.status.ensures ∙ three));
+      shown = λ is. absurd (not_read c.purpose_of.result c.if-eq.ensures (c.purpose_of.ensures ∙ ap (if_reads Read Replace) is));
+    } in
     elim c.if-replaced.branch [
-      | then-replaced+then-not-flags w ↦
-          subst (λ d. SafeRun g.D.Folder.did (MayHold g.D.Folder.leads g.D.File.Source.gave c.args.asked) c.args.devices.now.draft.folder d.draft.folder) (sym w.devices-is) safe
-      | else-replaced w ↦
-          subst (λ d. SafeRun g.D.Folder.did (MayHold g.D.Folder.leads g.D.File.Source.gave c.args.asked) c.args.devices.now.draft.folder d.draft.folder) (sym w.devices-is) safe
+      | then-replaced+then-not-flags w ↦ subst (λ d. LeavesFiles did May shown old d.draft.folder c.status.result) (sym w.devices-is) edited
+      | else-replaced w ↦ subst (λ d. LeavesFiles did May shown old d.draft.folder c.status.result) (sym w.devices-is) edited
     ]
 
 pub returns-after-replaced-clause-input : goal.returns-after-replaced-clause-input
@@ -42,26 +50,16 @@ pub returns-after-replaced-clause-status : goal.returns-after-replaced-clause-st
 returns-after-replaced-clause-status g c =
     inr (edited_status g.D.Folder.leads g.D.File.Source.gave c.args.asked _ _ c.requires c.in-Ok.report c.in-Ok.replaced c.in-Ok.ensures.edited c.status.result c.status.ensures)
 
-pub returns-after-replaced-clause-idle : goal.returns-after-replaced-clause-idle
-returns-after-replaced-clause-idle g c three =
-    let unkept = three_unkept c.args.asked.keep_going c.in-Ok.report (sym c.status.ensures ∙ three) in
-    let idle = c.in-Ok.ensures.idle (c.in-Ok.ensures.edited.replaced_is ∙ unkept) in
-    elim c.if-replaced.branch [
-      | then-replaced+then-not-flags w ↦ subst (λ d. SafeRun g.D.Folder.did MayHoldNothing c.args.devices.now.draft.folder d.draft.folder) (sym w.devices-is) idle
-      | else-replaced w ↦ subst (λ d. SafeRun g.D.Folder.did MayHoldNothing c.args.devices.now.draft.folder d.draft.folder) (sym w.devices-is) idle
-    ]
+pub returns-in-Err-Run-clause-files : goal.returns-in-Err-Run-clause-files
+returns-in-Err-Run-clause-files g c = record {
+  safe = of_file g.D.Folder.did g.D.Folder.leads g.D.File.Source.gave c.args.asked _ _ c.requires _ _ c.edit_file.ensures.safe;
+  idle = λ three. absurd (two_three _ c.put_fault.ensures three);
+  shown = λ is. absurd (not_read c.purpose_of.result c.if-eq.ensures (c.purpose_of.ensures ∙ ap (if_reads Read Replace) is));
+}
 
-pub returns-after-replaced-clause-shown : goal.returns-after-replaced-clause-shown
-returns-after-replaced-clause-shown g c is = absurd (not_read c.purpose_of.result c.if-eq.ensures (c.purpose_of.ensures ∙ ap (if_reads Read Replace) is))
-
-pub returns-in-Err-Run-clause-safe : goal.returns-in-Err-Run-clause-safe
-returns-in-Err-Run-clause-safe g c = of_file g.D.Folder.did g.D.Folder.leads g.D.File.Source.gave c.args.asked _ _ c.requires _ _ c.edit_file.ensures.safe
-
-pub returns-in-Err-Run-clause-shown : goal.returns-in-Err-Run-clause-shown
-returns-in-Err-Run-clause-shown g c is = absurd (not_read c.purpose_of.result c.if-eq.ensures (c.purpose_of.ensures ∙ ap (if_reads Read Replace) is))
-
-pub returns-in-Err-CannotWrite-clause-safe : goal.returns-in-Err-CannotWrite-clause-safe
-returns-in-Err-CannotWrite-clause-safe g c = of_file g.D.Folder.did g.D.Folder.leads g.D.File.Source.gave c.args.asked _ _ c.requires _ _ c.edit_file.ensures.safe
-
-pub returns-in-Err-CannotWrite-clause-shown : goal.returns-in-Err-CannotWrite-clause-shown
-returns-in-Err-CannotWrite-clause-shown g c is = absurd (not_read c.purpose_of.result c.if-eq.ensures (c.purpose_of.ensures ∙ ap (if_reads Read Replace) is))
+pub returns-in-Err-CannotWrite-clause-files : goal.returns-in-Err-CannotWrite-clause-files
+returns-in-Err-CannotWrite-clause-files g c = record {
+  safe = of_file g.D.Folder.did g.D.Folder.leads g.D.File.Source.gave c.args.asked _ _ c.requires _ _ c.edit_file.ensures.safe;
+  idle = λ three. absurd (two_three _ refl three);
+  shown = λ is. absurd (not_read c.purpose_of.result c.if-eq.ensures (c.purpose_of.ensures ∙ ap (if_reads Read Replace) is));
+}
