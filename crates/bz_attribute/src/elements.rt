@@ -11,7 +11,7 @@ ghost use Rattle.bz_attribute.specs.RowPlaces.{IsRuleRow};
 ghost use Rattle.bz_attribute.specs.private.ListParts as spec;
 ghost use Rattle.bz_attribute.specs.Lists as lists;
 
-use crate::finder::find_argument;
+use crate::finder::{depth_after, find_argument};
 use crate::head_parts::{is_end, text_of};
 use crate::place::{comments_len, segment_len};
 use crate::value::is_one_list;
@@ -51,18 +51,14 @@ fn close_len(parts: &[Part<'_>]) -> usize
     ensures len { result ≡ spec.close_len 0 (map part_view parts.now) }
     ensures within { result ≤ length parts.now }
 {
-    let mut depth: usize = 0;
-    let mut count = 0;
-    while count < parts.len() {
-        match parts[count] {
-            Part::Close(_) if depth == 0 => return count + 1,
-            Part::Open(_) => depth += 1,
-            Part::Close(_) => depth -= 1,
-            _ => {}
+    let mut depth: usize = 1;
+    for i in 0..parts.len() {
+        depth = depth_after(&parts[i], depth);
+        if depth == 0 {
+            return i + 1;
         }
-        count += 1;
     }
-    count
+    parts.len()
 }
 
 // How many parts the item has that they begin with: a token, or brackets with what stands in them.

@@ -44,18 +44,18 @@ fn goes(attributes: &Attributes, name: Option<&str>) -> bool
 // The value of a keyword argument is edited.
 fn edit_keyword<'a>(
     edit: StringEdit<'_, '_, '_>,
+    argument: FirstArgument<'_>,
     parts: &[Part<'a>],
     written: Written,
-    argument: FirstArgument<'_>,
     out: &mut Parts<'a>,
 ) -> Result<Written, NoMemory>
     requires within { IsWithin written (length parts.now) }
     requires order { (argument.nodes ≤ argument.to) × (written.at + argument.to ≤ length parts.now) }
-    ensures within { IfOk result (λ next. IsWithin next (length parts.now)) }
-    ensures progress { IfOk result (λ next. written.at + argument.entry.to ≤ next.at) }
     ensures edited { IfOk result (λ next. spec.HasEditedKeyword (means edit.entry) (literal_of edit.entry)
         written next argument.entry.nodes argument.entry.to (option_map (λ text. text.now) argument.entry.name)
         (map part_view parts.now) (map part_view out.old.items) (map part_view out.new.items)) }
+    ensures within { IfOk result (λ next. IsWithin next (length parts.now)) }
+    ensures progress { IfOk result (λ next. written.at + argument.entry.to ≤ next.at) }
 {
     let to = written.at + argument.to;
     let value = to.min(written.at + argument.nodes + 2);
@@ -97,7 +97,7 @@ fn edit_argument<'a>(
         }
         ArgumentEdit::Strings(strings) => match argument.name {
             None => Ok(Written { at: to, ..written }),
-            Some(_) => edit_keyword(strings, parts, written, argument, out),
+            Some(_) => edit_keyword(strings, argument, parts, written, out),
         },
     }
 }

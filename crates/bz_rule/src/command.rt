@@ -137,14 +137,6 @@ pub enum CommandFault {
     SameAttribute,
 }
 
-impl From<NoMemory> for CommandFault {
-    ghost from_gives = { λ why e. e ≡ OutOfMemory why };
-
-    fn from(why: NoMemory) -> CommandFault {
-        CommandFault::OutOfMemory(why)
-    }
-}
-
 /// Reads the words after a command's name; `None` for another name.
 pub(crate) fn read_named(
     alloc: Global,
@@ -343,5 +335,13 @@ pub fn one_attribute(command: &Command) -> Option<&str>
             Some(attr.as_str())
         }
         _ => None,
+    }
+}
+
+impl From<NoMemory> for CommandFault {
+    ghost from_gives = { λ why e. e ≡ OutOfMemory why };
+
+    fn from(why: NoMemory) -> CommandFault {
+        CommandFault::OutOfMemory(why)
     }
 }

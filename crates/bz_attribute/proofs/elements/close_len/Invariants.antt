@@ -1,14 +1,11 @@
-use Rattle.std.proofs.Common.{◌≡◌, ◌+◌, ◌-◌, ◌≤◌, length, drop, map}
+use Rattle.std.proofs.Common.{◌≡◌, ◌+◌, ◌-◌, ◌<◌, ◌≤◌, drop, map}
 use Rattle.bz_tree.specs.Rows.{part_view}
-use Rattle.bz_attribute.specs.private.ListParts as spec
+use Rattle.bz_attribute.specs.private.ListParts.{close_len}
 use Rattle.bz_attribute.proofs.elements.close_len.Given as goal
 
-abbrev pub invariant-loop-count : goal.invariant-loop-count
-invariant-loop-count l = record {
-  within : l.count ≤ length l.parts;
-  depth : l.depth ≤ l.count;
-  left : spec.close_len 0 (map part_view l.parts) ≡ l.count + spec.close_len l.depth (map part_view (drop l.count l.parts));
+abbrev pub invariant-loop-i : goal.invariant-loop-i
+invariant-loop-i l = record {
+  some : 0 < l.depth;
+  depth : l.depth ≤ l.i + 1;
+  left : close_len 0 (map part_view l.parts) ≡ l.i + close_len (l.depth - 1) (map part_view (drop l.i l.parts));
 }
-
-abbrev pub decreases-loop-count : goal.decreases-loop-count
-decreases-loop-count l = length l.parts - l.count
