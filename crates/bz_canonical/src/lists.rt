@@ -84,10 +84,7 @@ struct OnlyString<'t> {
 }
 
 /// What follows the list on lines here, its first bracket left out.
-fn put_on_lines<'t>(
-    inside: &'t [u8],
-    written: &mut Vec<u8>,
-) -> Result<Option<&'t [u8]>, NoMemory>
+fn put_on_lines<'t>(inside: &'t [u8], written: &mut Vec<u8>) -> Result<Option<&'t [u8]>, NoMemory>
     ensures { IfOk result (λ told. IfSome told (λ rest. (w : List ℕ)
         × (written.new.items ≡ written.old.items ++ w) × IsListRead (91 ∷ inside.now) rest.now (91 ∷ w))) }
 {
@@ -203,10 +200,7 @@ pub(crate) fn after_value(text: &[u8]) -> Option<AfterNotes<'_>>
 }
 
 /// What follows the list in place here, its first bracket left out.
-fn put_in_place<'t>(
-    inside: &'t [u8],
-    written: &mut Vec<u8>,
-) -> Result<Option<&'t [u8]>, NoMemory>
+fn put_in_place<'t>(inside: &'t [u8], written: &mut Vec<u8>) -> Result<Option<&'t [u8]>, NoMemory>
     ensures { IfOk result (λ told. IfSome told (λ rest. (w : List ℕ)
         × (written.new.items ≡ written.old.items ++ w) × IsListRead (91 ∷ inside.now) rest.now (91 ∷ w))) }
 {
