@@ -192,7 +192,8 @@ fn put_element<'t>(
 /// What follows a comma and the comment beside it.
 #[inline(always)]
 pub(crate) fn after_value(text: &[u8]) -> Option<AfterNotes<'_>>
-    ensures { IfSome result (λ side. (comma : List ℕ) × (text.now ≡ 44 ∷ comma) × IsBesideFront comma side.rest.now side.some) }
+    ensures { IfSome result (λ side. (comma : List ℕ) × (text.now ≡ 44 ∷ comma)
+        × IsBesideFront comma side.rest.now side.some) }
 {
     let comma = after(text, b',')?;
     let side = beside(comma)?;

@@ -122,9 +122,11 @@ fn put_others<'t>(
     written: &mut Vec<u8>,
 ) -> Result<Option<PutOthers<'t>>, NoMemory>
     requires { depth < 254 }
-    ensures { IfOk result (λ told. IfSome told (λ read. (w : List ℕ) × AreOthersRead depth attr.now text.now read.rest.now w read.one
+    ensures { IfOk result (λ told. IfSome told (λ read. (w : List ℕ)
+        × AreOthersRead depth attr.now text.now read.rest.now w read.one
         × (read.len ≡ length (written.old.items ++ w))
-        × IsNamedRead depth attr.now read.rest.now (written.old.items ++ w) written.new.items (option_map (λ to. to.now) read.named))) }
+        × IsNamedRead depth attr.now read.rest.now (written.old.items ++ w) written.new.items
+        (option_map (λ to. to.now) read.named))) }
 {
     let mut rest = text;
     let mut one = false;

@@ -25,8 +25,8 @@ pub(crate) fn put_rule<'t>(
     written: &mut Vec<u8>,
 ) -> Result<Option<PutRule<'t>>, NoMemory>
     requires { depth < 253 }
-    ensures { IfOk result (λ told. IfSome told (λ read. IsRuleRead (depth + 1) attr.now read.name.now text.now read.rest.now
-        written.new.items (option_map put_ends read.place))) }
+    ensures { IfOk result (λ told. IfSome told (λ read. IsRuleRead (depth + 1) attr.now read.name.now text.now
+        read.rest.now written.new.items (option_map put_ends read.place))) }
 {
     let Some(head) = rule_head(text) else {
         return Ok(None);

@@ -21,7 +21,8 @@ pub fn rewritten<'t>(
     written: &'t mut Vec<u8>,
 ) -> Result<Option<CanonicalChunk<'t>>, NoMemory>
     ensures { IfOk result (λ told. IfSome told (λ found. IsCanonical max_depth attr.now found.class
-        (option_map (λ name. name.now) found.name) (option_map between found.place) found.chunk.now found.written.now text.now)) }
+        (option_map (λ name. name.now) found.name) (option_map between found.place)
+        found.chunk.now found.written.now text.now)) }
 {
     if max_depth > DEEPEST {
         return Ok(None);
@@ -39,7 +40,8 @@ pub fn rewritten<'t>(
 fn chunk_of<'t>(text: &'t str, written: &'t [u8], read: PutRule<'t>) -> Option<CanonicalChunk<'t>>
     ensures { IfSome result (λ found. (depth : ℕ) (attr : List ℕ) → IsRuleRead depth attr read.entry.name.now text.now
         read.entry.rest.now written.now (option_map put_ends read.entry.place) → IsCanonical depth attr found.class
-        (option_map (λ name. name.now) found.name) (option_map between found.place) found.chunk.now found.written.now text.now) }
+        (option_map (λ name. name.now) found.name) (option_map between found.place)
+        found.chunk.now found.written.now text.now) }
 {
     let chunk = without(text, read.rest.len())?;
     let Ok(all) = check_utf8(written) else {
