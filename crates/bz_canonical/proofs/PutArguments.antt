@@ -1,15 +1,16 @@
 -- Arguments of a rule, and what is written of them.
-use Rattle.std.proofs.Common.{◌≡◌, ◌≤◌, ◌<◌, ℕ, suc, ◌+◌, ◌-◌, take, length, List, [], ◌∷◌, ◌++◌, Bool, true, false, refl, sym, ap, ◌∙◌, arith, append_assoc, append-nil}
-use Rattle.std.specs.Prelude.{codes, flat_map, nat_le, Some, if◌then◌else◌}
+use Rattle.std.proofs.Common.{Bor, ◌||◌, ◌≡◌, ◌≤◌, ◌<◌, ℕ, suc, ◌+◌, ◌-◌, take, length, List, [], ◌∷◌, ◌++◌, Bool, true, false, refl, sym, ap, ◌∙◌, arith, append_assoc, append-nil}
+use Rattle.std.specs.Prelude.{codes, flat_map, nat_le, Some, if◌then◌else◌, None, Option, is_some, option_map, option_to_list}
 use Rattle.std.proofs.lemmas.Bool.{false≢true}
 use Rattle.std.proofs.lemmas.Bool.Decides.{nat_tests}
+use Rattle.std.proofs.lemmas.List.Folds.{list_any-append}
 use Rattle.bz_token.specs.declared.token.Kind.TheVariants.{Identifier, Operator, String}
 use Rattle.bz_tree.specs.declared.kinds.Preceding.TheVariants.{Other}
 use Rattle.bz_tree.specs.declared.kinds.Shape.TheVariants.{Square}
 use Rattle.bz_tree.specs.declared.stmt.GroupKind.TheVariants.{List as ListKind, RuleCall}
 use Rattle.bz_tree.specs.Grammar.{AreArgs, AreSuffixes, AreTests, IsArg, IsChain, IsOperand, IsPrimary, IsTerm, IsTest}
 use Rattle.bz_tree.specs.Kinds.{group_kind}
-use Rattle.bz_tree.specs.Tree.{leaf, group, Items, no_items, item, Segs, no_segs, seg, items_of, segs_of}
+use Rattle.bz_tree.specs.Tree.{leaf, group, Items, no_items, item, Segs, no_segs, seg, items_of, segs_of, Segment}
 use Rattle.bz_layout.specs.Broken.{is_broken, segs_hold}
 use Rattle.bz_layout.specs.Layout.{breaks, broken_segs, flat_segs}
 use Rattle.bz_layout.specs.Pieces.{Piece, piece, bytes_of, comments, indent, suffix_piece}
@@ -21,9 +22,12 @@ use Rattle.bz_layout_laws.specs.FreeLayout.{SegsStand, broken_by, flat_by, free,
 use Rattle.bz_layout_laws.specs.Legible.{segs_depth}
 use Rattle.bz_layout_laws.specs.Parsed.{SegsHaveKinds, have_for}
 use Rattle.bz_layout_laws.specs.TextsOfKinds.{SegsHaveTexts}
+use Rattle.bz_attribute.specs.Effects.{has}
+use Rattle.bz_attribute.specs.Rules.{first_named, is_named}
+use Rattle.bz_attribute.proofs.EditedAt.{edited_at, first_at, none_first}
 use Rattle.bz_canonical.specs.Canonical.{argument_lines}
-use Rattle.bz_canonical.specs.private.Arguments.{IsArgumentFront}
-use Rattle.bz_canonical.specs.private.Rewritten.{AreArgumentsRead, AreElements, ArePlaced, Element, IsArgumentRead, IsHeadRead, IsListRead, IsPlaced, Placed, args_of, element_list, element_segs, elements_as_is, placed_lines}
+use Rattle.bz_canonical.specs.private.Arguments.{IsArgumentFront, alone}
+use Rattle.bz_canonical.specs.private.Rewritten.{AreArgumentsRead, AreOthersRead, IsNamedRead, AreElements, ArePlaced, Element, IsArgumentRead, IsHeadRead, IsListRead, IsPlaced, Placed, args_of, element_list, element_segs, elements_as_is, placed_lines}
 use Rattle.bz_canonical.specs.private.Segments.{AreSegments, IsBesideFront}
 use Rattle.bz_canonical.proofs.ArgumentLines.{lines_append}
 use Rattle.bz_canonical.proofs.ElementLists.{flat_append}
@@ -85,9 +89,9 @@ argument_bytes C R S word =
       bytes_append R (piece Closed Operator (codes ",") ∷ S),
     ) refl
 
-pub list_read : (depth : ℕ) (text value end comma next front back w : List ℕ) (e : Bool) → 0 < depth → IsHeadRead text value → front ≡ take (length text - length value) text → IsListRead value end w
-    → end ≡ 44 ∷ comma → IsBesideFront comma next e → back ≡ take (length end - length next) end → IsArgumentRead depth text next (front ++ (w ++ back))
-list_read depth text value end comma next front back w e deep h front_is l is side back_is =
+pub list_read : (depth : ℕ) (attr text value end comma next front back w : List ℕ) (e : Bool) → (named : Bool) → 0 < depth → IsHeadRead attr text value named → front ≡ take (length text - length value) text → IsListRead value end w
+    → end ≡ 44 ∷ comma → IsBesideFront comma next e → back ≡ take (length end - length next) end → IsArgumentRead depth attr text next (front ++ (w ++ back)) named
+list_read depth attr text value end comma next front back w e named deep h front_is l is side back_is =
     let es : List Element = l.elements in
     let C : List ℕ = bytes_of (comments 1 h.notes) in
     let S : List ℕ = bytes_of (suffix_piece side.note) in
@@ -114,6 +118,7 @@ list_read depth text value end comma next front back w e deep h front_is l is si
           ∙ whole C (91 ∷ bytes_of (standing l.breaks es)) S ∙ ap (λ (t : List ℕ). t ++ next) (sym (argument_bytes (comments 1 h.notes) (standing l.breaks es) (suffix_piece side.note) h.word));
       spells = (λ i. (front_is ∙ taken text F value begins) i ++ (l.spells i ++ (back_is ∙ taken end (44 ∷ S) next ends) i))
           ∙ again C (91 ∷ bytes_of (laid es)) S ∙ sym (argument_bytes (comments 1 h.notes) (laid es) (suffix_piece side.note) h.word);
+      named_is = h.named_is;
     }
   where
     start : (C rest : List ℕ) → C ++ (10 ∷ (indent 1 ++ (h.word ++ (codes " = " ++ rest)))) ≡ (C ++ (10 ∷ (indent 1 ++ (h.word ++ codes " = ")))) ++ rest
@@ -131,7 +136,7 @@ abbrev nodes_in : Segs → Items
 nodes_in no_segs = no_items
 nodes_in (seg before nodes suffix ss) = nodes
 
-pub strict_read : (depth : ℕ) (attr text rest lines : List ℕ) (named noted : Bool) → IsArgumentFront depth attr text rest named noted → lines ≡ take (length text - length rest) text → IsArgumentRead depth text rest lines
+pub strict_read : (depth : ℕ) (attr text rest lines : List ℕ) (named noted : Bool) → IsArgumentFront depth attr text rest named noted → lines ≡ take (length text - length rest) text → IsArgumentRead depth attr text rest lines named
 strict_read depth attr text rest lines named noted a lines_is =
     let are : AreSegments RuleCall depth (segs_of (a.arg ∷ [])) = a.are [] (no_segments RuleCall depth) in
     record {
@@ -144,6 +149,7 @@ strict_read depth attr text rest lines named noted a lines_is =
       front = a.front ∙ ap (λ (P : List Piece). bytes_of (comments 1 a.arg.before ++ (P ++ (piece Closed Operator (codes ",") ∷ (suffix_piece a.arg.suffix ++ [])))) ++ rest)
           (sym (own_items 1 (Some RuleCall) (Line 1) Start (items_of a.arg.nodes)));
       spells = lines_is ∙ taken text (argument_lines (a.arg ∷ [])) rest a.front;
+      named_is = a.named_is;
     }
 
 -- one more
@@ -163,15 +169,102 @@ longer (q ∷ ps) p = ap suc (longer ps p) ∙ omega arith
 one_at_least : (n : ℕ) → true ≡ nat_le 1 (n + 1)
 one_at_least n = grind (arith, nat_tests)
 
-pub none_read : (depth : ℕ) (text : List ℕ) → AreArgumentsRead depth text text [] false
-none_read depth text = record { placed = []; are = tt; front = refl; spells = refl; one_is = refl }
+pub none_read : (depth : ℕ) (attr text : List ℕ) → AreOthersRead depth attr text text [] false
+none_read depth attr text = record { placed = []; are = tt; front = refl; spells = refl; others = refl; one_is = refl }
 
-pub one_read : (depth : ℕ) (text rest next w v : List ℕ) (one : Bool) → AreArgumentsRead depth text rest w one → IsArgumentRead depth rest next v → AreArgumentsRead depth text next (w ++ v) true
-one_read depth text rest next w v one a p = record {
+flat_one : (ps : List Placed) (p : Placed) → flat_map placed_lines (ps ++ p ∷ []) ≡ flat_map placed_lines ps ++ placed_lines p
+flat_one ps p = flat_append placed_lines ps (p ∷ []) ∙ ap (λ (t : List ℕ). flat_map placed_lines ps ++ t) (append-nil (placed_lines p))
+
+pub one_read : (depth : ℕ) (attr text rest next w v : List ℕ) (one : Bool) → AreOthersRead depth attr text rest w one → IsArgumentRead depth attr rest next v false → AreOthersRead depth attr text next (w ++ v) true
+one_read depth attr text rest next w v one a p = record {
   placed = a.placed ++ p.placed ∷ [];
   are = placed_append depth a.placed p.placed a.are p.is;
   front = a.front ∙ ap (λ (t : List ℕ). flat_map placed_lines a.placed ++ t) p.front ∙ sym (append_assoc (flat_map placed_lines a.placed) (placed_lines p.placed) next)
-      ∙ ap (λ (t : List ℕ). t ++ next) (sym (flat_append placed_lines a.placed (p.placed ∷ []) ∙ ap (λ (t : List ℕ). flat_map placed_lines a.placed ++ t) (append-nil (placed_lines p.placed))));
+      ∙ ap (λ (t : List ℕ). t ++ next) (sym (flat_one a.placed p.placed));
   spells = (λ i. a.spells i ++ p.spells i) ∙ sym (lines_append (args_of a.placed) (p.placed.arg ∷ [])) ∙ ap argument_lines (sym (args_append a.placed p.placed));
+  others = ap (has attr) (args_append a.placed p.placed) ∙ list_any-append (is_named attr) (args_of a.placed) (p.placed.arg ∷ []) ∙ none (has attr (args_of a.placed)) a.others (is_named attr p.placed.arg) p.named_is;
   one_is = one_at_least (length a.placed) ∙ ap (nat_le 1) (sym (longer a.placed p.placed));
 }
+  where
+    none : (x : Bool) → x ≡ false → (y : Bool) → y ≡ false → (x || (y || false)) ≡ false
+    none x x_is y y_is = rw (x_is, y_is) refl
+
+-- the place
+
+all_append : (depth : ℕ) (ps qs : List Placed) → ArePlaced depth ps → ArePlaced depth qs → ArePlaced depth (ps ++ qs)
+all_append depth [] qs are more = more
+all_append depth (p ∷ ps) qs are more = (are.0, all_append depth ps qs are.1 more)
+
+pub all_args : (ps qs : List Placed) → args_of (ps ++ qs) ≡ args_of ps ++ args_of qs
+all_args [] qs = refl
+all_args (p ∷ ps) qs = ap (λ xs. p.arg ∷ xs) (all_args ps qs)
+
+pub none_named : (depth : ℕ) (attr text rest begun w : List ℕ) (one : Bool) (len : ℕ) → AreOthersRead depth attr text rest w one → len ≡ length (begun ++ w)
+    → AreArgumentsRead depth attr text rest begun w one (record { from = rest; to = rest; start = len; end = len })
+none_named depth attr text rest begun w one len a len_is =
+    let nobody : alone attr (args_of a.placed) ≡ [] = ap option_to_list (none_first attr (args_of a.placed) a.others) in
+    let long : len ≡ length (begun ++ argument_lines (args_of a.placed)) = len_is ∙ ap (λ (t : List ℕ). length (begun ++ t)) a.spells in
+    record {
+      placed = a.placed;
+      are = a.are;
+      front = a.front;
+      spells = a.spells;
+      one_is = a.one_is;
+      has = record {
+        before = a.placed;
+        one = [];
+        after = [];
+        all = sym (append-nil a.placed);
+        are = tt;
+        splits = λ f local. local.absent (args_of a.placed) a.others ∙ ap (λ (xs : List Segment). args_of a.placed ++ xs) (sym (append-nil (f [])));
+        alone_is = nobody;
+        front = a.front;
+        lines = refl;
+        start = long;
+        end = long ∙ ap length (sym (append-nil (begun ++ argument_lines (args_of a.placed))));
+      };
+    }
+
+some_length : (n m : ℕ) → true ≡ nat_le 1 (n + suc m)
+some_length n m = grind (arith, nat_tests)
+
+length_append : (ps qs : List Placed) → length (ps ++ qs) ≡ length ps + length qs
+length_append [] qs = omega arith
+length_append (p ∷ ps) qs = ap suc (length_append ps qs) ∙ omega arith
+
+pub one_named : (depth : ℕ) (attr text from to rest begun w v u : List ℕ) (one more : Bool) (start end : ℕ) → AreOthersRead depth attr text from w one → IsArgumentRead depth attr from to v true → AreOthersRead depth attr to rest u more
+    → start ≡ length (begun ++ w) → end ≡ length ((begun ++ w) ++ v) → AreArgumentsRead depth attr text rest begun (w ++ (v ++ u)) true (record { from = from; to = to; start = start; end = end })
+one_named depth attr text from to rest begun w v u one more start end a p b start_is end_is =
+    let all : List Placed = a.placed ++ (p.placed ∷ b.placed) in
+    let args : args_of all ≡ args_of a.placed ++ (p.placed.arg ∷ args_of b.placed) = all_args a.placed (p.placed ∷ b.placed) in
+    let first : first_named attr (args_of a.placed ++ (p.placed.arg ∷ args_of b.placed)) ≡ Some p.placed.arg = first_at attr (args_of a.placed) p.placed.arg (args_of b.placed) a.others p.named_is in
+    record {
+      placed = all;
+      are = all_append depth a.placed (p.placed ∷ b.placed) a.are (p.is, b.are);
+      front = a.front ∙ ap (λ (t : List ℕ). flat_map placed_lines a.placed ++ t) (p.front ∙ ap (λ (t : List ℕ). placed_lines p.placed ++ t) b.front)
+          ∙ joined (flat_map placed_lines a.placed) (placed_lines p.placed) (flat_map placed_lines b.placed) ∙ ap (λ (t : List ℕ). t ++ rest) (sym (flat_append placed_lines a.placed (p.placed ∷ b.placed)));
+      spells = (λ i. a.spells i ++ (p.spells i ++ b.spells i)) ∙ ap (λ (t : List ℕ). argument_lines (args_of a.placed) ++ t) (sym (lines_append (p.placed.arg ∷ []) (args_of b.placed)))
+          ∙ sym (lines_append (args_of a.placed) (p.placed.arg ∷ args_of b.placed)) ∙ ap argument_lines (sym args);
+      one_is = some_length (length a.placed) (length b.placed) ∙ ap (nat_le 1) (sym (length_append a.placed (p.placed ∷ b.placed)));
+      has = record {
+        before = a.placed;
+        one = p.placed ∷ [];
+        after = b.placed;
+        all = refl;
+        are = (p.is, tt);
+        splits = λ f local. ap f args ∙ local.there (args_of a.placed ++ (p.placed.arg ∷ args_of b.placed)) p.placed.arg first
+            ∙ edited_at (is_named attr) (λ x. f (p.placed.arg ∷ [])) (args_of a.placed) p.placed.arg (args_of b.placed) a.others p.named_is;
+        alone_is = ap (alone attr) args ∙ ap option_to_list first;
+        front = a.front;
+        lines = p.front ∙ ap (λ (t : List ℕ). t ++ to) (sym (append-nil (placed_lines p.placed)));
+        start = start_is ∙ ap (λ (t : List ℕ). length (begun ++ t)) a.spells;
+        end = end_is ∙ (λ i. length ((begun ++ a.spells i) ++ p.spells i));
+      };
+    }
+  where
+    joined : (x y z : List ℕ) → x ++ (y ++ (z ++ rest)) ≡ (x ++ (y ++ z)) ++ rest
+    joined x y z = simp append_assoc
+
+pub not_named : (depth : ℕ) (attr text before all : List ℕ) (o : Option (Bor (List ℕ))) → is_some o ≡ false → IsNamedRead depth attr text before all (option_map (λ to. to.now) o) → all ≡ before
+not_named depth attr text before all None none is = is
+not_named depth attr text before all (Some to) none is = absurd (false≢true (sym none))

@@ -84,10 +84,7 @@ struct OnlyString<'t> {
 }
 
 /// What follows the list on lines here, its first bracket left out.
-fn put_on_lines<'t>(
-    inside: &'t [u8],
-    written: &mut Vec<u8>,
-) -> Result<Option<&'t [u8]>, NoMemory>
+fn put_on_lines<'t>(inside: &'t [u8], written: &mut Vec<u8>) -> Result<Option<&'t [u8]>, NoMemory>
     ensures { IfOk result (λ told. IfSome told (λ rest. (w : List ℕ)
         × (written.new.items ≡ written.old.items ++ w) × IsListRead (91 ∷ inside.now) rest.now (91 ∷ w))) }
 {
@@ -195,7 +192,8 @@ fn put_element<'t>(
 /// What follows a comma and the comment beside it.
 #[inline(always)]
 pub(crate) fn after_value(text: &[u8]) -> Option<AfterNotes<'_>>
-    ensures { IfSome result (λ side. (comma : List ℕ) × (text.now ≡ 44 ∷ comma) × IsBesideFront comma side.rest.now side.some) }
+    ensures { IfSome result (λ side. (comma : List ℕ) × (text.now ≡ 44 ∷ comma)
+        × IsBesideFront comma side.rest.now side.some) }
 {
     let comma = after(text, b',')?;
     let side = beside(comma)?;
@@ -203,10 +201,7 @@ pub(crate) fn after_value(text: &[u8]) -> Option<AfterNotes<'_>>
 }
 
 /// What follows the list in place here, its first bracket left out.
-fn put_in_place<'t>(
-    inside: &'t [u8],
-    written: &mut Vec<u8>,
-) -> Result<Option<&'t [u8]>, NoMemory>
+fn put_in_place<'t>(inside: &'t [u8], written: &mut Vec<u8>) -> Result<Option<&'t [u8]>, NoMemory>
     ensures { IfOk result (λ told. IfSome told (λ rest. (w : List ℕ)
         × (written.new.items ≡ written.old.items ++ w) × IsListRead (91 ∷ inside.now) rest.now (91 ∷ w))) }
 {

@@ -1,5 +1,5 @@
 -- Lists of strings, and rules with such lists, that stand otherwise than they are written, for private clauses.
-use Rattle.std.specs.Prelude.{◌≡◌, ◌≤◌, ◌==◌, ◌&&◌, not, ℕ, List, [], ◌∷◌, ◌++◌, codes, length, map, flat_map, Bool, true, false, ◌||◌, if◌then◌else◌, Option, None, Some, is_some, nat_le}
+use Rattle.std.specs.Prelude.{◌≡◌, ◌≤◌, ◌-◌, ◌==◌, ◌&&◌, ◌||◌, not, ℕ, List, [], ◌∷◌, ◌++◌, codes, length, map, flat_map, take, drop, bytes_eq, Bool, true, false, if◌then◌else◌, Option, None, Some, IfSome, is_some, nat_le}
 use Rattle.std.specs.List.{list_any}
 use Rattle.bz_token.specs.Common.{is_filled}
 use Rattle.bz_token.specs.Lexical.{is_text}
@@ -19,8 +19,12 @@ use Rattle.bz_layout_laws.specs.Legible.{AreComments, segs_depth}
 use Rattle.bz_layout_laws.specs.Parsed.{SegsHaveKinds, have_for}
 use Rattle.bz_layout_laws.specs.TextsOfKinds.{SegsHaveTexts}
 use Rattle.bz_layout_laws.specs.WellFormed.{IsWellFormed}
-use Rattle.bz_attribute.specs.Rules.{first_named, rule_of}
-use Rattle.bz_canonical.specs.Canonical.{HasArgumentName, HasName, argument_lines, rule_args}
+use Rattle.bz_attribute.specs.Effects.{has}
+use Rattle.bz_attribute.specs.RowPlaces.{IsLocal}
+use Rattle.bz_attribute.specs.Rules.{first_named, is_named, rule_of}
+use Rattle.bz_canonical.specs.Canonical.{Between, HasArgumentName, HasName, HasPlace, argument_lines, rule_args}
+use Rattle.bz_canonical.specs.declared.put_arguments.PutPlace.{PutPlace}
+use Rattle.bz_canonical.specs.private.Arguments.{alone}
 use Rattle.bz_canonical.specs.private.Fronts.{IsQuotedFront}
 use Rattle.bz_canonical.specs.private.Segments.{AreOf}
 
@@ -144,11 +148,12 @@ pub record IsPlaced (depth : ℕ) (p : Placed) : Type 0 where
   pub spelled : items_spelled_by p.choice (items_of p.arg.nodes) ≡ items_of p.arg.nodes
 
 -- an argument, and what is written of it
-pub record IsArgumentRead (depth : ℕ) (text rest written : List ℕ) : Type 0 where
+pub record IsArgumentRead (depth : ℕ) (attr text rest written : List ℕ) (named : Bool) : Type 0 where
   pub placed : Placed
   pub is : IsPlaced depth placed
   pub front : text ≡ placed_lines placed ++ rest
   pub spells : written ≡ argument_lines (placed.arg ∷ [])
+  pub named_is : is_named attr placed.arg ≡ named
 
 abbrev pub ArePlaced : ℕ → List Placed → Type 0
 ArePlaced depth [] = Unit {0}
@@ -157,21 +162,61 @@ ArePlaced depth (p ∷ ps) = IsPlaced depth p × ArePlaced depth ps
 abbrev pub args_of : List Placed → List Segment
 args_of ps = map (λ p. p.arg) ps
 
--- arguments, and what is written of them
-pub record AreArgumentsRead (depth : ℕ) (text rest written : List ℕ) (one : Bool) : Type 0 where
+-- arguments of other names, and what is written of them
+pub record AreOthersRead (depth : ℕ) (attr text rest written : List ℕ) (one : Bool) : Type 0 where
+  pub placed : List Placed
+  pub are : ArePlaced depth placed
+  pub front : text ≡ flat_map placed_lines placed ++ rest
+  pub spells : written ≡ argument_lines (args_of placed)
+  pub others : has attr (args_of placed) ≡ false
+  pub one_is : one ≡ nat_le 1 (length placed)
+
+-- the argument of the name after them, if there is one, and what is written up to its end
+abbrev pub IsNamedRead : ℕ → List ℕ → List ℕ → List ℕ → List ℕ → Option (List ℕ) → Type 0
+IsNamedRead depth attr text before all None = all ≡ before
+IsNamedRead depth attr text before all (Some rest) = (w : List ℕ) × (all ≡ before ++ w) × IsArgumentRead depth attr text rest w true
+
+-- where an argument stands in a text, and in what is written
+pub record PutEnds : Type 0 where
+  pub from : List ℕ
+  pub to : List ℕ
+  pub start : ℕ
+  pub end : ℕ
+
+abbrev pub put_ends : PutPlace → PutEnds
+put_ends place = record { from = place.lines.from.now; to = place.lines.to.now; start = place.start; end = place.end }
+
+-- The first argument of a name among others, where `begun` is written before them; or none has it, and the place is after all.
+pub record HasPut (depth : ℕ) (attr begun text : List ℕ) (placed : List Placed) (place : PutEnds) : Type 0 where
+  pub before : List Placed
+  pub one : List Placed
+  pub after : List Placed
+  pub all : placed ≡ before ++ (one ++ after)
+  pub are : ArePlaced depth one
+  pub splits : (f : List Segment → List Segment) → IsLocal attr f → f (args_of placed) ≡ args_of before ++ (f (args_of one) ++ args_of after)
+  pub alone_is : alone attr (args_of placed) ≡ args_of one
+  pub front : text ≡ flat_map placed_lines before ++ place.from
+  pub lines : place.from ≡ flat_map placed_lines one ++ place.to
+  pub start : place.start ≡ length (begun ++ argument_lines (args_of before))
+  pub end : place.end ≡ length ((begun ++ argument_lines (args_of before)) ++ argument_lines (args_of one))
+
+-- all arguments
+pub record AreArgumentsRead (depth : ℕ) (attr text rest begun written : List ℕ) (one : Bool) (place : PutEnds) : Type 0 where
   pub placed : List Placed
   pub are : ArePlaced depth placed
   pub front : text ≡ flat_map placed_lines placed ++ rest
   pub spells : written ≡ argument_lines (args_of placed)
   pub one_is : one ≡ nat_le 1 (length placed)
+  pub has : HasPut depth attr begun text placed place
 
 -- the name of an argument and its equals sign, with the comments above it
-pub record IsHeadRead (text value : List ℕ) : Type 0 where
+pub record IsHeadRead (attr text value : List ℕ) (named : Bool) : Type 0 where
   pub notes : List (List ℕ)
   pub are : AreComments notes
   pub word : List ℕ
   pub is : is_text Identifier word ≡ true
   pub front : text ≡ bytes_of (comments 1 notes) ++ (10 ∷ (indent 1 ++ (word ++ (codes " = " ++ value))))
+  pub named_is : bytes_eq attr word ≡ named
 
 -- the comments above a rule, its kind and its name
 pub record IsRuleHead (text name rest : List ℕ) : Type 0 where
@@ -188,8 +233,18 @@ pub record IsRuleEnd (text rest : List ℕ) : Type 0 where
   pub is : AreComments (beside note)
   pub front : text ≡ 10 ∷ 41 ∷ (bytes_of (suffix_piece note) ++ 10 ∷ rest)
 
+-- the place of an argument
+pub record HasPutPlace (depth : ℕ) (attr : List ℕ) (s : Statement) (text written : List ℕ) (place : PutEnds) : Type 0 where
+  pub between : Between
+  pub above : List ℕ
+  pub front : text ≡ above ++ place.from
+  pub lines : place.from ≡ between.lines ++ place.to
+  pub before : take place.start written ≡ between.before
+  pub after : drop place.end written ≡ between.after
+  pub has : HasPlace depth attr s between
+
 -- a rule of this name, and what is written of it
-pub record IsRuleRead (depth : ℕ) (name text rest written : List ℕ) : Type 0 where
+pub record IsRuleRead (depth : ℕ) (attr name text rest written : List ℕ) (place : Option PutEnds) : Type 0 where
   pub s : Statement
   pub choice : Choice
   pub well : IsWellFormed depth s
@@ -200,3 +255,12 @@ pub record IsRuleRead (depth : ℕ) (name text rest written : List ℕ) : Type 0
   pub front : text ≡ text_by choice s ++ rest
   pub spells : written ≡ layout_text s
   pub absent : (attr : List ℕ) → (HasArgumentName attr (layout_text s) → ⊥) → first_named attr (rule_args (rule_of s.nodes)) ≡ None
+  pub has : IfSome place (HasPutPlace depth attr s text written)
+
+-- its lines as they are cut from the text, and what is cut from what is written
+abbrev pub IsPutPlaceIn : List ℕ → List ℕ → Option PutEnds → Option Between → Type 0
+IsPutPlaceIn text written ends None = Unit {0}
+IsPutPlaceIn text written None (Some place) = ⊥
+IsPutPlaceIn text written (Some ends) (Some place) =
+    (place.lines ≡ drop (length (take (length text - length ends.from) text)) (take (length text - length ends.to) text))
+    × (place.before ≡ take ends.start written) × (place.after ≡ drop ends.end written)

@@ -6,5 +6,5 @@ returns-in_ok-extend_from_slice-in-Some c =
     let read = c.in-Some.read in (
       c.in-Some-before.lines.now,
       c.in_ok-extend_from_slice-in-Some.ensures.items,
-      strict_read c.args.depth c.as_slice.result.now c.args.text.now read.rest.now c.in-Some-before.lines.now read.named read.noted c.in-Some.ensures c.in-Some-before.ensures,
+      strict_read c.args.depth c.args.attr.now c.args.text.now read.rest.now c.in-Some-before.lines.now read.named read.noted c.in-Some.ensures c.in-Some-before.ensures,
     )
