@@ -1,5 +1,5 @@
 -- What a command that looks at one argument alone makes of its lines, and so of the rule.
-use Rattle.std.proofs.Common.{◌≡◌, ℕ, ◌-◌, true, false, List, [], ◌∷◌, ◌++◌, length, take, drop, refl, sym, ◌∙◌, ap, subst, arith}
+use Rattle.std.proofs.Common.{◌≡◌, ℕ, ◌-◌, true, false, List, [], ◌∷◌, ◌++◌, length, take, drop, refl, sym, ◌∙◌, ap, subst, arith, append_assoc}
 use Rattle.std.proofs.Math.Seq.{take-append_seam}
 use Rattle.std.proofs.lemmas.List.{length-append}
 use Rattle.std.specs.Prelude.{codes, option_to_list, Option, None, Some, Result, Ok, Err, IfOk, IfSome}
@@ -8,6 +8,7 @@ use Rattle.bz_tree.specs.Tree.{Segment, Statement}
 use Rattle.bz_layout.specs.Layout.{layout_text}
 use Rattle.bz_command.specs.declared.arguments.Setting.TheVariants.{ToValues}
 use Rattle.bz_command.specs.Labels.{Package}
+use Rattle.bz_command.specs.Values.{quoted}
 use Rattle.bz_attribute.specs.declared.done.Done.{Done}
 use Rattle.bz_attribute.specs.Effects.{slot_done, with_args, done}
 use Rattle.bz_attribute.specs.RowPlaces.{LooksAt}
@@ -15,13 +16,13 @@ use Rattle.bz_attribute.specs.Rules.{Rule, first_named, rule_of}
 use Rattle.bz_attribute_commands.specs.Argument.{new_argument}
 use Rattle.bz_canonical.specs.Canonical.{AreReadAlone, Between, HasName, HasPlace, argument_lines, first_args, rule_args, small_text}
 use Rattle.bz_canonical.proofs.SmallRules.{no_lines, small_after, small_told}
-use Rattle.bz_rule.specs.declared.command.Action.TheVariants.{Set, SetIfAbsent}
+use Rattle.bz_rule.specs.declared.command.Action.TheVariants.{Add, Set, SetIfAbsent}
 use Rattle.bz_rule.specs.Commands.{Command, after, args_after, args_done, done_of}
 use Rattle.bz_rule.specs.OneAttribute.{one_attribute}
 use Rattle.bz_rule.proofs.Commands.{local}
 use Rattle.bz_engine.specs.declared.argument.EditedArgument.{EditedArgument}
 use Rattle.bz_engine.specs.declared.argument.EditedArgument.TheVariants.{Unchanged, Lines}
-use Rattle.bz_engine.specs.private.ArgumentEdits.{AddsArgument, AreLinesAfter, ChangesArgs, EditsLines, Setting, set_by}
+use Rattle.bz_engine.specs.private.ArgumentEdits.{AddsArgument, AreLinesAfter, ChangesArgs, EditsLines, Setting, list_argument, set_by}
 use Rattle.bz_engine.specs.private.Found.{Makes, told_line}
 use Rattle.bz_engine.proofs.OnlyPass.{named_rule}
 use Rattle.bz_engine.proofs.TextAnswers.{none_has, nothing, stays_by}
@@ -42,6 +43,17 @@ pub adds_argument : (command : Command) (new : Setting) (lines : List ℕ) → s
 adds_argument command new lines is lines_are = λ home.
     let made = set_alone command new is home in
     record { told = made.0; some = ap is_empty made.1; lines_are = lines_are ∙ ap argument_lines (sym made.1) }
+
+-- what is added where none has the name
+pub adds_list : (attr value lines : List ℕ) → lines ≡ argument_lines (list_argument attr value ∷ []) → AddsArgument (Add attr (value ∷ [])) lines
+adds_list attr value lines lines_are = λ home. record { told = refl; some = refl; lines_are = lines_are }
+
+list_line : (attr value : List ℕ) → argument_lines (list_argument attr value ∷ []) ≡ codes "\n    " ++ (attr ++ (codes " = [" ++ (quoted value ++ codes "],")))
+list_line attr value = refl
+
+pub list_put : (old a b c d new attr value A Q : List ℕ) → a ≡ old ++ codes "\n    " → b ≡ a ++ A → A ≡ attr → c ≡ b ++ codes " = [" → d ≡ c ++ Q → Q ≡ quoted value → new ≡ d ++ codes "],"
+    → new ≡ old ++ argument_lines (list_argument attr value ∷ [])
+list_put old a b c d new attr value A Q ha hb hA hc hd hQ hn = rw (hn, hd, hQ, hc, hb, hA, ha, list_line attr value) (simp append_assoc)
 
 pub adds_to_none : (depth : ℕ) (command : Command) (home : Package) (lines : List ℕ) (new : List ℕ) → length lines ≡ 0 → AddsArgument command new
     → (args : List Segment) → lines ≡ argument_lines args → AreReadAlone depth args → ChangesArgs command home args new

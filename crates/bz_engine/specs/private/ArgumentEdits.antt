@@ -1,8 +1,9 @@
 -- What a command makes of the lines of an argument, for private clauses.
-use Rattle.std.specs.Prelude.{◌≡◌, ℕ, List, [], false, true, Option, None, Some}
+use Rattle.std.specs.Prelude.{◌≡◌, ℕ, List, [], ◌∷◌, false, true, Option, None, Some}
 use Rattle.bz_tree.specs.Tree.{Segment, Statement}
 use Rattle.bz_layout.specs.Layout.{layout_text}
 use Rattle.bz_attribute.specs.declared.done.Done.{Done}
+use Rattle.bz_attribute.specs.Effects.{argument, list_item, string}
 use Rattle.bz_command.specs.declared.arguments.Setting.TheVariants.{ToValues}
 use Rattle.bz_command.specs.Labels.{Package}
 use Rattle.bz_canonical.specs.Canonical.{AreReadAlone, argument_lines, small_text}
@@ -27,6 +28,10 @@ set_by _ = None
 
 abbrev pub new_of : NewArgument → Setting
 new_of new = record { attr = new.attr.now; words = new.values.now }
+
+-- the argument of one value that `add` adds where none has its name
+abbrev pub list_argument : List ℕ → List ℕ → Segment
+list_argument attr value = argument attr (list_item (string value ∷ []) ∷ [])
 
 -- The command changes these arguments into some that have these lines.
 pub record ChangesArgs (command : Command) (home : Package) (args : List Segment) (lines : List ℕ) : Type 0 where
