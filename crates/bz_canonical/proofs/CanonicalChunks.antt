@@ -23,7 +23,7 @@ use Rattle.bz_canonical.proofs.Places.{place_cut}
 use Rattle.bz_canonical.proofs.Taken.{taken}
 use Rattle.bz_token.specs.Common.{is_empty}
 
-chunk_some : (chunk : List ℕ) → IsChunk chunk → 0 < length chunk
+pub chunk_some : (chunk : List ℕ) → IsChunk chunk → 0 < length chunk
 chunk_some [] ends = let none : [] ≡ [] ∷ chunks [] = ends [] in absurd cc
 chunk_some (b ∷ bs) ends = omega arith
 
@@ -42,18 +42,21 @@ whole_again first depth s formed = by (is_comment s.class) refl
     by false is = subst (λ bytes. (t : Statement) × IsStatementIn first depth bytes t × (lineless t ≡ lineless (spelled_statement s))) (sym (append-nil (layout_text s))) (formed_again first depth s formed)
 
 -- the place of an argument, of what is read
+pub place_same : (depth : ℕ) (attr : List ℕ) (s t : Statement) (b : Between) → lineless t ≡ lineless s → HasPlace depth attr s b → HasPlace depth attr t b
+place_same depth attr s t b same has = record {
+  none = has.none ∙ ap (λ (z : Statement). is_empty (first_args attr z)) (sym same);
+  reads = subst (AreReadAlone depth b.lines) (ap (λ (z : Statement). first_args attr z) (sym same)) has.reads;
+  takes = λ f local some. ap (λ (z : Statement). layout_text (with_args f z)) same ∙ has.takes f local (ap (λ (z : Statement). is_empty (f (first_args attr z))) (sym same) ∙ some)
+      ∙ ap (λ (z : Statement). b.before ++ (argument_lines (f (first_args attr z)) ++ b.after)) (sym same);
+}
+
 place_read : (depth : ℕ) (attr : List ℕ) (s t : Statement) (text written end : List ℕ) → lineless t ≡ lineless s → text ≡ written ++ end → (ends : Option Ends) → IfSome ends (HasStatementPlace depth attr s text end)
     → (place : Option Between) → IsPlaceIn text written ends place → IfSome place (HasPlace depth attr t)
 place_read depth attr s t text written end same whole None g None is = tt
 place_read depth attr s t text written end same whole None g (Some place) is = absurd is
 place_read depth attr s t text written end same whole (Some ends) g None is = tt
 place_read depth attr s t text written end same whole (Some ends) g (Some place) is =
-    subst (HasPlace depth attr t) (sym (place_cut text written end ends g.between g.front g.lines g.ends whole place is.0 is.1 is.2)) (record {
-      lines = g.has.lines ∙ ap (λ (z : Statement). argument_lines (first_args attr z)) (sym same);
-      reads = subst (AreReadAlone depth) (ap (λ (z : Statement). first_args attr z) (sym same)) g.has.reads;
-      takes = λ f local some. ap (λ (z : Statement). layout_text (with_args f z)) same ∙ g.has.takes f local (ap (λ (z : Statement). is_empty (f (first_args attr z))) (sym same) ∙ some)
-          ∙ ap (λ (z : Statement). g.between.before ++ (argument_lines (f (first_args attr z)) ++ g.between.after)) (sym same);
-    })
+    subst (HasPlace depth attr t) (sym (place_cut text written end ends g.between g.front g.lines g.ends whole place is.0 is.1 is.2)) (place_same depth attr s t g.between same g.has)
 
 read_back : (first depth : ℕ) (attr : List ℕ) (class : Class) (name : Option (List ℕ)) (ends : Option Ends) (text end rest : List ℕ) → (f : IsStatementFront depth attr class name ends text end rest)
     → (place : Option Between) → IsPlaceIn text (layout_text f.s) ends place

@@ -11,3 +11,8 @@ pub mod CanonicalChunks
 pub mod Places
 pub mod ArgumentLines
 pub mod SmallRules
+pub mod SingleStrings
+pub mod OwnLayout
+pub mod ElementLists
+pub mod PutArguments
+pub mod PutRules

@@ -23,7 +23,7 @@ use Rattle.bz_canonical.specs.private.Arguments.{Ends, HasLines, alone}
 use Rattle.bz_canonical.specs.private.Segments.{AreLinesFront, IsBesideFront}
 use Rattle.bz_canonical.specs.private.Statements.{HasGroupPlace, HasNodesPlace, HasStatementPlace}
 use Rattle.bz_canonical.proofs.ArgumentLines.{counted, lines_append}
-use Rattle.bz_canonical.proofs.SmallRules.{read_alone}
+use Rattle.bz_canonical.proofs.SmallRules.{none_alone, read_alone}
 use Rattle.bz_canonical.proofs.Taken.{taken}
 use Rattle.bz_token.specs.Common.{is_empty, is_filled}
 
@@ -60,6 +60,29 @@ some_or true c t x is = refl
 some_or false true t x is = refl
 some_or false false t x is = rw is refl
 
+-- what an edit of the first argument of a name makes of a group of arguments after another one
+pub group_takes : (attr : List ℕ) (n : Segment) (args before after : List Segment) (end : List (List ℕ)) → is_named attr n ≡ false
+    → ((f : List Segment → List Segment) → IsLocal attr f → f args ≡ before ++ (f (alone attr args) ++ after))
+    → (f : List Segment → List Segment) → IsLocal attr f → is_empty (f (alone attr args)) ≡ false
+    → bytes_of (item_pieces Broken 0 Closed (group RuleCall (segs_of (f (segments (segs_of (n ∷ args))))) false end))
+    ≡ (40 ∷ (argument_lines (n ∷ []) ++ argument_lines before)) ++ (argument_lines (f (alone attr args)) ++ (argument_lines after ++ (bytes_of (comments 1 end) ++ 10 ∷ 41 ∷ [])))
+group_takes attr n args before after end other splits f local some =
+    let new : List Segment = f (alone attr args) in
+    let all : List Segment = n ∷ (before ++ (new ++ after)) in
+    let all_is : f (segments (segs_of (n ∷ args))) ≡ all = ap f (segments_of (n ∷ args)) ∙ local_past attr f local n other args ∙ ap (λ (xs : List Segment). n ∷ xs) (splits f local) in
+    let many : nat_le 2 (count (segs_of all)) ≡ true = two (count (segs_of (before ++ (new ++ after)))) (omega (arith, counted before (new ++ after), counted new after, some_counted new some)) in
+    ap (λ xs. bytes_of (item_pieces Broken 0 Closed (group RuleCall (segs_of xs) false end))) all_is
+    ∙ whole (segs_of all) (is_broken RuleCall (segs_of all) end (segs_hold (segs_of all))) (some_or (is_filled end) (have_comments (segs_of all)) (nat_le 2 (count (segs_of all))) _ many) _ new (joined before new after)
+  where
+    joined : (xs ys zs : List Segment) → argument_lines (n ∷ (xs ++ (ys ++ zs))) ≡ argument_lines (n ∷ []) ++ (argument_lines xs ++ (argument_lines ys ++ argument_lines zs))
+    joined xs ys zs = lines_append (n ∷ []) (xs ++ (ys ++ zs)) ∙ ap (λ (t : List ℕ). argument_lines (n ∷ []) ++ t) (lines_append xs (ys ++ zs) ∙ ap (λ (t : List ℕ). argument_lines xs ++ t) (lines_append ys zs))
+
+    whole : (ss : Segs) (b : Bool) → b ≡ true → (A : List Piece) (new : List Segment) → bytes_of (broken_segs Broken 1 RuleCall true ss) ≡ argument_lines (n ∷ []) ++ (argument_lines before ++ (argument_lines new ++ argument_lines after))
+        → 40 ∷ bytes_of (if breaks Broken b then broken_segs Broken 1 RuleCall true ss ++ (comments 1 end ++ piece (Line 0) Operator (codes ")") ∷ []) else A)
+        ≡ (40 ∷ (argument_lines (n ∷ []) ++ argument_lines before)) ++ (argument_lines new ++ (argument_lines after ++ (bytes_of (comments 1 end) ++ 10 ∷ 41 ∷ [])))
+    whole ss b on A new same =
+        rw (on, bytes_append (broken_segs Broken 1 RuleCall true ss) (comments 1 end ++ piece (Line 0) Operator (codes ")") ∷ []), bytes_append (comments 1 end) (piece (Line 0) Operator (codes ")") ∷ []), same) (simp append_assoc)
+
 -- in a group of arguments after another one
 pub group_place : (depth : ℕ) (attr : List ℕ) (n : Segment) (args : List Segment) (end : List (List ℕ)) (inside next middle below rest : List ℕ) (place : Ends) → is_named attr n ≡ false
     → inside ≡ argument_lines (n ∷ []) ++ next → HasLines depth attr args next middle place → middle ≡ bytes_of (comments 1 end) ++ below → below ≡ 10 ∷ 41 ∷ rest
@@ -73,26 +96,10 @@ group_place depth attr n args end inside next middle below rest place other insi
       front = ap (λ (t : List ℕ). 40 ∷ t) (inside_is ∙ ap (λ (t : List ℕ). argument_lines (n ∷ []) ++ t) h.front ∙ sym (append_assoc (argument_lines (n ∷ [])) (argument_lines h.before) place.from));
       lines = h.lines ∙ ap (λ xs. argument_lines xs ++ place.to) (sym same);
       ends = h.ends ∙ ap (λ (t : List ℕ). argument_lines h.after ++ t) (notes ∙ ap (λ (t : List ℕ). bytes_of (comments 1 end) ++ t) closes) ∙ simp append_assoc;
-      reads = subst (AreReadAlone (suc depth)) (sym same) (read_alone depth (alone attr args) h.are);
-      takes = λ f local some.
-          let new : List Segment = f (alone attr args) in
-          let all : List Segment = n ∷ (h.before ++ (new ++ h.after)) in
-          let all_is : f (segments (segs_of (n ∷ args))) ≡ all = ap f (segments_of (n ∷ args)) ∙ local_past attr f local n other args ∙ ap (λ (xs : List Segment). n ∷ xs) (h.splits f local) in
-          let many : nat_le 2 (count (segs_of all)) ≡ true = two (count (segs_of (h.before ++ (new ++ h.after))))
-          (omega (arith, counted h.before (new ++ h.after), counted new h.after, some_counted new (sym (ap (λ xs. is_empty (f xs)) same) ∙ some))) in
-          ap (λ xs. bytes_of (item_pieces Broken 0 Closed (group RuleCall (segs_of xs) false end))) all_is
-          ∙ whole (segs_of all) (is_broken RuleCall (segs_of all) end (segs_hold (segs_of all))) (some_or (is_filled end) (have_comments (segs_of all)) (nat_le 2 (count (segs_of all))) _ many) _ new (joined h.before new h.after)
+      reads = subst (λ xs. AreReadAlone (suc depth) (argument_lines xs) xs) (sym same) (read_alone depth (alone attr args) h.are);
+      takes = λ f local some. group_takes attr n args h.before h.after end other h.splits f local (sym (ap (λ xs. is_empty (f xs)) same) ∙ some)
           ∙ ap (λ xs. (40 ∷ (argument_lines (n ∷ []) ++ argument_lines h.before)) ++ (argument_lines (f xs) ++ (argument_lines h.after ++ (bytes_of (comments 1 end) ++ 10 ∷ 41 ∷ [])))) (sym same);
     }
-  where
-    joined : (xs ys zs : List Segment) → argument_lines (n ∷ (xs ++ (ys ++ zs))) ≡ argument_lines (n ∷ []) ++ (argument_lines xs ++ (argument_lines ys ++ argument_lines zs))
-    joined xs ys zs = lines_append (n ∷ []) (xs ++ (ys ++ zs)) ∙ ap (λ (t : List ℕ). argument_lines (n ∷ []) ++ t) (lines_append xs (ys ++ zs) ∙ ap (λ (t : List ℕ). argument_lines xs ++ t) (lines_append ys zs))
-
-    whole : (ss : Segs) (b : Bool) → b ≡ true → (A : List Piece) (new : List Segment) → bytes_of (broken_segs Broken 1 RuleCall true ss) ≡ argument_lines (n ∷ []) ++ (argument_lines h.before ++ (argument_lines new ++ argument_lines h.after))
-        → 40 ∷ bytes_of (if breaks Broken b then broken_segs Broken 1 RuleCall true ss ++ (comments 1 end ++ piece (Line 0) Operator (codes ")") ∷ []) else A)
-        ≡ (40 ∷ (argument_lines (n ∷ []) ++ argument_lines h.before)) ++ (argument_lines new ++ (argument_lines h.after ++ (bytes_of (comments 1 end) ++ 10 ∷ 41 ∷ [])))
-    whole ss b on A new same =
-        rw (on, bytes_append (broken_segs Broken 1 RuleCall true ss) (comments 1 end ++ piece (Line 0) Operator (codes ")") ∷ []), bytes_append (comments 1 end) (piece (Line 0) Operator (codes ")") ∷ []), same) (simp append_assoc)
 
 -- of a kind of one word, or of two with a dot between them
 pub plain_place : (depth : ℕ) (attr token text bracket rest : List ℕ) (segs : Segs) (end : List (List ℕ)) → text ≡ token ++ bracket → (place : Option Ends)
@@ -144,7 +151,7 @@ statement_place depth attr s text start middle end rest e above beside ends othe
   lines = g.lines;
   ends = g.ends ∙ ap (λ (t : List ℕ). g.after ++ t) (beside.front ∙ ap (λ (t : List ℕ). bytes_of (suffix_piece beside.note) ++ t) ends) ∙ simp append_assoc;
   has = record {
-    lines = refl;
+    none = none_alone (first_args attr s);
     reads = g.reads;
     takes = λ f local some. by (is_comment s.class) other s.before before_is s.suffix suffix_is (items_pieces Broken 0 None Closed Start (items_of (nodes_after f s.nodes (rule_of s.nodes)))) (argument_lines (f (first_args attr s))) (g.takes f local some);
   };

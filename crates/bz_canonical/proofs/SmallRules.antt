@@ -24,8 +24,10 @@ use Rattle.bz_attribute.specs.Effects.{slot_done, with_args}
 use Rattle.bz_attribute.specs.declared.done.Done.{Done}
 use Rattle.bz_attribute.proofs.Views.{segments_of}
 use Rattle.bz_canonical.specs.Canonical.{AreReadAlone, argument_lines, small_rule, small_text}
+use Rattle.bz_canonical.specs.private.Rewritten.{AreFormed}
 use Rattle.bz_canonical.specs.private.Segments.{AreSegments}
 use Rattle.bz_canonical.proofs.GroupSegments.{most}
+use Rattle.bz_token.specs.Common.{is_empty}
 
 kind_text : is_text Identifier (codes "k") ≡ true
 unfolding keywords
@@ -34,7 +36,7 @@ kind_text = refl
 absurd_of : {A : Type 0} → false ≡ true → A
 absurd_of h = absurd (false≢true h)
 
-small_formed : (depth : ℕ) (args : List Segment) → AreSegments RuleCall depth (segs_of args) → IsWellFormed (suc depth) (small_rule args)
+pub small_formed : (depth : ℕ) (args : List Segment) → AreFormed depth (segs_of args) → IsWellFormed (suc depth) (small_rule args)
 small_formed depth args are = record {
   texts = record { some = λ no. refl; before = refl; nodes = ((kind_text, refl), ((are.texts, refl), tt)); suffix = refl };
   parsed = record {
@@ -48,20 +50,23 @@ small_formed depth args are = record {
   depth_fits = most _ _ (suc depth) (omega arith) (most _ _ (suc depth) (omega (arith, are.depth_fits)) (omega arith));
 }
 
-written : (args : List Segment) → layout_text (small_rule args) ≡ small_text (argument_lines args)
-written args = by (broken_segs Broken 1 RuleCall true (segs_of args))
-  where
-    by : (P : List Piece) → bytes_of ((piece Closed Identifier (codes "k") ∷ piece Closed Operator (codes "(") ∷ ((P ++ (piece (Line 1) Comment (codes "#") ∷ piece (Line 0) Operator (codes ")") ∷ [])) ++ [])) ++ piece Closed Newline (codes "\n") ∷ [])
-        ≡ small_text (bytes_of P)
-    by P = rw (
-      append-nil (P ++ (piece (Line 1) Comment (codes "#") ∷ piece (Line 0) Operator (codes ")") ∷ [])),
-      bytes_append (P ++ (piece (Line 1) Comment (codes "#") ∷ piece (Line 0) Operator (codes ")") ∷ [])) (piece Closed Newline (codes "\n") ∷ []),
-      bytes_append P (piece (Line 1) Comment (codes "#") ∷ piece (Line 0) Operator (codes ")") ∷ []),
-    ) (simp append_assoc)
+pub small_bytes : (P : List Piece) → bytes_of ((piece Closed Identifier (codes "k") ∷ piece Closed Operator (codes "(") ∷ ((P ++ (piece (Line 1) Comment (codes "#") ∷ piece (Line 0) Operator (codes ")") ∷ [])) ++ [])) ++ piece Closed Newline (codes "\n") ∷ [])
+    ≡ small_text (bytes_of P)
+small_bytes P = rw (
+  append-nil (P ++ (piece (Line 1) Comment (codes "#") ∷ piece (Line 0) Operator (codes ")") ∷ [])),
+  bytes_append (P ++ (piece (Line 1) Comment (codes "#") ∷ piece (Line 0) Operator (codes ")") ∷ [])) (piece Closed Newline (codes "\n") ∷ []),
+  bytes_append P (piece (Line 1) Comment (codes "#") ∷ piece (Line 0) Operator (codes ")") ∷ []),
+) (simp append_assoc)
 
-pub read_alone : (depth : ℕ) (args : List Segment) → AreSegments RuleCall depth (segs_of args) → AreReadAlone (suc depth) args
+written : (args : List Segment) → layout_text (small_rule args) ≡ small_text (argument_lines args)
+written args = small_bytes (broken_segs Broken 1 RuleCall true (segs_of args))
+
+formed_of : (depth : ℕ) (args : List Segment) → AreSegments RuleCall depth (segs_of args) → AreFormed depth (segs_of args)
+formed_of depth args are = record { texts = are.texts; kinds = are.kinds; grammar = are.grammar; no_for = are.no_for; depth_fits = are.depth_fits }
+
+pub read_alone : (depth : ℕ) (args : List Segment) → AreSegments RuleCall depth (segs_of args) → AreReadAlone (suc depth) (argument_lines args) args
 read_alone depth args are = λ first t read.
-    let only = formed_only first (suc depth) (small_rule args) t (small_formed depth args are) (subst (λ text. IsStatementIn first (suc depth) text t) (sym (written args)) read) in
+    let only = formed_only first (suc depth) (small_rule args) t (small_formed depth args (formed_of depth args are)) (subst (λ text. IsStatementIn first (suc depth) text t) (sym (written args)) read) in
     only.0 ∙ ap (λ ss. record { before = []; nodes = leaf Identifier (codes "k") ∷ group RuleCall ss false (codes "#" ∷ []) ∷ []; suffix = None; class = RuleClass; start = 0; end = 0 }) are.stays
 
 -- what is written of it after an edit, and what is told of it
@@ -71,14 +76,23 @@ small_after f args t same = ap (λ (z : Statement). layout_text (with_args f z))
 pub small_told : (g : List Segment → Done) (args : List Segment) (t : Statement) → lineless t ≡ lineless (small_rule args) → slot_done g (Some t) ≡ g args
 small_told g args t same = ap (λ (z : Statement). slot_done g (Some z)) same ∙ ap g (segments_of args)
 
+pub no_bytes : (C P R : List Piece) → bytes_of (C ++ (P ++ (piece Closed Operator (codes ",") ∷ R))) ≡ [] → ⊥
+no_bytes C P R none =
+    let size : length (bytes_of (C ++ (P ++ (piece Closed Operator (codes ",") ∷ R)))) ≡ length (bytes_of C) + (length (bytes_of P) + length (44 ∷ bytes_of R)) =
+    ap length (bytes_append C (P ++ (piece Closed Operator (codes ",") ∷ R))) ∙ length-append (bytes_of C) (bytes_of (P ++ (piece Closed Operator (codes ",") ∷ R)))
+    ∙ ap (λ (n : ℕ). length (bytes_of C) + n) (ap length (bytes_append P (piece Closed Operator (codes ",") ∷ R)) ∙ length-append (bytes_of P) (44 ∷ bytes_of R)) in
+    omega (arith, size, ap length none)
+
 -- an argument has lines
 pub no_lines : (args : List Segment) → argument_lines args ≡ [] → args ≡ []
 no_lines [] is = refl
-no_lines (x ∷ xs) is = absurd (by (comments 1 x.before) (items_pieces Broken 1 (Some RuleCall) (Line 1) Start (items_of x.nodes)) (suffix_piece x.suffix ++ broken_segs Broken 1 RuleCall true (segs_of xs)) is)
+no_lines (x ∷ xs) is = absurd (no_bytes (comments 1 x.before) (items_pieces Broken 1 (Some RuleCall) (Line 1) Start (items_of x.nodes)) (suffix_piece x.suffix ++ broken_segs Broken 1 RuleCall true (segs_of xs)) is)
+
+-- lines, where there is an argument
+pub none_alone : (args : List Segment) → is_empty (argument_lines args) ≡ is_empty args
+none_alone [] = refl
+none_alone (x ∷ xs) = by (argument_lines (x ∷ xs)) (no_lines (x ∷ xs))
   where
-    by : (C P R : List Piece) → bytes_of (C ++ (P ++ (piece Closed Operator (codes ",") ∷ R))) ≡ [] → ⊥
-    by C P R none =
-        let size : length (bytes_of (C ++ (P ++ (piece Closed Operator (codes ",") ∷ R)))) ≡ length (bytes_of C) + (length (bytes_of P) + length (44 ∷ bytes_of R)) =
-        ap length (bytes_append C (P ++ (piece Closed Operator (codes ",") ∷ R))) ∙ length-append (bytes_of C) (bytes_of (P ++ (piece Closed Operator (codes ",") ∷ R)))
-        ∙ ap (λ (n : ℕ). length (bytes_of C) + n) (ap length (bytes_append P (piece Closed Operator (codes ",") ∷ R)) ∙ length-append (bytes_of P) (44 ∷ bytes_of R)) in
-        omega (arith, size, ap length none)
+    by : (lines : List ℕ) → (lines ≡ [] → x ∷ xs ≡ []) → is_empty lines ≡ false
+    by [] none = let no : x ∷ xs ≡ [] = none refl in absurd cc
+    by (b ∷ bs) none = refl

@@ -58,11 +58,11 @@ small_rule args = record {
 abbrev pub small_text : List ℕ → List ℕ
 small_text lines = codes "k(" ++ (lines ++ codes "\n    #\n)\n")
 
--- What is read of the lines of some arguments in that rule are these arguments.
-abbrev pub AreReadAlone : ℕ → List Segment → Type 0
-AreReadAlone depth args = (first : ℕ) (t : Statement) → IsStatementIn first depth (small_text (argument_lines args)) t → lineless t ≡ lineless (small_rule args)
+-- What is read of these lines in that rule are these arguments.
+abbrev pub AreReadAlone : ℕ → List ℕ → List Segment → Type 0
+AreReadAlone depth lines args = (first : ℕ) (t : Statement) → IsStatementIn first depth (small_text lines) t → lineless t ≡ lineless (small_rule args)
 
--- what is written before the lines of an argument, they, and what after them
+-- what is written before an argument, its lines as they stand, and what is written after it
 pub record Between : Type 0 where
   pub before : List ℕ
   pub lines : List ℕ
@@ -71,10 +71,11 @@ pub record Between : Type 0 where
 abbrev pub between : ArgumentPlace → Between
 between place = record { before = place.before.now; lines = place.lines.now; after = place.after.now }
 
--- The lines are those of the first argument of this name, or there is none. An edit that looks at it alone changes them alone.
+-- The lines are those of the first argument of this name, or there is none. An edit that looks at it alone changes what is
+-- written of it alone.
 pub record HasPlace (depth : ℕ) (attr : List ℕ) (s : Statement) (place : Between) : Type 0 where
-  pub lines : place.lines ≡ argument_lines (first_args attr s)
-  pub reads : AreReadAlone depth (first_args attr s)
+  pub none : is_empty place.lines ≡ is_empty (first_args attr s)
+  pub reads : AreReadAlone depth place.lines (first_args attr s)
   pub takes : (f : List Segment → List Segment) → IsLocal attr f → is_empty (f (first_args attr s)) ≡ false
       → layout_text (with_args f s) ≡ place.before ++ (argument_lines (f (first_args attr s)) ++ place.after)
 

@@ -4,3 +4,4 @@ pub mod Segments
 pub mod Arguments
 pub mod Chains
 pub mod Statements
+pub mod Rewritten

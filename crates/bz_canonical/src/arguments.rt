@@ -35,12 +35,12 @@ pub(crate) struct AfterArguments<'t> {
 
 /// What follows an argument.
 #[derive(Clone, Copy)]
-struct AfterArgument<'t> {
-    rest: &'t [u8],
+pub(crate) struct AfterArgument<'t> {
+    pub(crate) rest: &'t [u8],
     /// It has the name.
-    named: bool,
+    pub(crate) named: bool,
     /// A comment stands above it or beside it.
-    noted: bool,
+    pub(crate) noted: bool,
 }
 
 /// Arguments of other names, and the one after them, if it has the name.
@@ -53,7 +53,7 @@ struct AfterOthers<'t> {
 }
 
 /// The argument here, with its name.
-fn argument<'t>(text: &'t [u8], attr: &[u8], depth: u8) -> Option<AfterArgument<'t>>
+pub(crate) fn argument<'t>(text: &'t [u8], attr: &[u8], depth: u8) -> Option<AfterArgument<'t>>
     requires { depth < 254 }
     ensures { IfSome result (λ read. IsArgumentFront depth attr.now text.now read.rest.now read.named read.noted) }
 {

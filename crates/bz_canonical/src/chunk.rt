@@ -34,7 +34,7 @@ pub struct ArgumentPlace<'t> {
 }
 
 // Brackets may be open so deep, and no deeper: an indent's level is one byte.
-const DEEPEST: u8 = 253;
+pub(crate) const DEEPEST: u8 = 253;
 
 /// The chunk that the text begins with, where it stands as it would be written, with the place of the argument of this
 /// name. None: it may be so or not.
@@ -93,7 +93,7 @@ fn place_in<'t>(
 }
 
 /// The text without so many of its last bytes, where it may be cut there.
-fn without(text: &str, left: usize) -> Option<&str>
+pub(crate) fn without(text: &str, left: usize) -> Option<&str>
     ensures { IfSome result (λ front. front.now ≡ take (length text.now - left) text.now) }
 {
     let len = text.len().checked_sub(left)?;

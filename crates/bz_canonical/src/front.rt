@@ -5,6 +5,7 @@ ghost use Rattle.std.specs.List.{prefix_len};
 ghost use Rattle.bz_token.specs.declared.token.Kind.TheVariants.{Comment, Identifier, Integer, String};
 ghost use Rattle.bz_layout.specs.Pieces.{indent};
 ghost use Rattle.bz_canonical.specs.private.Fronts.{IsQuotedFront, IsTokenFront, is_simple};
+ghost use Rattle.bz_canonical.specs.private.Rewritten.{IsSingleFront, is_plain_inside};
 
 use bz_token::{comment_len, identifier_len, integer_len, string_len};
 
@@ -104,6 +105,29 @@ pub(crate) fn simple_string(text: &[u8]) -> Option<SimpleString<'_>>
     let inside = after(text, b'"')?;
     let (inner, end) = inside.split_at(simple_len(inside));
     let rest = after(end, b'"')?;
+    Some(SimpleString { inner, rest })
+}
+
+fn is_plain(b: u8) -> bool
+    ensures { result ≡ is_plain_inside b }
+{
+    b != b'"' && b != b'\'' && b != b'\\' && b != b'\n'
+}
+
+fn plain_len(bytes: &[u8]) -> usize
+    ensures len { result ≡ prefix_len is_plain_inside bytes.now }
+    ensures within { result ≤ length bytes.now }
+{
+    bytes.iter().take_while(|b| is_plain(**b)).count()
+}
+
+/// The string in single quotes here, which double quotes would leave as it is.
+pub(crate) fn single_string(text: &[u8]) -> Option<SimpleString<'_>>
+    ensures { IfSome result (λ q. IsSingleFront text.now q.inner.now q.rest.now) }
+{
+    let inside = after(text, b'\'')?;
+    let (inner, end) = inside.split_at(plain_len(inside));
+    let rest = after(end, b'\'')?;
     Some(SimpleString { inner, rest })
 }
 

@@ -2,7 +2,8 @@
 //!
 //! `canonical` recognizes what `bz_layout` writes, and not the whole language: rules, loads on one line, assignments and
 //! comment lines, of values with the spaces, lines and double quotes of the layout. What it accepts is read back as a
-//! statement, of which the layout writes the same text.
+//! statement, of which the layout writes the same text. `rewritten` recognizes rules in which lists of strings stand
+//! otherwise, and writes these as the layout does.
 #![tactic(auto)]
 
 mod arguments;
@@ -11,11 +12,16 @@ mod bare;
 mod chunk;
 mod front;
 mod group;
+mod lists;
 mod load;
 mod notes;
+mod put_arguments;
+mod put_rule;
+mod rewrite;
 mod rule;
 mod segments;
 mod statement;
 mod value;
 
 pub use chunk::{ArgumentPlace, CanonicalChunk, canonical};
+pub use rewrite::rewritten;

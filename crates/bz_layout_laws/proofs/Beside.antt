@@ -15,15 +15,14 @@ use Rattle.bz_layout.specs.declared.spacing.Edge.{Edge}
 use Rattle.bz_layout.specs.declared.spacing.Edge.TheVariants.{Start}
 use Rattle.bz_layout.specs.declared.spacing.Gap.{Gap}
 use Rattle.bz_layout.specs.declared.spacing.Gap.TheVariants.{Closed, Space, Line}
-use Rattle.bz_layout.specs.declared.broken.Style.{Style}
-use Rattle.bz_layout.specs.declared.broken.Style.TheVariants.{Broken}
-use Rattle.bz_layout.specs.Respell.{respell}
 use Rattle.bz_layout.specs.Spacing.{edge_after, gap_before}
 use Rattle.bz_layout.specs.Broken.{count, is_broken, segs_hold}
 use Rattle.bz_layout.specs.Pieces.{Piece, piece, gap_bytes, comma_if, comments, comment_lines, suffix_piece}
-use Rattle.bz_layout.specs.Layout.{opening, closing, has_commas, breaks, item_pieces, items_pieces, broken_segs, flat_segs, statement_line, is_comment as is_comment_class, layout}
+use Rattle.bz_layout.specs.Layout.{opening, closing, has_commas, is_comment as is_comment_class, layout}
+use Rattle.bz_layout_laws.specs.FreeLayout.{Choice, own, breaks_by, inside, following, text_of, item_by, items_by, broken_by, flat_by, statement_by}
 use Rattle.bz_layout_laws.specs.Legible.{is_leaf_mark, IsLegibleItem, AreLegible, AreLegibleSegs, IsLegible, are_some}
 use Rattle.bz_layout_laws.specs.ReadPieces.{is_apart}
+use Rattle.bz_layout_laws.proofs.OwnLayout.{line_by, statement_own}
 use Rattle.bz_layout_laws.proofs.Texts.{either_way}
 use Rattle.bz_layout_laws.proofs.Pieces.{gap_is}
 
@@ -112,66 +111,69 @@ suffixed false None ps a = record { all = a.each true }
 suffixed false (Some text) ps a = record { all = (refl, a.each false) }
 
 mutual
-  item_always : (style : Style) (level : ℕ) (gap : Gap) (x : Item) → is_apart gap ≡ false → IsLegibleItem x → Always (item_pieces style level gap x)
-  item_always style level gap (leaf kind text) first h = leaf_always gap kind (respell kind text) text first h.1
-  item_always style level gap (group kind segs one_comma end) first h =
+  item_always : (c : Choice) (level : ℕ) (gap : Gap) (x : Item) → is_apart gap ≡ false → IsLegibleItem x → Always (item_by c level gap x)
+  item_always c level gap (leaf kind text) first h = leaf_always gap kind (text_of c kind text) text first h.1
+  item_always c level gap (group kind segs one_comma end) first h =
       let comma = has_commas kind one_comma (count segs) in
       let last : List Piece = piece (Line level) Operator (closing kind) ∷ [] in
       let close : List Piece = piece Closed Operator (closing kind) ∷ [] in
       join (operator gap (opening kind) first)
-      (either_way Always (breaks style (is_broken kind segs end (segs_hold segs))) (broken_segs style (level + 1) kind comma segs ++ (comments (level + 1) end ++ last)) (flat_segs style level kind true segs ++ (comma_if one_comma ++ close))
-      (join (broken_always style (level + 1) kind comma segs h.0) (join (own_lines (level + 1) end) (operator (Line level) (closing kind) refl)))
-      (join (flat_always style level kind true segs h.0) (join (commas one_comma) (operator Closed (closing kind) refl))))
+      (either_way Always (breaks_by c (is_broken kind segs end (segs_hold segs))) (broken_by (inside c) (level + 1) kind comma segs ++ (comments (level + 1) end ++ last)) (flat_by (inside c) level kind true segs ++ (comma_if one_comma ++ close))
+      (join (broken_always (inside c) (level + 1) kind comma segs h.0) (join (own_lines (level + 1) end) (operator (Line level) (closing kind) refl)))
+      (join (flat_always (inside c) level kind true segs h.0) (join (commas one_comma) (operator Closed (closing kind) refl))))
 
-  items_always : (style : Style) (level : ℕ) (within : Option GroupKind) (first : Gap) (left : Edge) (xs : Items) → is_apart first ≡ false → AreLegible within left xs → Always (items_pieces style level within first left xs)
-  items_always style level within first left no_items h legible = none
-  items_always style level within first left (item x xs) h legible =
-      join (item_always style level (gap_before first left x) x (gap_is first left x h) legible.1) (items_always style level within first (edge_after within left x) xs h legible.2)
+  items_always : (c : Choice) (level : ℕ) (within : Option GroupKind) (first : Gap) (left : Edge) (xs : Items) → is_apart first ≡ false → AreLegible within left xs → Always (items_by c level within first left xs)
+  items_always c level within first left no_items h legible = none
+  items_always c level within first left (item x xs) h legible =
+      join (item_always (inside c) level (gap_before first left x) x (gap_is first left x h) legible.1) (items_always (following c) level within first (edge_after within left x) xs h legible.2)
 
-  broken_always : (style : Style) (level : ℕ) (kind : GroupKind) (comma : Bool) (ss : Segs) → AreLegibleSegs kind ss → Always (broken_segs style level kind comma ss)
-  broken_always style level kind comma no_segs h = none
-  broken_always style level kind comma (seg before nodes suffix ss) h =
+  broken_always : (c : Choice) (level : ℕ) (kind : GroupKind) (comma : Bool) (ss : Segs) → AreLegibleSegs kind ss → Always (broken_by c level kind comma ss)
+  broken_always c level kind comma no_segs h = none
+  broken_always c level kind comma (seg before nodes suffix ss) h =
       join (own_lines level before)
-      (join_token (items_always style level (Some kind) (Line level) Start nodes refl h.2) (items_last style level (Some kind) (Line level) Start nodes h.1 h.2)
-      (suffixed comma suffix (broken_segs style level kind comma ss) (broken_always style level kind comma ss h.4)))
+      (join_token (items_always (inside c) level (Some kind) (Line level) Start nodes refl h.2) (items_last (inside c) level (Some kind) (Line level) Start nodes h.1 h.2)
+      (suffixed comma suffix (broken_by (following c) level kind comma ss) (broken_always (following c) level kind comma ss h.4)))
 
-  flat_always : (style : Style) (level : ℕ) (kind : GroupKind) (first : Bool) (ss : Segs) → AreLegibleSegs kind ss → Always (flat_segs style level kind first ss)
-  flat_always style level kind first no_segs h = none
-  flat_always style level kind true (seg before nodes suffix ss) h =
-      join (items_always style level (Some kind) Closed Start nodes refl h.2) (flat_always style level kind false ss h.4)
-  flat_always style level kind false (seg before nodes suffix ss) h =
-      join (operator Closed (codes ",") refl) (join (items_always style level (Some kind) Space Start nodes refl h.2) (flat_always style level kind false ss h.4))
+  flat_always : (c : Choice) (level : ℕ) (kind : GroupKind) (first : Bool) (ss : Segs) → AreLegibleSegs kind ss → Always (flat_by c level kind first ss)
+  flat_always c level kind first no_segs h = none
+  flat_always c level kind true (seg before nodes suffix ss) h =
+      join (items_always (inside c) level (Some kind) Closed Start nodes refl h.2) (flat_always (following c) level kind false ss h.4)
+  flat_always c level kind false (seg before nodes suffix ss) h =
+      join (operator Closed (codes ",") refl) (join (items_always (inside c) level (Some kind) Space Start nodes refl h.2) (flat_always (following c) level kind false ss h.4))
 
   -- nodes end with a token
-  item_last : (style : Style) (level : ℕ) (gap : Gap) (x : Item) → IsLegibleItem x → Tokens (item_pieces style level gap x)
-  item_last style level gap (leaf kind text) h = leaf_last gap kind (respell kind text) text h.1
-  item_last style level gap (group kind segs one_comma end) h =
+  item_last : (c : Choice) (level : ℕ) (gap : Gap) (x : Item) → IsLegibleItem x → Tokens (item_by c level gap x)
+  item_last c level gap (leaf kind text) h = leaf_last gap kind (text_of c kind text) text h.1
+  item_last c level gap (group kind segs one_comma end) h =
       let comma = has_commas kind one_comma (count segs) in
       let last : List Piece = piece (Line level) Operator (closing kind) ∷ [] in
       let close : List Piece = piece Closed Operator (closing kind) ∷ [] in
       last_join (piece gap Operator (opening kind) ∷ [])
-      (either_way Tokens (breaks style (is_broken kind segs end (segs_hold segs))) (broken_segs style (level + 1) kind comma segs ++ (comments (level + 1) end ++ last)) (flat_segs style level kind true segs ++ (comma_if one_comma ++ close))
-      (last_join (broken_segs style (level + 1) kind comma segs) (last_join (comments (level + 1) end) (operator_last (Line level) (closing kind))))
-      (last_join (flat_segs style level kind true segs) (last_join (comma_if one_comma) (operator_last Closed (closing kind)))))
+      (either_way Tokens (breaks_by c (is_broken kind segs end (segs_hold segs))) (broken_by (inside c) (level + 1) kind comma segs ++ (comments (level + 1) end ++ last)) (flat_by (inside c) level kind true segs ++ (comma_if one_comma ++ close))
+      (last_join (broken_by (inside c) (level + 1) kind comma segs) (last_join (comments (level + 1) end) (operator_last (Line level) (closing kind))))
+      (last_join (flat_by (inside c) level kind true segs) (last_join (comma_if one_comma) (operator_last Closed (closing kind)))))
 
-  items_last : (style : Style) (level : ℕ) (within : Option GroupKind) (first : Gap) (left : Edge) (xs : Items) → are_some xs ≡ true → AreLegible within left xs → Tokens (items_pieces style level within first left xs)
-  items_last style level within first left no_items h legible = absurd (false≢true h)
-  items_last style level within first left (item x no_items) h legible =
-      record { last = λ token. ends_join token (item_pieces style level (gap_before first left x) x) [] ∙ (item_last style level (gap_before first left x) x legible.1).last token }
-  items_last style level within first left (item x (item y ys)) h legible = last_join (item_pieces style level (gap_before first left x) x) (items_last style level within first (edge_after within left x) (item y ys) refl legible.2)
+  items_last : (c : Choice) (level : ℕ) (within : Option GroupKind) (first : Gap) (left : Edge) (xs : Items) → are_some xs ≡ true → AreLegible within left xs → Tokens (items_by c level within first left xs)
+  items_last c level within first left no_items h legible = absurd (false≢true h)
+  items_last c level within first left (item x no_items) h legible =
+      record { last = λ token. ends_join token (item_by (inside c) level (gap_before first left x) x) [] ∙ (item_last (inside c) level (gap_before first left x) x legible.1).last token }
+  items_last c level within first left (item x (item y ys)) h legible = last_join (item_by (inside c) level (gap_before first left x) x) (items_last (following c) level within first (edge_after within left x) (item y ys) refl legible.2)
 
-line_always : (s : Statement) → are_some (items_of s.nodes) ≡ true → IsLegible s → Always (statement_line s)
-line_always s some h =
-    join_token (items_always Broken 0 None Closed Start (items_of s.nodes) refl h.nodes) (items_last Broken 0 None Closed Start (items_of s.nodes) some h.nodes)
+line_always : (c : Choice) (s : Statement) → are_some (items_of s.nodes) ≡ true → IsLegible s → Always (line_by c s)
+line_always c s some h =
+    join_token (items_always c 0 None Closed Start (items_of s.nodes) refl h.nodes) (items_last c 0 None Closed Start (items_of s.nodes) some h.nodes)
     (suffixed false s.suffix (piece Closed Newline (codes "\n") ∷ []) (record { each = λ token. (refl, tt) }))
 
 above : (texts : List (List ℕ)) (ps : List Piece) → Always ps → AllBeside false (comment_lines texts ++ ps)
 above [] ps a = a.each false
 above (text ∷ texts) ps a = (refl, (refl, above texts ps a))
 
-pub layout_beside : (s : Statement) → IsLegible s → AllBeside false (layout s)
-layout_beside s h = above s.before (if is_comment_class s.class then [] else statement_line s) (by (is_comment_class s.class) h.some)
+pub beside_by : (c : Choice) (s : Statement) → IsLegible s → AllBeside false (statement_by c s)
+beside_by c s h = above s.before (if is_comment_class s.class then [] else line_by c s) (by (is_comment_class s.class) h.some)
   where
-    by : (b : Bool) → (b ≡ false → are_some (items_of s.nodes) ≡ true) → Always (if b then [] else statement_line s)
+    by : (b : Bool) → (b ≡ false → are_some (items_of s.nodes) ≡ true) → Always (if b then [] else line_by c s)
     by true some = none
-    by false some = line_always s (some refl) h
+    by false some = line_always c s (some refl) h
+
+pub layout_beside : (s : Statement) → IsLegible s → AllBeside false (layout s)
+layout_beside s h = subst (AllBeside false) (statement_own s) (beside_by own s h)

@@ -19,14 +19,14 @@ use Rattle.bz_layout.specs.declared.spacing.Edge.{Edge}
 use Rattle.bz_layout.specs.declared.spacing.Edge.TheVariants.{Start}
 use Rattle.bz_layout.specs.declared.spacing.Gap.{Gap}
 use Rattle.bz_layout.specs.declared.spacing.Gap.TheVariants.{Closed, Space, Apart, Line}
-use Rattle.bz_layout.specs.declared.broken.Style.{Style}
-use Rattle.bz_layout.specs.declared.broken.Style.TheVariants.{Broken}
 use Rattle.bz_layout.specs.Spacing.{edge_after, gap_before}
 use Rattle.bz_layout.specs.Broken.{count, is_broken, segs_hold}
 use Rattle.bz_layout.specs.Pieces.{Piece, piece, gap_bytes, bytes_of, comma_if, comments, comment_lines, suffix_piece}
-use Rattle.bz_layout.specs.Layout.{opening, closing, has_commas, breaks, item_pieces, items_pieces, broken_segs, flat_segs, statement_line, is_comment as is_comment_class, layout}
+use Rattle.bz_layout.specs.Layout.{opening, closing, has_commas, is_comment as is_comment_class}
+use Rattle.bz_layout_laws.specs.FreeLayout.{Choice, breaks_by, inside, following, item_by, items_by, broken_by, flat_by, statement_by}
 use Rattle.bz_layout_laws.specs.Legible.{IsLegibleItem, AreLegible, AreLegibleSegs, IsLegible, are_some}
 use Rattle.bz_layout_laws.specs.ReadPieces.{read_piece, read_pieces}
+use Rattle.bz_layout_laws.proofs.OwnLayout.{line_by}
 use Rattle.bz_layout_laws.proofs.Texts.{both, either_way}
 use Rattle.bz_layout_laws.proofs.Stopping.{before, stops_all, may_stand, stops_may, newline_stops_all, leaf_ended, edge_started, next_stands}
 
@@ -128,15 +128,15 @@ end_begins level [] upper kind rest = refl
 end_begins level (text ∷ texts) upper kind rest = refl
 
 -- as do its segments
-nodes_begin : (style : Style) (level : ℕ) (within : Option GroupKind) (line : ℕ) (nodes : Items) (ps : List Piece) (rest : List ℕ) → are_some nodes ≡ true → begins is_newline (before (items_pieces style level within (Line line) Start nodes ++ ps) rest) ≡ true
-nodes_begin style level within line no_items ps rest h = absurd (false≢true h)
-nodes_begin style level within line (item (leaf kind text) xs) ps rest h = refl
-nodes_begin style level within line (item (group kind segs one_comma end) xs) ps rest h = refl
+nodes_begin : (c : Choice) (level : ℕ) (within : Option GroupKind) (line : ℕ) (nodes : Items) (ps : List Piece) (rest : List ℕ) → are_some nodes ≡ true → begins is_newline (before (items_by c level within (Line line) Start nodes ++ ps) rest) ≡ true
+nodes_begin c level within line no_items ps rest h = absurd (false≢true h)
+nodes_begin c level within line (item (leaf kind text) xs) ps rest h = refl
+nodes_begin c level within line (item (group kind segs one_comma end) xs) ps rest h = refl
 
-segs_begin : (style : Style) (level : ℕ) (kind : GroupKind) (comma : Bool) (ss : Segs) (rest : List ℕ) → AreLegibleSegs kind ss → begins is_newline rest ≡ true → begins is_newline (before (broken_segs style level kind comma ss) rest) ≡ true
-segs_begin style level kind comma no_segs rest h line = line
-segs_begin style level kind comma (seg [] nodes suffix ss) rest h line = nodes_begin style level (Some kind) level nodes _ rest h.1
-segs_begin style level kind comma (seg (text ∷ texts) nodes suffix ss) rest h line = refl
+segs_begin : (c : Choice) (level : ℕ) (kind : GroupKind) (comma : Bool) (ss : Segs) (rest : List ℕ) → AreLegibleSegs kind ss → begins is_newline rest ≡ true → begins is_newline (before (broken_by c level kind comma ss) rest) ≡ true
+segs_begin c level kind comma no_segs rest h line = line
+segs_begin c level kind comma (seg [] nodes suffix ss) rest h line = nodes_begin (inside c) level (Some kind) level nodes _ rest h.1
+segs_begin c level kind comma (seg (text ∷ texts) nodes suffix ss) rest h line = refl
 
 -- after the nodes of a segment
 comma_stops : (comma : Bool) (suffix : Option (List ℕ)) (ps : List Piece) (rest : List ℕ) → begins is_newline (before ps rest) ≡ true → stops_all (before (comma_if comma ++ (suffix_piece suffix ++ ps)) rest) ≡ true
@@ -144,63 +144,63 @@ comma_stops true suffix ps rest h = refl
 comma_stops false (Some text) ps rest h = refl
 comma_stops false None ps rest h = newline_stops_all (before ps rest) h
 
-flat_stops : (style : Style) (level : ℕ) (kind : GroupKind) (ss : Segs) (rest : List ℕ) → stops_all rest ≡ true → stops_all (before (flat_segs style level kind false ss) rest) ≡ true
-flat_stops style level kind no_segs rest h = h
-flat_stops style level kind (seg befores nodes suffix ss) rest h = refl
+flat_stops : (c : Choice) (level : ℕ) (kind : GroupKind) (ss : Segs) (rest : List ℕ) → stops_all rest ≡ true → stops_all (before (flat_by c level kind false ss) rest) ≡ true
+flat_stops c level kind no_segs rest h = h
+flat_stops c level kind (seg befores nodes suffix ss) rest h = refl
 
 close_stops : (one_comma : Bool) (kind : GroupKind) (rest : List ℕ) → stops_all (before (comma_if one_comma ++ piece Closed Operator (closing kind) ∷ []) rest) ≡ true
 close_stops true kind rest = refl
 close_stops false kind rest = closing_stops Closed kind rest
 
-may_come : (style : Style) (level : ℕ) (within : Option GroupKind) (first : Gap) (e : Edge) (xs : Items) (rest : List ℕ) → is_start e ≡ false → AreLegible within e xs → stops_all rest ≡ true → may_stand e (before (items_pieces style level within first e xs) rest) ≡ true
-may_come style level within first e no_items rest started h stops = stops_may e rest stops
-may_come style level within first e (item x xs) rest started h stops = next_stands style level first e x (items_pieces style level within first (edge_after within e x) xs) rest started h.0 h.1
+may_come : (c : Choice) (level : ℕ) (within : Option GroupKind) (first : Gap) (e : Edge) (xs : Items) (rest : List ℕ) → is_start e ≡ false → AreLegible within e xs → stops_all rest ≡ true → may_stand e (before (items_by c level within first e xs) rest) ≡ true
+may_come c level within first e no_items rest started h stops = stops_may e rest stops
+may_come c level within first e (item x xs) rest started h stops = next_stands (inside c) level first e x (items_by (following c) level within first (edge_after within e x) xs) rest started h.0 h.1
 
 mutual
-  item_ended : (style : Style) (level : ℕ) (gap : Gap) (within : Option GroupKind) (left : Edge) (x : Item) (rest : List ℕ) → IsLegibleItem x → may_stand (edge_after within left x) rest ≡ true → AreEnded (item_pieces style level gap x) rest
-  item_ended style level gap within left (leaf kind text) rest h stands = one gap kind _ (leaf_ended within left kind text rest h stands)
-  item_ended style level gap within left (group kind segs one_comma end) rest h stands =
+  item_ended : (c : Choice) (level : ℕ) (gap : Gap) (within : Option GroupKind) (left : Edge) (x : Item) (rest : List ℕ) → IsLegibleItem x → may_stand (edge_after within left x) rest ≡ true → AreEnded (item_by c level gap x) rest
+  item_ended c level gap within left (leaf kind text) rest h stands = one gap kind _ (leaf_ended c within left kind text rest h stands)
+  item_ended c level gap within left (group kind segs one_comma end) rest h stands =
       let comma = has_commas kind one_comma (count segs) in
       let last : List Piece = piece (Line level) Operator (closing kind) ∷ [] in
       let close : List Piece = piece Closed Operator (closing kind) ∷ [] in
       more gap Operator (opening kind) (opening_ends kind _)
-      (either_way (λ ps. AreEnded ps rest) (breaks style (is_broken kind segs end (segs_hold segs))) (broken_segs style (level + 1) kind comma segs ++ (comments (level + 1) end ++ last)) (flat_segs style level kind true segs ++ (comma_if one_comma ++ close))
-      (join (broken_ended style (level + 1) kind comma segs _ h.0 (end_begins (level + 1) end level kind rest)) (join (comments_ended (level + 1) end _ refl) (one (Line level) Operator (closing kind) (closing_ends kind rest))))
-      (join (flat_ended style level kind true segs _ h.0 (close_stops one_comma kind rest)) (join (comma_ended one_comma _) (one Closed Operator (closing kind) (closing_ends kind rest)))))
+      (either_way (λ ps. AreEnded ps rest) (breaks_by c (is_broken kind segs end (segs_hold segs))) (broken_by (inside c) (level + 1) kind comma segs ++ (comments (level + 1) end ++ last)) (flat_by (inside c) level kind true segs ++ (comma_if one_comma ++ close))
+      (join (broken_ended (inside c) (level + 1) kind comma segs _ h.0 (end_begins (level + 1) end level kind rest)) (join (comments_ended (level + 1) end _ refl) (one (Line level) Operator (closing kind) (closing_ends kind rest))))
+      (join (flat_ended (inside c) level kind true segs _ h.0 (close_stops one_comma kind rest)) (join (comma_ended one_comma _) (one Closed Operator (closing kind) (closing_ends kind rest)))))
 
-  items_ended : (style : Style) (level : ℕ) (within : Option GroupKind) (first : Gap) (left : Edge) (xs : Items) (rest : List ℕ) → AreLegible within left xs → stops_all rest ≡ true → AreEnded (items_pieces style level within first left xs) rest
-  items_ended style level within first left no_items rest h stops = ended_none
-  items_ended style level within first left (item x xs) rest h stops =
+  items_ended : (c : Choice) (level : ℕ) (within : Option GroupKind) (first : Gap) (left : Edge) (xs : Items) (rest : List ℕ) → AreLegible within left xs → stops_all rest ≡ true → AreEnded (items_by c level within first left xs) rest
+  items_ended c level within first left no_items rest h stops = ended_none
+  items_ended c level within first left (item x xs) rest h stops =
       let e = edge_after within left x in
-      join (item_ended style level (gap_before first left x) within left x (before (items_pieces style level within first e xs) rest) h.1 (may_come style level within first e xs rest (edge_started within left x) h.2 stops))
-      (items_ended style level within first e xs rest h.2 stops)
+      join (item_ended (inside c) level (gap_before first left x) within left x (before (items_by (following c) level within first e xs) rest) h.1 (may_come (following c) level within first e xs rest (edge_started within left x) h.2 stops))
+      (items_ended (following c) level within first e xs rest h.2 stops)
 
-  broken_ended : (style : Style) (level : ℕ) (kind : GroupKind) (comma : Bool) (ss : Segs) (rest : List ℕ) → AreLegibleSegs kind ss → begins is_newline rest ≡ true → AreEnded (broken_segs style level kind comma ss) rest
-  broken_ended style level kind comma no_segs rest h line = ended_none
-  broken_ended style level kind comma (seg befores nodes suffix ss) rest h line =
-      let others = broken_segs style level kind comma ss in
-      let others_begin = segs_begin style level kind comma ss rest h.4 line in
+  broken_ended : (c : Choice) (level : ℕ) (kind : GroupKind) (comma : Bool) (ss : Segs) (rest : List ℕ) → AreLegibleSegs kind ss → begins is_newline rest ≡ true → AreEnded (broken_by c level kind comma ss) rest
+  broken_ended c level kind comma no_segs rest h line = ended_none
+  broken_ended c level kind comma (seg befores nodes suffix ss) rest h line =
+      let others = broken_by (following c) level kind comma ss in
+      let others_begin = segs_begin (following c) level kind comma ss rest h.4 line in
       let tail = comma_if comma ++ (suffix_piece suffix ++ others) in
-      join (comments_ended level befores _ (nodes_begin style level (Some kind) level nodes tail rest h.1))
-      (join (items_ended style level (Some kind) (Line level) Start nodes (before tail rest) h.2 (comma_stops comma suffix others rest others_begin))
-      (join (comma_ended comma _) (join (suffix_ended suffix (before others rest) others_begin) (broken_ended style level kind comma ss rest h.4 line))))
+      join (comments_ended level befores _ (nodes_begin (inside c) level (Some kind) level nodes tail rest h.1))
+      (join (items_ended (inside c) level (Some kind) (Line level) Start nodes (before tail rest) h.2 (comma_stops comma suffix others rest others_begin))
+      (join (comma_ended comma _) (join (suffix_ended suffix (before others rest) others_begin) (broken_ended (following c) level kind comma ss rest h.4 line))))
 
-  flat_ended : (style : Style) (level : ℕ) (kind : GroupKind) (first : Bool) (ss : Segs) (rest : List ℕ) → AreLegibleSegs kind ss → stops_all rest ≡ true → AreEnded (flat_segs style level kind first ss) rest
-  flat_ended style level kind first no_segs rest h stops = ended_none
-  flat_ended style level kind true (seg befores nodes suffix ss) rest h stops =
-      join (items_ended style level (Some kind) Closed Start nodes (before (flat_segs style level kind false ss) rest) h.2 (flat_stops style level kind ss rest stops)) (flat_ended style level kind false ss rest h.4 stops)
-  flat_ended style level kind false (seg befores nodes suffix ss) rest h stops =
+  flat_ended : (c : Choice) (level : ℕ) (kind : GroupKind) (first : Bool) (ss : Segs) (rest : List ℕ) → AreLegibleSegs kind ss → stops_all rest ≡ true → AreEnded (flat_by c level kind first ss) rest
+  flat_ended c level kind first no_segs rest h stops = ended_none
+  flat_ended c level kind true (seg befores nodes suffix ss) rest h stops =
+      join (items_ended (inside c) level (Some kind) Closed Start nodes (before (flat_by (following c) level kind false ss) rest) h.2 (flat_stops (following c) level kind ss rest stops)) (flat_ended (following c) level kind false ss rest h.4 stops)
+  flat_ended c level kind false (seg befores nodes suffix ss) rest h stops =
       more Closed Operator (codes ",") (comma_ends _)
-      (join (items_ended style level (Some kind) Space Start nodes (before (flat_segs style level kind false ss) rest) h.2 (flat_stops style level kind ss rest stops)) (flat_ended style level kind false ss rest h.4 stops))
+      (join (items_ended (inside c) level (Some kind) Space Start nodes (before (flat_by (following c) level kind false ss) rest) h.2 (flat_stops (following c) level kind ss rest stops)) (flat_ended (following c) level kind false ss rest h.4 stops))
 
 suffix_stops : (suffix : Option (List ℕ)) (rest : List ℕ) → stops_all (before (suffix_piece suffix ++ piece Closed Newline (codes "\n") ∷ []) rest) ≡ true
 suffix_stops None rest = refl
 suffix_stops (Some text) rest = refl
 
-pub line_ended : (s : Statement) (rest : List ℕ) → IsLegible s → AreEnded (statement_line s) rest
-line_ended s rest h =
-    join (items_ended Broken 0 None Closed Start (items_of s.nodes) _ h.nodes (suffix_stops s.suffix rest))
+pub line_ended : (c : Choice) (s : Statement) (rest : List ℕ) → IsLegible s → AreEnded (line_by c s) rest
+line_ended c s rest h =
+    join (items_ended c 0 None Closed Start (items_of s.nodes) _ h.nodes (suffix_stops s.suffix rest))
     (join (suffix_ended s.suffix _ refl) (one Closed Newline (codes "\n") (newline_ends rest)))
 
-pub layout_ended : (s : Statement) (rest : List ℕ) → IsLegible s → AreEnded (layout s) rest
-layout_ended s rest h = join (lines_ended s.before _) (either_way (λ ps. AreEnded ps rest) (is_comment_class s.class) [] (statement_line s) ended_none (line_ended s rest h))
+pub ended_by : (c : Choice) (s : Statement) (rest : List ℕ) → IsLegible s → AreEnded (statement_by c s) rest
+ended_by c s rest h = join (lines_ended s.before _) (either_way (λ ps. AreEnded ps rest) (is_comment_class s.class) [] (line_by c s) ended_none (line_ended c s rest h))

@@ -18,15 +18,16 @@ use Rattle.bz_tree.specs.declared.stmt.GroupKind.TheVariants.{Call}
 use Rattle.bz_tree.specs.Tree.{leaf, group, Items, no_items, item, Statement, items_of}
 use Rattle.bz_layout.specs.declared.spacing.Edge.TheVariants.{Start}
 use Rattle.bz_layout.specs.declared.spacing.Gap.TheVariants.{Closed}
-use Rattle.bz_layout.specs.declared.broken.Style.TheVariants.{Broken}
 use Rattle.bz_layout.specs.Respell.{is_single, respell}
 use Rattle.bz_layout.specs.Pieces.{Piece, piece, bytes_of, comment_lines, suffix_piece}
-use Rattle.bz_layout.specs.Layout.{opening, items_pieces, statement_line, is_comment, layout_text}
+use Rattle.bz_layout.specs.Layout.{opening, is_comment, layout_text}
+use Rattle.bz_layout_laws.specs.FreeLayout.{own, items_by}
 use Rattle.bz_layout_laws.specs.Legible.{IsLegible, AreLegible, are_some}
 use Rattle.bz_layout_laws.specs.ReadPieces.{read_pieces}
 use Rattle.bz_layout_laws.proofs.BranchWords.{is_branch, no_branch}
 use Rattle.bz_layout_laws.proofs.Ended.{read_bytes, line_ended}
 use Rattle.bz_layout_laws.proofs.NoBrackets.{leaf_line}
+use Rattle.bz_layout_laws.proofs.OwnLayout.{line_by, text_own}
 use Rattle.bz_layout_laws.proofs.Texts.{line_whole}
 use Rattle.bz_token.specs.Common.{is_filled}
 
@@ -60,7 +61,7 @@ tail_of [] = []
 tail_of (p ∷ ps) = ps
 
 abbrev nodes_of : Items → List Piece
-nodes_of xs = items_pieces Broken 0 None Closed Start xs
+nodes_of xs = items_by own 0 None Closed Start xs
 
 nodes_begin : (xs : Items) (ps : List Piece) (rest : List ℕ) → are_some xs ≡ true → AreLegible None Start xs → begins_branch xs ≡ false → are_texts (read_pieces (nodes_of xs ++ ps)) ≡ true
     → are_ended (read_pieces (nodes_of xs ++ ps)) rest ≡ true → goes_on If (bytes_of (nodes_of xs ++ ps) ++ rest) ≡ false
@@ -83,15 +84,15 @@ abbrev HasLines : Statement → Type 0
 HasLines s = is_comment s.class ≡ true → is_filled s.before ≡ true
 
 pub text_begins : (s : Statement) → IsLegible s → HasLines s → begins_branch (items_of s.nodes) ≡ false → (rest : List ℕ) → goes_on If (layout_text s ++ rest) ≡ false
-text_begins s h lines none rest = above s.before refl
+text_begins s h lines none rest = ap (λ bs. goes_on If (bs ++ rest)) (sym (text_own s)) ∙ above s.before refl
   where
-    by : (b : Bool) → is_comment s.class ≡ b → s.before ≡ [] → goes_on If (bytes_of (if b then [] else statement_line s) ++ rest) ≡ false
+    by : (b : Bool) → is_comment s.class ≡ b → s.before ≡ [] → goes_on If (bytes_of (if b then [] else line_by own s) ++ rest) ≡ false
     by true class e = absurd (false≢true (sym (ap is_filled e) ∙ lines class))
-    by false class e = nodes_begin (items_of s.nodes) (suffix_piece s.suffix ++ piece Closed Newline (codes "\n") ∷ []) rest (h.some class) h.nodes none (line_whole s h).texts (line_ended s rest h).ended
+    by false class e = nodes_begin (items_of s.nodes) (suffix_piece s.suffix ++ piece Closed Newline (codes "\n") ∷ []) rest (h.some class) h.nodes none (line_whole own s h).texts (line_ended own s rest h).ended
 
-    above : (before : List (List ℕ)) → s.before ≡ before → goes_on If (bytes_of (comment_lines s.before ++ (if is_comment s.class then [] else statement_line s)) ++ rest) ≡ false
+    above : (before : List (List ℕ)) → s.before ≡ before → goes_on If (bytes_of (comment_lines s.before ++ (if is_comment s.class then [] else line_by own s)) ++ rest) ≡ false
     above [] e = rw e (by (is_comment s.class) refl e)
     above (comment ∷ comments) e =
         rw e
-        (ap (goes_on If) (append_assoc comment (bytes_of (piece Closed Newline (codes "\n") ∷ (comment_lines comments ++ (if is_comment s.class then [] else statement_line s)))) rest)
+        (ap (goes_on If) (append_assoc comment (bytes_of (piece Closed Newline (codes "\n") ∷ (comment_lines comments ++ (if is_comment s.class then [] else line_by own s)))) rest)
         ∙ comment_begins comment _ (and_parts (is_comment_text comment) _ (rw e at h.before)).0)

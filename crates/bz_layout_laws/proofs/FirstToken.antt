@@ -14,12 +14,12 @@ use Rattle.bz_tree.specs.Statement.{is_aside, bare_tokens, first_token}
 use Rattle.bz_tree.specs.Tree.{leaf, group, Items, no_items, item, Statement, items_of}
 use Rattle.bz_layout.specs.declared.spacing.Edge.TheVariants.{Start}
 use Rattle.bz_layout.specs.declared.spacing.Gap.TheVariants.{Closed}
-use Rattle.bz_layout.specs.declared.broken.Style.TheVariants.{Broken}
-use Rattle.bz_layout.specs.Respell.{respell}
 use Rattle.bz_layout.specs.Pieces.{Piece, comment_lines}
-use Rattle.bz_layout.specs.Layout.{items_pieces, statement_line, is_comment, layout}
+use Rattle.bz_layout.specs.Layout.{is_comment}
+use Rattle.bz_layout_laws.specs.FreeLayout.{Choice, own, free, inside, text_of, items_by, statement_by}
 use Rattle.bz_layout_laws.specs.Legible.{AreLegible, IsLegible, are_some, begins_block}
 use Rattle.bz_layout_laws.specs.ReadPieces.{read_pieces}
+use Rattle.bz_layout_laws.proofs.OwnLayout.{line_by}
 use Rattle.bz_layout_laws.proofs.ReadSteps.{no_aside}
 use Rattle.bz_token.specs.Common.{first_of, map_or}
 
@@ -57,25 +57,26 @@ no_opener false true c x y z h = absurd (false≢true (sym h))
 no_opener false false true x y z h = absurd (false≢true (sym h))
 no_opener false false false x y z h = refl
 
-no_word : (kind : Kind) (text : List ℕ) → is_some (opener_of text) ≡ false → is_block_word_at kind (respell kind text) ≡ false
-no_word Keyword text h = no_opener (bytes_eq text (codes "def")) (bytes_eq text (codes "for")) (bytes_eq text (codes "if")) _ _ _ h
-no_word _ text h = refl
+no_word : (c : Choice) (kind : Kind) (text : List ℕ) → is_some (opener_of text) ≡ false → is_block_word_at kind (text_of c kind text) ≡ false
+no_word own Keyword text h = no_opener (bytes_eq text (codes "def")) (bytes_eq text (codes "for")) (bytes_eq text (codes "if")) _ _ _ h
+no_word (free breaks inner others) Keyword text h = no_opener (bytes_eq text (codes "def")) (bytes_eq text (codes "for")) (bytes_eq text (codes "if")) _ _ _ h
+no_word c _ text h = refl
 
 front_token : (t : Placed) (ts : List Placed) → is_aside t.kind ≡ false → t.col ≡ 1 → is_block_word t ≡ false → Front (t ∷ ts)
 front_token t ts none column word = record { token = t; first = ap (λ b. first_of (if b then bare_tokens ts else t ∷ bare_tokens ts)) none; col = column; word = word }
 
-line_front : (first : ℕ) (s : Statement) (xs : Items) (rest : List Piece) (before lines : List ℕ) → are_some xs ≡ true → AreLegible None Start xs → begins_block xs ≡ false → column_at before ≡ 1
-    → Front (tokens_of first before lines (read_pieces (items_pieces Broken 0 None Closed Start xs ++ rest)))
-line_front first s no_items rest before lines some legible word column = absurd (false≢true some)
-line_front first s (item (leaf kind text) xs) rest before lines some legible word column =
-    front_token _ _ (no_aside kind text legible.1.1) (ap column_at (append-nil before) ∙ column) (no_word kind text word)
-line_front first s (item (group kind segs one_comma end) xs) rest before lines some legible word column =
+line_front : (first : ℕ) (c : Choice) (xs : Items) (rest : List Piece) (before lines : List ℕ) → are_some xs ≡ true → AreLegible None Start xs → begins_block xs ≡ false → column_at before ≡ 1
+    → Front (tokens_of first before lines (read_pieces (items_by c 0 None Closed Start xs ++ rest)))
+line_front first c no_items rest before lines some legible word column = absurd (false≢true some)
+line_front first c (item (leaf kind text) xs) rest before lines some legible word column =
+    front_token _ _ (no_aside kind text legible.1.1) (ap column_at (append-nil before) ∙ column) (no_word (inside c) kind text word)
+line_front first c (item (group kind segs one_comma end) xs) rest before lines some legible word column =
     front_token _ _ refl (ap column_at (append-nil before) ∙ column) refl
 
-pub layout_front : (first : ℕ) (s : Statement) → IsLegible s → is_comment s.class ≡ false → begins_block (items_of s.nodes) ≡ false → Front (tokens_of first [] [] (read_pieces (layout s)))
-layout_front first s h class word =
-    subst (λ b. Front (tokens_of first [] [] (read_pieces (comment_lines s.before ++ (if b then [] else statement_line s))))) (sym class)
-    (after_comments first s.before (statement_line s) [] [] refl (λ bs ls column. line_front first s (items_of s.nodes) _ bs ls (h.some class) h.nodes word column))
+pub front_by : (first : ℕ) (c : Choice) (s : Statement) → IsLegible s → is_comment s.class ≡ false → begins_block (items_of s.nodes) ≡ false → Front (tokens_of first [] [] (read_pieces (statement_by c s)))
+front_by first c s h class word =
+    subst (λ b. Front (tokens_of first [] [] (read_pieces (comment_lines s.before ++ (if b then [] else line_by c s))))) (sym class)
+    (after_comments first s.before (line_by c s) [] [] refl (λ bs ls column. line_front first c (items_of s.nodes) _ bs ls (h.some class) h.nodes word column))
 
 -- so no line is indented, and no block begins
 pub upright : (tokens : List Placed) → Front tokens → (indent_fault tokens ≡ None) × (map_or false is_block_word (first_token tokens) ≡ false)

@@ -21,16 +21,15 @@ use Rattle.bz_layout.specs.declared.spacing.Edge.{Edge}
 use Rattle.bz_layout.specs.declared.spacing.Edge.TheVariants.{Start, Joined, Dotted, Operator, Operand}
 use Rattle.bz_layout.specs.declared.spacing.Gap.{Gap}
 use Rattle.bz_layout.specs.declared.spacing.Gap.TheVariants.{Closed, Space, Apart, Line}
-use Rattle.bz_layout.specs.declared.broken.Style.{Style}
-use Rattle.bz_layout.specs.declared.broken.Style.TheVariants.{Broken}
-use Rattle.bz_layout.specs.Respell.{respell}
 use Rattle.bz_layout.specs.Spacing.{closes_up, edge_after, gap_before}
 use Rattle.bz_layout.specs.Broken.{count, is_broken, segs_hold}
 use Rattle.bz_layout.specs.Pieces.{Piece, piece, indent, gap_bytes, comma_if, comments, comment_lines, suffix_piece}
-use Rattle.bz_layout.specs.Layout.{opening, closing, has_commas, breaks, item_pieces, items_pieces, broken_segs, flat_segs, statement_line, is_comment as is_comment_class, layout}
-use Rattle.bz_layout_laws.specs.Legible.{AreComments, IsLegibleItem, AreLegible, AreLegibleSegs, IsLegible, item_depth, items_depth, segs_depth, depth_of}
+use Rattle.bz_layout.specs.Layout.{opening, closing, has_commas, is_comment as is_comment_class}
+use Rattle.bz_layout_laws.specs.FreeLayout.{Choice, breaks_by, inside, following, text_of, item_by, items_by, broken_by, flat_by, statement_by}
+use Rattle.bz_layout_laws.specs.Legible.{AreComments, IsLegibleItem, AreLegible, AreLegibleSegs, IsLegible, is_leaf_mark, item_depth, items_depth, segs_depth, depth_of}
 use Rattle.bz_layout_laws.specs.ReadPieces.{read_piece, read_pieces}
-use Rattle.bz_layout_laws.proofs.Respelled.{respelled_text}
+use Rattle.bz_layout_laws.proofs.OwnLayout.{line_by}
+use Rattle.bz_layout_laws.proofs.TextOf.{text_is, mark_is}
 use Rattle.bz_layout_laws.proofs.Texts.{both, either_way}
 use Rattle.bz_layout_laws.proofs.NoBrackets.{is_free, free_fits, free_open, other_free, leaf_free, leaf_line}
 
@@ -151,50 +150,50 @@ room_inside : (n a depth : ℕ) → n + suc a ≤ depth → suc n + a ≤ depth
 room_inside n a depth h = omega (arith, h)
 
 mutual
-  item_fits : (depth : ℕ) (opened : List ℕ) (style : Style) (level : ℕ) (gap : Gap) (x : Item) → Stands opened gap → IsLegibleItem x → length opened + item_depth x ≤ depth → Fits depth opened (item_pieces style level gap x) opened
-  item_fits depth opened style level gap (leaf kind text) stands h room =
-      fits_free depth opened gap kind (respell kind text) stands (leaf_free kind text (respelled_text kind text h.0) h.1) (leaf_line kind text h.1)
-  item_fits depth opened style level gap (group kind segs one_comma end) stands h room =
+  item_fits : (depth : ℕ) (opened : List ℕ) (c : Choice) (level : ℕ) (gap : Gap) (x : Item) → Stands opened gap → IsLegibleItem x → length opened + item_depth x ≤ depth → Fits depth opened (item_by c level gap x) opened
+  item_fits depth opened c level gap (leaf kind text) stands h room =
+      fits_free depth opened gap kind (text_of c kind text) stands (leaf_free kind (text_of c kind text) (text_is c kind text h.0) (ap is_leaf_mark (mark_is c kind text) ∙ h.1)) (leaf_line kind text h.1)
+  item_fits depth opened c level gap (group kind segs one_comma end) stands h room =
       let comma = has_commas kind one_comma (count segs) in
       let o = opener kind ∷ opened in
       let more = room_inside (length opened) (segs_depth segs) depth room in
       let last : List Piece = piece (Line level) OperatorToken (closing kind) ∷ [] in
       let close : List Piece = piece Closed OperatorToken (closing kind) ∷ [] in
       fits_join (fits_opening depth opened gap kind stands (room_first (length opened) (segs_depth segs) depth room))
-      (either_way (λ ps. Fits depth o ps opened) (breaks style (is_broken kind segs end (segs_hold segs))) (broken_segs style (level + 1) kind comma segs ++ (comments (level + 1) end ++ last)) (flat_segs style level kind true segs ++ (comma_if one_comma ++ close))
-      (fits_join (broken_fits depth (opener kind) opened style (level + 1) kind comma segs h.0 more) (fits_join (comments_fit depth (opener kind) opened (level + 1) end h.1) (fits_closing depth opened (Line level) kind (indent_stands level))))
-      (fits_join (flat_fits depth o style level kind true segs h.0 more) (fits_join (commas_fit depth o one_comma) (fits_closing depth opened Closed kind refl))))
+      (either_way (λ ps. Fits depth o ps opened) (breaks_by c (is_broken kind segs end (segs_hold segs))) (broken_by (inside c) (level + 1) kind comma segs ++ (comments (level + 1) end ++ last)) (flat_by (inside c) level kind true segs ++ (comma_if one_comma ++ close))
+      (fits_join (broken_fits depth (opener kind) opened (inside c) (level + 1) kind comma segs h.0 more) (fits_join (comments_fit depth (opener kind) opened (level + 1) end h.1) (fits_closing depth opened (Line level) kind (indent_stands level))))
+      (fits_join (flat_fits depth o (inside c) level kind true segs h.0 more) (fits_join (commas_fit depth o one_comma) (fits_closing depth opened Closed kind refl))))
 
-  items_fit : (depth : ℕ) (opened : List ℕ) (style : Style) (level : ℕ) (within : Option GroupKind) (first : Gap) (left : Edge) (xs : Items) → Stands opened first → AreLegible within left xs → length opened + items_depth xs ≤ depth
-      → Fits depth opened (items_pieces style level within first left xs) opened
-  items_fit depth opened style level within first left no_items stands h room = fits_none
-  items_fit depth opened style level within first left (item x xs) stands h room =
-      fits_join (item_fits depth opened style level (gap_before first left x) x (gap_stands opened first left x stands) h.1 (room_left (length opened) (item_depth x) (items_depth xs) depth room))
-      (items_fit depth opened style level within first (edge_after within left x) xs stands h.2 (room_right (length opened) (item_depth x) (items_depth xs) depth room))
+  items_fit : (depth : ℕ) (opened : List ℕ) (c : Choice) (level : ℕ) (within : Option GroupKind) (first : Gap) (left : Edge) (xs : Items) → Stands opened first → AreLegible within left xs → length opened + items_depth xs ≤ depth
+      → Fits depth opened (items_by c level within first left xs) opened
+  items_fit depth opened c level within first left no_items stands h room = fits_none
+  items_fit depth opened c level within first left (item x xs) stands h room =
+      fits_join (item_fits depth opened (inside c) level (gap_before first left x) x (gap_stands opened first left x stands) h.1 (room_left (length opened) (item_depth x) (items_depth xs) depth room))
+      (items_fit depth opened (following c) level within first (edge_after within left x) xs stands h.2 (room_right (length opened) (item_depth x) (items_depth xs) depth room))
 
-  broken_fits : (depth : ℕ) (a : ℕ) (opened : List ℕ) (style : Style) (level : ℕ) (kind : GroupKind) (comma : Bool) (ss : Segs) → AreLegibleSegs kind ss → suc (length opened) + segs_depth ss ≤ depth
-      → Fits depth (a ∷ opened) (broken_segs style level kind comma ss) (a ∷ opened)
-  broken_fits depth a opened style level kind comma no_segs h room = fits_none
-  broken_fits depth a opened style level kind comma (seg before nodes suffix ss) h room =
+  broken_fits : (depth : ℕ) (a : ℕ) (opened : List ℕ) (c : Choice) (level : ℕ) (kind : GroupKind) (comma : Bool) (ss : Segs) → AreLegibleSegs kind ss → suc (length opened) + segs_depth ss ≤ depth
+      → Fits depth (a ∷ opened) (broken_by c level kind comma ss) (a ∷ opened)
+  broken_fits depth a opened c level kind comma no_segs h room = fits_none
+  broken_fits depth a opened c level kind comma (seg before nodes suffix ss) h room =
       let o = a ∷ opened in
       fits_join (comments_fit depth a opened level before h.0)
-      (fits_join (items_fit depth o style level (Some kind) (Line level) Start nodes (indent_stands level) h.2 (room_left (suc (length opened)) (items_depth nodes) (segs_depth ss) depth room))
-      (fits_join (commas_fit depth o comma) (fits_join (suffix_fits depth o suffix h.3) (broken_fits depth a opened style level kind comma ss h.4 (room_right (suc (length opened)) (items_depth nodes) (segs_depth ss) depth room)))))
+      (fits_join (items_fit depth o (inside c) level (Some kind) (Line level) Start nodes (indent_stands level) h.2 (room_left (suc (length opened)) (items_depth nodes) (segs_depth ss) depth room))
+      (fits_join (commas_fit depth o comma) (fits_join (suffix_fits depth o suffix h.3) (broken_fits depth a opened (following c) level kind comma ss h.4 (room_right (suc (length opened)) (items_depth nodes) (segs_depth ss) depth room)))))
 
-  flat_fits : (depth : ℕ) (opened : List ℕ) (style : Style) (level : ℕ) (kind : GroupKind) (first : Bool) (ss : Segs) → AreLegibleSegs kind ss → length opened + segs_depth ss ≤ depth → Fits depth opened (flat_segs style level kind first ss) opened
-  flat_fits depth opened style level kind first no_segs h room = fits_none
-  flat_fits depth opened style level kind true (seg before nodes suffix ss) h room =
-      fits_join (items_fit depth opened style level (Some kind) Closed Start nodes refl h.2 (room_left (length opened) (items_depth nodes) (segs_depth ss) depth room))
-      (flat_fits depth opened style level kind false ss h.4 (room_right (length opened) (items_depth nodes) (segs_depth ss) depth room))
-  flat_fits depth opened style level kind false (seg before nodes suffix ss) h room =
+  flat_fits : (depth : ℕ) (opened : List ℕ) (c : Choice) (level : ℕ) (kind : GroupKind) (first : Bool) (ss : Segs) → AreLegibleSegs kind ss → length opened + segs_depth ss ≤ depth → Fits depth opened (flat_by c level kind first ss) opened
+  flat_fits depth opened c level kind first no_segs h room = fits_none
+  flat_fits depth opened c level kind true (seg before nodes suffix ss) h room =
+      fits_join (items_fit depth opened (inside c) level (Some kind) Closed Start nodes refl h.2 (room_left (length opened) (items_depth nodes) (segs_depth ss) depth room))
+      (flat_fits depth opened (following c) level kind false ss h.4 (room_right (length opened) (items_depth nodes) (segs_depth ss) depth room))
+  flat_fits depth opened c level kind false (seg before nodes suffix ss) h room =
       fits_join (fits_comma depth opened)
-      (fits_join (items_fit depth opened style level (Some kind) Space Start nodes refl h.2 (room_left (length opened) (items_depth nodes) (segs_depth ss) depth room))
-      (flat_fits depth opened style level kind false ss h.4 (room_right (length opened) (items_depth nodes) (segs_depth ss) depth room)))
+      (fits_join (items_fit depth opened (inside c) level (Some kind) Space Start nodes refl h.2 (room_left (length opened) (items_depth nodes) (segs_depth ss) depth room))
+      (flat_fits depth opened (following c) level kind false ss h.4 (room_right (length opened) (items_depth nodes) (segs_depth ss) depth room)))
 
-line_fits : (depth : ℕ) (s : Statement) → IsLegible s → depth_of s ≤ depth → Fits depth [] (statement_line s) []
-line_fits depth s h room =
+line_fits : (depth : ℕ) (c : Choice) (s : Statement) → IsLegible s → depth_of s ≤ depth → Fits depth [] (line_by c s) []
+line_fits depth c s h room =
     let newline : Fits depth [] (piece Closed Newline (codes "\n") ∷ []) [] = record { fitting = refl; leaves = refl } in
-    fits_join (items_fit depth [] Broken 0 None Closed Start (items_of s.nodes) refl h.nodes (omega (arith, room))) (fits_join (suffix_fits depth [] s.suffix h.suffix) newline)
+    fits_join (items_fit depth [] c 0 None Closed Start (items_of s.nodes) refl h.nodes (omega (arith, room))) (fits_join (suffix_fits depth [] s.suffix h.suffix) newline)
 
-pub layout_fits : (depth : ℕ) (s : Statement) → IsLegible s → depth_of s ≤ depth → Fits depth [] (layout s) []
-layout_fits depth s h room = fits_join (lines_fit depth s.before h.before) (either_way (λ ps. Fits depth [] ps []) (is_comment_class s.class) [] (statement_line s) fits_none (line_fits depth s h room))
+pub fits_by : (depth : ℕ) (c : Choice) (s : Statement) → IsLegible s → depth_of s ≤ depth → Fits depth [] (statement_by c s) []
+fits_by depth c s h room = fits_join (lines_fit depth s.before h.before) (either_way (λ ps. Fits depth [] ps []) (is_comment_class s.class) [] (line_by c s) fits_none (line_fits depth c s h room))

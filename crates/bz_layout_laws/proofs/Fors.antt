@@ -62,7 +62,7 @@ nodes_for_spelled : (xs : Items) → nodes_have_for (spelled_items xs) ≡ nodes
 nodes_for_spelled no_items = refl
 nodes_for_spelled (item x xs) = λ i. if comma_spelled x i then false else (for_spelled x i || nodes_for_spelled xs i)
 
-have_for_spelled : (ss : Segs) → have_for (spelled_segs ss) ≡ have_for ss
+pub have_for_spelled : (ss : Segs) → have_for (spelled_segs ss) ≡ have_for ss
 have_for_spelled no_segs = refl
 have_for_spelled (seg before nodes suffix ss) = nodes_for_spelled nodes
 
@@ -95,6 +95,6 @@ written_for trailing (seg before nodes suffix ss) end =
     lines_for before (map a_node (list_of nodes) ++ after) ∙ nodes_for nodes after (after_for trailing suffix ss end)
 
 -- so of a bracket whose entries are these
-pub same_for : (one trailing : Bool) (b : Preceding) (xs : Elems) (ss : Segs) (end : List (List ℕ)) → AreWell b xs → entries_of no_token (own_items one (elems_own b xs)) ≡ written_entries trailing (segments (spelled_segs ss)) end
+pub same_for : (one trailing : Bool) (b : Preceding) (xs : Elems) (ss : Segs) (end : List (List ℕ)) → AreWell b xs → entries_of no_token (own_items one (elems_own b xs)) ≡ written_entries trailing (segments ss) end
     → has_for (elems_own b xs) ≡ have_for ss
-same_for one trailing b xs ss end well e = owns_have_for one no_token b xs well ∙ ap entries_have_for e ∙ written_for trailing (spelled_segs ss) end ∙ have_for_spelled ss
+same_for one trailing b xs ss end well e = owns_have_for one no_token b xs well ∙ ap entries_have_for e ∙ written_for trailing ss end

@@ -2,6 +2,8 @@ pub mod Respelled
 pub mod SpelledValues
 pub mod SpelledAgain
 pub mod Pieces
+pub mod OwnLayout
+pub mod TextOf
 pub mod Texts
 pub mod NoBrackets
 pub mod Fitting
@@ -20,6 +22,8 @@ pub mod NoBranch
 pub mod CommentRead
 pub mod StatementReadBack
 pub mod Written
+pub mod FreeLexemes
+pub mod FreePieces
 pub mod WrittenLine
 pub mod Taken
 pub mod ReadSteps
@@ -27,8 +31,10 @@ pub mod Fors
 pub mod SameInside
 pub mod ReadGroup
 pub mod ReadTree
+pub mod FreeSpelled
 pub mod Unlined
 pub mod SameTests
+pub mod Shapes
 pub mod ReadStatement
 pub mod SameGrammar
 pub mod FirstToken
@@ -45,6 +51,7 @@ pub mod Roles
 pub mod Neighbours
 pub mod GrammarFollows
 pub mod WellFormed
+pub mod FreeRead
 pub mod SameFormed
 pub mod BlockTokens
 pub mod BlockEnds
@@ -65,6 +72,7 @@ pub mod KeptStays
 pub mod KeptChunk
 pub mod KeptReadBack
 mod Examples
+mod FreeExamples
 mod ParsedExamples
 mod WellFormedExamples
 pub mod Utf8Tokens

@@ -2,13 +2,12 @@
 use Rattle.std.proofs.Common.{◌≡◌, ℕ, ◌==◌, ◌||◌, List, [], ◌∷◌, Bool, true, false, not, refl, sym, ap, ◌∙◌, inl, inr}
 use Rattle.std.proofs.lemmas.Bool.{cases_Bool, or_cases, false≢true, eqb-true}
 use Rattle.bz_token.specs.declared.token.Kind.{Kind}
-use Rattle.bz_token.specs.declared.token.Kind.TheVariants.{String, Operator, Newline, Comment}
+use Rattle.bz_token.specs.declared.token.Kind.TheVariants.{Operator, Newline, Comment}
 use Rattle.bz_token.specs.Lexical.{is_text}
 use Rattle.bz_token.specs.Brackets.{is_opening_bracket, is_closing_bracket, is_line, fits, open_after_token}
 use Rattle.bz_token.proofs.Classes.{mark, can_start, text_class}
 use Rattle.bz_token.proofs.Fitting.{is_bracket_byte, bracket_class}
 use Rattle.bz_tree.specs.Kinds.{kind_mark, operator_mark}
-use Rattle.bz_layout.specs.Respell.{respell}
 use Rattle.bz_layout_laws.specs.Legible.{is_leaf_mark}
 
 -- not a single bracket
@@ -80,10 +79,9 @@ operator_free (b ∷ []) h = elim (cases_Bool (is_bracket_byte b)) [
 ]
 operator_free (b ∷ c ∷ bs) h = refl
 
--- the token of a leaf, as it is spelled
-pub leaf_free : (kind : Kind) (text : List ℕ) → is_text kind (respell kind text) ≡ true → is_leaf_mark (kind_mark kind text) ≡ true → is_free (respell kind text) ≡ true
+-- the token of a leaf
+pub leaf_free : (kind : Kind) (text : List ℕ) → is_text kind text ≡ true → is_leaf_mark (kind_mark kind text) ≡ true → is_free text ≡ true
 leaf_free Operator text is leaf = operator_free text leaf
-leaf_free String text is leaf = other_free String (respell String text) refl is
 leaf_free Newline text is leaf = absurd (false≢true leaf)
 leaf_free Comment text is leaf = absurd (false≢true leaf)
 leaf_free kind text is leaf = other_free kind text refl is

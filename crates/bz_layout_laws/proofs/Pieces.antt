@@ -17,22 +17,22 @@ use Rattle.bz_layout.specs.Layout.{opening, closing, has_commas, item_pieces, it
 use Rattle.bz_layout_laws.specs.Lexemes.{lexeme, comment_lexemes, suffix_lexemes, comma_lexemes, item_lexemes, items_lexemes, ended_lexemes, separated_lexemes, comment_line_lexemes, line_lexemes, lexemes_of}
 use Rattle.bz_layout_laws.specs.ReadPieces.{is_apart, piece_lexeme, piece_lexemes}
 
-join : (ps qs : List Piece) → piece_lexemes (ps ++ qs) ≡ piece_lexemes ps ++ piece_lexemes qs
-join ps qs = map-append piece_lexeme ps qs
+pub pieces_join : (ps qs : List Piece) → piece_lexemes (ps ++ qs) ≡ piece_lexemes ps ++ piece_lexemes qs
+pieces_join ps qs = map-append piece_lexeme ps qs
 
-commas : (b : Bool) → piece_lexemes (comma_if b) ≡ comma_lexemes b
-commas true = refl
-commas false = refl
+pub comma_pieces : (b : Bool) → piece_lexemes (comma_if b) ≡ comma_lexemes b
+comma_pieces true = refl
+comma_pieces false = refl
 
-comment_pieces : (level : ℕ) (texts : List (List ℕ)) → piece_lexemes (comments level texts) ≡ comment_lexemes texts
+pub comment_pieces : (level : ℕ) (texts : List (List ℕ)) → piece_lexemes (comments level texts) ≡ comment_lexemes texts
 comment_pieces level [] = refl
 comment_pieces level (text ∷ texts) = ap (λ l. lexeme Comment text ∷ l) (comment_pieces level texts)
 
-suffix_pieces : (suffix : Option (List ℕ)) → piece_lexemes (suffix_piece suffix) ≡ suffix_lexemes suffix
+pub suffix_pieces : (suffix : Option (List ℕ)) → piece_lexemes (suffix_piece suffix) ≡ suffix_lexemes suffix
 suffix_pieces None = refl
 suffix_pieces (Some text) = refl
 
-line_pieces : (texts : List (List ℕ)) → piece_lexemes (comment_lines texts) ≡ comment_line_lexemes texts
+pub line_pieces : (texts : List (List ℕ)) → piece_lexemes (comment_lines texts) ≡ comment_line_lexemes texts
 line_pieces [] = refl
 line_pieces (text ∷ texts) = ap (λ l. lexeme Comment text ∷ lexeme Newline (codes "\n") ∷ l) (line_pieces texts)
 
@@ -68,20 +68,20 @@ mutual
       ∙ ap (λ l. lexeme OperatorToken (opening kind) ∷ l)
       (either (is_broken kind segs end (segs_hold segs)) (broken ++ (comments (level + 1) end ++ last)) (flat ++ (comma_if one_comma ++ close))
       ∙ rw (
-        join broken (comments (level + 1) end ++ last),
-        join (comments (level + 1) end) last,
+        pieces_join broken (comments (level + 1) end ++ last),
+        pieces_join (comments (level + 1) end) last,
         broken_pieces_are (level + 1) kind comma segs,
         comment_pieces (level + 1) end,
-        join flat (comma_if one_comma ++ close),
-        join (comma_if one_comma) close,
+        pieces_join flat (comma_if one_comma ++ close),
+        pieces_join (comma_if one_comma) close,
         flat_pieces_are level kind true segs,
-        commas one_comma,
+        comma_pieces one_comma,
       ) refl)
 
   pub items_pieces_are : (level : ℕ) (within : Option GroupKind) (first : Gap) (left : Edge) (xs : Items) → is_apart first ≡ false → piece_lexemes (items_pieces Broken level within first left xs) ≡ items_lexemes xs
   items_pieces_are level within first left no_items h = refl
   items_pieces_are level within first left (item x xs) h =
-      join (item_pieces Broken level (gap_before first left x) x) (items_pieces Broken level within first (edge_after within left x) xs)
+      pieces_join (item_pieces Broken level (gap_before first left x) x) (items_pieces Broken level within first (edge_after within left x) xs)
       ∙ rw (item_pieces_are level (gap_before first left x) x (gap_is first left x h), items_pieces_are level within first (edge_after within left x) xs h) refl
 
   broken_pieces_are : (level : ℕ) (kind : GroupKind) (comma : Bool) (ss : Segs) → piece_lexemes (broken_segs Broken level kind comma ss) ≡ ended_lexemes comma ss
@@ -89,14 +89,14 @@ mutual
   broken_pieces_are level kind comma (seg before nodes suffix ss) =
       let rest = broken_segs Broken level kind comma ss in
       let nodes_are = items_pieces Broken level (Some kind) (Line level) Start nodes in
-      join (comments level before) (nodes_are ++ (comma_if comma ++ (suffix_piece suffix ++ rest)))
+      pieces_join (comments level before) (nodes_are ++ (comma_if comma ++ (suffix_piece suffix ++ rest)))
       ∙ rw (
-        join nodes_are (comma_if comma ++ (suffix_piece suffix ++ rest)),
-        join (comma_if comma) (suffix_piece suffix ++ rest),
-        join (suffix_piece suffix) rest,
+        pieces_join nodes_are (comma_if comma ++ (suffix_piece suffix ++ rest)),
+        pieces_join (comma_if comma) (suffix_piece suffix ++ rest),
+        pieces_join (suffix_piece suffix) rest,
         comment_pieces level before,
         items_pieces_are level (Some kind) (Line level) Start nodes refl,
-        commas comma,
+        comma_pieces comma,
         suffix_pieces suffix,
         broken_pieces_are level kind comma ss,
       ) refl
@@ -104,21 +104,21 @@ mutual
   flat_pieces_are : (level : ℕ) (kind : GroupKind) (first : Bool) (ss : Segs) → piece_lexemes (flat_segs Broken level kind first ss) ≡ separated_lexemes first ss
   flat_pieces_are level kind first no_segs = refl
   flat_pieces_are level kind true (seg before nodes suffix ss) =
-      join (items_pieces Broken level (Some kind) Closed Start nodes) (flat_segs Broken level kind false ss)
+      pieces_join (items_pieces Broken level (Some kind) Closed Start nodes) (flat_segs Broken level kind false ss)
       ∙ rw (items_pieces_are level (Some kind) Closed Start nodes refl, flat_pieces_are level kind false ss) refl
   flat_pieces_are level kind false (seg before nodes suffix ss) =
       ap (λ l. lexeme OperatorToken (codes ",") ∷ l)
-      (join (items_pieces Broken level (Some kind) Space Start nodes) (flat_segs Broken level kind false ss)
+      (pieces_join (items_pieces Broken level (Some kind) Space Start nodes) (flat_segs Broken level kind false ss)
       ∙ rw (items_pieces_are level (Some kind) Space Start nodes refl, flat_pieces_are level kind false ss) refl)
 
 line_pieces_are : (s : Statement) → piece_lexemes (statement_line s) ≡ line_lexemes s
 line_pieces_are s =
     let nodes = items_pieces Broken 0 None Closed Start (items_of s.nodes) in
     let newline : List Piece = piece Closed Newline (codes "\n") ∷ [] in
-    join nodes (suffix_piece s.suffix ++ newline)
-    ∙ rw (join (suffix_piece s.suffix) newline, items_pieces_are 0 None Closed Start (items_of s.nodes) refl, suffix_pieces s.suffix) refl
+    pieces_join nodes (suffix_piece s.suffix ++ newline)
+    ∙ rw (pieces_join (suffix_piece s.suffix) newline, items_pieces_are 0 None Closed Start (items_of s.nodes) refl, suffix_pieces s.suffix) refl
 
 pub layout_lexemes : (s : Statement) → piece_lexemes (layout s) ≡ lexemes_of s
 layout_lexemes s =
-    join (comment_lines s.before) (if is_comment s.class then [] else statement_line s)
+    pieces_join (comment_lines s.before) (if is_comment s.class then [] else statement_line s)
     ∙ rw (line_pieces s.before, either (is_comment s.class) [] (statement_line s), line_pieces_are s) refl

@@ -17,9 +17,7 @@ use Rattle.bz_tree.specs.Tree.{group, Segs, segments}
 use Rattle.bz_tree_laws.specs.Written.{written_entries, HaveNodes}
 use Rattle.bz_layout.specs.Layout.{opening, closing}
 use Rattle.bz_layout_laws.specs.Lexemes.{Lexeme, lexeme}
-use Rattle.bz_layout_laws.specs.Inside.{entries_lexemes}
 use Rattle.bz_layout_laws.specs.Parsed.{have_for}
-use Rattle.bz_layout_laws.specs.Spelled.{spelled, spelled_segs}
 use Rattle.bz_layout_laws.proofs.Taken.{placed_at, take_first, begins_beside, from_none, agree_none}
 use Rattle.bz_layout_laws.proofs.ReadSteps.{Read, Reads, own_node, agree_node, add_node}
 use Rattle.bz_layout_laws.proofs.Fors.{same_for}
@@ -63,21 +61,20 @@ closed_up : (o c : Placed) (inner others : List Placed) → o ∷ (inner ++ (c �
 closed_up o c inner others = simp append_assoc
 
 -- what stands in the bracket is read whatever follows it, and begins with no comment on the line of the bracket
-pub read_group : (one : Bool) (b : Preceding) (kind : GroupKind) (ss : Segs) (one_comma : Bool) (end : List (List ℕ)) (trailing : Bool) (ls : List Lexeme) (es : List Entry) (tail : List Lexeme) (shape : Shape) → kind ≡ group_kind shape b (have_for ss) → HaveNodes (segments (spelled_segs ss))
+pub read_group : (one : Bool) (b : Preceding) (kind : GroupKind) (ss : Segs) (one_comma : Bool) (end : List (List ℕ)) (trailing : Bool) (w ls : List Lexeme) (es : List Entry) (tail : List Lexeme) (shape : Shape) → kind ≡ group_kind shape b (have_for ss) → HaveNodes (segments ss)
     → (is_paren kind && (length (segments ss) == 1) && (trailing && is_filled (segments ss))) ≡ one_comma
-    → ((after : List Lexeme) → Reads (is_one kind) Other (entries_lexemes (written_entries trailing (segments ss) end)) (written_entries trailing (segments (spelled_segs ss)) end) after)
-    → ((after : List Lexeme) → begins_beside (entries_lexemes (written_entries trailing (segments ss) end) ++ (lexeme Operator (closing kind) ∷ after)) ≡ false)
+    → ((after : List Lexeme) → Reads (is_one kind) Other w (written_entries trailing (segments ss) end) after)
+    → ((after : List Lexeme) → begins_beside (w ++ (lexeme Operator (closing kind) ∷ after)) ≡ false)
     → Reads one Operand ls es tail
-    → Reads one b ((lexeme Operator (opening kind) ∷ (entries_lexemes (written_entries trailing (segments ss) end) ++ lexeme Operator (closing kind) ∷ [])) ++ ls) (a_node (spelled (group kind ss one_comma end)) ∷ es) tail
-read_group one b kind ss one_comma end trailing ls es tail shape kind_is nodes comma_is inner begins next = record {
+    → Reads one b ((lexeme Operator (opening kind) ∷ (w ++ lexeme Operator (closing kind) ∷ [])) ++ ls) (a_node (group kind ss one_comma end) ∷ es) tail
+read_group one b kind ss one_comma end trailing w ls es tail shape kind_is nodes comma_is inner begins next = record {
   each = λ at last ts agree h.
-      let w = written_entries trailing (segments ss) end in
       let o : Lexeme = lexeme Operator (opening kind) in
       let c : Lexeme = lexeme Operator (closing kind) in
       let after = c ∷ (ls ++ tail) in
-      let f = take_first last ts o (entries_lexemes w ++ after) (h ∙ spread o c (entries_lexemes w) ls tail) in
+      let f = take_first last ts o (w ++ after) (h ∙ spread o c w ls tail) in
       let open_at = placed_at o f.line f.col f.fresh in
-      let r = (inner after).each no_token None f.others agree_none (from_none (Some (end_line open_at)) f.others (entries_lexemes w ++ after) f.rest (begins (ls ++ tail))) in
+      let r = (inner after).each no_token None f.others agree_none (from_none (Some (end_line open_at)) f.others (w ++ after) f.rest (begins (ls ++ tail))) in
       let g = take_first r.last r.after c (ls ++ tail) r.rest in
       let close_at = placed_at c g.line g.col g.fresh in
       let n = next.each (end_of_node g.line) (Some (end_line close_at)) g.others (agree_node g.line (end_line close_at) (flat_closing kind g.line)) g.rest in

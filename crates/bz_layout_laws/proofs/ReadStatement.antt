@@ -9,92 +9,96 @@ use Rattle.bz_tree.specs.declared.stmt.GroupKind.{GroupKind}
 use Rattle.bz_tree.specs.declared.stmt.GroupKind.TheVariants.{Call, RuleCall}
 use Rattle.bz_tree.specs.declared.stmt.Class.{Class}
 use Rattle.bz_tree.specs.declared.stmt.Class.TheVariants.{Load as LoadClass, Assign, Rule, Other as OtherClass, Block}
+use Rattle.bz_tree.specs.Kinds.{group_kind}
 use Rattle.bz_tree.specs.declared.kinds.Preceding.{Preceding}
 use Rattle.bz_tree.specs.declared.kinds.Preceding.TheVariants.{Other}
-use Rattle.bz_tree.specs.Brackets.{Elems, elems_tokens, elems_own, own_items, AreWell, after_item, is_paren, without_lines}
+use Rattle.bz_tree.specs.Brackets.{Elems, elems_tokens, elems_own, own_items, AreWell, after_item, without_lines}
 use Rattle.bz_tree.specs.Owners.{Own, Entry, a_node, no_token, entries_of}
 use Rattle.bz_tree.specs.Statement.{segment_of, class_of, is_kept, is_load_word, is_rule, statement_with, IsStatementOf, is_assign}
-use Rattle.bz_tree.specs.Tree.{Item, leaf, group, Segs, Segment, Statement, items_of}
+use Rattle.bz_tree.specs.Tree.{Item, leaf, group, Segment, Statement, items_of}
 use Rattle.bz_tree_laws.specs.Written.{own_lines, suffix_entry, written_entries}
 use Rattle.bz_tree_laws.proofs.WrittenBack.{statement_back, comments_back}
 use Rattle.bz_tree_laws.proofs.ChunkLaws.{tree_same}
 use Rattle.bz_layout.specs.declared.spacing.Edge.{Edge}
 use Rattle.bz_layout.specs.declared.spacing.Edge.TheVariants.{Start}
+use Rattle.bz_layout.specs.Broken.{is_broken, segs_hold}
 use Rattle.bz_layout.specs.Spacing.{edge_after}
 use Rattle.bz_layout.specs.Layout.{closing, is_comment, layout_text}
-use Rattle.bz_layout_laws.specs.Inside.{HasShape, has_last_comma, without_newlines, own_segment}
+use Rattle.bz_layout_laws.specs.FreeLayout.{Choice, own, breaks_by, inside, following, item_spelled_by, segs_spelled_by, spelled_by, text_by, Stand}
+use Rattle.bz_layout_laws.specs.Inside.{without_newlines, own_segment}
 use Rattle.bz_layout_laws.specs.Legible.{are_some, IsLegibleItem, AreLegible, IsLegible, depth_of}
-use Rattle.bz_layout_laws.specs.Lexemes.{Lexeme, lexeme, comment_lexemes, suffix_lexemes, item_lexemes, items_lexemes, lexemes_from, token_lexemes, lexemes_of}
+use Rattle.bz_layout_laws.specs.Lexemes.{Lexeme, lexeme, comment_lexemes, suffix_lexemes, lexemes_from, token_lexemes}
 use Rattle.bz_layout_laws.specs.Parsed.{HasKind, HaveKinds, plain_call, plain_calls, IsParsed}
-use Rattle.bz_layout_laws.specs.Spelled.{spelled, spelled_statement}
+use Rattle.bz_layout_laws.specs.Spelled.{spelled_statement}
 use Rattle.bz_layout_laws.specs.Lineless.{lineless}
+use Rattle.bz_layout_laws.proofs.FreeLexemes.{last_comma, item_lexemes_by, items_lexemes_by, segs_lexemes_by, lexemes_by}
+use Rattle.bz_layout_laws.proofs.FreeSpelled.{have_for_by, nodes_by, class_by, rule_nodes_by, spelled_own}
+use Rattle.bz_layout_laws.proofs.OwnLayout.{text_own}
 use Rattle.bz_layout_laws.proofs.ReadGroup.{read_group}
 use Rattle.bz_layout_laws.proofs.ReadSteps.{Reads, read_nothing}
-use Rattle.bz_layout_laws.proofs.ReadTree.{read_comments, read_end, read_suffix, segs_begin, few_segs, item_reads, segs_reads}
+use Rattle.bz_layout_laws.proofs.ReadTree.{read_comments, read_end, read_suffix, segs_begin, few_segs, comma_by, item_reads, segs_reads}
 use Rattle.bz_layout_laws.proofs.SameInside.{have_nodes}
-use Rattle.bz_layout_laws.proofs.SameTests.{nodes_spelled, class_spelled}
+use Rattle.bz_layout_laws.proofs.Shapes.{rule_shape, tops_have_shapes, own_stands}
 use Rattle.bz_layout_laws.proofs.SpelledAgain.{written_again}
 use Rattle.bz_layout_laws.proofs.Taken.{agree_none, no_tokens}
-use Rattle.bz_layout_laws.proofs.TokensBack.{layout_tokens_only}
-use Rattle.bz_layout_laws.proofs.Unlined.{lines_out}
-use Rattle.bz_layout_laws.proofs.Written.{bracket_written, comma_read}
-use Rattle.bz_layout_laws.proofs.WrittenLine.{statement_line_is, comments_written}
+use Rattle.bz_layout_laws.proofs.TokensBack.{tokens_by_only}
+use Rattle.bz_layout_laws.proofs.Unlined.{lines_out, nodes_none}
+use Rattle.bz_layout_laws.proofs.WrittenLine.{free_line_is, free_comments_are}
 use Rattle.bz_token.specs.Common.{is_filled}
 use Rattle.std.specs.List.{list_any}
 
--- the call of a rule has the shape of a call
-rule_shape : (segs : Segs) (one_comma : Bool) → HasShape Call segs one_comma → HasShape RuleCall segs one_comma
-rule_shape segs one_comma h = record { one = λ e. absurd (false≢true e); comma = λ e. absurd (false≢true (ap is_paren (h.comma e).0)) }
-
--- it is read as a call
-top_reads : (b : Preceding) (x : Item) (ls : List Lexeme) (es : List Entry) (tail : List Lexeme) → IsLegibleItem x → HasKind b (plain_call x) → Reads true (after_item x) ls es tail → Reads true b (item_lexemes x ++ ls) (a_node (spelled (plain_call x)) ∷ es) tail
-top_reads b (leaf kind text) ls es tail legible kinds next = item_reads true b (leaf kind text) ls es tail legible (λ e. refl) kinds next
-top_reads b (group RuleCall segs one_comma end) ls es tail legible kinds next =
-    let trailing = has_last_comma RuleCall segs one_comma end in
+-- the call of a rule is read as a call
+top_reads : (b : Preceding) (c : Choice) (x : Item) (ls : List Lexeme) (es : List Entry) (tail : List Lexeme) → IsLegibleItem x → HasKind b (plain_call x) → Reads true (after_item x) ls es tail
+    → Reads true b (item_lexemes_by c x ++ ls) (a_node (item_spelled_by c (plain_call x)) ∷ es) tail
+top_reads b c (leaf kind text) ls es tail legible kinds next = item_reads true b c (leaf kind text) ls es tail legible (λ e. refl) kinds next
+top_reads b c (group RuleCall segs one_comma end) ls es tail legible kinds next =
+    let broken = breaks_by c (is_broken RuleCall segs end (segs_hold segs)) in
+    let trailing = last_comma broken RuleCall segs one_comma in
     let shape = rule_shape segs one_comma kinds.2 in
-    subst (λ l. Reads true b (l ++ ls) (a_node (spelled (group Call segs one_comma end)) ∷ es) tail) (sym (bracket_written RuleCall segs one_comma end shape))
-    (read_group true b Call segs one_comma end trailing ls es tail kinds.0 kinds.1 (have_nodes RuleCall segs legible.0) (comma_read RuleCall segs one_comma end shape)
-    (λ after. segs_reads false RuleCall trailing segs end after legible.0 kinds.3 (few_segs RuleCall segs one_comma end shape))
-    (λ after. segs_begin RuleCall trailing segs end (lexeme Operator (closing Call) ∷ after) legible.0 refl) next)
-top_reads b (group kind segs one_comma end) ls es tail legible kinds next = item_reads true b (group kind segs one_comma end) ls es tail legible (λ e. refl) kinds next
+    read_group true b Call (segs_spelled_by (inside c) segs) one_comma end trailing (segs_lexemes_by (inside c) trailing segs end) ls es tail kinds.0 (kinds.1 ∙ ap (group_kind kinds.0 b) (sym (have_for_by (inside c) segs)))
+    (have_nodes (inside c) RuleCall segs legible.0) (comma_by (inside c) broken RuleCall segs one_comma shape)
+    (λ after. segs_reads false RuleCall (inside c) trailing segs end after legible.0 kinds.3 (few_segs broken RuleCall segs one_comma shape))
+    (λ after. segs_begin (inside c) RuleCall trailing segs end (lexeme Operator (closing Call) ∷ after) legible.0 refl) next
+top_reads b c (group kind segs one_comma end) ls es tail legible kinds next = item_reads true b c (group kind segs one_comma end) ls es tail legible (λ e. refl) kinds next
 
 after_plain : (x : Item) → after_item (plain_call x) ≡ after_item x
 after_plain (leaf kind text) = refl
 after_plain (group kind segs one_comma end) = refl
 
-tops_read : (b : Preceding) (within : Option GroupKind) (left : Edge) (xs : List Item) (ls : List Lexeme) (es : List Entry) (tail : List Lexeme) → AreLegible within left (items_of xs) → HaveKinds true b (items_of (plain_calls xs))
-    → ((p : Preceding) → Reads true p ls es tail) → Reads true b (items_lexemes (items_of xs) ++ ls) (map a_node (map spelled (plain_calls xs)) ++ es) tail
-tops_read b within left [] ls es tail legible kinds next = next b
-tops_read b within left (x ∷ xs) ls es tail legible kinds next =
-    let rest = tops_read (after_item (plain_call x)) within (edge_after within left x) xs ls es tail legible.2 kinds.2 next in
-    subst (λ l. Reads true b l (a_node (spelled (plain_call x)) ∷ (map a_node (map spelled (plain_calls xs)) ++ es)) tail) (sym (append_assoc (item_lexemes x) (items_lexemes (items_of xs)) ls))
-    (top_reads b x (items_lexemes (items_of xs) ++ ls) (map a_node (map spelled (plain_calls xs)) ++ es) tail legible.1 kinds.1
-    (subst (λ p. Reads true p (items_lexemes (items_of xs) ++ ls) (map a_node (map spelled (plain_calls xs)) ++ es) tail) (after_plain x) rest))
+tops_read : (b : Preceding) (c : Choice) (within : Option GroupKind) (left : Edge) (xs : List Item) (ls : List Lexeme) (es : List Entry) (tail : List Lexeme) → AreLegible within left (items_of xs) → HaveKinds true b (items_of (plain_calls xs))
+    → ((p : Preceding) → Reads true p ls es tail) → Reads true b (items_lexemes_by c (items_of xs) ++ ls) (map a_node (nodes_by c (plain_calls xs)) ++ es) tail
+tops_read b c within left [] ls es tail legible kinds next = next b
+tops_read b c within left (x ∷ xs) ls es tail legible kinds next =
+    let others = items_lexemes_by (following c) (items_of xs) in
+    let entries = map a_node (nodes_by (following c) (plain_calls xs)) ++ es in
+    let rest = tops_read (after_item (plain_call x)) (following c) within (edge_after within left x) xs ls es tail legible.2 kinds.2 next in
+    subst (λ l. Reads true b l (a_node (item_spelled_by (inside c) (plain_call x)) ∷ entries) tail) (sym (append_assoc (item_lexemes_by (inside c) x) others ls))
+    (top_reads b (inside c) x (others ++ ls) entries tail legible.1 kinds.1 (subst (λ p. Reads true p (others ++ ls) entries tail) (after_plain x) rest))
 
 -- the segment of a statement as it is spelled, the call of a rule as one that is none
-abbrev plain_segment : Statement → Segment
-plain_segment s = record { before = s.before; nodes = map spelled (plain_calls s.nodes); suffix = s.suffix }
+abbrev plain_segment : Choice → Statement → Segment
+plain_segment c s = record { before = s.before; nodes = nodes_by c (plain_calls s.nodes); suffix = s.suffix }
 
 -- tokens that are read so are those of a statement
-record Tree (s : Statement) (tokens : List Placed) : Type 0 where
+record Tree (c : Choice) (s : Statement) (tokens : List Placed) : Type 0 where
   elems : Elems
   tokens_are : without_lines tokens ≡ elems_tokens elems
   well : AreWell Other elems
-  segment : segment_of (elems_own Other elems) ≡ own_segment (spelled_statement s)
+  segment : segment_of (elems_own Other elems) ≡ own_segment (spelled_by c s)
 
-finish : (s : Statement) (tokens : List Placed) → IsParsed s → Tree s tokens → (t : Statement) × IsStatementOf tokens t × (lineless t ≡ lineless (spelled_statement s))
-finish s tokens parsed tree =
+finish : (c : Choice) (s : Statement) (tokens : List Placed) → IsParsed s → Tree c s tokens → (t : Statement) × IsStatementOf tokens t × (lineless t ≡ lineless (spelled_by c s))
+finish c s tokens parsed tree =
     let found = segment_of (elems_own Other tree.elems) in
-    let class : class_of found.nodes ≡ s.class = ap (λ (g : Segment). class_of g.nodes) tree.segment ∙ class_spelled s.nodes ∙ sym parsed.class in (
+    let class : class_of found.nodes ≡ s.class = ap (λ (g : Segment). class_of g.nodes) tree.segment ∙ class_by c s.nodes ∙ sym parsed.class in (
       statement_with tokens found,
       record { elems = tree.elems; tokens_are = tree.tokens_are; well = tree.well; is = refl },
       λ i. record { before = (tree.segment i).before; nodes = (tree.segment i).nodes; suffix = (tree.segment i).suffix; class = class i; start = 0; end = 0 },
     )
 
 -- tokens whose entries are those of a statement
-tree_of : (s : Statement) (tokens : List Placed) (ls : List Lexeme) (es : List Entry) → lexemes_from None (without_lines tokens) ≡ ls → Reads true Other ls es []
-    → ((owns : List Own) → entries_of no_token (own_items true owns) ≡ es → segment_of owns ≡ own_segment (spelled_statement s)) → Tree s tokens
-tree_of s tokens ls es lexemes reads back =
+tree_of : (c : Choice) (s : Statement) (tokens : List Placed) (ls : List Lexeme) (es : List Entry) → lexemes_from None (without_lines tokens) ≡ ls → Reads true Other ls es []
+    → ((owns : List Own) → entries_of no_token (own_items true owns) ≡ es → segment_of owns ≡ own_segment (spelled_by c s)) → Tree c s tokens
+tree_of c s tokens ls es lexemes reads back =
     let r = reads.each no_token None (without_lines tokens) agree_none (lexemes ∙ sym (append-nil ls)) in
     record {
       elems = r.elems;
@@ -103,18 +107,19 @@ tree_of s tokens ls es lexemes reads back =
       segment = back (elems_own Other r.elems) r.entries;
     }
 
-some_nodes : (xs : List Item) → are_some (items_of xs) ≡ true → is_filled (map spelled (plain_calls xs)) ≡ true
-some_nodes [] h = absurd (false≢true h)
-some_nodes (x ∷ xs) h = refl
+some_nodes : (c : Choice) (xs : List Item) → are_some (items_of xs) ≡ true → is_filled (nodes_by c (plain_calls xs)) ≡ true
+some_nodes c [] h = absurd (false≢true h)
+some_nodes c (x ∷ xs) h = refl
 
 -- a statement that has nodes
-statement_tree : (s : Statement) (tokens : List Placed) → IsLegible s → IsParsed s → is_comment s.class ≡ false → lexemes_from None (without_lines tokens) ≡ without_newlines (lexemes_of s) → Tree s tokens
-statement_tree s tokens legible parsed class lexemes =
-    tree_of s tokens (comment_lexemes s.before ++ (items_lexemes (items_of s.nodes) ++ (suffix_lexemes s.suffix ++ []))) (written_entries false (plain_segment s ∷ []) []) (lexemes ∙ statement_line_is s legible class)
-    (read_comments true Other s.before (items_lexemes (items_of s.nodes) ++ (suffix_lexemes s.suffix ++ [])) (map a_node (map spelled (plain_calls s.nodes)) ++ (suffix_entry s.suffix ++ [])) []
-    (tops_read Other None Start s.nodes (suffix_lexemes s.suffix ++ []) (suffix_entry s.suffix ++ []) [] legible.nodes parsed.kinds (λ p. read_suffix true p s.suffix [] [] [] (read_nothing true p []))))
-    (λ owns e. statement_back owns (plain_segment s) (some_nodes s.nodes (legible.some class)) e
-    ∙ ap (λ xs. record { before = s.before; nodes = xs; suffix = s.suffix }) (sym (nodes_spelled (plain_calls s.nodes)) ∙ ap (map spelled) (sym parsed.rule)))
+statement_tree : (c : Choice) (s : Statement) (tokens : List Placed) → IsLegible s → IsParsed s → Stand c (items_of s.nodes) → is_comment s.class ≡ false → lexemes_from None (without_lines tokens) ≡ without_newlines (lexemes_by c s) → Tree c s tokens
+statement_tree c s tokens legible parsed stands class lexemes =
+    tree_of c s tokens (comment_lexemes s.before ++ (items_lexemes_by c (items_of s.nodes) ++ (suffix_lexemes s.suffix ++ []))) (written_entries false (plain_segment c s ∷ []) [])
+    (lexemes ∙ free_line_is c s (nodes_none c s legible stands (tops_have_shapes Other s.nodes parsed.kinds)) class)
+    (read_comments true Other s.before (items_lexemes_by c (items_of s.nodes) ++ (suffix_lexemes s.suffix ++ [])) (map a_node (nodes_by c (plain_calls s.nodes)) ++ (suffix_entry s.suffix ++ [])) []
+    (tops_read Other c None Start s.nodes (suffix_lexemes s.suffix ++ []) (suffix_entry s.suffix ++ []) [] legible.nodes parsed.kinds (λ p. read_suffix true p s.suffix [] [] [] (read_nothing true p []))))
+    (λ owns e. statement_back owns (plain_segment c s) (some_nodes c s.nodes (legible.some class)) e
+    ∙ ap (λ xs. record { before = s.before; nodes = xs; suffix = s.suffix }) (sym (rule_nodes_by c (plain_calls s.nodes)) ∙ ap (nodes_by c) (sym parsed.rule)))
 
 -- comment lines alone have none
 no_comment : (b : Bool) (m r : Class) → is_comment m ≡ false → is_comment r ≡ false → is_comment (if b then m else r) ≡ false
@@ -125,22 +130,33 @@ pub none_there : (xs : List Item) → is_comment (class_of xs) ≡ true → xs �
 none_there [] h = refl
 none_there (x ∷ xs) h = absurd (false≢true (sym (no_comment (is_kept x) Block _ refl (no_comment (is_load_word x) LoadClass _ refl (no_comment (list_any is_assign (x ∷ xs)) Assign _ refl (no_comment (is_rule (x ∷ xs)) Rule OtherClass refl refl)))) ∙ h))
 
-comment_tree : (s : Statement) (tokens : List Placed) → IsParsed s → is_comment s.class ≡ true → lexemes_from None (without_lines tokens) ≡ without_newlines (lexemes_of s) → Tree s tokens
-comment_tree s tokens parsed class lexemes =
+comment_tree : (c : Choice) (s : Statement) (tokens : List Placed) → IsParsed s → is_comment s.class ≡ true → lexemes_from None (without_lines tokens) ≡ without_newlines (lexemes_by c s) → Tree c s tokens
+comment_tree c s tokens parsed class lexemes =
     let none = none_there s.nodes (ap is_comment (sym parsed.class) ∙ class) in
-    tree_of s tokens _ (own_lines s.before) (lexemes ∙ comments_written s class) (read_end true Other s.before [])
-    (λ owns e. comments_back owns s.before e ∙ λ i. record { before = s.before; nodes = ap (map spelled) (sym none) i; suffix = sym (parsed.alone none) i })
+    tree_of c s tokens (comment_lexemes s.before) (own_lines s.before) (lexemes ∙ free_comments_are c s class) (read_end true Other s.before [])
+    (λ owns e. comments_back owns s.before e ∙ λ i. record { before = s.before; nodes = ap (nodes_by c) (sym none) i; suffix = sym (parsed.alone none) i })
 
-tree_is : (s : Statement) (tokens : List Placed) → IsLegible s → IsParsed s → token_lexemes tokens ≡ lexemes_of s → Tree s tokens
-tree_is s tokens legible parsed e = by (is_comment s.class) refl
+tree_is : (c : Choice) (s : Statement) (tokens : List Placed) → IsLegible s → IsParsed s → Stand c (items_of s.nodes) → token_lexemes tokens ≡ lexemes_by c s → Tree c s tokens
+tree_is c s tokens legible parsed stands e = by (is_comment s.class) refl
   where
-    by : (b : Bool) → is_comment s.class ≡ b → Tree s tokens
-    by true class = comment_tree s tokens parsed class (lines_out s tokens legible e)
-    by false class = statement_tree s tokens legible parsed class (lines_out s tokens legible e)
+    out : lexemes_from None (without_lines tokens) ≡ without_newlines (lexemes_by c s)
+    out = lines_out c s tokens legible stands (tops_have_shapes Other s.nodes parsed.kinds) e
 
+    by : (b : Bool) → is_comment s.class ≡ b → Tree c s tokens
+    by true class = comment_tree c s tokens parsed class out
+    by false class = statement_tree c s tokens legible parsed stands class out
+
+pub reads_by : (first depth : ℕ) (c : Choice) (s : Statement) (tokens : List Placed) → IsLegible s → IsParsed s → depth_of s ≤ depth → Stand c (items_of s.nodes) → AreTokensOf first depth (text_by c s) tokens
+    → (t : Statement) × IsStatementOf tokens t × (lineless t ≡ lineless (spelled_by c s))
+reads_by first depth c s tokens legible parsed room stands are =
+    finish c s tokens parsed (tree_is c s tokens legible parsed stands (tokens_by_only first depth c s tokens legible room stands (tops_have_shapes Other s.nodes parsed.kinds) are))
+
+-- in the layout's own way
 pub statement_reads : (first depth : ℕ) (s : Statement) (tokens : List Placed) → IsLegible s → IsParsed s → depth_of s ≤ depth → AreTokensOf first depth (layout_text s) tokens
     → (t : Statement) × IsStatementOf tokens t × (lineless t ≡ lineless (spelled_statement s))
-statement_reads first depth s tokens legible parsed room are = finish s tokens parsed (tree_is s tokens legible parsed (layout_tokens_only first depth s tokens legible room are))
+statement_reads first depth s tokens legible parsed room are =
+    let found = reads_by first depth own s tokens legible parsed room (own_stands (items_of s.nodes)) (subst (λ bytes. AreTokensOf first depth bytes tokens) (sym (text_own s)) are) in
+    (found.0, found.1, found.2 ∙ ap lineless (spelled_own s))
 
 pub statement_only : (first depth : ℕ) (s t : Statement) (tokens : List Placed) → IsLegible s → IsParsed s → depth_of s ≤ depth → AreTokensOf first depth (layout_text s) tokens → IsStatementOf tokens t
     → (lineless t ≡ lineless (spelled_statement s)) × (layout_text t ≡ layout_text s)

@@ -184,14 +184,14 @@ same_after String text = refl
 same_after _ text = refl
 
 pub read_leaf : (one : Bool) (b : Preceding) (kind : Kind) (text : List ℕ) (ls : List Lexeme) (es : List Entry) (tail : List Lexeme) → is_leaf_mark (kind_mark kind text) ≡ true → (is_comma_mark (kind_mark kind text) ≡ true → one ≡ true)
-    → Reads one (kind_after kind text) ls es tail → Reads one b (lexeme kind (respell kind text) ∷ ls) (a_node (leaf kind (respell kind text)) ∷ es) tail
+    → Reads one (kind_after kind text) ls es tail → Reads one b (lexeme kind text ∷ ls) (a_node (leaf kind text) ∷ es) tail
 read_leaf one b kind text ls es tail mark single_is next = record {
   each = λ at last ts agree h.
-      let l : Lexeme = lexeme kind (respell kind text) in
+      let l : Lexeme = lexeme kind text in
       let f = take_first last ts l (ls ++ tail) h in
       let t = placed_at l f.line f.col f.fresh in
-      let o = leaf_own one b t (kind_mark kind text) (same_mark kind text) mark single_is in
-      let go = subst (λ p. Reads one p ls es tail) (sym (o.before ∙ same_after kind text)) next in
+      let o = leaf_own one b t (kind_mark kind text) refl mark single_is in
+      let go = subst (λ p. Reads one p ls es tail) (sym o.before) next in
       let r = go.each (end_of_node o.line) (end_after t) f.others o.agree f.rest in
       add_node one b at (single t) o.line (leaf_of t) es tail ts f.others o.one_token o.own f.are r;
 }

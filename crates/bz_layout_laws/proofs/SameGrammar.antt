@@ -1,5 +1,5 @@
 -- Whether nodes are in the grammar does not hang on the spelling of strings.
-use Rattle.std.proofs.Common.{◌≡◌, ℕ, ◌&&◌, ◌||◌, List, refl, ap, ◌∙◌}
+use Rattle.std.proofs.Common.{◌≡◌, ℕ, ◌&&◌, ◌||◌, List, refl, sym, ap, ◌∙◌}
 use Rattle.bz_token.specs.declared.token.Kind.{Kind}
 use Rattle.bz_token.specs.declared.token.Kind.TheVariants.{String}
 use Rattle.bz_tree.specs.Grammar.{leaf_role, IsStatement}
@@ -7,10 +7,12 @@ use Rattle.bz_tree.specs.Tree.{Item, leaf, group, Items, no_items, item, Segs, n
 use Rattle.bz_tree.specs.private.Machine.{begin, is_single, accepts, role_of, each, is_value, is_name, is_equals, is_string_item, is_string, is_renamed, are_load_arguments, is_load_kind, are_loaded, is_load_group, is_load, is_nothing, is_statement, next}
 use Rattle.bz_tree.proofs.Recognized.{statement_accepted, accepted_statement}
 use Rattle.bz_layout.specs.Respell.{respell}
+use Rattle.bz_layout_laws.specs.FreeLayout.{Choice, own, items_spelled_by, spelled_by}
 use Rattle.bz_layout_laws.specs.Spelled.{spelled, spelled_items, spelled_segs, spelled_statement}
 use Rattle.bz_layout_laws.specs.Lineless.{lineless}
+use Rattle.bz_layout_laws.proofs.FreeSpelled.{items_once, spelled_own}
+use Rattle.bz_layout_laws.proofs.SameInside.{items_same}
 use Rattle.bz_layout_laws.proofs.SameTests.{load_spelled}
-use Rattle.bz_layout_laws.proofs.SpelledAgain.{list_spelled}
 
 leaf_spelled : (kind : Kind) (text : List ℕ) → leaf_role kind (respell kind text) ≡ leaf_role kind text
 leaf_spelled String text = refl
@@ -75,7 +77,12 @@ nothing_spelled (item x xs) = refl
 statement_spelled : (xs : Items) → is_statement (spelled_items xs) ≡ is_statement xs
 statement_spelled xs = rw (nothing_spelled xs, is_load_spelled xs, accepts_spelled _ xs) refl
 
-pub grammar_stays : (s t : Statement) → lineless t ≡ lineless (spelled_statement s) → IsStatement (items_of s.nodes) → IsStatement (items_of t.nodes)
-grammar_stays s t e h =
+pub free_grammar_stays : (c : Choice) (s t : Statement) → lineless t ≡ lineless (spelled_by c s) → IsStatement (items_of s.nodes) → IsStatement (items_of t.nodes)
+free_grammar_stays c s t e h =
+    let xs = items_of s.nodes in
     accepted_statement (items_of t.nodes)
-    (ap (λ (u : Statement). is_statement (items_of u.nodes)) e ∙ ap is_statement (list_spelled s.nodes) ∙ statement_spelled (items_of s.nodes) ∙ statement_accepted h)
+    (ap (λ (u : Statement). is_statement (items_of u.nodes)) e ∙ ap is_statement (items_same (items_spelled_by c xs)) ∙ sym (statement_spelled (items_spelled_by c xs)) ∙ ap is_statement (items_once c xs) ∙ statement_spelled xs ∙ statement_accepted h)
+
+-- in the layout's own way
+pub grammar_stays : (s t : Statement) → lineless t ≡ lineless (spelled_statement s) → IsStatement (items_of s.nodes) → IsStatement (items_of t.nodes)
+grammar_stays s t e h = free_grammar_stays own s t (e ∙ ap lineless (sym (spelled_own s))) h

@@ -1,10 +1,10 @@
 -- What a statement is does not hang on the spelling of strings.
-use Rattle.std.proofs.Common.{◌≡◌, ℕ, ◌&&◌, ◌||◌, List, [], ◌∷◌, map, Bool, true, false, refl, sym, ap, ◌∙◌, codes}
+use Rattle.std.proofs.Common.{◌≡◌, ℕ, ◌&&◌, ◌||◌, List, [], ◌∷◌, map, refl, ap, codes}
 use Rattle.std.specs.Prelude.{if◌then◌else◌}
 use Rattle.bz_token.specs.declared.token.Kind.{Kind}
 use Rattle.bz_token.specs.declared.token.Kind.TheVariants.{String}
 use Rattle.bz_tree.specs.declared.stmt.Class.TheVariants.{Load, Assign, Rule, Other, Block}
-use Rattle.bz_tree.specs.Statement.{is_ident, is_call, is_rule, is_rule_after, as_rule_call, rule_call, is_assign, is_load_word, is_kept, class_of}
+use Rattle.bz_tree.specs.Statement.{is_ident, is_call, is_rule, is_rule_after, rule_call, is_assign, is_load_word, is_kept, class_of}
 use Rattle.bz_tree.specs.Tree.{Item, leaf, group}
 use Rattle.bz_layout.specs.Respell.{respell}
 use Rattle.bz_layout_laws.specs.Spelled.{spelled}
@@ -36,7 +36,7 @@ nothing_spelled [] = refl
 nothing_spelled (x ∷ xs) = refl
 
 mutual
-  rule_spelled : (xs : List Item) → is_rule (map spelled xs) ≡ is_rule xs
+  pub rule_spelled : (xs : List Item) → is_rule (map spelled xs) ≡ is_rule xs
   rule_spelled [] = refl
   rule_spelled (leaf kind text ∷ xs) = ap (λ b. is_ident kind && b) (after_spelled xs)
   rule_spelled (group kind segs one_comma end ∷ xs) = refl
@@ -46,27 +46,11 @@ mutual
   after_spelled (leaf kind text ∷ xs) = λ i. dot_spelled kind text i && rule_spelled xs i
   after_spelled (group kind segs one_comma end ∷ xs) = ap (λ b. is_call kind && b) (nothing_spelled xs)
 
--- so a rule and a class stay
-call_spelled : (x : Item) → spelled (as_rule_call x) ≡ as_rule_call (spelled x)
-call_spelled (leaf kind text) = refl
-call_spelled (group kind segs one_comma end) = refl
-
-last_call : (xs : List Item) → map spelled (rule_call xs) ≡ rule_call (map spelled xs)
-last_call [] = refl
-last_call (x ∷ []) = ap (λ y. y ∷ []) (call_spelled x)
-last_call (x ∷ y ∷ ys) = ap (λ l. spelled x ∷ l) (last_call (y ∷ ys))
-
 -- the nodes of a statement, the call of a rule with them
 abbrev pub rule_nodes : List Item → List Item
 rule_nodes xs = if is_rule xs then rule_call xs else xs
 
-pub nodes_spelled : (xs : List Item) → map spelled (rule_nodes xs) ≡ rule_nodes (map spelled xs)
-nodes_spelled xs = by (is_rule xs) ∙ ap (λ b. if b then rule_call (map spelled xs) else map spelled xs) (sym (rule_spelled xs))
-  where
-    by : (b : Bool) → map spelled (if b then rule_call xs else xs) ≡ (if b then rule_call (map spelled xs) else map spelled xs)
-    by true = last_call xs
-    by false = refl
-
+-- so a class stays
 assigned : (xs : List Item) → list_any is_assign (map spelled xs) ≡ list_any is_assign xs
 assigned [] = refl
 assigned (x ∷ xs) = λ i. assign_spelled x i || assigned xs i

@@ -72,7 +72,7 @@ mutual
   flat_segs_spelled style level kind first no_segs = refl
   flat_segs_spelled style level kind first (seg before nodes suffix ss) = rw (items_spelled style level (Some kind) _ Start nodes, items_spelled style level (Some kind) _ Start nodes, flat_segs_spelled style level kind false ss) refl
 
-pub list_spelled : (xs : List Item) → items_of (map spelled xs) ≡ spelled_items (items_of xs)
+list_spelled : (xs : List Item) → items_of (map spelled xs) ≡ spelled_items (items_of xs)
 list_spelled [] = refl
 list_spelled (x ∷ xs) = ap (item (spelled x)) (list_spelled xs)
 

@@ -18,13 +18,14 @@ use Rattle.bz_layout.specs.declared.spacing.Edge.{Edge}
 use Rattle.bz_layout.specs.declared.spacing.Edge.TheVariants.{Start, Joined, Dotted, Operator, Operand}
 use Rattle.bz_layout.specs.declared.spacing.Gap.{Gap}
 use Rattle.bz_layout.specs.declared.spacing.Gap.TheVariants.{Closed, Space}
-use Rattle.bz_layout.specs.declared.broken.Style.{Style}
 use Rattle.bz_layout.specs.Respell.{is_single, respell}
 use Rattle.bz_layout.specs.Spacing.{closes_up, edge_after, holds_on, gap_before, is_prefix, begins_argument, is_index_colon}
 use Rattle.bz_layout.specs.Pieces.{Piece, bytes_of}
-use Rattle.bz_layout.specs.Layout.{opening, item_pieces}
+use Rattle.bz_layout.specs.Layout.{opening}
+use Rattle.bz_layout_laws.specs.FreeLayout.{Choice, own, free, text_of, item_by}
 use Rattle.bz_layout_laws.specs.Legible.{is_later, may_follow, IsLegibleItem}
 use Rattle.bz_layout_laws.proofs.Respelled.{respelled_text}
+use Rattle.bz_layout_laws.proofs.TextOf.{text_is}
 
 -- the text of pieces and what follows it
 abbrev pub before : List Piece → List ℕ → List ℕ
@@ -74,14 +75,18 @@ operator_by_edge Dotted text after is h = ended_operator text after is h
 operator_by_edge _ text after is h = ended_plain OperatorToken text after is refl h
 
 -- a leaf is ended by what may stand after it
-pub leaf_ended : (within : Option GroupKind) (left : Edge) (kind : Kind) (text : List ℕ) (after : List ℕ) → IsLegibleItem (leaf kind text) → may_stand (edge_after within left (leaf kind text)) after ≡ true
-    → ends kind (respell kind text) after ≡ true
-leaf_ended within left OperatorToken text after h stands = operator_by_edge (edge_after within left (leaf OperatorToken text)) text after h.0 stands
-leaf_ended within left String text after h stands = ended_plain String (respell String text) after (respelled_text String text h.0) refl stands
-leaf_ended within left Newline text after h stands = absurd (false≢true h.1)
-leaf_ended within left Comment text after h stands = absurd (false≢true h.1)
-leaf_ended within left Kept text after h stands = absurd (false≢true h.0)
-leaf_ended within left kind text after h stands = ended_plain kind text after h.0 refl stands
+as_it_is : (within : Option GroupKind) (left : Edge) (kind : Kind) (text : List ℕ) (after : List ℕ) → IsLegibleItem (leaf kind text) → may_stand (edge_after within left (leaf kind text)) after ≡ true → ends kind text after ≡ true
+as_it_is within left OperatorToken text after h stands = operator_by_edge (edge_after within left (leaf OperatorToken text)) text after h.0 stands
+as_it_is within left Newline text after h stands = absurd (false≢true h.1)
+as_it_is within left Comment text after h stands = absurd (false≢true h.1)
+as_it_is within left Kept text after h stands = absurd (false≢true h.0)
+as_it_is within left kind text after h stands = ended_plain kind text after h.0 refl stands
+
+pub leaf_ended : (c : Choice) (within : Option GroupKind) (left : Edge) (kind : Kind) (text : List ℕ) (after : List ℕ) → IsLegibleItem (leaf kind text) → may_stand (edge_after within left (leaf kind text)) after ≡ true
+    → ends kind (text_of c kind text) after ≡ true
+leaf_ended (free breaks inner others) within left kind text after h stands = as_it_is within left kind text after h stands
+leaf_ended own within left String text after h stands = ended_plain String (respell String text) after (respelled_text String text h.0) refl stands
+leaf_ended own within left kind text after h stands = as_it_is within left kind text after h stands
 
 -- what is after a node is no start
 pub edge_started : (within : Option GroupKind) (left : Edge) (x : Item) → is_start (edge_after within left x) ≡ false
@@ -103,12 +108,14 @@ respelled_begins : (kind : Kind) (text : List ℕ) → begins is_later text ≡ 
 respelled_begins String text h = elim (cases_Bool (is_single text)) [ inl hit ↦ rw hit refl | inr miss ↦ rw miss h ]
 respelled_begins _ text h = h
 
+text_begins : (c : Choice) (kind : Kind) (text : List ℕ) → begins is_later text ≡ false → begins is_later (text_of c kind text) ≡ false
+text_begins own kind text h = respelled_begins kind text h
+text_begins (free breaks inner others) kind text h = h
+
 -- directly after what holds on to it
-leaf_held : (kind : Kind) (text more rest : List ℕ) → is_text kind text ≡ true → not (begins is_later text) ≡ true → not (begins is_later ((respell kind text ++ more) ++ rest)) ≡ true
-leaf_held kind text more rest is h =
-    let respelled = respelled_text kind text is in
-    let none : begins is_later (respell kind text) ≡ false = respelled_begins kind text (not-true _ h) in
-    ap not (begins_twice (respell kind text) respelled ∙ none)
+leaf_held : (c : Choice) (kind : Kind) (text more rest : List ℕ) → is_text kind text ≡ true → not (begins is_later text) ≡ true → not (begins is_later ((text_of c kind text ++ more) ++ rest)) ≡ true
+leaf_held c kind text more rest is h =
+    ap not (begins_twice (text_of c kind text) (text_is c kind text is) ∙ text_begins c kind text (not-true _ h))
   where
     begins_twice : (t : List ℕ) → is_text kind t ≡ true → begins is_later ((t ++ more) ++ rest) ≡ begins is_later t
     begins_twice [] is = absurd (empty_no_text kind is)
@@ -132,29 +139,30 @@ mark_stops_all text more rest h = elim (or_cases (bytes_eq text (codes ".") || b
     at : (t : List ℕ) → bytes_eq text t ≡ true → stops_all ((t ++ more) ++ rest) ≡ true → stops_all ((text ++ more) ++ rest) ≡ true
     at t is h = ap (λ x. stops_all ((x ++ more) ++ rest)) (same_bytes text t is) ∙ h
 
-closed_up : (kind : Kind) (text : List ℕ) (more rest : List ℕ) → closes_up (leaf kind text) ≡ true → stops_all ((respell kind text ++ more) ++ rest) ≡ true
-closed_up OperatorToken text more rest h = mark_stops_all text more rest h
-closed_up _ text more rest h = absurd (false≢true h)
+closed_up : (c : Choice) (kind : Kind) (text : List ℕ) (more rest : List ℕ) → closes_up (leaf kind text) ≡ true → stops_all ((text_of c kind text ++ more) ++ rest) ≡ true
+closed_up own OperatorToken text more rest h = mark_stops_all text more rest h
+closed_up (free breaks inner others) OperatorToken text more rest h = mark_stops_all text more rest h
+closed_up c _ text more rest h = absurd (false≢true h)
 
 abbrev spaced : Bool → Gap
 spaced c = if c then Closed else Space
 
 -- a node after its gap, where neither holds on
-spaced_stands : (style : Style) (level : ℕ) (x : Item) (more : List Piece) (rest : List ℕ) (c : Bool) → closes_up x ≡ c → stops_all (before (item_pieces style level (spaced c) x ++ more) rest) ≡ true
-spaced_stands style level (leaf kind text) more rest false e = refl
-spaced_stands style level (leaf kind text) more rest true e = closed_up kind text (bytes_of more) rest e
-spaced_stands style level (group kind segs one_comma end) more rest false e = refl
-spaced_stands style level (group kind segs one_comma end) more rest true e = opening_stops kind _ rest
+spaced_stands : (c : Choice) (level : ℕ) (x : Item) (more : List Piece) (rest : List ℕ) (closes : Bool) → closes_up x ≡ closes → stops_all (before (item_by c level (spaced closes) x ++ more) rest) ≡ true
+spaced_stands c level (leaf kind text) more rest false e = refl
+spaced_stands c level (leaf kind text) more rest true e = closed_up c kind text (bytes_of more) rest e
+spaced_stands c level (group kind segs one_comma end) more rest false e = refl
+spaced_stands c level (group kind segs one_comma end) more rest true e = opening_stops kind _ rest
 
-held_stands : (style : Style) (level : ℕ) (x : Item) (more : List Piece) (rest : List ℕ) → IsLegibleItem x → may_follow Joined x ≡ true → not (begins is_later (before (item_pieces style level Closed x ++ more) rest)) ≡ true
-held_stands style level (leaf kind text) more rest h follows = leaf_held kind text (bytes_of more) rest h.0 follows
-held_stands style level (group kind segs one_comma end) more rest h follows = group_held kind _ rest
+held_stands : (c : Choice) (level : ℕ) (x : Item) (more : List Piece) (rest : List ℕ) → IsLegibleItem x → may_follow Joined x ≡ true → not (begins is_later (before (item_by c level Closed x ++ more) rest)) ≡ true
+held_stands c level (leaf kind text) more rest h follows = leaf_held c kind text (bytes_of more) rest h.0 follows
+held_stands c level (group kind segs one_comma end) more rest h follows = group_held kind _ rest
 
 -- the next node after its gap may stand there
-pub next_stands : (style : Style) (level : ℕ) (first : Gap) (e : Edge) (x : Item) (more : List Piece) (rest : List ℕ) → is_start e ≡ false → may_follow e x ≡ true → IsLegibleItem x
-    → may_stand e (before (item_pieces style level (gap_before first e x) x ++ more) rest) ≡ true
-next_stands style level first Start x more rest started follows h = absurd (false≢true (sym started))
-next_stands style level first Joined x more rest started follows h = held_stands style level x more rest h follows
-next_stands style level first Dotted x more rest started follows h = held_stands style level x more rest h follows
-next_stands style level first Operator x more rest started follows h = spaced_stands style level x more rest (closes_up x) refl
-next_stands style level first Operand x more rest started follows h = spaced_stands style level x more rest (closes_up x) refl
+pub next_stands : (c : Choice) (level : ℕ) (first : Gap) (e : Edge) (x : Item) (more : List Piece) (rest : List ℕ) → is_start e ≡ false → may_follow e x ≡ true → IsLegibleItem x
+    → may_stand e (before (item_by c level (gap_before first e x) x ++ more) rest) ≡ true
+next_stands c level first Start x more rest started follows h = absurd (false≢true (sym started))
+next_stands c level first Joined x more rest started follows h = held_stands c level x more rest h follows
+next_stands c level first Dotted x more rest started follows h = held_stands c level x more rest h follows
+next_stands c level first Operator x more rest started follows h = spaced_stands c level x more rest (closes_up x) refl
+next_stands c level first Operand x more rest started follows h = spaced_stands c level x more rest (closes_up x) refl

@@ -15,15 +15,15 @@ use Rattle.bz_layout.specs.declared.spacing.Edge.{Edge}
 use Rattle.bz_layout.specs.declared.spacing.Edge.TheVariants.{Start}
 use Rattle.bz_layout.specs.declared.spacing.Gap.{Gap}
 use Rattle.bz_layout.specs.declared.spacing.Gap.TheVariants.{Closed, Space, Line}
-use Rattle.bz_layout.specs.declared.broken.Style.{Style}
-use Rattle.bz_layout.specs.declared.broken.Style.TheVariants.{Broken}
 use Rattle.bz_layout.specs.Spacing.{edge_after, gap_before}
 use Rattle.bz_layout.specs.Broken.{count, is_broken, segs_hold}
 use Rattle.bz_layout.specs.Pieces.{Piece, piece, comma_if, comments, comment_lines, suffix_piece}
-use Rattle.bz_layout.specs.Layout.{opening, closing, has_commas, breaks, item_pieces, items_pieces, broken_segs, flat_segs, statement_line, is_comment as is_comment_class, layout}
+use Rattle.bz_layout.specs.Layout.{opening, closing, has_commas, is_comment as is_comment_class}
+use Rattle.bz_layout_laws.specs.FreeLayout.{Choice, breaks_by, inside, following, item_by, items_by, broken_by, flat_by, statement_by}
 use Rattle.bz_layout_laws.specs.Legible.{AreComments, IsLegibleItem, AreLegible, AreLegibleSegs, IsLegible}
 use Rattle.bz_layout_laws.specs.ReadPieces.{read_pieces}
-use Rattle.bz_layout_laws.proofs.Respelled.{respelled_text}
+use Rattle.bz_layout_laws.proofs.OwnLayout.{line_by}
+use Rattle.bz_layout_laws.proofs.TextOf.{text_is}
 
 pub both : (x y : Bool) → x ≡ true → y ≡ true → (x && y) ≡ true
 both x y p q = rw (p, q) refl
@@ -90,42 +90,42 @@ lines_whole (text ∷ texts) h =
     whole_more Closed Comment text p.0 (whole_more Closed Newline (codes "\n") refl (lines_whole texts p.1))
 
 mutual
-  item_whole : (style : Style) (level : ℕ) (gap : Gap) (x : Item) → IsLegibleItem x → AreWhole (item_pieces style level gap x)
-  item_whole style level gap (leaf kind text) h = whole_piece gap kind _ (respelled_text kind text h.0)
-  item_whole style level gap (group kind segs one_comma end) h =
+  item_whole : (c : Choice) (level : ℕ) (gap : Gap) (x : Item) → IsLegibleItem x → AreWhole (item_by c level gap x)
+  item_whole c level gap (leaf kind text) h = whole_piece gap kind _ (text_is c kind text h.0)
+  item_whole c level gap (group kind segs one_comma end) h =
       let comma = has_commas kind one_comma (count segs) in
       let last : List Piece = piece (Line level) Operator (closing kind) ∷ [] in
       let close : List Piece = piece Closed Operator (closing kind) ∷ [] in
       whole_more gap Operator (opening kind) (opening_text kind)
-      (either_way AreWhole (breaks style (is_broken kind segs end (segs_hold segs))) (broken_segs style (level + 1) kind comma segs ++ (comments (level + 1) end ++ last)) (flat_segs style level kind true segs ++ (comma_if one_comma ++ close))
-      (whole_join (broken_whole style (level + 1) kind comma segs h.0) (whole_join (comments_whole (level + 1) end h.1) (whole_piece (Line level) Operator (closing kind) (closing_text kind))))
-      (whole_join (flat_whole style level kind true segs h.0) (whole_join (comma_whole one_comma) (whole_piece Closed Operator (closing kind) (closing_text kind)))))
+      (either_way AreWhole (breaks_by c (is_broken kind segs end (segs_hold segs))) (broken_by (inside c) (level + 1) kind comma segs ++ (comments (level + 1) end ++ last)) (flat_by (inside c) level kind true segs ++ (comma_if one_comma ++ close))
+      (whole_join (broken_whole (inside c) (level + 1) kind comma segs h.0) (whole_join (comments_whole (level + 1) end h.1) (whole_piece (Line level) Operator (closing kind) (closing_text kind))))
+      (whole_join (flat_whole (inside c) level kind true segs h.0) (whole_join (comma_whole one_comma) (whole_piece Closed Operator (closing kind) (closing_text kind)))))
 
-  items_whole : (style : Style) (level : ℕ) (within : Option GroupKind) (first : Gap) (left : Edge) (xs : Items) → AreLegible within left xs → AreWhole (items_pieces style level within first left xs)
-  items_whole style level within first left no_items h = whole refl
-  items_whole style level within first left (item x xs) h =
-      whole_join (item_whole style level (gap_before first left x) x h.1) (items_whole style level within first (edge_after within left x) xs h.2)
+  items_whole : (c : Choice) (level : ℕ) (within : Option GroupKind) (first : Gap) (left : Edge) (xs : Items) → AreLegible within left xs → AreWhole (items_by c level within first left xs)
+  items_whole c level within first left no_items h = whole refl
+  items_whole c level within first left (item x xs) h =
+      whole_join (item_whole (inside c) level (gap_before first left x) x h.1) (items_whole (following c) level within first (edge_after within left x) xs h.2)
 
-  broken_whole : (style : Style) (level : ℕ) (kind : GroupKind) (comma : Bool) (ss : Segs) → AreLegibleSegs kind ss → AreWhole (broken_segs style level kind comma ss)
-  broken_whole style level kind comma no_segs h = whole refl
-  broken_whole style level kind comma (seg before nodes suffix ss) h =
+  broken_whole : (c : Choice) (level : ℕ) (kind : GroupKind) (comma : Bool) (ss : Segs) → AreLegibleSegs kind ss → AreWhole (broken_by c level kind comma ss)
+  broken_whole c level kind comma no_segs h = whole refl
+  broken_whole c level kind comma (seg before nodes suffix ss) h =
       whole_join (comments_whole level before h.0)
-      (whole_join (items_whole style level (Some kind) (Line level) Start nodes h.2)
-      (whole_join (comma_whole comma) (whole_join (suffix_whole suffix h.3) (broken_whole style level kind comma ss h.4))))
+      (whole_join (items_whole (inside c) level (Some kind) (Line level) Start nodes h.2)
+      (whole_join (comma_whole comma) (whole_join (suffix_whole suffix h.3) (broken_whole (following c) level kind comma ss h.4))))
 
-  flat_whole : (style : Style) (level : ℕ) (kind : GroupKind) (first : Bool) (ss : Segs) → AreLegibleSegs kind ss → AreWhole (flat_segs style level kind first ss)
-  flat_whole style level kind first no_segs h = whole refl
-  flat_whole style level kind true (seg before nodes suffix ss) h =
-      whole_join (items_whole style level (Some kind) Closed Start nodes h.2) (flat_whole style level kind false ss h.4)
-  flat_whole style level kind false (seg before nodes suffix ss) h =
-      whole_more Closed Operator (codes ",") comma_text (whole_join (items_whole style level (Some kind) Space Start nodes h.2) (flat_whole style level kind false ss h.4))
+  flat_whole : (c : Choice) (level : ℕ) (kind : GroupKind) (first : Bool) (ss : Segs) → AreLegibleSegs kind ss → AreWhole (flat_by c level kind first ss)
+  flat_whole c level kind first no_segs h = whole refl
+  flat_whole c level kind true (seg before nodes suffix ss) h =
+      whole_join (items_whole (inside c) level (Some kind) Closed Start nodes h.2) (flat_whole (following c) level kind false ss h.4)
+  flat_whole c level kind false (seg before nodes suffix ss) h =
+      whole_more Closed Operator (codes ",") comma_text (whole_join (items_whole (inside c) level (Some kind) Space Start nodes h.2) (flat_whole (following c) level kind false ss h.4))
 
 newline_whole : AreWhole (piece Closed Newline (codes "\n") ∷ [])
 newline_whole = whole refl
 
-pub line_whole : (s : Statement) → IsLegible s → AreWhole (statement_line s)
-line_whole s h =
-    whole_join (items_whole Broken 0 None Closed Start (items_of s.nodes) h.nodes) (whole_join (suffix_whole s.suffix h.suffix) newline_whole)
+pub line_whole : (c : Choice) (s : Statement) → IsLegible s → AreWhole (line_by c s)
+line_whole c s h =
+    whole_join (items_whole c 0 None Closed Start (items_of s.nodes) h.nodes) (whole_join (suffix_whole s.suffix h.suffix) newline_whole)
 
-pub layout_whole : (s : Statement) → IsLegible s → AreWhole (layout s)
-layout_whole s h = whole_join (lines_whole s.before h.before) (either_way AreWhole (is_comment_class s.class) [] (statement_line s) (whole refl) (line_whole s h))
+pub whole_by : (c : Choice) (s : Statement) → IsLegible s → AreWhole (statement_by c s)
+whole_by c s h = whole_join (lines_whole s.before h.before) (either_way AreWhole (is_comment_class s.class) [] (line_by c s) (whole refl) (line_whole c s h))

@@ -16,17 +16,20 @@ use Rattle.bz_tree.specs.Statement.{is_aside}
 use Rattle.bz_tree.specs.Tree.{Statement, items_of}
 use Rattle.bz_layout.specs.declared.spacing.Edge.TheVariants.{Start}
 use Rattle.bz_layout.specs.declared.spacing.Gap.TheVariants.{Closed}
-use Rattle.bz_layout.specs.declared.broken.Style.TheVariants.{Broken}
-use Rattle.bz_layout.specs.Pieces.{Piece, piece, gap_bytes, comment_lines, suffix_piece}
-use Rattle.bz_layout.specs.Layout.{items_pieces, statement_line, is_comment, layout, layout_text}
+use Rattle.bz_layout.specs.Pieces.{Piece, piece, bytes_of, gap_bytes, comment_lines, suffix_piece}
+use Rattle.bz_layout.specs.Layout.{is_comment, layout, layout_text}
+use Rattle.bz_layout_laws.specs.FreeLayout.{Choice, own, items_by, statement_by, text_by, Stand}
 use Rattle.bz_layout_laws.specs.Legible.{IsLegible, depth_of}
 use Rattle.bz_layout_laws.specs.Lexemes.{is_on, lexemes_from, token_lexemes, lexemes_of}
 use Rattle.bz_layout_laws.specs.ReadPieces.{read_pieces, piece_lexemes}
 use Rattle.bz_layout_laws.proofs.Pieces.{layout_lexemes}
-use Rattle.bz_layout_laws.proofs.Texts.{layout_whole}
-use Rattle.bz_layout_laws.proofs.Beside.{is_beside, AllBeside, layout_beside}
-use Rattle.bz_layout_laws.proofs.Fitting.{layout_fits}
-use Rattle.bz_layout_laws.proofs.Ended.{read_bytes, layout_ended}
+use Rattle.bz_layout_laws.proofs.OwnLayout.{line_by, statement_own}
+use Rattle.bz_layout_laws.proofs.FreeLexemes.{lexemes_by, HaveShapes}
+use Rattle.bz_layout_laws.proofs.FreePieces.{statement_pieces}
+use Rattle.bz_layout_laws.proofs.Texts.{whole_by}
+use Rattle.bz_layout_laws.proofs.Beside.{is_beside, AllBeside, layout_beside, beside_by}
+use Rattle.bz_layout_laws.proofs.Fitting.{fits_by}
+use Rattle.bz_layout_laws.proofs.Ended.{read_bytes, ended_by}
 
 -- where the piece before ends, if it is a token
 abbrev ended_on : Bool → ℕ → Option ℕ
@@ -75,32 +78,51 @@ comments_end [] = refl
 comments_end (text ∷ []) = refl
 comments_end (text ∷ next ∷ texts) = comments_end (next ∷ texts)
 
-line_ends : (s : Statement) → ends_line (statement_line s) ≡ true
-line_ends s =
+line_by_ends : (c : Choice) (s : Statement) → ends_line (line_by c s) ≡ true
+line_by_ends c s =
     let newline : List Piece = piece Closed Newline (codes "\n") ∷ [] in
-    ends_after (items_pieces Broken 0 None Closed Start (items_of s.nodes)) (suffix_piece s.suffix ++ newline) (ends_after (suffix_piece s.suffix) newline refl)
+    ends_after (items_by c 0 None Closed Start (items_of s.nodes)) (suffix_piece s.suffix ++ newline) (ends_after (suffix_piece s.suffix) newline refl)
+
+ends_by : (c : Choice) (s : Statement) → ends_in_line (read_pieces (statement_by c s)) ≡ true
+ends_by c s = by (is_comment s.class)
+  where
+    by : (b : Bool) → ends_in_line (read_pieces (comment_lines s.before ++ (if b then [] else line_by c s))) ≡ true
+    by true = ap (λ ps. ends_in_line (read_pieces ps)) (append-nil (comment_lines s.before)) ∙ comments_end s.before
+    by false = ends_read (comment_lines s.before ++ line_by c s) (ends_after (comment_lines s.before) (line_by c s) (line_by_ends c s))
 
 pub layout_ends : (s : Statement) → ends_in_line (read_pieces (layout s)) ≡ true
-layout_ends s = by (is_comment s.class)
-  where
-    by : (b : Bool) → ends_in_line (read_pieces (comment_lines s.before ++ (if b then [] else statement_line s))) ≡ true
-    by true = ap (λ ps. ends_in_line (read_pieces ps)) (append-nil (comment_lines s.before)) ∙ comments_end s.before
-    by false = ends_read (comment_lines s.before ++ statement_line s) (ends_after (comment_lines s.before) (statement_line s) (line_ends s))
+layout_ends s = ap (λ ps. ends_in_line (read_pieces ps)) (sym (statement_own s)) ∙ ends_by own s
 
 -- the three tests
+pub read_by : (depth : ℕ) (c : Choice) (s : Statement) (rest : List ℕ) → IsLegible s → depth_of s ≤ depth
+    → (are_texts (read_pieces (statement_by c s)) ≡ true) × (are_ended (read_pieces (statement_by c s)) rest ≡ true) × (are_fitting depth [] (read_pieces (statement_by c s)) ≡ true) × (open_after [] (read_pieces (statement_by c s)) ≡ [])
+read_by depth c s rest h room =
+    let fits = fits_by depth c s h room in
+    ((whole_by c s h).texts, (ended_by c s rest h).ended, fits.fitting, fits.leaves)
+
 pub layout_read : (depth : ℕ) (s : Statement) (rest : List ℕ) → IsLegible s → depth_of s ≤ depth
     → (are_texts (read_pieces (layout s)) ≡ true) × (are_ended (read_pieces (layout s)) rest ≡ true) × (are_fitting depth [] (read_pieces (layout s)) ≡ true) × (open_after [] (read_pieces (layout s)) ≡ [])
 layout_read depth s rest h room =
-    let fits = layout_fits depth s h room in
-    ((layout_whole s h).texts, (layout_ended s rest h).ended, fits.fitting, fits.leaves)
+    subst (λ ps. (are_texts (read_pieces ps) ≡ true) × (are_ended (read_pieces ps) rest ≡ true) × (are_fitting depth [] (read_pieces ps) ≡ true) × (open_after [] (read_pieces ps) ≡ [])) (statement_own s) (read_by depth own s rest h room)
 
 abbrev pub tokens_back : ℕ → Statement → List Placed
 tokens_back first s = tokens_of first [] [] (read_pieces (layout s))
 
+-- in a free layout
+abbrev pub tokens_by : ℕ → Choice → Statement → List Placed
+tokens_by first c s = tokens_of first [] [] (read_pieces (statement_by c s))
+
+pub lines_by : (first depth : ℕ) (c : Choice) (s : Statement) → IsLegible s → depth_of s ≤ depth → AreLinesOf first depth (text_by c s) (tokens_by first c s)
+lines_by first depth c s h room =
+    let tests = read_by depth c s [] h room in
+    subst (λ bytes. AreLinesOf first depth bytes (tokens_by first c s)) (read_bytes (statement_by c s)) (laid_lines first depth (read_pieces (statement_by c s)) tests.0 tests.1 tests.2 tests.3 (ends_by c s))
+
+pub lexemes_back : (first : ℕ) (c : Choice) (s : Statement) → IsLegible s → Stand c (items_of s.nodes) → HaveShapes (items_of s.nodes) → token_lexemes (tokens_by first c s) ≡ lexemes_by c s
+lexemes_back first c s h stands shapes = pieces_read first [] [] false (statement_by c s) (beside_by c s h) ∙ statement_pieces c s stands shapes
+
+-- of the layout
 pub read_lines : (first depth : ℕ) (s : Statement) → IsLegible s → depth_of s ≤ depth → AreLinesOf first depth (layout_text s) (tokens_back first s)
-read_lines first depth s h room =
-    let tests = layout_read depth s [] h room in
-    subst (λ bytes. AreLinesOf first depth bytes (tokens_back first s)) (read_bytes (layout s)) (laid_lines first depth (read_pieces (layout s)) tests.0 tests.1 tests.2 tests.3 (layout_ends s))
+read_lines first depth s h room = subst (λ ps. AreLinesOf first depth (bytes_of ps) (tokens_of first [] [] (read_pieces ps))) (statement_own s) (lines_by first depth own s h room)
 
 back_lexemes : (first : ℕ) (s : Statement) → IsLegible s → token_lexemes (tokens_back first s) ≡ lexemes_of s
 back_lexemes first s h = pieces_read first [] [] false (layout s) (layout_beside s h) ∙ layout_lexemes s
@@ -115,3 +137,8 @@ pub layout_tokens_only : (first depth : ℕ) (s : Statement) (tokens : List Plac
 layout_tokens_only first depth s tokens h room are =
     ap token_lexemes (one_tokens first depth (layout_text s) tokens (tokens_back first s) are (lines_are_tokens first depth (layout_text s) (tokens_back first s) (read_lines first depth s h room)))
     ∙ back_lexemes first s h
+
+pub tokens_by_only : (first depth : ℕ) (c : Choice) (s : Statement) (tokens : List Placed) → IsLegible s → depth_of s ≤ depth → Stand c (items_of s.nodes) → HaveShapes (items_of s.nodes) → AreTokensOf first depth (text_by c s) tokens → token_lexemes tokens ≡ lexemes_by c s
+tokens_by_only first depth c s tokens h room stands shapes are =
+    ap token_lexemes (one_tokens first depth (text_by c s) tokens (tokens_by first c s) are (lines_are_tokens first depth (text_by c s) (tokens_by first c s) (lines_by first depth c s h room)))
+    ∙ lexemes_back first c s h stands shapes

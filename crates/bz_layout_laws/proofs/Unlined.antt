@@ -18,15 +18,16 @@ use Rattle.bz_tree.specs.Statement.{is_aside}
 use Rattle.bz_tree.specs.Tree.{Statement, items_of}
 use Rattle.bz_layout.specs.declared.spacing.Edge.TheVariants.{Start}
 use Rattle.bz_layout.specs.declared.spacing.Gap.TheVariants.{Closed}
-use Rattle.bz_layout.specs.declared.broken.Style.TheVariants.{Broken}
 use Rattle.bz_layout.specs.Pieces.{Piece}
-use Rattle.bz_layout.specs.Layout.{items_pieces, is_comment}
+use Rattle.bz_layout.specs.Layout.{is_comment}
+use Rattle.bz_layout_laws.specs.FreeLayout.{Choice, items_by, Stand}
 use Rattle.bz_layout_laws.specs.Inside.{without_newlines}
 use Rattle.bz_layout_laws.specs.Legible.{IsLegible}
-use Rattle.bz_layout_laws.specs.Lexemes.{Lexeme, lexeme, end_after, is_on, lexemes_from, token_lexemes, suffix_lexemes, items_lexemes, comment_line_lexemes, line_lexemes, lexemes_of}
+use Rattle.bz_layout_laws.specs.Lexemes.{Lexeme, lexeme, end_after, is_on, lexemes_from, token_lexemes, suffix_lexemes, comment_line_lexemes}
 use Rattle.bz_layout_laws.specs.ReadPieces.{piece_lexemes, read_pieces}
 use Rattle.bz_layout_laws.proofs.NoLines.{items_no_line}
-use Rattle.bz_layout_laws.proofs.Pieces.{items_pieces_are}
+use Rattle.bz_layout_laws.proofs.FreeLexemes.{items_lexemes_by, line_lexemes_by, lexemes_by, HaveShapes}
+use Rattle.bz_layout_laws.proofs.FreePieces.{items_written}
 use Rattle.bz_layout_laws.proofs.Taken.{no_tokens}
 use Rattle.bz_token.specs.Common.{is_filled}
 
@@ -89,14 +90,15 @@ no_newline (l ∷ ls) rest aside none h =
     let parts = or_parts (is_line l.kind) (list_any (λ l. is_line l.kind) ls) none in
     ap (λ b. (if b then aside || not (is_filled (ls ++ rest)) else true) && newlines_end (is_aside l.kind) (ls ++ rest)) parts.0 ∙ no_newline ls rest (is_aside l.kind) parts.1 h
 
-any_line : (ps : List Piece) → list_any (λ l. is_line l.kind) (piece_lexemes ps) ≡ list_any is_newline_piece (read_pieces ps)
+pub any_line : (ps : List Piece) → list_any (λ l. is_line l.kind) (piece_lexemes ps) ≡ list_any is_newline_piece (read_pieces ps)
 any_line [] = refl
 any_line (p ∷ ps) = ap (λ b. is_line p.kind || b) (any_line ps)
 
-nodes_none : (s : Statement) → IsLegible s → list_any (λ l. is_line l.kind) (items_lexemes (items_of s.nodes)) ≡ false
-nodes_none s h =
-    let ps = items_pieces Broken 0 None Closed Start (items_of s.nodes) in
-    ap (list_any (λ l. is_line l.kind)) (sym (items_pieces_are 0 None Closed Start (items_of s.nodes) refl)) ∙ any_line ps ∙ (items_no_line Broken 0 None Closed Start (items_of s.nodes) h.nodes).none
+-- among the nodes stands none
+pub nodes_none : (c : Choice) (s : Statement) → IsLegible s → Stand c (items_of s.nodes) → HaveShapes (items_of s.nodes) → list_any (λ l. is_line l.kind) (items_lexemes_by c (items_of s.nodes)) ≡ false
+nodes_none c s h stands shapes =
+    let ps = items_by c 0 None Closed Start (items_of s.nodes) in
+    ap (list_any (λ l. is_line l.kind)) (sym (items_written c 0 None Closed Start (items_of s.nodes) refl stands shapes)) ∙ any_line ps ∙ (items_no_line c 0 None Closed Start (items_of s.nodes) h.nodes).none
 
 newline_last : (suffix : Option (List ℕ)) (aside : Bool) → newlines_end aside (suffix_lexemes suffix ++ lexeme Newline (codes "\n") ∷ []) ≡ true
 newline_last None true = refl
@@ -107,12 +109,12 @@ above_end : (texts : List (List ℕ)) (rest : List Lexeme) (aside : Bool) → ((
 above_end [] rest aside h = h aside
 above_end (text ∷ texts) rest aside h = above_end texts rest true h
 
-whole_end : (s : Statement) → IsLegible s → newlines_end false (lexemes_of s) ≡ true
-whole_end s h = above_end s.before (if is_comment s.class then [] else line_lexemes s) false (λ a. by (is_comment s.class) a)
+whole_end : (c : Choice) (s : Statement) → IsLegible s → Stand c (items_of s.nodes) → HaveShapes (items_of s.nodes) → newlines_end false (lexemes_by c s) ≡ true
+whole_end c s h stands shapes = above_end s.before (if is_comment s.class then [] else line_lexemes_by c s) false (λ a. by (is_comment s.class) a)
   where
-    by : (b a : Bool) → newlines_end a (if b then [] else line_lexemes s) ≡ true
+    by : (b a : Bool) → newlines_end a (if b then [] else line_lexemes_by c s) ≡ true
     by true a = refl
-    by false a = no_newline (items_lexemes (items_of s.nodes)) (suffix_lexemes s.suffix ++ lexeme Newline (codes "\n") ∷ []) a (nodes_none s h) (newline_last s.suffix)
+    by false a = no_newline (items_lexemes_by c (items_of s.nodes)) (suffix_lexemes s.suffix ++ lexeme Newline (codes "\n") ∷ []) a (nodes_none c s h stands shapes) (newline_last s.suffix)
 
-pub lines_out : (s : Statement) (tokens : List Placed) → IsLegible s → token_lexemes tokens ≡ lexemes_of s → lexemes_from None (without_lines tokens) ≡ without_newlines (lexemes_of s)
-lines_out s tokens h e = unlined false None tokens (λ f. absurd (false≢true f)) (ap (newlines_end false) e ∙ whole_end s h) ∙ ap without_newlines e
+pub lines_out : (c : Choice) (s : Statement) (tokens : List Placed) → IsLegible s → Stand c (items_of s.nodes) → HaveShapes (items_of s.nodes) → token_lexemes tokens ≡ lexemes_by c s → lexemes_from None (without_lines tokens) ≡ without_newlines (lexemes_by c s)
+lines_out c s tokens h stands shapes e = unlined false None tokens (λ f. absurd (false≢true f)) (ap (newlines_end false) e ∙ whole_end c s h stands shapes) ∙ ap without_newlines e

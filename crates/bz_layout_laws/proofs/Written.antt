@@ -13,6 +13,7 @@ use Rattle.bz_tree_laws.specs.Written.{own_lines, suffix_entry, written_entries}
 use Rattle.bz_layout.specs.Broken.{count, have_comments, breaks_by_count, is_broken, segs_hold}
 use Rattle.bz_layout.specs.Layout.{opening, closing, has_commas}
 use Rattle.bz_layout_laws.specs.Lexemes.{Lexeme, lexeme, comment_lexemes, suffix_lexemes, comma_lexemes, item_lexemes, items_lexemes, ended_lexemes, separated_lexemes}
+use Rattle.bz_layout_laws.proofs.FreeLexemes.{last_comma}
 use Rattle.bz_layout_laws.proofs.Texts.{both}
 use Rattle.bz_layout_laws.specs.Inside.{entry_lexemes, entries_lexemes, has_last_comma, HasShape}
 use Rattle.bz_token.specs.Common.{is_filled}
@@ -80,11 +81,11 @@ ended_false (seg before nodes suffix no_segs) end h =
     spread before nodes suffix y = simp append_assoc
 
 -- on one line
-no_comments : (before : List (List ℕ)) → is_filled before ≡ false → comment_lexemes before ≡ []
+pub no_comments : (before : List (List ℕ)) → is_filled before ≡ false → comment_lexemes before ≡ []
 no_comments [] h = refl
 no_comments (text ∷ texts) h = absurd (false≢true (sym h))
 
-no_suffix : (suffix : Option (List ℕ)) → is_some suffix ≡ false → suffix_lexemes suffix ≡ []
+pub no_suffix : (suffix : Option (List ℕ)) → is_some suffix ≡ false → suffix_lexemes suffix ≡ []
 no_suffix None h = refl
 no_suffix (Some text) h = absurd (false≢true (sym h))
 
@@ -119,7 +120,7 @@ separated_are (seg before nodes suffix (seg b n s ss)) false none some =
     spread x y z = simp append_assoc
 
 -- where no comma is written after a segment, there is one at most
-few : (kind : GroupKind) (one_comma : Bool) (ss : Segs) → HasShape kind ss one_comma → has_commas kind one_comma (count ss) ≡ false → nat_le (count ss) 1 ≡ true
+pub few : (kind : GroupKind) (one_comma : Bool) (ss : Segs) → HasShape kind ss one_comma → has_commas kind one_comma (count ss) ≡ false → nat_le (count ss) 1 ≡ true
 few ListComp one_comma ss h none = h.one refl
 few DictComp one_comma ss h none = h.one refl
 few Index one_comma ss h none = h.one refl
@@ -133,7 +134,7 @@ ended_are : (kind : GroupKind) (one_comma : Bool) (ss : Segs) (end : List (List 
 ended_are kind one_comma ss end h true e = ended_true ss end
 ended_are kind one_comma ss end h false e = ended_false ss end (few kind one_comma ss h e)
 
-no_end : (end : List (List ℕ)) → is_filled end ≡ false → end ≡ []
+pub no_end : (end : List (List ℕ)) → is_filled end ≡ false → end ≡ []
 no_end [] h = refl
 no_end (text ∷ texts) h = absurd (false≢true (sym h))
 
@@ -166,32 +167,36 @@ and_false : (x y : Bool) → y ≡ false → (x && y) ≡ false
 and_false true y h = h
 and_false false y h = refl
 
-paren_comma : (ss : Segs) (end : List (List ℕ)) → count ss ≡ 1 → (is_paren Paren && (length (segments ss) == 1) && (has_last_comma Paren ss true end && is_filled (segments ss))) ≡ true
-paren_comma ss end e = both (length (segments ss) == 1) (has_last_comma Paren ss true end && is_filled (segments ss)) (ap (λ n. n == 1) (segments_count ss ∙ e)) (both (has_last_comma Paren ss true end) (is_filled (segments ss)) (last (is_broken Paren ss end (segs_hold ss))) (some_filled ss e))
+paren_comma : (b : Bool) (ss : Segs) → count ss ≡ 1 → (is_paren Paren && (length (segments ss) == 1) && (last_comma b Paren ss true && is_filled (segments ss))) ≡ true
+paren_comma b ss e = both (length (segments ss) == 1) (last_comma b Paren ss true && is_filled (segments ss)) (ap (λ n. n == 1) (segments_count ss ∙ e)) (both (last_comma b Paren ss true) (is_filled (segments ss)) (last b) (some_filled ss e))
   where
-    last : (b : Bool) → (if b then has_commas Paren true (count ss) else true) ≡ true
+    last : (b : Bool) → last_comma b Paren ss true ≡ true
     last true = refl
     last false = refl
 
-paren_plain : (ss : Segs) (end : List (List ℕ)) → (is_paren Paren && (length (segments ss) == 1) && (has_last_comma Paren ss false end && is_filled (segments ss))) ≡ false
-paren_plain ss end = elim (cases_Bool (length (segments ss) == 1)) [
+paren_plain : (b : Bool) (ss : Segs) → (is_paren Paren && (length (segments ss) == 1) && (last_comma b Paren ss false && is_filled (segments ss))) ≡ false
+paren_plain b ss = elim (cases_Bool (length (segments ss) == 1)) [
   | inr miss ↦ rw miss refl
   | inl hit ↦
       let e : count ss ≡ 1 = sym (segments_count ss) ∙ eqb-true (length (segments ss)) 1 hit in
-      and_false (length (segments ss) == 1) (has_last_comma Paren ss false end && is_filled (segments ss)) (front_false (has_last_comma Paren ss false end) (is_filled (segments ss)) (last e (is_broken Paren ss end (segs_hold ss))))
+      and_false (length (segments ss) == 1) (last_comma b Paren ss false && is_filled (segments ss)) (front_false (last_comma b Paren ss false) (is_filled (segments ss)) (last e b))
 ]
   where
     front_false : (x y : Bool) → x ≡ false → (x && y) ≡ false
     front_false true y h = absurd (false≢true (sym h))
     front_false false y h = refl
 
-    last : count ss ≡ 1 → (b : Bool) → (if b then has_commas Paren false (count ss) else false) ≡ false
+    last : count ss ≡ 1 → (b : Bool) → last_comma b Paren ss false ≡ false
     last e true = ap (nat_le 2) e
     last e false = refl
 
-pub comma_read : (kind : GroupKind) (segs : Segs) (one_comma : Bool) (end : List (List ℕ)) → HasShape kind segs one_comma → (is_paren kind && (length (segments segs) == 1) && (has_last_comma kind segs one_comma end && is_filled (segments segs))) ≡ one_comma
-comma_read kind segs true end h =
+-- on lines or in place
+pub comma_read_by : (b : Bool) (kind : GroupKind) (segs : Segs) (one_comma : Bool) → HasShape kind segs one_comma → (is_paren kind && (length (segments segs) == 1) && (last_comma b kind segs one_comma && is_filled (segments segs))) ≡ one_comma
+comma_read_by b kind segs true h =
     let p = h.comma refl in
-    subst (λ k. (is_paren k && (length (segments segs) == 1) && (has_last_comma k segs true end && is_filled (segments segs))) ≡ true) (sym p.0) (paren_comma segs end p.1)
-comma_read Paren segs false end h = paren_plain segs end
-comma_read _ segs false end h = refl
+    subst (λ k. (is_paren k && (length (segments segs) == 1) && (last_comma b k segs true && is_filled (segments segs))) ≡ true) (sym p.0) (paren_comma b segs p.1)
+comma_read_by b Paren segs false h = paren_plain b segs
+comma_read_by b _ segs false h = refl
+
+pub comma_read : (kind : GroupKind) (segs : Segs) (one_comma : Bool) (end : List (List ℕ)) → HasShape kind segs one_comma → (is_paren kind && (length (segments segs) == 1) && (has_last_comma kind segs one_comma end && is_filled (segments segs))) ≡ one_comma
+comma_read kind segs one_comma end h = comma_read_by (is_broken kind segs end (segs_hold segs)) kind segs one_comma h

@@ -1,5 +1,6 @@
 pub mod Lineless
 pub mod Lexemes
+pub mod FreeLayout
 pub mod FileText
 pub mod FileRead
 pub mod ReadBack

@@ -5,6 +5,7 @@ pub mod blocks;
 pub mod brackets;
 pub mod chunks;
 pub mod files;
+pub mod free;
 pub mod lines;
 pub mod spelling;
 pub mod tokens;

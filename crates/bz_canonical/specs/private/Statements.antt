@@ -34,7 +34,7 @@ pub record HasGroupPlace (depth : ℕ) (attr : List ℕ) (segs : Segs) (end : Li
   pub front : text ≡ before ++ place.from
   pub lines : place.from ≡ argument_lines (alone attr (segments segs)) ++ place.to
   pub ends : place.to ≡ after ++ rest
-  pub reads : AreReadAlone (suc depth) (alone attr (segments segs))
+  pub reads : AreReadAlone (suc depth) (argument_lines (alone attr (segments segs))) (alone attr (segments segs))
   pub takes : (f : List Segment → List Segment) → IsLocal attr f → is_empty (f (alone attr (segments segs))) ≡ false
       → bytes_of (item_pieces Broken 0 Closed (group RuleCall (segs_of (f (segments segs))) false end)) ≡ before ++ (argument_lines (f (alone attr (segments segs))) ++ after)
 
@@ -45,7 +45,7 @@ pub record HasNodesPlace (depth : ℕ) (attr : List ℕ) (nodes : List Item) (te
   pub front : text ≡ before ++ place.from
   pub lines : place.from ≡ argument_lines (alone attr (rule_args (rule_of nodes))) ++ place.to
   pub ends : place.to ≡ after ++ rest
-  pub reads : AreReadAlone depth (alone attr (rule_args (rule_of nodes)))
+  pub reads : AreReadAlone depth (argument_lines (alone attr (rule_args (rule_of nodes)))) (alone attr (rule_args (rule_of nodes)))
   pub takes : (f : List Segment → List Segment) → IsLocal attr f → is_empty (f (alone attr (rule_args (rule_of nodes)))) ≡ false
       → bytes_of (items_pieces Broken 0 None Closed Start (items_of (nodes_after f nodes (rule_of nodes)))) ≡ before ++ (argument_lines (f (alone attr (rule_args (rule_of nodes)))) ++ after)
 

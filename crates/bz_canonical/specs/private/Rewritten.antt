@@ -1,0 +1,266 @@
+-- Lists of strings, and rules with such lists, that stand otherwise than they are written, for private clauses.
+use Rattle.std.specs.Prelude.{◌≡◌, ◌≤◌, ◌-◌, ◌==◌, ◌&&◌, ◌||◌, not, ℕ, List, [], ◌∷◌, ◌++◌, codes, length, map, flat_map, take, drop, bytes_eq, Bool, true, false, if◌then◌else◌, Option, None, Some, IfSome, is_some, nat_le}
+use Rattle.std.specs.List.{list_any}
+use Rattle.bz_token.specs.Common.{is_filled}
+use Rattle.bz_token.specs.Lexical.{is_text}
+use Rattle.bz_token.specs.declared.token.Kind.TheVariants.{Identifier, String}
+use Rattle.bz_tree.specs.Comments.{beside}
+use Rattle.bz_tree.specs.declared.stmt.Class.TheVariants.{Rule as RuleClass}
+use Rattle.bz_tree.specs.declared.stmt.GroupKind.TheVariants.{List as ListKind, RuleCall}
+use Rattle.bz_tree.specs.Tree.{Item, leaf, group, no_items, item, Segs, no_segs, seg, Segment, Statement, items_of, segs_of}
+use Rattle.bz_layout.specs.Broken.{have_comments}
+use Rattle.bz_layout.specs.Layout.{item_pieces, layout_text}
+use Rattle.bz_layout.specs.Pieces.{bytes_of, comment_lines, comments, indent, suffix_piece}
+use Rattle.bz_layout.specs.Respell.{is_plain, respell}
+use Rattle.bz_layout.specs.declared.broken.Style.TheVariants.{Broken}
+use Rattle.bz_layout.specs.declared.spacing.Gap.TheVariants.{Closed}
+use Rattle.bz_layout_laws.specs.FreeLayout.{Choice, own, free, Stand, item_by, broken_by, items_spelled_by, spelled_by, text_by}
+use Rattle.bz_layout_laws.specs.Legible.{AreComments, segs_depth}
+use Rattle.bz_layout_laws.specs.Parsed.{SegsHaveKinds, have_for}
+use Rattle.bz_layout_laws.specs.TextsOfKinds.{SegsHaveTexts}
+use Rattle.bz_layout_laws.specs.WellFormed.{IsWellFormed}
+use Rattle.bz_attribute.specs.Effects.{has}
+use Rattle.bz_attribute.specs.RowPlaces.{IsLocal}
+use Rattle.bz_attribute.specs.Rules.{first_named, is_named, rule_of}
+use Rattle.bz_canonical.specs.Canonical.{Between, HasArgumentName, HasName, HasPlace, argument_lines, rule_args}
+use Rattle.bz_canonical.specs.declared.put_arguments.PutPlace.{PutPlace}
+use Rattle.bz_canonical.specs.private.Arguments.{alone}
+use Rattle.bz_canonical.specs.private.Fronts.{IsQuotedFront}
+use Rattle.bz_canonical.specs.private.Segments.{AreOf}
+
+-- a byte that stands for itself in a string, in double quotes too
+abbrev pub is_plain_inside : ℕ → Bool
+is_plain_inside b = is_plain b && not (b == 10)
+
+-- a string in single quotes that double quotes would leave as it is
+pub record IsSingleFront (text inner rest : List ℕ) : Type 0 where
+  pub front : text ≡ (39 ∷ (inner ++ 39 ∷ [])) ++ rest
+  pub is : is_text String (39 ∷ (inner ++ 39 ∷ [])) ≡ true
+  pub spells : respell String (39 ∷ (inner ++ 39 ∷ [])) ≡ 34 ∷ (inner ++ 34 ∷ [])
+
+-- a string, and what is written of it
+pub record IsStringRead (text rest written : List ℕ) : Type 0 where
+  pub token : List ℕ
+  pub is : is_text String token ≡ true
+  pub front : text ≡ token ++ rest
+  pub spells : written ≡ respell String token
+
+-- in double quotes, where it stands in single quotes
+abbrev pub spelling : Bool → List ℕ → List ℕ
+spelling single body = if single then 34 ∷ (body ++ 34 ∷ []) else body
+
+-- an element: a string, with the comments above it and beside it
+pub record Element : Type 0 where
+  pub before : List (List ℕ)
+  pub token : List ℕ
+  pub suffix : Option (List ℕ)
+
+abbrev pub is_noted : Element → Bool
+is_noted e = is_filled e.before || is_some e.suffix
+
+abbrev pub AreElements : List Element → Type 0
+AreElements [] = Unit {0}
+AreElements (e ∷ es) = AreComments e.before × (is_text String e.token ≡ true) × AreComments (beside e.suffix) × AreElements es
+
+-- the lines of an element in a list that is the value of an argument
+abbrev pub element_line : (List ℕ → List ℕ) → Element → List ℕ
+element_line spell e = bytes_of (comments 2 e.before) ++ (10 ∷ (indent 2 ++ (spell e.token ++ (44 ∷ bytes_of (suffix_piece e.suffix)))))
+
+abbrev pub element_lines : (List ℕ → List ℕ) → List Element → List ℕ
+element_lines spell es = flat_map (element_line spell) es
+
+abbrev pub as_is : List ℕ → List ℕ
+as_is text = text
+
+-- those after the first, in place
+abbrev pub others_in_place : List Element → List ℕ
+others_in_place es = flat_map (λ e. 44 ∷ 32 ∷ e.token) es
+
+pub record IsElementRead (text rest written : List ℕ) (noted : Bool) : Type 0 where
+  pub element : Element
+  pub are : AreElements (element ∷ [])
+  pub front : text ≡ element_line as_is element ++ rest
+  pub spells : written ≡ element_line (respell String) element
+  pub noted_is : is_noted element ≡ noted
+
+-- some elements on lines; `broken`: the list that has no others stands on lines
+pub record AreLinesRead (text rest written : List ℕ) (one broken : Bool) : Type 0 where
+  pub elements : List Element
+  pub are : AreElements elements
+  pub front : text ≡ element_lines as_is elements ++ rest
+  pub spells : written ≡ element_lines (respell String) elements
+  pub one_is : one ≡ nat_le 1 (length elements)
+  pub broken_is : broken ≡ (list_any is_noted elements || nat_le 2 (length elements))
+
+-- some elements in place, none of which has a comment
+pub record AreInPlaceRead (text rest written : List ℕ) (two : Bool) : Type 0 where
+  pub first : Element
+  pub others : List Element
+  pub are : AreElements (first ∷ others)
+  pub bare : list_any is_noted (first ∷ others) ≡ false
+  pub front : text ≡ first.token ++ (others_in_place others ++ rest)
+  pub spells : written ≡ element_lines (respell String) (first ∷ others)
+  pub two_is : two ≡ nat_le 2 (length (first ∷ others))
+
+-- the list of these elements
+abbrev pub element_segs : List Element → Segs
+element_segs [] = no_segs
+element_segs (e ∷ es) = seg e.before (item (leaf String e.token) no_items) e.suffix (element_segs es)
+
+abbrev pub element_list : List Element → Item
+element_list es = group ListKind (element_segs es) false []
+
+-- each string as it is
+abbrev pub elements_as_is : List Element → Choice
+elements_as_is [] = own
+elements_as_is (e ∷ es) = free true (free true (free true own own) own) (elements_as_is es)
+
+-- a list, and what is written of it
+pub record IsListRead (text rest written : List ℕ) : Type 0 where
+  pub elements : List Element
+  pub are : AreElements elements
+  pub breaks : Bool
+  pub stands : breaks ≡ false → have_comments (element_segs elements) ≡ false
+  pub front : text ≡ bytes_of (item_by (free breaks (elements_as_is elements) own) 1 Closed (element_list elements)) ++ rest
+  pub spells : written ≡ bytes_of (item_pieces Broken 1 Closed (element_list elements))
+
+-- what well-formed statements ask of segments
+pub record AreFormed (depth : ℕ) (segs : Segs) : Type 0 where
+  pub texts : SegsHaveTexts segs
+  pub kinds : SegsHaveKinds false segs
+  pub grammar : AreOf RuleCall segs
+  pub no_for : have_for segs ≡ false
+  pub depth_fits : segs_depth segs ≤ depth
+
+-- an argument, and how it stands
+pub record Placed : Type 0 where
+  pub arg : Segment
+  pub choice : Choice
+
+-- how it stands on lines of its own
+abbrev pub placed_lines : Placed → List ℕ
+placed_lines p = bytes_of (broken_by (free true p.choice own) 1 RuleCall true (segs_of (p.arg ∷ [])))
+
+-- its strings are as they stand
+pub record IsPlaced (depth : ℕ) (p : Placed) : Type 0 where
+  pub formed : AreFormed depth (segs_of (p.arg ∷ []))
+  pub stand : Stand p.choice (items_of p.arg.nodes)
+  pub spelled : items_spelled_by p.choice (items_of p.arg.nodes) ≡ items_of p.arg.nodes
+
+-- an argument, and what is written of it
+pub record IsArgumentRead (depth : ℕ) (attr text rest written : List ℕ) (named : Bool) : Type 0 where
+  pub placed : Placed
+  pub is : IsPlaced depth placed
+  pub front : text ≡ placed_lines placed ++ rest
+  pub spells : written ≡ argument_lines (placed.arg ∷ [])
+  pub named_is : is_named attr placed.arg ≡ named
+
+abbrev pub ArePlaced : ℕ → List Placed → Type 0
+ArePlaced depth [] = Unit {0}
+ArePlaced depth (p ∷ ps) = IsPlaced depth p × ArePlaced depth ps
+
+abbrev pub args_of : List Placed → List Segment
+args_of ps = map (λ p. p.arg) ps
+
+-- arguments of other names, and what is written of them
+pub record AreOthersRead (depth : ℕ) (attr text rest written : List ℕ) (one : Bool) : Type 0 where
+  pub placed : List Placed
+  pub are : ArePlaced depth placed
+  pub front : text ≡ flat_map placed_lines placed ++ rest
+  pub spells : written ≡ argument_lines (args_of placed)
+  pub others : has attr (args_of placed) ≡ false
+  pub one_is : one ≡ nat_le 1 (length placed)
+
+-- the argument of the name after them, if there is one, and what is written up to its end
+abbrev pub IsNamedRead : ℕ → List ℕ → List ℕ → List ℕ → List ℕ → Option (List ℕ) → Type 0
+IsNamedRead depth attr text before all None = all ≡ before
+IsNamedRead depth attr text before all (Some rest) = (w : List ℕ) × (all ≡ before ++ w) × IsArgumentRead depth attr text rest w true
+
+-- where an argument stands in a text, and in what is written
+pub record PutEnds : Type 0 where
+  pub from : List ℕ
+  pub to : List ℕ
+  pub start : ℕ
+  pub end : ℕ
+
+abbrev pub put_ends : PutPlace → PutEnds
+put_ends place = record { from = place.lines.from.now; to = place.lines.to.now; start = place.start; end = place.end }
+
+-- The first argument of a name among others, where `begun` is written before them; or none has it, and the place is after all.
+pub record HasPut (depth : ℕ) (attr begun text : List ℕ) (placed : List Placed) (place : PutEnds) : Type 0 where
+  pub before : List Placed
+  pub one : List Placed
+  pub after : List Placed
+  pub all : placed ≡ before ++ (one ++ after)
+  pub are : ArePlaced depth one
+  pub splits : (f : List Segment → List Segment) → IsLocal attr f → f (args_of placed) ≡ args_of before ++ (f (args_of one) ++ args_of after)
+  pub alone_is : alone attr (args_of placed) ≡ args_of one
+  pub front : text ≡ flat_map placed_lines before ++ place.from
+  pub lines : place.from ≡ flat_map placed_lines one ++ place.to
+  pub start : place.start ≡ length (begun ++ argument_lines (args_of before))
+  pub end : place.end ≡ length ((begun ++ argument_lines (args_of before)) ++ argument_lines (args_of one))
+
+-- all arguments
+pub record AreArgumentsRead (depth : ℕ) (attr text rest begun written : List ℕ) (one : Bool) (place : PutEnds) : Type 0 where
+  pub placed : List Placed
+  pub are : ArePlaced depth placed
+  pub front : text ≡ flat_map placed_lines placed ++ rest
+  pub spells : written ≡ argument_lines (args_of placed)
+  pub one_is : one ≡ nat_le 1 (length placed)
+  pub has : HasPut depth attr begun text placed place
+
+-- the name of an argument and its equals sign, with the comments above it
+pub record IsHeadRead (attr text value : List ℕ) (named : Bool) : Type 0 where
+  pub notes : List (List ℕ)
+  pub are : AreComments notes
+  pub word : List ℕ
+  pub is : is_text Identifier word ≡ true
+  pub front : text ≡ bytes_of (comments 1 notes) ++ (10 ∷ (indent 1 ++ (word ++ (codes " = " ++ value))))
+  pub named_is : bytes_eq attr word ≡ named
+
+-- the comments above a rule, its kind and its name
+pub record IsRuleHead (text name rest : List ℕ) : Type 0 where
+  pub notes : List (List ℕ)
+  pub are : AreComments notes
+  pub kind : List ℕ
+  pub kind_is : is_text Identifier kind ≡ true
+  pub name_is : IsQuotedFront (34 ∷ (name ++ 34 ∷ (44 ∷ rest))) name (44 ∷ rest)
+  pub front : text ≡ bytes_of (comment_lines notes) ++ (kind ++ (40 ∷ 10 ∷ (indent 1 ++ (codes "name" ++ (codes " = " ++ (34 ∷ (name ++ 34 ∷ (44 ∷ rest))))))))
+
+-- the bracket that closes a rule, the comment beside it and the newline
+pub record IsRuleEnd (text rest : List ℕ) : Type 0 where
+  pub note : Option (List ℕ)
+  pub is : AreComments (beside note)
+  pub front : text ≡ 10 ∷ 41 ∷ (bytes_of (suffix_piece note) ++ 10 ∷ rest)
+
+-- the place of an argument
+pub record HasPutPlace (depth : ℕ) (attr : List ℕ) (s : Statement) (text written : List ℕ) (place : PutEnds) : Type 0 where
+  pub between : Between
+  pub above : List ℕ
+  pub front : text ≡ above ++ place.from
+  pub lines : place.from ≡ between.lines ++ place.to
+  pub before : take place.start written ≡ between.before
+  pub after : drop place.end written ≡ between.after
+  pub has : HasPlace depth attr s between
+
+-- a rule of this name, and what is written of it
+pub record IsRuleRead (depth : ℕ) (attr name text rest written : List ℕ) (place : Option PutEnds) : Type 0 where
+  pub s : Statement
+  pub choice : Choice
+  pub well : IsWellFormed depth s
+  pub stand : Stand choice (items_of s.nodes)
+  pub spelled : spelled_by choice s ≡ s
+  pub class_is : s.class ≡ RuleClass
+  pub named : HasName (Some name) s
+  pub front : text ≡ text_by choice s ++ rest
+  pub spells : written ≡ layout_text s
+  pub absent : (attr : List ℕ) → (HasArgumentName attr (layout_text s) → ⊥) → first_named attr (rule_args (rule_of s.nodes)) ≡ None
+  pub has : IfSome place (HasPutPlace depth attr s text written)
+
+-- its lines as they are cut from the text, and what is cut from what is written
+abbrev pub IsPutPlaceIn : List ℕ → List ℕ → Option PutEnds → Option Between → Type 0
+IsPutPlaceIn text written ends None = Unit {0}
+IsPutPlaceIn text written None (Some place) = ⊥
+IsPutPlaceIn text written (Some ends) (Some place) =
+    (place.lines ≡ drop (length (take (length text - length ends.from) text)) (take (length text - length ends.to) text))
+    × (place.before ≡ take ends.start written) × (place.after ≡ drop ends.end written)
