@@ -43,10 +43,10 @@ pub record ChangesArgs (command : Command) (home : Package) (args : List Segment
 abbrev pub AddsArgument : Command → List ℕ → Type 0
 AddsArgument command lines = (home : Package) → ChangesArgs command home [] lines
 
--- what the command makes of the arguments that have these lines, and are read of them alone
+-- what the command makes of the arguments that are read of these lines alone
 abbrev pub EditsLines : ℕ → Command → Package → List ℕ → EditedArgument → Type 0
-EditsLines depth command home lines Unchanged = (args : List Segment) → lines ≡ argument_lines args → AreReadAlone depth args → args_done command home args ≡ told_line false None
-EditsLines depth command home lines (Lines new) = (args : List Segment) → lines ≡ argument_lines args → AreReadAlone depth args → ChangesArgs command home args new.now
+EditsLines depth command home lines Unchanged = (args : List Segment) → is_empty lines ≡ is_empty args → AreReadAlone depth lines args → args_done command home args ≡ told_line false None
+EditsLines depth command home lines (Lines new) = (args : List Segment) → is_empty lines ≡ is_empty args → AreReadAlone depth lines args → ChangesArgs command home args new.now
 
 -- what stands in the small rule, where this was told
 abbrev pub AreLinesAfter : Done → Option Statement → EditedArgument → Type 0
