@@ -1,5 +1,5 @@
 -- What a command that looks at one argument alone makes of its lines, and so of the rule.
-use Rattle.std.proofs.Common.{◌≡◌, ℕ, ◌-◌, true, false, List, [], ◌∷◌, ◌++◌, length, take, drop, refl, sym, ◌∙◌, ap, subst, arith}
+use Rattle.std.proofs.Common.{◌≡◌, ℕ, ◌-◌, true, false, List, [], ◌∷◌, ◌++◌, length, take, drop, refl, sym, ◌∙◌, ap, subst, arith, append_assoc}
 use Rattle.std.proofs.Math.Seq.{take-append_seam}
 use Rattle.std.proofs.lemmas.List.{length-append}
 use Rattle.std.specs.Prelude.{codes, option_to_list, Option, None, Some, Result, Ok, Err, IfOk, IfSome}
@@ -8,23 +8,24 @@ use Rattle.bz_tree.specs.Tree.{Segment, Statement}
 use Rattle.bz_layout.specs.Layout.{layout_text}
 use Rattle.bz_command.specs.declared.arguments.Setting.TheVariants.{ToValues}
 use Rattle.bz_command.specs.Labels.{Package}
+use Rattle.bz_command.specs.Values.{quoted}
 use Rattle.bz_attribute.specs.declared.done.Done.{Done}
 use Rattle.bz_attribute.specs.Effects.{slot_done, with_args, done}
 use Rattle.bz_attribute.specs.RowPlaces.{LooksAt}
 use Rattle.bz_attribute.specs.Rules.{Rule, first_named, rule_of}
 use Rattle.bz_attribute_commands.specs.Argument.{new_argument}
 use Rattle.bz_canonical.specs.Canonical.{AreReadAlone, Between, HasName, HasPlace, argument_lines, first_args, rule_args, small_text}
-use Rattle.bz_canonical.proofs.SmallRules.{no_lines, small_after, small_told}
-use Rattle.bz_rule.specs.declared.command.Action.TheVariants.{Set, SetIfAbsent}
+use Rattle.bz_canonical.proofs.SmallRules.{small_after, small_told}
+use Rattle.bz_rule.specs.declared.command.Action.TheVariants.{Add, Set, SetIfAbsent}
 use Rattle.bz_rule.specs.Commands.{Command, after, args_after, args_done, done_of}
 use Rattle.bz_rule.specs.OneAttribute.{one_attribute}
 use Rattle.bz_rule.proofs.Commands.{local}
 use Rattle.bz_engine.specs.declared.argument.EditedArgument.{EditedArgument}
 use Rattle.bz_engine.specs.declared.argument.EditedArgument.TheVariants.{Unchanged, Lines}
-use Rattle.bz_engine.specs.private.ArgumentEdits.{AddsArgument, AreLinesAfter, ChangesArgs, EditsLines, Setting, set_by}
+use Rattle.bz_engine.specs.private.ArgumentEdits.{AddsArgument, AreLinesAfter, ChangesArgs, EditsLines, Setting, list_argument, set_by}
 use Rattle.bz_engine.specs.private.Found.{Makes, told_line}
 use Rattle.bz_engine.proofs.OnlyPass.{named_rule}
-use Rattle.bz_engine.proofs.TextAnswers.{none_has, nothing, stays_by}
+use Rattle.bz_engine.proofs.TextAnswers.{no_args, none_has, stays_by}
 use Rattle.bz_token.specs.Common.{is_empty, map_or}
 
 -- what is set where none has the name
@@ -43,9 +44,20 @@ adds_argument command new lines is lines_are = λ home.
     let made = set_alone command new is home in
     record { told = made.0; some = ap is_empty made.1; lines_are = lines_are ∙ ap argument_lines (sym made.1) }
 
+-- what is added where none has the name
+pub adds_list : (attr value lines : List ℕ) → lines ≡ argument_lines (list_argument attr value ∷ []) → AddsArgument (Add attr (value ∷ [])) lines
+adds_list attr value lines lines_are = λ home. record { told = refl; some = refl; lines_are = lines_are }
+
+list_line : (attr value : List ℕ) → argument_lines (list_argument attr value ∷ []) ≡ codes "\n    " ++ (attr ++ (codes " = [" ++ (quoted value ++ codes "],")))
+list_line attr value = refl
+
+pub list_put : (old a b c d new attr value A Q : List ℕ) → a ≡ old ++ codes "\n    " → b ≡ a ++ A → A ≡ attr → c ≡ b ++ codes " = [" → d ≡ c ++ Q → Q ≡ quoted value → new ≡ d ++ codes "],"
+    → new ≡ old ++ argument_lines (list_argument attr value ∷ [])
+list_put old a b c d new attr value A Q ha hb hA hc hd hQ hn = rw (hn, hd, hQ, hc, hb, hA, ha, list_line attr value) (simp append_assoc)
+
 pub adds_to_none : (depth : ℕ) (command : Command) (home : Package) (lines : List ℕ) (new : List ℕ) → length lines ≡ 0 → AddsArgument command new
-    → (args : List Segment) → lines ≡ argument_lines args → AreReadAlone depth args → ChangesArgs command home args new
-adds_to_none depth command home lines new none adds args lines_are reads = subst (λ xs. ChangesArgs command home xs new) (sym (no_lines args (sym lines_are ∙ nothing lines none))) (adds home)
+    → (args : List Segment) → is_empty lines ≡ is_empty args → AreReadAlone depth lines args → ChangesArgs command home args new
+adds_to_none depth command home lines new none adds args empty reads = subst (λ xs. ChangesArgs command home xs new) (sym (no_args lines args empty none)) (adds home)
 
 -- of the small rule, which was read of the lines
 not_nil : (xs : List Segment) (lines : List ℕ) → (lines ≡ [] → ⊥) → lines ≡ argument_lines xs → is_empty xs ≡ false
@@ -57,19 +69,19 @@ edits_alone : (depth : ℕ) (command : Command) (attr : List ℕ) (home : Packag
     → (edited : EditedArgument) → AreLinesAfter told slot edited → EditsLines depth command home lines edited
 edits_alone depth command attr home lines text one text_is first t read told told_is slot slot_is edited known = by edited known
   where
-    read_of : (args : List Segment) → lines ≡ argument_lines args → IsStatementIn first depth (small_text (argument_lines args)) t
-    read_of args lines_are = subst (λ bytes. IsStatementIn first depth bytes t) (text_is ∙ ap small_text lines_are) read
+    read_lines : IsStatementIn first depth (small_text lines) t
+    read_lines = subst (λ bytes. IsStatementIn first depth bytes t) text_is read
 
-    done_is : (args : List Segment) → lines ≡ argument_lines args → AreReadAlone depth args → args_done command home args ≡ told
-    done_is args lines_are reads = let law = local command home attr one in sym (told_is ∙ law.done t ∙ small_told (args_done command home) args t (reads first t (read_of args lines_are)))
+    done_is : (args : List Segment) → AreReadAlone depth lines args → args_done command home args ≡ told
+    done_is args reads = let law = local command home attr one in sym (told_is ∙ law.done t ∙ small_told (args_done command home) args t (reads first t read_lines))
 
     by : (edited : EditedArgument) → AreLinesAfter told slot edited → EditsLines depth command home lines edited
-    by Unchanged known = λ args lines_are reads. done_is args lines_are reads ∙ known
-    by (Lines new) known = λ args lines_are reads.
+    by Unchanged known = λ args empty reads. done_is args reads ∙ known
+    by (Lines new) known = λ args empty reads.
         let law = local command home attr one in
         let new_is : new.now ≡ argument_lines (args_after command home args) =
-        known.2 (with_args (args_after command home) t) (args_after command home args) (slot_is ∙ law.slot t) (small_after (args_after command home) args t (reads first t (read_of args lines_are))) in
-        record { told = done_is args lines_are reads ∙ known.0; some = not_nil (args_after command home args) new.now known.1 new_is; lines_are = new_is }
+        known.2 (with_args (args_after command home) t) (args_after command home args) (slot_is ∙ law.slot t) (small_after (args_after command home) args t (reads first t read_lines)) in
+        record { told = done_is args reads ∙ known.0; some = not_nil (args_after command home args) new.now known.1 new_is; lines_are = new_is }
 
 pub edited_alone : {E : Type 0} (depth : ℕ) (command : Command) (attr : List ℕ) (home : Package) (lines text : List ℕ) → one_attribute command ≡ Some attr → text ≡ small_text lines → (first : ℕ) (t : Statement)
     → IsStatementIn first depth text t → (told : Done) → told ≡ done_of command home (Some t) → (slot : Option Statement) → slot ≡ after command home (Some t)
@@ -103,14 +115,14 @@ args_told command attr name home s one named =
 
 pub argument_stays : (depth : ℕ) (command : Command) (attr name : List ℕ) (home : Package) (s : Statement) (place : Between) → one_attribute command ≡ Some attr → HasName (Some name) s → HasPlace depth attr s place
     → EditsLines depth command home place.lines Unchanged → Makes command home s s (told_line false None)
-argument_stays depth command attr name home s place one named has stays = stays_by command home s (args_told command attr name home s one named ∙ stays (first_args attr s) has.lines has.reads)
+argument_stays depth command attr name home s place one named has stays = stays_by command home s (args_told command attr name home s one named ∙ stays (first_args attr s) has.none has.reads)
 
 pub argument_changes : (depth : ℕ) (command : Command) (attr name : List ℕ) (home : Package) (s : Statement) (place : Between) (lines : List ℕ) → one_attribute command ≡ Some attr → HasName (Some name) s → HasPlace depth attr s place
-    → ((args : List Segment) → place.lines ≡ argument_lines args → AreReadAlone depth args → ChangesArgs command home args lines)
+    → ((args : List Segment) → is_empty place.lines ≡ is_empty args → AreReadAlone depth place.lines args → ChangesArgs command home args lines)
     → Makes command home s (with_args (args_after command home) s) (told_line true None) × (layout_text (with_args (args_after command home) s) ≡ place.before ++ (lines ++ place.after))
 argument_changes depth command attr name home s place lines one named has changes =
     let law = local command home attr one in
-    let made = changes (first_args attr s) has.lines has.reads in (
+    let made = changes (first_args attr s) has.none has.reads in (
       record { after_is = law.slot s; done = args_told command attr name home s one named ∙ made.told },
       has.takes (args_after command home) law.args made.some ∙ ap (λ (t : List ℕ). place.before ++ (t ++ place.after)) (sym made.lines_are),
     )

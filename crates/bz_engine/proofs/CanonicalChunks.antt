@@ -1,11 +1,11 @@
--- A canonical chunk of a statement that the script passes by is the next chunk, and is done.
+-- A chunk of which it is known what would be written is the next chunk.
 use Rattle.std.proofs.Common.{◌≡◌, ℕ, true, ◌≤◌, ◌+◌, List, [], ◌∷◌, ◌++◌, length, take, append-nil, refl, sym, ◌∙◌, ap, subst, arith, bytes_eq, rules, Bor, false}
 use Rattle.std.proofs.Math.Seq.{take-append_seam}
 use Rattle.std.proofs.lemmas.Bool.{false≢true}
 use Rattle.std.proofs.lemmas.List.{length-append}
 use Rattle.std.proofs.lemmas.List.Sums.{count_by-le-length}
 use Rattle.std.proofs.lemmas.Slice.Eq.{bytes_eq-Decides}
-use Rattle.std.specs.Prelude.{Option, None, Some, option_map, ◌==◌}
+use Rattle.std.specs.Prelude.{Option, None, Some, IfSome, option_map, ◌==◌}
 use Rattle.std.specs.Str.{IsUtf8}
 use Rattle.bz_token.specs.Places.{line_at}
 use Rattle.bz_tree.specs.Chunk.{IsStatementIn}
@@ -20,12 +20,13 @@ use Rattle.bz_engine.specs.Outcome.{Run}
 use Rattle.bz_engine.specs.Progress.{Progress}
 use Rattle.bz_engine.specs.declared.canonical.Found.{Found}
 use Rattle.bz_engine.specs.declared.edit.Edited.TheVariants.{Done}
+use Rattle.bz_engine.specs.declared.next_chunk.NextChunk.{NextChunk}
 use Rattle.bz_engine.specs.declared.edit.Scripted.TheVariants.{Done as Laid}
 use Rattle.bz_engine.specs.private.Edits.{EditsChunk, IsEdited, IsLaidOut}
 use Rattle.bz_engine.specs.private.Found.{IsFound}
-use Rattle.bz_engine.specs.private.NextChunks.{IsFirstEdited}
+use Rattle.bz_engine.specs.private.NextChunks.{IsFirstEdited, IsKnownEdited}
 use Rattle.bz_engine.specs.private.Rows.{HasKey}
-use Rattle.bz_engine.proofs.ChunkEdits.{scripted_edited}
+use Rattle.bz_engine.proofs.ChunkEdits.{line_passed, scripted_edited}
 use Rattle.bz_engine.proofs.FirstChunks.{IsTakenOf, first_is_next, chunk_is}
 use Rattle.bz_attribute.specs.Marks.{marks_rule}
 use Rattle.bz_token.specs.Common.{map_or}
@@ -70,49 +71,59 @@ few_lines : (line : ℕ) (chunk : List ℕ) → line_at line chunk ≤ line + le
 few_lines line chunk = omega (arith, count_by-le-length (λ b. b == 10) chunk)
 
 -- the statement that is read of the chunk, laid out
-found_laid : (run : Run) (found : Found) (text : List ℕ) (old mid : Progress) (before after : List ℕ)
+known_laid : (run : Run) (found : Found) (text : List ℕ) (old new : Progress) (before after : List ℕ) (next : NextChunk)
     → (c : IsCanonical run.max_depth found.attr.now found.chunk.class (option_map (λ name. name.now) found.chunk.name) (option_map between found.chunk.place) found.chunk.chunk.now found.chunk.written.now text)
-    → ((s : Statement) → IsFound run.max_depth found s → IsLaidOut run s old mid before after)
-    → IsLaidOut run (c.read old.line).statement old mid before after
-found_laid run found text old mid before after c laid =
+    → (known : IsKnownEdited run found old new before after next) → IsLaidOut run (c.read old.line).statement old known.mid before after
+known_laid run found text old new before after next c known =
     let read = c.read old.line in
     let s = read.statement in
-    laid s (record { class = chunk_class old.line found.chunk.chunk.now read.read.tokens s read.read.reads.chunk; class_is = read.class_is; named = read.named; written = read.written; has = read.has })
+    known.laid s (record { class = chunk_class old.line found.chunk.chunk.now read.read.tokens s read.read.reads.chunk; class_is = read.class_is; named = read.named; written = read.written; has = read.has })
 
 all_taken : (chunk rest text : List ℕ) → text ≡ chunk ++ rest → length chunk ≡ length text → chunk ≡ text
 all_taken chunk [] text is size = sym (is ∙ append-nil chunk)
 all_taken chunk (b ∷ bs) text is size = absurd (omega (arith, ap length is, length-append chunk (b ∷ bs), size))
 
--- it is the whole text
-pub whole_edited : (run : Run) (found : Found) (text : List ℕ) (old mid new : Progress) (before after : List ℕ)
-    → IsUtf8 text → length found.chunk.chunk.now ≡ length text
+-- the chunk is the whole text
+pub whole_edited : (run : Run) (found : Found) (text : List ℕ) (old new : Progress) (before after : List ℕ) (next : NextChunk) → length found.chunk.chunk.now ≡ length text
     → IsCanonical run.max_depth found.attr.now found.chunk.class (option_map (λ name. name.now) found.chunk.name) (option_map between found.chunk.place) found.chunk.chunk.now found.chunk.written.now text
-    → ((s : Statement) → IsFound run.max_depth found s → IsLaidOut run s old mid before after)
-    → new ≡ record mid { line = line_at mid.line text }
-    → EditsChunk run text old new before after Done
-whole_edited run found text old mid new before after utf8 size c laid is = λ cs statements kept.
+    → IsKnownEdited run found old new before after next → EditsChunk run text old new before after Done × (new.line ≤ old.line + length text)
+whole_edited run found text old new before after next size c known =
+    let chunk : List ℕ = found.chunk.chunk.now in
+    let whole : chunk ≡ text = all_taken chunk c.rest text c.front size in
     let read = c.read old.line in
     let s = read.statement in
-    scripted_edited run cs statements text s old mid new before after Laid kept
-    (utf8, subst (λ bytes. IsStatementIn old.line run.max_depth bytes s) (all_taken found.chunk.chunk.now c.rest text c.front size) read.read)
-    (found_laid run found text old mid before after c laid) is
+    let done : IsLaidOut run s old known.mid before after = known_laid run found text old new before after next c known in
+    let at : new.line ≡ line_at old.line chunk = ap (λ (p : Progress). p.line) known.passed ∙ ap (λ n. line_at n chunk) done.line in (
+      λ cs statements kept. scripted_edited run cs statements text s old known.mid new before after Laid kept
+          (subst IsUtf8 whole known.utf8, subst (λ bytes. IsStatementIn old.line run.max_depth bytes s) whole read.read) done (known.passed ∙ ap (λ bytes. line_passed bytes known.mid) whole),
+      omega (arith, at, few_lines old.line chunk, size),
+    )
 
-pub canonical_edited : (run : Run) (most : ℕ) (ahead : Ahead) (found : Found) (text : List ℕ) (old mid new : Progress) (before after : List ℕ)
-    → IsFewAfter ahead → IsTakenOf text ahead.bytes → IsUtf8 found.chunk.chunk.now → length found.chunk.chunk.now ≤ most
+canonical_edited : (run : Run) (most : ℕ) (ahead : Ahead) (found : Found) (text : List ℕ) (old new : Progress) (before after : List ℕ) (next : NextChunk)
+    → IsFewAfter ahead → IsTakenOf text ahead.bytes → length found.chunk.chunk.now ≤ most
     → IsCanonical run.max_depth found.attr.now found.chunk.class (option_map (λ name. name.now) found.chunk.name) (option_map between found.chunk.place) found.chunk.chunk.now found.chunk.written.now text
-    → ((s : Statement) → IsFound run.max_depth found s → IsLaidOut run s old mid before after)
-    → new ≡ record mid { line = line_at mid.line found.chunk.chunk.now }
-    → IsFirstEdited run most ahead old new before after (record { len = length found.chunk.chunk.now; edited = Done })
-canonical_edited run most ahead found text old mid new before after few outer utf8 size c laid is =
+    → IsKnownEdited run found old new before after next → IsFirstEdited run most ahead old new before after next
+canonical_edited run most ahead found text old new before after next few outer size c known =
     let chunk : List ℕ = found.chunk.chunk.now in
+    let mid : Progress = known.mid in
     let within : length chunk ≤ length text = front_size chunk c.rest text c.front in
     let front : chunk ≡ take (length chunk) text = front_taken chunk c.rest text c.front in
     let read = c.read old.line in
     let s = read.statement in
-    let done : IsLaidOut run s old mid before after = found_laid run found text old mid before after c laid in
-    record {
+    let done : IsLaidOut run s old mid before after = known_laid run found text old new before after next c known in
+    subst (IsFirstEdited run most ahead old new before after) (sym known.next_is) (record {
       chunk = first_is_next most ahead chunk text few outer c.some within front size c.ends;
-      lines = subst (λ n. n ≤ old.line + length chunk) (sym (ap (λ (p : Progress). p.line) is ∙ ap (λ n. line_at n chunk) done.line)) (few_lines old.line chunk);
+      lines = subst (λ n. n ≤ old.line + length chunk) (sym (ap (λ (p : Progress). p.line) known.passed ∙ ap (λ n. line_at n chunk) done.line)) (few_lines old.line chunk);
       edited = λ cs statements kept. subst (λ bytes. IsEdited run cs statements bytes old new before after Done) (chunk_is chunk text ahead.bytes outer within front)
-          (scripted_edited run cs statements chunk s old mid new before after Laid kept (utf8, read.read) done is);
-    }
+          (scripted_edited run cs statements chunk s old mid new before after Laid kept (known.utf8, read.read) done known.passed);
+    })
+
+-- where a buffer is taken before it, and given back after it
+pub known_edited : (run : Run) (most : ℕ) (ahead : Ahead) (found : Found) (text : List ℕ) (start old mid new : Progress) (before after : List ℕ) (next : Option NextChunk)
+    → IsFewAfter ahead → IsTakenOf text ahead.bytes → length found.chunk.chunk.now ≤ most
+    → IsCanonical run.max_depth found.attr.now found.chunk.class (option_map (λ name. name.now) found.chunk.name) (option_map between found.chunk.place) found.chunk.chunk.now found.chunk.written.now text
+    → old ≡ start → new ≡ mid → IfSome next (IsKnownEdited run found old mid before after) → IfSome next (IsFirstEdited run most ahead start new before after)
+known_edited run most ahead found text start old mid new before after None few outer size c first last known = tt
+known_edited run most ahead found text start old mid new before after (Some next) few outer size c first last known =
+    subst (λ (p : Progress). IsFirstEdited run most ahead p new before after next) first
+    (subst (λ (p : Progress). IsFirstEdited run most ahead old p before after next) (sym last) (canonical_edited run most ahead found text old mid before after next few outer size c known))

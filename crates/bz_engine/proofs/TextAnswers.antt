@@ -1,5 +1,5 @@
 -- What the one command of a script makes of a rule, by the rule's name and text.
-use Rattle.std.proofs.Common.{◌≡◌, ℕ, ◌+◌, ◌<◌, Bool, true, false, ◌||◌, not, List, [], ◌∷◌, ◌++◌, length, get_or, refl, sym, ◌∙◌, ap, subst, arith, append_assoc}
+use Rattle.std.proofs.Common.{◌≡◌, ℕ, Bool, true, false, ◌||◌, List, [], ◌∷◌, length, refl, sym, ◌∙◌, ap, arith}
 use Rattle.std.specs.Prelude.{Option, None, Some, if◌then◌else◌, option_to_list}
 use Rattle.std.proofs.lemmas.Bool.{false≢true}
 use Rattle.bz_tree.specs.Tree.{Segment, Statement}
@@ -10,15 +10,16 @@ use Rattle.bz_attribute.specs.Effects.{done, has}
 use Rattle.bz_attribute.specs.Rules.{Rule, first_named, is_named, rule_of}
 use Rattle.bz_canonical.specs.Canonical.{Between, HasPlace, first_args, rule_args}
 use Rattle.bz_rule.specs.declared.command.Action.TheVariants.{Remove, Replace}
-use Rattle.bz_canonical.proofs.SmallRules.{no_lines}
-use Rattle.bz_rule.specs.Commands.{Command, after, args_after, args_done, done_of}
+use Rattle.bz_rule.specs.Commands.{Command, args_done, done_of}
 use Rattle.bz_rule.proofs.Commands.{lawful}
 use Rattle.bz_engine.specs.private.Found.{IsWithout, Makes, looked_at, told_line}
-use Rattle.bz_token.specs.Common.{map_or}
+use Rattle.bz_token.specs.Common.{is_empty, map_or}
 
-pub nothing : (xs : List ℕ) → length xs ≡ 0 → xs ≡ []
-nothing [] is = refl
-nothing (x ∷ xs) is = absurd (omega (arith, is))
+-- there are no lines, so there are no arguments
+pub no_args : (lines : List ℕ) (args : List Segment) → is_empty lines ≡ is_empty args → length lines ≡ 0 → args ≡ []
+no_args lines [] empty none = refl
+no_args [] (a ∷ args) empty none = absurd (false≢true (sym empty))
+no_args (b ∷ lines) (a ∷ args) empty none = absurd (omega (arith, none))
 
 -- an argument that has no lines
 no_first : (o : Option Segment) → option_to_list o ≡ [] → o ≡ None
@@ -26,7 +27,7 @@ no_first None none = refl
 no_first (Some a) none = absurd cc
 
 pub no_argument : (depth : ℕ) (attr : List ℕ) (s : Statement) (place : Between) → HasPlace depth attr s place → length place.lines ≡ 0 → IsWithout attr s
-no_argument depth attr s place has none = no_first (first_named attr (rule_args (rule_of s.nodes))) (no_lines (first_args attr s) (sym has.lines ∙ nothing place.lines none))
+no_argument depth attr s place has none = no_first (first_named attr (rule_args (rule_of s.nodes))) (no_args place.lines (first_args attr s) has.none none)
 
 -- a command that looks at an argument that is not there
 quiet : (done_is : Option Rule → Done) (o : Option Rule) → done_is None ≡ told_line false None → ((r : Rule) → o ≡ Some r → done_is (Some r) ≡ told_line false None) → done_is o ≡ told_line false None

@@ -1,16 +1,17 @@
 //! What a command makes of the lines of an argument, by a small rule that has this argument alone.
 
-ghost use Rattle.std.specs.Prelude.{◌≡◌, ◌++◌, ℕ, List, [], codes, string_bytes, IfOk, IfSome, IsTrue, OnOk, Some};
-ghost use Rattle.bz_canonical.specs.Canonical.{small_text};
+ghost use Rattle.std.specs.Prelude.{◌≡◌, ◌++◌, ◌∷◌, ℕ, List, [], codes, string_bytes, IfOk, IfSome, IsTrue, OnOk, Some};
+ghost use Rattle.bz_canonical.specs.Canonical.{argument_lines, small_text};
 ghost use Rattle.bz_rule.specs.OneAttribute.{one_attribute};
-ghost use Rattle.bz_engine.specs.private.ArgumentEdits.{AddsArgument, AreLinesAfter, EditsLines, new_of, set_by};
+ghost use Rattle.bz_rule.specs.declared.command.Action.TheVariants.{Add};
+ghost use Rattle.bz_engine.specs.private.ArgumentEdits.{AddsArgument, AreLinesAfter, EditsLines, list_argument, new_of, set_by};
 
 use crate::edit::ScriptRun;
 use crate::spare::Spare;
 use bz_attribute::Env;
 use bz_attribute_commands::argument::put_argument;
-use bz_command::Setting;
-use bz_memory::{NoMemory, push_str};
+use bz_command::{Setting, quote};
+use bz_memory::{NoMemory, extend_from_slice, push_str};
 use bz_rule::{Action, Command, Done, StatementRow, Text, execute};
 use bz_tree::read_text;
 use std::alloc::Global;
@@ -28,6 +29,13 @@ pub(crate) enum EditedArgument<'s> {
 struct NewArgument<'c> {
     attr: &'c str,
     values: &'c [Text],
+}
+
+/// A value that `add` adds.
+#[derive(Clone, Copy)]
+struct AddedValue<'c> {
+    attr: &'c str,
+    value: &'c str,
 }
 
 // The small rule before its argument and after it: the comment keeps the rule on lines.
@@ -70,11 +78,53 @@ fn is_comment(command: &Command) -> bool {
 fn put_new(alloc: Global, command: &Command, lines: &mut Vec<u8>) -> Result<bool, NoMemory>
     ensures { IfOk result (λ put. IsTrue put → AddsArgument command.now lines.new.items) }
 {
+    let Some(new) = added_by(command) else {
+        return put_set(alloc, command, lines);
+    };
+    lines.clear();
+    put_list(alloc, new, lines)?;
+    Ok(true)
+}
+
+/// The same of `set`.
+fn put_set(alloc: Global, command: &Command, lines: &mut Vec<u8>) -> Result<bool, NoMemory>
+    ensures { IfOk result (λ put. IsTrue put → AddsArgument command.now lines.new.items) }
+{
     let Some(new) = set_by(command) else {
         return Ok(false);
     };
     lines.clear();
     put_argument(alloc, new.attr, new.values, lines)
+}
+
+/// Writes an argument whose value is a list of one string.
+fn put_list(alloc: Global, new: AddedValue<'_>, out: &mut Vec<u8>) -> Result<(), NoMemory>
+    ensures { OnOk result
+        (out.new.items ≡ out.old.items ++ argument_lines (list_argument new.entry.attr.now new.entry.value.now ∷ [])) }
+{
+    let value = quote(alloc, new.value)?;
+    extend_from_slice(out, b"\n    ")?;
+    extend_from_slice(out, new.attr.as_bytes())?;
+    extend_from_slice(out, b" = [")?;
+    extend_from_slice(out, value.as_bytes())?;
+    extend_from_slice(out, b"],")?;
+    Ok(())
+}
+
+/// The one value that the command adds.
+fn added_by(command: &Command) -> Option<AddedValue<'_>>
+    ensures { IfSome result (λ new. command.now ≡ Add new.attr.now (new.value.now ∷ [])) }
+{
+    let Action::Add(attr, values) = &command.action else {
+        return None;
+    };
+    let [value] = values.as_slice() else {
+        return None;
+    };
+    Some(AddedValue {
+        attr: attr.as_str(),
+        value: value.as_str(),
+    })
 }
 
 /// The argument that the command adds to a rule that has none of its name.

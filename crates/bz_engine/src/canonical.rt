@@ -1,5 +1,5 @@
-//! Chunks that stand as they would be written, of statements that the script leaves as they are: they are copied, and not
-//! read.
+//! Chunks of which it is known what would be written without reading them, of statements that the script leaves as they
+//! are, or of which it edits one argument: they are copied.
 
 ghost use Rattle.std.specs.Prelude.{◌≡◌, ◌+◌, ◌<◌, ◌≤◌, ◌^◌, ◌++◌, if◌then◌else◌, [], ◌∷◌, Some, true, length, option_map, IfOk, OnOk, IfSome, IfNone, IsFalse, IsTrue};
 ghost use Rattle.bz_tree.specs.Statement.{class_of};
@@ -15,7 +15,7 @@ ghost use Rattle.bz_engine.specs.Progress.{text_following};
 ghost use Rattle.bz_engine.specs.declared.edit.Edited.TheVariants.{Done};
 ghost use Rattle.bz_engine.specs.private.Edits.{EditsChunk, IsLaidOut, run_of};
 ghost use Rattle.bz_engine.specs.private.Found.{IsFound, IsMarked, one_pass};
-ghost use Rattle.bz_engine.specs.private.NextChunks.{IsFirstEdited};
+ghost use Rattle.bz_engine.specs.private.NextChunks.{IsFirstEdited, IsKnownEdited};
 ghost use Rattle.bz_engine.specs.private.Rows.{HasKey};
 
 use crate::answer::{asked_attribute, is_answerable, marks_name, unchanged_by_text};
@@ -26,7 +26,7 @@ use crate::progress::Progress;
 use crate::rule_passes::OnePass;
 use crate::rules::Rules;
 use bz_attribute::Env;
-use bz_canonical::{ArgumentPlace, CanonicalChunk, canonical};
+use bz_canonical::{ArgumentPlace, CanonicalChunk, canonical, rewritten};
 use bz_devices::ahead::Ahead;
 use bz_layout::put_gap;
 use bz_memory::{NoMemory, extend_from_slice};
@@ -35,8 +35,8 @@ use bz_passes::script::passes_by;
 use bz_rule::{Command, one_attribute};
 use bz_tree::Class;
 
-/// The script on the first chunk of the text ahead, where the chunk stands as it would be written and what the script
-/// makes of its statement is known without it: it is copied. None, with nothing done: it is to be read.
+/// The script on the first chunk of the text ahead, where what would be written of it and what the script makes of its
+/// statement are known without it: it is copied. None, with nothing done: it is to be read.
 pub(crate) fn edit_canonical(
     script: ScriptRun<'_>,
     ahead: &Ahead,
@@ -56,23 +56,24 @@ pub(crate) fn edit_canonical(
     if !may_be_known(script) || !progress.is_worth_a_look() {
         return Ok(None);
     }
-    let Some(found) = find_canonical(script, ahead.text(), max_statement) else {
-        progress.looked_in_vain();
-        return Ok(None);
-    };
-    if !edit_found(script, found, progress, text)? {
-        progress.looked_in_vain();
-        return Ok(None);
+    let rewritten_first = progress.looks.is_rewritten();
+    let mut written = progress.take_written(script.alloc);
+    match find_canonical(script, ahead.text(), max_statement, rewritten_first, &mut written)? {
+        None => {
+            progress.give_back_written(written);
+            progress.looked_in_vain();
+            Ok(None)
+        }
+        Some(found) => {
+            let next = edit_known(script, found, progress, text)?;
+            progress.give_back_written(written);
+            Ok(next)
+        }
     }
-    progress.looked_well();
-    progress.pass_lines(found.chunk.chunk.as_bytes());
-    Ok(Some(NextChunk {
-        len: found.chunk.chunk.len(),
-        edited: Edited::Done,
-    }))
 }
 
-/// The same of a chunk that was found line by line. False, with nothing done: it is to be read.
+/// The script on a chunk that was found line by line, where the same is known of it. False, with nothing done: it is to
+/// be read.
 pub(crate) fn edit_whole(
     script: ScriptRun<'_>,
     chunk: &str,
@@ -91,14 +92,74 @@ pub(crate) fn edit_whole(
     if !may_be_known(script) {
         return Ok(false);
     }
-    let Some(found) = find_canonical(script, chunk, u64::MAX) else {
+    let mut written = progress.take_written(script.alloc);
+    let edited = edit_by_itself(script, chunk, &mut written, progress, text)?;
+    progress.give_back_written(written);
+    Ok(edited)
+}
+
+/// The same, with a buffer for what is written of the chunk.
+fn edit_by_itself(
+    script: ScriptRun<'_>,
+    chunk: &str,
+    written: &mut Vec<u8>,
+    progress: &mut Progress,
+    text: &mut Vec<u8>,
+) -> Result<bool, NoMemory>
+    requires fits { Fits progress.old.kept script.passes.now }
+    requires lines { progress.old.line + length chunk.now < 2 ^ 64 }
+    ensures fits { OnOk result (Fits progress.new.kept script.entry.passes.now) }
+    ensures lines { OnOk result (progress.new.line ≤ progress.old.line + length chunk.now) }
+    ensures done { IfOk result (λ done. IsTrue done → EditsChunk (run_of script.entry) chunk.now
+        progress.old progress.new text.old.items text.new.items Done) }
+    ensures nothing { IfOk result (λ done. IsFalse done
+        → (progress.new ≡ progress.old) × (text.new.items ≡ text.old.items)) }
+{
+    let Some(found) = find_canonical(script, chunk, u64::MAX, false, written)? else {
         return Ok(false);
     };
-    if found.chunk.chunk.len() != chunk.len() || !edit_found(script, found, progress, text)? {
+    if found.chunk.chunk.len() != chunk.len() {
         return Ok(false);
     }
-    progress.pass_lines(chunk.as_bytes());
+    let Some(_next) = edit_known(script, found, progress, text)? else {
+        return Ok(false);
+    };
     Ok(true)
+}
+
+/// The script on the statement of a chunk that was found. None, with nothing done: the chunk is to be read.
+fn edit_known(
+    script: ScriptRun<'_>,
+    found: Found<'_>,
+    progress: &mut Progress,
+    text: &mut Vec<u8>,
+) -> Result<Option<NextChunk>, NoMemory>
+    requires fits { Fits progress.old.kept script.passes.now }
+    requires lines { progress.old.line + length found.chunk.chunk.now < 2 ^ 64 }
+    ensures fits { OnOk result (Fits progress.new.kept script.entry.passes.now) }
+    ensures chunk { IfOk result (λ next. IfSome next (IsKnownEdited (run_of script.entry) found.entry
+        progress.old progress.new text.old.items text.new.items)) }
+    ensures none { IfOk result (λ next. IfNone next
+        ((progress.new ≡ progress.old) × (text.new.items ≡ text.old.items))) }
+{
+    if !edit_found(script, found, progress, text)? {
+        progress.looked_in_vain();
+        return Ok(None);
+    }
+    progress.looked_well(is_rewritten(found.chunk));
+    progress.pass_lines(found.chunk.chunk.as_bytes());
+    Ok(Some(NextChunk {
+        len: found.chunk.chunk.len(),
+        edited: Edited::Done,
+    }))
+}
+
+/// Whether a rule stands otherwise than it is written, as its length shows. A matter of speed.
+fn is_rewritten(chunk: CanonicalChunk<'_>) -> bool {
+    match chunk.class {
+        Class::Rule => chunk.chunk.len() != chunk.written.len(),
+        _ => false,
+    }
 }
 
 /// Whether what the script makes of some statements may be known without them.
@@ -112,26 +173,72 @@ fn may_be_known(script: ScriptRun<'_>) -> bool {
     }
 }
 
-/// A canonical chunk, and the attribute whose argument was looked for in it.
+/// A chunk of which it is known what would be written, and the attribute whose argument was looked for in it.
 #[derive(Clone, Copy)]
 pub(crate) struct Found<'a> {
     pub(crate) chunk: CanonicalChunk<'a>,
     pub(crate) attr: &'a str,
 }
 
-/// The canonical chunk that the text begins with, where it is not too long.
-fn find_canonical<'a>(script: ScriptRun<'a>, text: &'a str, max_statement: u64) -> Option<Found<'a>>
-    ensures canonical { IfSome result (λ found. IsCanonical script.entry.max_depth found.attr.now found.chunk.class
-        (option_map (λ name. name.now) found.chunk.name) (option_map between found.chunk.place)
-        found.chunk.chunk.now found.chunk.written.now text.now) }
-    ensures size { IfSome result (λ found. length found.chunk.chunk.now ≤ max_statement) }
+/// The chunk that the text begins with, where it is known what would be written of it, and it is not too long.
+fn find_canonical<'a>(
+    script: ScriptRun<'a>,
+    text: &'a str,
+    max_statement: u64,
+    rewritten_first: bool,
+    written: &'a mut Vec<u8>,
+) -> Result<Option<Found<'a>>, NoMemory>
+    ensures canonical { IfOk result (λ told. IfSome told (λ found. IsCanonical script.entry.max_depth found.attr.now
+        found.chunk.class (option_map (λ name. name.now) found.chunk.name) (option_map between found.chunk.place)
+        found.chunk.chunk.now found.chunk.written.now text.now)) }
+    ensures size { IfOk result (λ told. IfSome told (λ found. length found.chunk.chunk.now ≤ max_statement)) }
 {
     let attr = asked(script);
-    let chunk = canonical(text, attr, script.max_depth)?;
+    let depth = script.max_depth;
+    let told = if rewritten_first {
+        rewritten_or_as_is(text, attr, depth, written)?
+    } else {
+        as_is_or_rewritten(text, attr, depth, written)?
+    };
+    let Some(chunk) = told else {
+        return Ok(None);
+    };
     if chunk.chunk.len() as u64 > max_statement {
-        return None;
+        return Ok(None);
     }
-    Some(Found { chunk, attr })
+    Ok(Some(Found { chunk, attr }))
+}
+
+/// The chunk as it stands, where that is what would be written; or what is written of it.
+fn as_is_or_rewritten<'t>(
+    text: &'t str,
+    attr: &str,
+    max_depth: u8,
+    written: &'t mut Vec<u8>,
+) -> Result<Option<CanonicalChunk<'t>>, NoMemory>
+    ensures { IfOk result (λ told. IfSome told (λ found. IsCanonical max_depth attr.now found.class
+        (option_map (λ name. name.now) found.name) (option_map between found.place) found.chunk.now found.written.now text.now)) }
+{
+    match canonical(text, attr, max_depth) {
+        Some(chunk) => Ok(Some(chunk)),
+        None => rewritten(text, attr, max_depth, written),
+    }
+}
+
+/// The same, where a chunk is likely to stand otherwise.
+fn rewritten_or_as_is<'t>(
+    text: &'t str,
+    attr: &str,
+    max_depth: u8,
+    written: &'t mut Vec<u8>,
+) -> Result<Option<CanonicalChunk<'t>>, NoMemory>
+    ensures { IfOk result (λ told. IfSome told (λ found. IsCanonical max_depth attr.now found.class
+        (option_map (λ name. name.now) found.name) (option_map between found.place) found.chunk.now found.written.now text.now)) }
+{
+    match rewritten(text, attr, max_depth, written)? {
+        Some(chunk) => Ok(Some(chunk)),
+        None => Ok(canonical(text, attr, max_depth)),
+    }
 }
 
 /// The attribute whose argument is to be looked for. Empty: there is none.

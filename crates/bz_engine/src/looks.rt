@@ -1,4 +1,4 @@
-//! When to see whether a chunk stands as it would be written: seldom, where one after another did not.
+//! When to see whether it is known what would be written of a chunk: seldom, where of one after another it was not.
 
 // After eight looks in vain one after another, only every eighth chunk is looked at.
 const MANY: u8 = 8;
@@ -10,6 +10,8 @@ pub(crate) struct Looks {
     in_vain: u8,
     /// So many chunks come before the next look.
     before_next: u8,
+    /// The last chunk that was found stood otherwise than it is written.
+    rewritten: bool,
 }
 
 impl Looks {
@@ -18,6 +20,7 @@ impl Looks {
         Looks {
             in_vain: 0,
             before_next: 0,
+            rewritten: false,
         }
     }
 
@@ -41,7 +44,13 @@ impl Looks {
     }
 
     /// A look found such a chunk.
-    pub(crate) fn succeed(&mut self) {
+    pub(crate) fn succeed(&mut self, rewritten: bool) {
         self.in_vain = 0;
+        self.rewritten = rewritten;
+    }
+
+    /// Whether the next chunk is likely to stand otherwise than it is written, as the last one did.
+    pub(crate) fn is_rewritten(&self) -> bool {
+        self.rewritten
     }
 }

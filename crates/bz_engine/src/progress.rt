@@ -31,10 +31,12 @@ pub(crate) struct Progress {
     pub(crate) last: Option<Class>,
     /// The line on which the next chunk begins, from 1.
     pub(crate) line: u64,
-    /// When to see whether the next chunk stands as it would be written. Contracts do not see it.
+    /// When to see whether it is known what would be written of the next chunk. Contracts do not see it.
     pub(crate) looks: Looks,
     /// Contracts do not see it either.
     pub(crate) spare: Spare,
+    /// A buffer for what is written of a chunk. Contracts do not see it either.
+    pub(crate) written: Vec<u8>,
 }
 
 impl Model for Progress {
@@ -77,25 +79,38 @@ impl Progress {
         self.spare = spare;
     }
 
-    /// Whether to see if the next chunk stands as it would be written.
+    /// The buffer for what is written of a chunk, until it is given back.
+    pub(crate) fn take_written(&mut self, alloc: Global) -> Vec<u8>
+        ensures { self.new ≡ self.old }
+    {
+        mem::replace(&mut self.written, Vec::new(alloc))
+    }
+
+    pub(crate) fn give_back_written(&mut self, written: Vec<u8>)
+        ensures { self.new ≡ self.old }
+    {
+        self.written = written;
+    }
+
+    /// Whether to see if it is known what would be written of the next chunk.
     pub(crate) fn is_worth_a_look(&mut self) -> bool
         ensures { self.new ≡ self.old }
     {
         self.looks.is_due()
     }
 
-    /// A chunk did not stand so, or the script did not pass its statement by.
+    /// It was not known, or the script was to see its statement.
     pub(crate) fn looked_in_vain(&mut self)
         ensures { self.new ≡ self.old }
     {
         self.looks.fail();
     }
 
-    /// A chunk stood so, and the script passed its statement by.
-    pub(crate) fn looked_well(&mut self)
+    /// It was known, and the script did without its statement. `rewritten`: it stood otherwise than it is written.
+    pub(crate) fn looked_well(&mut self, rewritten: bool)
         ensures { self.new ≡ self.old }
     {
-        self.looks.succeed();
+        self.looks.succeed(rewritten);
     }
 }
 

@@ -115,6 +115,7 @@ impl Session {
                 line: 1,
                 looks: Looks::new(),
                 spare: Spare::new(alloc),
+                written: Vec::new(alloc),
             },
             ahead: Ahead::new(alloc),
             stage: SessionState::Going,

@@ -1,8 +1,9 @@
 -- What a command makes of the lines of an argument, for private clauses.
-use Rattle.std.specs.Prelude.{◌≡◌, ℕ, List, [], false, true, Option, None, Some}
+use Rattle.std.specs.Prelude.{◌≡◌, ℕ, List, [], ◌∷◌, false, true, Option, None, Some}
 use Rattle.bz_tree.specs.Tree.{Segment, Statement}
 use Rattle.bz_layout.specs.Layout.{layout_text}
 use Rattle.bz_attribute.specs.declared.done.Done.{Done}
+use Rattle.bz_attribute.specs.Effects.{argument, list_item, string}
 use Rattle.bz_command.specs.declared.arguments.Setting.TheVariants.{ToValues}
 use Rattle.bz_command.specs.Labels.{Package}
 use Rattle.bz_canonical.specs.Canonical.{AreReadAlone, argument_lines, small_text}
@@ -28,6 +29,10 @@ set_by _ = None
 abbrev pub new_of : NewArgument → Setting
 new_of new = record { attr = new.attr.now; words = new.values.now }
 
+-- the argument of one value that `add` adds where none has its name
+abbrev pub list_argument : List ℕ → List ℕ → Segment
+list_argument attr value = argument attr (list_item (string value ∷ []) ∷ [])
+
 -- The command changes these arguments into some that have these lines.
 pub record ChangesArgs (command : Command) (home : Package) (args : List Segment) (lines : List ℕ) : Type 0 where
   pub told : args_done command home args ≡ told_line true None
@@ -38,10 +43,10 @@ pub record ChangesArgs (command : Command) (home : Package) (args : List Segment
 abbrev pub AddsArgument : Command → List ℕ → Type 0
 AddsArgument command lines = (home : Package) → ChangesArgs command home [] lines
 
--- what the command makes of the arguments that have these lines, and are read of them alone
+-- what the command makes of the arguments that are read of these lines alone
 abbrev pub EditsLines : ℕ → Command → Package → List ℕ → EditedArgument → Type 0
-EditsLines depth command home lines Unchanged = (args : List Segment) → lines ≡ argument_lines args → AreReadAlone depth args → args_done command home args ≡ told_line false None
-EditsLines depth command home lines (Lines new) = (args : List Segment) → lines ≡ argument_lines args → AreReadAlone depth args → ChangesArgs command home args new.now
+EditsLines depth command home lines Unchanged = (args : List Segment) → is_empty lines ≡ is_empty args → AreReadAlone depth lines args → args_done command home args ≡ told_line false None
+EditsLines depth command home lines (Lines new) = (args : List Segment) → is_empty lines ≡ is_empty args → AreReadAlone depth lines args → ChangesArgs command home args new.now
 
 -- what stands in the small rule, where this was told
 abbrev pub AreLinesAfter : Done → Option Statement → EditedArgument → Type 0

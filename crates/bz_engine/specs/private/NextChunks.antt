@@ -1,12 +1,18 @@
 -- What the script on the next chunk answers, for private clauses.
 use Rattle.std.specs.Prelude.{◌≡◌, ℕ, ◌+◌, ◌*◌, ◌≤◌, List, length, take}
+use Rattle.std.specs.Str.{IsUtf8}
 use Rattle.bz_token.specs.Cuts.{IsPart}
+use Rattle.bz_token.specs.Places.{line_at}
+use Rattle.bz_tree.specs.Tree.{Statement}
 use Rattle.bz_devices.specs.Ahead.{Ahead, IsNextChunk, IsFewAfter}
 use Rattle.bz_passes.specs.Exchange.{Fits}
 use Rattle.bz_engine.specs.Outcome.{Run}
 use Rattle.bz_engine.specs.Progress.{Progress}
 use Rattle.bz_engine.specs.SessionValue.{SessionValue, run_in}
-use Rattle.bz_engine.specs.private.Edits.{EditsChunk}
+use Rattle.bz_engine.specs.declared.canonical.Found.{Found}
+use Rattle.bz_engine.specs.declared.edit.Edited.TheVariants.{Done}
+use Rattle.bz_engine.specs.private.Edits.{EditsChunk, IsLaidOut}
+use Rattle.bz_engine.specs.private.Found.{IsFound}
 use Rattle.bz_engine.specs.declared.next_chunk.NextChunk.{NextChunk}
 use Rattle.bz_engine.specs.declared.next_chunk.First.{First}
 use Rattle.bz_engine.specs.declared.next_chunk.First.TheVariants.{Edited, Short, Other}
@@ -16,6 +22,14 @@ pub record IsFirstEdited (run : Run) (max_statement : ℕ) (ahead : Ahead) (old 
   pub chunk : IsNextChunk max_statement ahead next.len
   pub lines : new.line ≤ old.line + next.len
   pub edited : EditsChunk run (take next.len ahead.bytes) old new before after next.edited
+
+-- This is what the script made of the statement of a chunk that was found.
+pub record IsKnownEdited (run : Run) (found : Found) (old new : Progress) (before after : List ℕ) (next : NextChunk) : Type 0 where
+  pub utf8 : IsUtf8 found.chunk.chunk.now
+  pub mid : Progress
+  pub laid : (s : Statement) → IsFound run.max_depth found s → IsLaidOut run s old mid before after
+  pub passed : new ≡ record mid { line = line_at mid.line found.chunk.chunk.now }
+  pub next_is : next ≡ record { len = length found.chunk.chunk.now; edited = Done }
 
 -- The script was run on the first chunk ahead; or nothing was done, and all that is ahead is a part of it; or nothing was done.
 abbrev pub IsFirst : Run → ℕ → Ahead → Progress → Progress → List ℕ → List ℕ → First → Type 0

@@ -1,19 +1,18 @@
-use Rattle.std.proofs.Common.{◌∙◌, ap, subst}
-use Rattle.std.specs.Str.{IsUtf8}
-use Rattle.bz_engine.specs.Progress.{Progress}
-use Rattle.bz_engine.specs.private.Edits.{IsLaidOut, run_of}
-use Rattle.bz_engine.proofs.ChunkEdits.{line_passed}
-use Rattle.bz_engine.proofs.CanonicalChunks.{canonical_edited}
+use Rattle.std.proofs.Common.{◌≤◌, length, ◌∙◌, subst}
+use Rattle.std.specs.Prelude.{Option, IfSome, option_map}
+use Rattle.bz_canonical.specs.Canonical.{IsCanonical, between}
+use Rattle.bz_engine.specs.declared.canonical.Found.{Found}
+use Rattle.bz_engine.specs.private.Edits.{run_of}
+use Rattle.bz_engine.proofs.CanonicalChunks.{known_edited}
 use Rattle.bz_engine.proofs.canonical.edit_canonical.Goals as goal
 
-pub returns-clause-chunk : goal.returns-clause-chunk
-returns-clause-chunk c =
-    let found = c.in-Some.ensures in
-    let run = run_of c.args.script in
-    let before = c.args.text.now.items in
-    let mid = c.edit_found.new.progress in
-    let after = c.edit_found.new.text.items in
-    canonical_edited run c.args.max_statement c.args.ahead.now c.in-Some.found c.text.result.now c.args.progress.now mid c.pass_lines.new.self before after
-    c.requires.few c.text.ensures.front (subst IsUtf8 c.as_bytes.ensures.value c.as_bytes.ensures.utf8) found.size found.canonical
-    (λ s is. subst (λ (p : Progress). IsLaidOut run s p mid before after) c.is_worth_a_look.ensures (c.in_ok-edit_found.ensures.done c.if-not-branch.false s is))
-    (c.pass_lines.ensures ∙ ap (λ bytes. line_passed bytes c.looked_well.new.self) c.as_bytes.ensures.value ∙ ap (line_passed c.in-Some.found.chunk.chunk.now) c.looked_well.ensures)
+pub returns-in_ok-next-in-Some-clause-chunk : goal.returns-in_ok-next-in-Some-clause-chunk
+returns-in_ok-next-in-Some-clause-chunk c =
+    let found = c.in-Some.found in
+    let told = c.in_ok-find_canonical.ensures in
+    let size = subst (λ (o : Option Found). IfSome o (λ f. length f.chunk.chunk.now ≤ c.args.max_statement)) c.in-Some.is told.size in
+    let canonical = subst (λ (o : Option Found). IfSome o (λ f. IsCanonical c.args.script.max_depth f.attr.now f.chunk.class (option_map (λ name. name.now) f.chunk.name) (option_map between f.chunk.place)
+        f.chunk.chunk.now f.chunk.written.now c.text.result.now)) c.in-Some.is told.canonical in
+    known_edited (run_of c.args.script) c.args.max_statement c.args.ahead.now found c.text.result.now c.args.progress.now c.take_written-written.new.self c.edit_known.new.progress
+    c.give_back_written-in-Some.new.self c.args.text.now.items c.edit_known.new.text.items c.in_ok-next-in-Some.next c.requires.few c.text.ensures.front size canonical
+    (c.take_written-written.ensures ∙ c.is_worth_a_look.ensures) c.give_back_written-in-Some.ensures c.in_ok-next-in-Some.ensures.chunk

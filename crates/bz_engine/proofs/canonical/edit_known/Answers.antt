@@ -1,0 +1,13 @@
+use Rattle.std.proofs.Common.{◌∙◌, ap, refl, subst}
+use Rattle.std.specs.Str.{IsUtf8}
+use Rattle.bz_engine.proofs.ChunkEdits.{line_passed}
+use Rattle.bz_engine.proofs.canonical.edit_known.Goals as goal
+
+pub returns-clause-chunk : goal.returns-clause-chunk
+returns-clause-chunk c = record {
+  utf8 = subst IsUtf8 c.as_bytes.ensures.value c.as_bytes.ensures.utf8;
+  mid = c.edit_found.new.progress;
+  laid = c.in_ok-edit_found.ensures.done c.if-not-branch.false;
+  passed = c.pass_lines.ensures ∙ ap (λ bytes. line_passed bytes c.looked_well.new.self) c.as_bytes.ensures.value ∙ ap (line_passed c.args.found.chunk.chunk.now) c.looked_well.ensures;
+  next_is = refl;
+}
