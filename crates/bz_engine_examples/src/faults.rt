@@ -2,8 +2,9 @@
 
 use crate::drip::Drip;
 use crate::feed::{Feed, Input, Piece};
-use crate::script::{limited, plain, read_script};
+use crate::script::{limited, read_script};
 use bz_engine::{End, SyntaxFault, run};
+use bz_rule_examples::table::{cut_rows, plain};
 use bz_tree::{ParseFault, parse};
 use std::alloc::Global;
 use std::test::Fail;
@@ -79,8 +80,7 @@ fn fault_of_run(alloc: Global, text: &str) -> Result<Option<ParseFault>, Fail> {
 #[test]
 fn each_fault_is_told(rt: HostRuntime) -> Result<(), Fail> {
     let alloc = rt.alloc();
-    for row in FAULTS.split("---\n").skip(1) {
-        let (text, wanted) = row.split_once("->\n").ok_or("a row without an answer")?;
+    for (text, wanted) in cut_rows(alloc, FAULTS)? {
         let text = plain(alloc, text)?;
         let fault = fault_of(alloc, text.as_str()).ok_or("no fault")?;
         let shown = format!(in alloc; "{fault:?}\n")?;

@@ -8,18 +8,15 @@
 mod buffers;
 #[cfg(test)]
 mod devices;
-#[cfg(test)]
-mod drip;
+pub mod drip;
 #[cfg(test)]
 mod faults;
-#[cfg(test)]
-mod feed;
+pub mod feed;
 #[cfg(test)]
 mod limits;
 #[cfg(test)]
 mod runs;
-#[cfg(test)]
-mod script;
+pub mod script;
 #[cfg(test)]
 mod sessions;
 #[cfg(test)]

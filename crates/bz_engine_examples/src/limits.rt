@@ -2,8 +2,9 @@
 
 use crate::drip::Drip;
 use crate::feed::{Feed, Input, Piece};
-use crate::script::{limited, plain, read_script};
+use crate::script::{limited, read_script};
 use bz_engine::{RunFault, Session, run};
+use bz_rule_examples::table::plain;
 use std::alloc::Global;
 use std::process::Abort;
 use std::test::Fail;

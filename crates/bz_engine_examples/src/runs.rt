@@ -3,8 +3,9 @@
 
 use crate::drip::Drip;
 use crate::feed::{Feed, Input, Piece};
-use crate::script::{plain, program, read_script};
+use crate::script::{program, read_script};
 use bz_engine::{End, Report, run};
+use bz_rule_examples::table::{BLOCK, cut_rows, plain};
 use std::alloc::Global;
 use std::process::Abort;
 use std::test::Fail;
@@ -183,33 +184,6 @@ x = 1  # s
 =>
 status 3
 ---
-set a 1 ! -:*
-if a:
-    def = """
-# in the text
-"""
-else:
-    y  =  2
-
-  # tail
-
-# c
-z=1
-->
-if a:
-    def = """
-# in the text
-"""
-else:
-    y  =  2
-
-  # tail
-
-# c
-z = 1
-=>
-status 3
----
 add deps z ! -:*
 x = 'a'␍
 y = 'b"'␄
@@ -297,41 +271,53 @@ fn check_fronts(rt: &impl Abort, alloc: Global, script: &str, input: &[u8]) -> R
     Ok(())
 }
 
+/// The script and the input of a row.
+fn cut_asked<'t>(alloc: Global, asked: &'t str) -> Result<(&'t str, String), Fail> {
+    let (script, input) = asked.split_once('\n').ok_or("a row without an input")?;
+    Ok((script, plain(alloc, input)?))
+}
+
+/// What sets an attribute that no statement of a row has, and what sets none.
+const SET: &str = "set a 1 ! -:*";
+
+const SAME: &str = "set_if_absent name z ! -:*";
+
 // The text of a run is written again as it stands, and nothing is told of it.
 #[test]
 fn runs_byte_by_byte(rt: HostRuntime) -> Result<(), Fail> {
     let alloc = rt.alloc();
-    for row in RUNS.split("---\n").skip(1) {
-        let (asked, answer) = row.split_once("->\n").ok_or("a row without an answer")?;
-        let (script, input) = asked.split_once('\n').ok_or("a row without an input")?;
+    for (asked, answer) in cut_rows(alloc, RUNS)? {
+        let (script, input) = cut_asked(alloc, asked)?;
         let (text, wanted) = answer.split_once("=>\n").ok_or("a row without a status")?;
-        let input = plain(alloc, input)?;
         check(&rt, alloc, script, input.as_bytes(), text, wanted)?;
-        let same = "set_if_absent name z ! -:*";
-        check(&rt, alloc, same, text.as_bytes(), text, "status 3\n")?;
+        check(&rt, alloc, SAME, text.as_bytes(), text, "status 3\n")?;
     }
-    Ok(())
+    let input = format!(in alloc; "{BLOCK}\n# c\nz=1\n")?;
+    let text = format!(in alloc; "{BLOCK}\n# c\nz = 1\n")?;
+    for (script, input) in [(SET, input.as_str()), (SAME, text.as_str())] {
+        check(
+            &rt,
+            alloc,
+            script,
+            input.as_bytes(),
+            text.as_str(),
+            "status 3\n",
+        )?;
+    }
+    check_fronts(&rt, alloc, SET, input.as_bytes())
 }
 
 #[test]
 fn fronts_of_inputs(rt: HostRuntime) -> Result<(), Fail> {
     let alloc = rt.alloc();
-    for row in RUNS.split("---\n").skip(1) {
-        let (asked, _) = row.split_once("->\n").ok_or("a row without an answer")?;
-        let (script, input) = asked.split_once('\n').ok_or("a row without an input")?;
-        let input = plain(alloc, input)?;
+    for (asked, _) in cut_rows(alloc, RUNS)? {
+        let (script, input) = cut_asked(alloc, asked)?;
         check_fronts(&rt, alloc, script, input.as_bytes())?;
     }
     let bad = b"x = \"\xff\"\n";
-    check(
-        &rt,
-        alloc,
-        "set a 1 ! -:*",
-        bad,
-        "",
-        "message: 1:6: not UTF-8\nstatus 2\n",
-    )?;
-    check_fronts(&rt, alloc, "set a 1 ! -:*", bad)
+    let told = "message: 1:6: not UTF-8\nstatus 2\n";
+    check(&rt, alloc, SET, bad, "", told)?;
+    check_fronts(&rt, alloc, SET, bad)
 }
 
 // A run without passes asks for nothing: it writes no text, and tells the fault of a file alone.

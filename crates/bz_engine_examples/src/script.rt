@@ -7,21 +7,6 @@ use bz_rule::{Command, Package, Target, read_command, read_label};
 use std::alloc::Global;
 use std::test::Fail;
 
-/// The text that a part of a row stands for: `␉`, `␊` and `␍` are a tab, a newline and a carriage return, and `␄` ends it.
-pub fn plain(alloc: Global, part: &str) -> Result<String, Fail> {
-    let mut text = String::new(alloc);
-    for c in part.chars() {
-        match c {
-            '␉' => text.push('\t')?,
-            '␊' => text.push('\n')?,
-            '␍' => text.push('\r')?,
-            '␄' => return Ok(text),
-            _ => text.push(c)?,
-        }
-    }
-    Ok(text)
-}
-
 /// The package and the passes of a script: groups apart by ` ; `, whose commands and labels stand apart by ` ! `. The
 /// labels are all of one package.
 pub fn read_script(

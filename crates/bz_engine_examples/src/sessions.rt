@@ -4,8 +4,9 @@ ghost use Rattle.std.specs.Prelude.{◌≤◌, ◌^◌};
 
 use crate::drip::Drip;
 use crate::feed::{Feed, Input, Piece};
-use crate::script::{limited, plain, program, read_script};
+use crate::script::{limited, program, read_script};
 use bz_engine::{End, Options, RunFault, Session, Step, SyntaxFault};
+use bz_rule_examples::table::{cut_rows, plain};
 use bz_token::{LexFault, check_utf8};
 use bz_tree::ParseFault;
 use std::alloc::Global;
@@ -26,52 +27,52 @@ fn begin(alloc: Global, script: &str, options: Options) -> Result<Session, Fail>
     Ok(session)
 }
 
-/// A step answers this; after it the source has given so many bytes, in one read each, and the sink holds this text.
-fn check_step(
-    rt: &impl Abort,
-    session: &mut Session,
-    feed: &mut Feed<'_>,
-    drip: &mut Drip,
-    answer: Result<Step, RunFault>,
-    reads: u64,
-    text: &str,
-) {
-    let step = session.step(feed, drip);
-    assert_eq!(rt; step, answer, "{reads} reads");
-    assert_eq!(rt; feed.reads, reads);
-    assert_eq!(rt;
-        check_utf8(drip.taken.as_slice()),
-        Ok(text),
-        "{reads} reads"
-    );
+/// A session with its devices.
+#[derive(Drop)]
+struct Bench<'a> {
+    session: Session,
+    feed: Feed<'a>,
+    drip: Drip,
+}
+
+impl<'a> Bench<'a> {
+    fn step(&mut self) -> Result<Step, RunFault> {
+        self.session.step(&mut self.feed, &mut self.drip)
+    }
+
+    /// A step answers this; after it the source has given so many bytes, in one read each, and the sink holds this text.
+    fn check_step(&mut self, rt: &impl Abort, answer: Step, reads: u64, text: &str) {
+        assert_eq!(rt; self.step(), Ok(answer), "{reads} reads");
+        assert_eq!(rt; self.feed.reads, reads);
+        let taken = check_utf8(self.drip.taken.as_slice());
+        assert_eq!(rt; taken, Ok(text), "{reads} reads");
+    }
+
+    /// The fault that the next step meets. From then on the session answers `Stopped`, and reads and writes nothing.
+    fn check_stop(&mut self, rt: &impl Abort, fault: RunFault, text: &str) {
+        assert_eq!(rt; self.step(), Err(fault));
+        let (reads, writes) = (self.feed.reads, self.drip.writes);
+        assert_eq!(rt; self.step(), Err(RunFault::Stopped));
+        assert_eq!(rt; (self.feed.reads, self.drip.writes), (reads, writes));
+        assert_eq!(rt; check_utf8(self.drip.taken.as_slice()), Ok(text));
+    }
 }
 
 // Each step reads its chunk and nothing after it, where that takes a read of its own.
 #[test]
 fn takes_a_chunk_each(rt: HostRuntime) -> Result<(), Fail> {
     let alloc = rt.alloc();
-    let mut feed = Feed::new(Input::Bytes(TWO_RULES), Piece::AtMost(1), None);
-    let mut drip = Drip::new(alloc, 99, None);
-    let mut session = begin(alloc, DELETE, limited(99, 100, 29))?;
+    let mut bench = Bench {
+        session: begin(alloc, DELETE, limited(99, 100, 29))?,
+        feed: Feed::new(Input::Bytes(TWO_RULES), Piece::AtMost(1), None),
+        drip: Drip::new(alloc, 99, None),
+    };
     let text = "g(name = \"b\")\n";
-    let steps = [
-        (Step::More, 14, ""),
-        (Step::More, 28, text),
-        (Step::End, 29, text),
-        (Step::End, 29, text),
-    ];
-    for (answer, reads, text) in steps {
-        check_step(
-            &rt,
-            &mut session,
-            &mut feed,
-            &mut drip,
-            Ok(answer),
-            reads,
-            text,
-        );
-    }
-    let report = session.finish()?;
+    bench.check_step(&rt, Step::More, 14, "");
+    bench.check_step(&rt, Step::More, 28, text);
+    bench.check_step(&rt, Step::End, 29, text);
+    bench.check_step(&rt, Step::End, 29, text);
+    let report = bench.session.finish()?;
     assert_eq!(rt; report.end, End::Whole);
     assert_eq!(rt; report.status(), 0);
     assert!(rt; report.lines.is_empty());
@@ -138,118 +139,74 @@ fn finishes_early(rt: HostRuntime) -> Result<(), Fail> {
     Ok(())
 }
 
-/// The fault that the next step meets. From then on the session answers `Stopped`, and reads and writes nothing.
-fn check_stop(
-    rt: &impl Abort,
-    mut session: Session,
-    feed: &mut Feed<'_>,
-    drip: &mut Drip,
-    fault: RunFault,
-    text: &str,
-) {
-    assert_eq!(rt; session.step(feed, drip), Err(fault));
-    let (reads, writes) = (feed.reads, drip.writes);
-    assert_eq!(rt; session.step(feed, drip), Err(RunFault::Stopped));
-    assert_eq!(rt; (feed.reads, drip.writes), (reads, writes));
-    assert_eq!(rt; check_utf8(drip.taken.as_slice()), Ok(text));
+/// A session that was stopped has no report.
+fn check_stopped(rt: &impl Abort, session: Session) -> Result<(), Fail> {
     assert_eq!(rt; session.finish().err(), Some(RunFault::Stopped));
+    Ok(())
 }
 
 #[test]
 fn stops_at_a_failed_write(rt: HostRuntime) -> Result<(), Fail> {
     let alloc = rt.alloc();
     let input = b"cc_library(name=\"a\",srcs=[\"a.cc\"])\n";
-    let mut feed = Feed::new(Input::Bytes(input), Piece::AtMost(99), None);
-    let mut drip = Drip::new(alloc, 1, Some(3));
-    let session = begin(alloc, "add deps //b:c ! -:a", program(true))?;
-    check_stop(
-        &rt,
-        session,
-        &mut feed,
-        &mut drip,
-        RunFault::WriteFailed,
-        "cc",
-    );
-    assert_eq!(rt; (drip.writes, drip.failures), (3, 1));
-    Ok(())
+    let mut bench = Bench {
+        session: begin(alloc, "add deps //b:c ! -:a", program(true))?,
+        feed: Feed::new(Input::Bytes(input), Piece::AtMost(99), None),
+        drip: Drip::new(alloc, 1, Some(3)),
+    };
+    bench.check_stop(&rt, RunFault::WriteFailed, "cc");
+    assert_eq!(rt; (bench.drip.writes, bench.drip.failures), (3, 1));
+    check_stopped(&rt, bench.session)
 }
 
 #[test]
 fn stops_at_a_failed_read(rt: HostRuntime) -> Result<(), Fail> {
     let alloc = rt.alloc();
     let input = b"x = 1\nf(name = \"a\")\nx = )\n";
-    let mut feed = Feed::new(Input::Bytes(input), Piece::Line, Some(3));
-    let mut drip = Drip::new(alloc, 99, None);
-    let script = "add deps q ! print kind ! -:a";
-    let mut session = begin(alloc, script, program(true))?;
-    assert_eq!(rt; session.step(&mut feed, &mut drip), Ok(Step::More));
-    assert_eq!(rt; session.step(&mut feed, &mut drip), Ok(Step::More));
+    let mut bench = Bench {
+        session: begin(alloc, "add deps q ! print kind ! -:a", program(true))?,
+        feed: Feed::new(Input::Bytes(input), Piece::Line, Some(3)),
+        drip: Drip::new(alloc, 99, None),
+    };
+    assert_eq!(rt; bench.step(), Ok(Step::More));
+    assert_eq!(rt; bench.step(), Ok(Step::More));
     let text = "x = 1\n\nf(\n    name = \"a\",\n    deps = [\"q\"],\n)\n";
-    check_stop(
-        &rt,
-        session,
-        &mut feed,
-        &mut drip,
-        RunFault::ReadFailed,
-        text,
-    );
-    assert_eq!(rt; (feed.reads, feed.failures), (3, 1));
-    Ok(())
+    bench.check_stop(&rt, RunFault::ReadFailed, text);
+    assert_eq!(rt; (bench.feed.reads, bench.feed.failures), (3, 1));
+    check_stopped(&rt, bench.session)
 }
 
 // The reads that may be made are made, and the next is refused.
 #[test]
 fn stops_at_the_last_read(rt: HostRuntime) -> Result<(), Fail> {
     let alloc = rt.alloc();
-    let mut feed = Feed::new(Input::Bytes(TWO_RULES), Piece::AtMost(1), None);
-    let mut drip = Drip::new(alloc, 99, None);
-    let mut session = begin(alloc, DELETE, limited(99, 100, 28))?;
+    let mut bench = Bench {
+        session: begin(alloc, DELETE, limited(99, 100, 28))?,
+        feed: Feed::new(Input::Bytes(TWO_RULES), Piece::AtMost(1), None),
+        drip: Drip::new(alloc, 99, None),
+    };
     let text = "g(name = \"b\")\n";
-    for (reads, text) in [(14, ""), (28, text)] {
-        check_step(
-            &rt,
-            &mut session,
-            &mut feed,
-            &mut drip,
-            Ok(Step::More),
-            reads,
-            text,
-        );
-    }
-    check_stop(
-        &rt,
-        session,
-        &mut feed,
-        &mut drip,
-        RunFault::InputTooLong,
-        text,
-    );
-    assert_eq!(rt; feed.reads, 28);
+    bench.check_step(&rt, Step::More, 14, "");
+    bench.check_step(&rt, Step::More, 28, text);
+    bench.check_stop(&rt, RunFault::InputTooLong, text);
+    assert_eq!(rt; bench.feed.reads, 28);
+    check_stopped(&rt, bench.session)
+}
 
-    let mut feed = Feed::new(Input::Endless(b'\n'), Piece::AtMost(1), None);
-    let mut drip = Drip::new(alloc, 99, None);
-    let mut session = begin(alloc, SET_ALL, limited(99, 100, 3))?;
+#[test]
+fn stops_in_an_endless_input(rt: HostRuntime) -> Result<(), Fail> {
+    let alloc = rt.alloc();
+    let mut bench = Bench {
+        session: begin(alloc, SET_ALL, limited(99, 100, 3))?,
+        feed: Feed::new(Input::Endless(b'\n'), Piece::AtMost(1), None),
+        drip: Drip::new(alloc, 99, None),
+    };
     for reads in [1, 2, 3] {
-        check_step(
-            &rt,
-            &mut session,
-            &mut feed,
-            &mut drip,
-            Ok(Step::More),
-            reads,
-            "",
-        );
+        bench.check_step(&rt, Step::More, reads, "");
     }
-    check_stop(
-        &rt,
-        session,
-        &mut feed,
-        &mut drip,
-        RunFault::InputTooLong,
-        "",
-    );
-    assert_eq!(rt; feed.reads, 3);
-    Ok(())
+    bench.check_stop(&rt, RunFault::InputTooLong, "");
+    assert_eq!(rt; bench.feed.reads, 3);
+    check_stopped(&rt, bench.session)
 }
 
 // A statement that is too long is refused where it is reached, with its line.
@@ -257,15 +214,16 @@ fn stops_at_the_last_read(rt: HostRuntime) -> Result<(), Fail> {
 fn stops_at_a_long_statement(rt: HostRuntime) -> Result<(), Fail> {
     let alloc = rt.alloc();
     let input = b"x = 123\n\ny = 1234\n";
-    let mut feed = Feed::new(Input::Bytes(input), Piece::AtMost(99), None);
-    let mut drip = Drip::new(alloc, 99, None);
-    let mut session = begin(alloc, SET_ALL, limited(8, 100, 99))?;
-    for _ in 0..2 {
-        assert_eq!(rt; session.step(&mut feed, &mut drip), Ok(Step::More));
-    }
+    let mut bench = Bench {
+        session: begin(alloc, SET_ALL, limited(8, 100, 99))?,
+        feed: Feed::new(Input::Bytes(input), Piece::AtMost(99), None),
+        drip: Drip::new(alloc, 99, None),
+    };
+    assert_eq!(rt; bench.step(), Ok(Step::More));
+    assert_eq!(rt; bench.step(), Ok(Step::More));
     let fault = RunFault::StatementTooLong { line: 3 };
-    check_stop(&rt, session, &mut feed, &mut drip, fault, "x = 123\n");
-    Ok(())
+    bench.check_stop(&rt, fault, "x = 123\n");
+    check_stopped(&rt, bench.session)
 }
 
 /// An input, and the text of each step that takes a chunk, with a line `|` after it.
@@ -434,8 +392,7 @@ fn steps(alloc: Global, input: &[u8], piece: Piece) -> Result<Vec<u8>, Fail> {
 #[test]
 fn takes_chunks(rt: HostRuntime) -> Result<(), Fail> {
     let alloc = rt.alloc();
-    for row in CHUNKS.split("---\n").skip(1) {
-        let (text, wanted) = row.split_once("->\n").ok_or("a row without an answer")?;
+    for (text, wanted) in cut_rows(alloc, CHUNKS)? {
         let text = plain(alloc, text)?;
         for piece in [
             Piece::AtMost(1),

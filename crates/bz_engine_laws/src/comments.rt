@@ -4,10 +4,10 @@ ghost use Rattle.std.specs.Prelude.{◌≡◌, ◌≤◌, ℕ, List, Bool, Optio
 ghost use Rattle.bz_tree.specs.Comments.{comments_of};
 ghost use Rattle.bz_tree.specs.Tree.{Statement};
 ghost use Rattle.bz_command.specs.Labels.{Package};
-ghost use Rattle.bz_engine.specs.Changes.{AreCommands};
 ghost use Rattle.bz_engine.specs.declared.report.SyntaxFault.{SyntaxFault};
-ghost use Rattle.bz_engine.specs.File.{IsFile};
+ghost use Rattle.bz_engine.specs.Changes.{AreCommands};
 ghost use Rattle.bz_engine.specs.Outcome.{Run, Script, Told, IsOutcome, is_query};
+ghost use Rattle.bz_engine.specs.File.{IsFile};
 ghost use Rattle.bz_engine_laws.specs.Comments.{script_keeps_comments};
 ghost use Rattle.bz_engine_laws.specs.Written.{HaveUtf8Words, left_by, edited};
 

@@ -3,11 +3,11 @@
 ghost use Rattle.std.specs.Prelude.{◌≡◌, ℕ, List, map, None, Option};
 ghost use Rattle.std.specs.List.{AllByRecursion};
 ghost use Rattle.bz_tree.specs.Tree.{Statement};
-ghost use Rattle.bz_layout_laws.specs.Spelled.{spelled_statement};
 ghost use Rattle.bz_layout_laws.specs.Lineless.{lineless};
+ghost use Rattle.bz_layout_laws.specs.Spelled.{spelled_statement};
+ghost use Rattle.bz_engine.specs.Outcome.{slots_of, text_of};
 ghost use Rattle.bz_engine.specs.declared.report.SyntaxFault.{SyntaxFault};
 ghost use Rattle.bz_engine.specs.File.{IsFile};
-ghost use Rattle.bz_engine.specs.Outcome.{slots_of, text_of};
 ghost use Rattle.bz_engine_laws.specs.Sound.{IsSound};
 
 /// The text of sound statements has no fault, and is read as these statements, with their strings as they are spelled

@@ -1,8 +1,8 @@
 //! Each command, once or twice, on a statement of package `p`, by the calls of the library. What commands make of
 //! statements, tell and refuse stands in the rows of `tests/commands`, which need no proof.
 
+use crate::checks::{check_table, read};
 use crate::labels::package;
-use crate::table::{check_rows, read};
 use bumpalo::Bump;
 use bz_layout::put_stmt;
 use bz_rule::{Command, Done, Package, apply, read_command};
@@ -154,5 +154,5 @@ fn edited(alloc: Global, asked: &str) -> Result<String, Fail> {
 #[test]
 fn commands_on_statements(rt: HostRuntime) -> Result<(), Fail> {
     let alloc = rt.alloc();
-    check_rows(&rt, alloc, EDITS, |asked| edited(alloc, asked))
+    check_table(&rt, alloc, EDITS, |asked| edited(alloc, asked))
 }

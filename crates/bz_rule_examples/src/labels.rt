@@ -1,6 +1,7 @@
 //! Labels, targets, the values of strings, and how rules are shown.
 
-use crate::table::{check_lines, plain, statement};
+use crate::checks::{check_table, statement};
+use crate::table::{cut_rows, plain};
 use bumpalo::Bump;
 use bz_rule::{Package, StatementRow, Target, label, quote, read_label, same, value_is};
 use bz_token::{Kind, Token};
@@ -20,7 +21,8 @@ fn token<'a>(kind: Kind, text: &'a str) -> Token<'a> {
 }
 
 /// Literals, and their values.
-const VALUES: &str = r##"'a\tb' ! a␉b
+const VALUES: &str = r##"
+'a\tb' ! a␉b
 """a␍␊b""" ! a␊b
 r'a' ! a
 '' ! ␄
@@ -29,7 +31,8 @@ r'a' ! a
 '\n\r\t\\\'\"' ! ␊␍␉\'""##;
 
 /// Literals, and what is not their value.
-const NO_VALUES: &str = r##"r"\d" ! \d
+const NO_VALUES: &str = r##"
+r"\d" ! \d
 b'a' ! a
 '\x' ! x
 'a ! a
@@ -46,9 +49,12 @@ fn is_value(alloc: Global, literal: &str, value: &str) -> Result<bool, Fail> {
 }
 
 fn check_values(rt: &impl Abort, alloc: Global, table: &str, wanted: bool) -> Result<(), Fail> {
-    for row in table.lines() {
-        let (literal, value) = row.split_once(" ! ").ok_or("a row without an answer")?;
-        assert_eq!(rt; is_value(alloc, literal, value)?, wanted, "{row}");
+    for (literal, value) in cut_rows(alloc, table)? {
+        assert_eq!(rt;
+            is_value(alloc, literal, value)?,
+            wanted,
+            "{literal} {value}"
+        );
     }
     Ok(())
 }
@@ -65,7 +71,8 @@ fn values_of_strings(rt: HostRuntime) -> Result<(), Fail> {
 }
 
 /// Values, and their literals.
-const QUOTED: &str = r##"a"b\␊ ! "a\"b\\\n"
+const QUOTED: &str = r##"
+a"b\␊ ! "a\"b\\\n"
 ␍␉é ! "\r\té""##;
 
 fn quoted(alloc: Global, text: &str) -> Result<String, Fail> {
@@ -76,11 +83,12 @@ fn quoted(alloc: Global, text: &str) -> Result<String, Fail> {
 #[test]
 fn quotes(rt: HostRuntime) -> Result<(), Fail> {
     let alloc = rt.alloc();
-    check_lines(&rt, alloc, QUOTED, |text| quoted(alloc, text))
+    check_table(&rt, alloc, QUOTED, |text| quoted(alloc, text))
 }
 
 /// Labels, and how they are shown, or why they are refused.
-const LABELS: &str = r##"//a/b ! //a/b:b, has to mark
+const LABELS: &str = r##"
+//a/b ! //a/b:b, has to mark
 a/b:c ! //a/b:c, has to mark
 //:a ! //:a, has to mark
 :a ! //:a, has to mark
@@ -127,7 +135,7 @@ fn shown_label(alloc: Global, text: &str) -> Result<String, Fail> {
 #[test]
 fn labels(rt: HostRuntime) -> Result<(), Fail> {
     let alloc = rt.alloc();
-    check_lines(&rt, alloc, LABELS, |text| shown_label(alloc, text))
+    check_table(&rt, alloc, LABELS, |text| shown_label(alloc, text))
 }
 
 pub fn package(alloc: Global, label: &str) -> Result<Package, Fail> {
@@ -150,7 +158,8 @@ fn packages(rt: HostRuntime) -> Result<(), Fail> {
 }
 
 /// A label of a package, and two labels there, of which the first may be empty.
-const SAME: &str = r##"//p:a :x //p:x ! same
+const SAME: &str = r##"
+//p:a :x //p:x ! same
 //p:a //a/b //a/b:b ! same
 //p:a x :x ! same
 //p:a x //q:x ! others
@@ -176,11 +185,12 @@ fn shown_same(alloc: Global, asked: &str) -> Result<String, Fail> {
 #[test]
 fn same_labels(rt: HostRuntime) -> Result<(), Fail> {
     let alloc = rt.alloc();
-    check_lines(&rt, alloc, SAME, |asked| shown_same(alloc, asked))
+    check_table(&rt, alloc, SAME, |asked| shown_same(alloc, asked))
 }
 
 /// Labels and statements, and whether they are marked.
-const MARKS: &str = r##"//p:%f f() ! marked
+const MARKS: &str = r##"
+//p:%f f() ! marked
 //p:* f() ! marked
 //p:* x = 1 ! not
 //p:a f(name = 'a') ! marked
@@ -212,11 +222,12 @@ fn shown_mark(alloc: Global, asked: &str) -> Result<String, Fail> {
 #[test]
 fn marks(rt: HostRuntime) -> Result<(), Fail> {
     let alloc = rt.alloc();
-    check_lines(&rt, alloc, MARKS, |asked| shown_mark(alloc, asked))
+    check_table(&rt, alloc, MARKS, |asked| shown_mark(alloc, asked))
 }
 
 /// Statements, and how they are shown in package `p`.
-const SHOWN: &str = r##"f() ! //p:%f
+const SHOWN: &str = r##"
+f() ! //p:%f
 x = 1 ! ␄
 f(name = 'é\tb') ! //p:é␉b
 f(name = """a␍␊b""") ! //p:a␊b
@@ -240,7 +251,7 @@ fn shown_in(alloc: Global, home: &str, text: &str) -> Result<String, Fail> {
 #[test]
 fn shown_rules(rt: HostRuntime) -> Result<(), Fail> {
     let alloc = rt.alloc();
-    check_lines(&rt, alloc, SHOWN, |text| shown_in(alloc, "//p:a", text))?;
+    check_table(&rt, alloc, SHOWN, |text| shown_in(alloc, "//p:a", text))?;
     assert_eq!(rt; shown_in(alloc, "-:a", "f(name = '')")?.as_str(), "-:");
     Ok(())
 }

@@ -1,6 +1,7 @@
 //! Canonical texts, texts on one line, and empty lines.
 
-use crate::table::{check_lines, plain, read, statement};
+use crate::checks::{check_table, read, statement};
+use crate::table::{BLOCK, cut_rows, plain};
 use crate::trees;
 use bz_layout::{flat, put_gap, put_stmt};
 use bz_tree::{Class, Group, Node, ParseFault};
@@ -59,68 +60,6 @@ y=(1,)
 ->
 y = (1,)
 ---
-f(
-    name = "a",
-    # d
-    deps = [
-        # one
-        "x",
-        "y",  # two
-    ],
-    data = ["x"],
-)
-->
-f(
-    name = "a",
-    # d
-    deps = [
-        # one
-        "x",
-        "y",  # two
-    ],
-    data = ["x"],
-)
----
-f(
-    name = "a",
-    deps = [
-        # c1
-        "x",  # c2
-        "y",  # c3
-        "z",
-        "w",
-        # c4
-    ],
-)
-->
-f(
-    name = "a",
-    deps = [
-        # c1
-        "x",  # c2
-        "y",  # c3
-        "z",
-        "w",
-        # c4
-    ],
-)
----
-f(
-    name = "a",
-    data = [
-        "x",
-        "y",  # two
-    ],
-)
-->
-f(
-    name = "a",
-    data = [
-        "x",
-        "y",  # two
-    ],
-)
----
 f( # note
 name = "a")
 ->
@@ -165,10 +104,6 @@ f(
     n = 1 + 2,
 )
 ---
-x = not -f(*a, **k)
-->
-x = not -f(*a, **k)
----
 x={'a':[1,2]}
 ->
 x = {
@@ -189,25 +124,6 @@ x = [
     "b"[::],
     a not in b,
 ]
----
-if a:
-    def = """
-# in the text
-"""
-else:
-    y  =  2
-
-  # tail
-
-->
-if a:
-    def = """
-# in the text
-"""
-else:
-    y  =  2
-
-  # tail
 ---
 f ( name = "a" , deps = [ "x" ] , n = 1 + 2 , l = [ "a" , "b" ] )␄
 ->
@@ -280,21 +196,49 @@ x = (
 load ( "m" , a = 'b' )␄
 ->
 load("m", a = "b")
+"##;
+
+/// Texts that are canonical as they stand.
+const CANONICAL: &str = r##"
+---
+f(
+    name = "a",
+    # d
+    deps = [
+        # one
+        "x",
+        "y",  # two
+    ],
+    data = ["x"],
+)
+---
+f(
+    name = "a",
+    deps = [
+        # c1
+        "x",  # c2
+        "y",  # c3
+        "z",
+        "w",
+        # c4
+    ],
+)
+---
+f(
+    name = "a",
+    data = [
+        "x",
+        "y",  # two
+    ],
+)
+---
+x = not -f(*a, **k)
 ---
 load(
     "m",  # a
     "b",
 )
-->
-load(
-    "m",  # a
-    "b",
-)
 ---
-x = f(
-    # a
-)
-->
 x = f(
     # a
 )
@@ -306,20 +250,7 @@ x = f(
     # d
     # e
 )
-->
-(
-    # a
-    # b
-    x  # c
-    # d
-    # e
-)
 ---
-(
-    # a
-    x,
-)
-->
 (
     # a
     x,
@@ -329,17 +260,7 @@ x = f(
     x,
     y,  # a
 )
-->
-(
-    x,
-    y,  # a
-)
 ---
-x[
-    # a
-    1:2  # b
-]
-->
 x[
     # a
     1:2  # b
@@ -349,26 +270,12 @@ x[
     a for a in b
     # c
 ]
-->
-[
-    a for a in b
-    # c
-]
 ---
 {
     # c
     a: b for a, b in c
 }
-->
-{
-    # c
-    a: b for a, b in c
-}
 ---
-{
-    a: 1,  # b
-}
-->
 {
     a: 1,  # b
 }
@@ -415,15 +322,21 @@ fn fault_of_row(alloc: Global, text: &str, wanted: &str) -> Result<&'static str,
 // What is written is the same statement, and is written again as it stands.
 #[test]
 fn canonical_texts(rt: HostRuntime) -> Result<(), Fail> {
-    for row in TEXTS.split("---\n").skip(1) {
-        let (text, wanted) = row.split_once("->\n").ok_or("a row without an answer")?;
-        assert_eq!(rt; fault_of_row(rt.alloc(), text, wanted)?, "none", "{text}");
+    let alloc = rt.alloc();
+    for (text, wanted) in cut_rows(alloc, TEXTS)? {
+        assert_eq!(rt; fault_of_row(alloc, text, wanted)?, "none", "{text}");
     }
+    for text in CANONICAL.split("---\n").skip(1) {
+        assert_eq!(rt; fault_of(alloc, text, text)?, "none", "{text}");
+    }
+    let block = format!(in alloc; "{BLOCK}\n")?;
+    assert_eq!(rt; fault_of(alloc, block.as_str(), BLOCK)?, "none");
     Ok(())
 }
 
 /// A statement, and its text on one line.
-const FLAT: &str = r##"- x ! -x
+const FLAT: &str = r##"
+- x ! -x
 + 1 ! +1
 ~ ( x ) ! ~(x)
 - - x ! --x
@@ -480,7 +393,8 @@ r'a' ! r'a'
 "a" ! "a""##;
 
 /// A statement, and the text of the first segment of its first bracket on one line.
-const FLAT_SEGMENTS: &str = r##"x[1 : - 2] ! 1:-2
+const FLAT_SEGMENTS: &str = r##"
+x[1 : - 2] ! 1:-2
 {a : b} ! a: b
 {a : b for c in d} ! a: b for c in d
 x = f(* a) ! *a
@@ -518,8 +432,8 @@ fn flat_segment(alloc: Global, text: &str) -> Result<String, Fail> {
 #[test]
 fn texts_on_one_line(rt: HostRuntime) -> Result<(), Fail> {
     let alloc = rt.alloc();
-    check_lines(&rt, alloc, FLAT, |text| flat_text(alloc, text))?;
-    check_lines(&rt, alloc, FLAT_SEGMENTS, |text| flat_segment(alloc, text))
+    check_table(&rt, alloc, FLAT, |text| flat_text(alloc, text))?;
+    check_table(&rt, alloc, FLAT_SEGMENTS, |text| flat_segment(alloc, text))
 }
 
 #[test]

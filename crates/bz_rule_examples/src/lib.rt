@@ -5,6 +5,8 @@
 #![tactic(auto)]
 
 #[cfg(test)]
+mod checks;
+#[cfg(test)]
 mod commands;
 #[cfg(test)]
 mod labels;
@@ -12,8 +14,7 @@ mod labels;
 mod layout;
 #[cfg(test)]
 mod rows;
-#[cfg(test)]
-mod table;
+pub mod table;
 #[cfg(test)]
 mod tokens;
 #[cfg(test)]

@@ -1,6 +1,7 @@
 //! Rows: the parts of statements, and the statements whose trees are read first.
 
-use crate::table::{check_rows, plain};
+use crate::checks::check_table;
+use crate::table::plain;
 use crate::trees::{class_name, kind_name};
 use bumpalo::Bump;
 use bz_token::{LexFault, tokens};
@@ -282,16 +283,16 @@ fn has_row(alloc: Global, text: &str) -> Result<bool, Fail> {
 #[test]
 fn rows_of_chunks(rt: HostRuntime) -> Result<(), Fail> {
     let alloc = rt.alloc();
-    check_rows(&rt, alloc, ROWS, |text| shown(alloc, text))
+    check_table(&rt, alloc, ROWS, |text| shown(alloc, text))
 }
 
 #[test]
 fn statements_of_chunks(rt: HostRuntime) -> Result<(), Fail> {
     let alloc = rt.alloc();
-    check_rows(&rt, alloc, ROWS, |text| shown_text(alloc, text))?;
-    check_rows(&rt, alloc, ROWS, |text| shown_tokens(alloc, text))?;
-    check_rows(&rt, alloc, RARE, |text| shown_text(alloc, text))?;
-    check_rows(&rt, alloc, RARE, |text| shown_tokens(alloc, text))
+    check_table(&rt, alloc, ROWS, |text| shown_text(alloc, text))?;
+    check_table(&rt, alloc, ROWS, |text| shown_tokens(alloc, text))?;
+    check_table(&rt, alloc, RARE, |text| shown_text(alloc, text))?;
+    check_table(&rt, alloc, RARE, |text| shown_tokens(alloc, text))
 }
 
 #[test]

@@ -1,10 +1,19 @@
 //! Tables in texts. A row stands below a line `---`, and its answer below a line `->`; or both on one line, with ` ! `
-//! between.
+//! between. The tables of bz_engine_examples are cut here, too.
 
-use bz_tree::{ParseFault, Stmt, parse};
 use std::alloc::Global;
-use std::process::Abort;
 use std::test::Fail;
+
+/// A block, which stays as it is.
+pub const BLOCK: &str = r#"if a:
+    def = """
+# in the text
+"""
+else:
+    y  =  2
+
+  # tail
+"#;
 
 /// The text that a part of a row stands for: `␉`, `␊` and `␍` are a tab, a newline and a carriage return, and `␄` ends it.
 pub fn plain(alloc: Global, part: &str) -> Result<String, Fail> {
@@ -21,63 +30,20 @@ pub fn plain(alloc: Global, part: &str) -> Result<String, Fail> {
     Ok(text)
 }
 
-fn check_row<F: Fn(&str) -> Result<String, Fail>>(
-    rt: &impl Abort,
-    alloc: Global,
-    row: (&str, &str),
-    shown: &F,
-) -> Result<(), Fail>
-    requires { F.IsAlwaysCallable shown.now }
-{
-    let (asked, wanted) = row;
-    let text = plain(alloc, asked)?;
-    let wanted = plain(alloc, wanted)?;
-    assert_eq!(rt; shown(text.as_str())?.as_str(), wanted.as_str(), "{asked}");
-    Ok(())
-}
-
-/// Checks that `shown` makes of each row its answer, which stands below `->`.
-pub fn check_rows<F: Fn(&str) -> Result<String, Fail>>(
-    rt: &impl Abort,
-    alloc: Global,
-    table: &str,
-    shown: F,
-) -> Result<(), Fail>
-    requires { F.IsAlwaysCallable shown }
-{
-    for row in table.split("---\n").skip(1) {
-        let row = row.split_once("->\n").ok_or("a row without an answer")?;
-        check_row(rt, alloc, row, &shown)?;
+/// The rows of a table, each as what is asked and its answer. They begin below the table's first line, which is empty.
+pub fn cut_rows<'t>(alloc: Global, table: &'t str) -> Result<Vec<(&'t str, &'t str)>, Fail> {
+    if !table.starts_with('\n') {
+        return Err(Fail::from("a row on the first line"));
     }
-    Ok(())
-}
-
-/// The same of rows of one line.
-pub fn check_lines<F: Fn(&str) -> Result<String, Fail>>(
-    rt: &impl Abort,
-    alloc: Global,
-    table: &str,
-    shown: F,
-) -> Result<(), Fail>
-    requires { F.IsAlwaysCallable shown }
-{
-    for row in table.lines() {
-        let row = row.split_once(" ! ").ok_or("a row without an answer")?;
-        check_row(rt, alloc, row, &shown)?;
+    let is_long = table.starts_with("\n---\n");
+    let (before, between) = if is_long {
+        ("---\n", "->\n")
+    } else {
+        ("\n", " ! ")
+    };
+    let mut rows = Vec::new(alloc);
+    for row in table.split(before).skip(1) {
+        rows.push(row.split_once(between).ok_or("a row without an answer")?)?;
     }
-    Ok(())
-}
-
-/// The statement of a short chunk.
-pub fn read<'a>(alloc: Global, text: &'a str) -> Result<Option<Stmt<'a>>, ParseFault> {
-    if text.len() > 1000 {
-        return Err(ParseFault::NotAStatement { line: 1 });
-    }
-    parse(alloc, text, 1, 100)
-}
-
-/// The statement of a short chunk that has one.
-pub fn statement<'a>(alloc: Global, text: &'a str) -> Result<Stmt<'a>, Fail> {
-    let stmt = read(alloc, text)?.ok_or("no statement")?;
-    Ok(stmt)
+    Ok(rows)
 }

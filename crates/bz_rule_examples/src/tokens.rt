@@ -3,7 +3,7 @@
 ghost use Rattle.std.specs.Prelude.{IsTrue};
 ghost use Rattle.bz_token.specs.Cuts.{is_physical_line};
 
-use crate::table::{check_lines, check_rows};
+use crate::checks::check_table;
 use bumpalo::Bump;
 use bz_token::{Cut, Cutter, Front, LexFault, Next, Token, check_utf8, first_chunk, tokens};
 use std::alloc::Global;
@@ -140,7 +140,7 @@ fn shown(alloc: Global, text: &str) -> Result<String, Fail> {
 #[test]
 fn tokens_of_texts(rt: HostRuntime) -> Result<(), Fail> {
     let alloc = rt.alloc();
-    check_rows(&rt, alloc, TOKENS, |text| shown(alloc, text))
+    check_table(&rt, alloc, TOKENS, |text| shown(alloc, text))
 }
 
 #[test]
@@ -170,7 +170,8 @@ fn after(header: &[u8], ahead: &str, at_end: bool) -> Option<Next>
 }
 
 /// What follows an `if`, whether that is all, and whether it goes on with the block.
-const AFTER_IF: &str = r##"els more ! Short
+const AFTER_IF: &str = r##"
+els more ! Short
 else end ! Goes
 else: more ! Goes
 elsewhere more ! Ends
@@ -193,7 +194,7 @@ fn after_if(alloc: Global, asked: &str) -> Result<String, Fail> {
 #[test]
 fn if_blocks_go_on(rt: HostRuntime) -> Result<(), Fail> {
     let alloc = rt.alloc();
-    check_lines(&rt, alloc, AFTER_IF, |asked| after_if(alloc, asked))
+    check_table(&rt, alloc, AFTER_IF, |asked| after_if(alloc, asked))
 }
 
 #[test]
@@ -211,7 +212,8 @@ fn blocks_go_on(rt: HostRuntime) {
 }
 
 /// Texts, and the length of the chunk that they begin with, and the number of its tokens; or what else they begin with.
-const CHUNKS: &str = r##"x = 1␊y = 2␊ ! 6 4
+const CHUNKS: &str = r##"
+x = 1␊y = 2␊ ! 6 4
 x # a␊y ! 6 3
 f(␊␊# a␊)␊y ! 10 5
 '''␊'''␊x ! 8 2
@@ -255,5 +257,5 @@ fn shown_chunk(alloc: Global, text: &str) -> Result<String, Fail> {
 #[test]
 fn first_chunks(rt: HostRuntime) -> Result<(), Fail> {
     let alloc = rt.alloc();
-    check_lines(&rt, alloc, CHUNKS, |text| Ok(shown_chunk(alloc, text)?))
+    check_table(&rt, alloc, CHUNKS, |text| Ok(shown_chunk(alloc, text)?))
 }

@@ -1,6 +1,7 @@
 //! Trees, owners of comments, the grammar, blocks and faults.
 
-use crate::table::{check_rows, read, statement};
+use crate::checks::{check_table, read, statement};
+use crate::table::{BLOCK, cut_rows};
 use bz_tree::{Class, Group, GroupKind, Node, Seg, Stmt};
 use std::alloc::Global;
 use std::borrow::CowStr;
@@ -181,25 +182,6 @@ Assign :x += 1 :
 not ( x )␄
 ->
 Other :not paren{<:x :>|} :
----
-if a:
-    def = """
-# in the text
-"""
-else:
-    y  =  2
-
-  # tail
-
-->
-Block :if a:
-    def = """
-# in the text
-"""
-else:
-    y  =  2
-
-  # tail :
 ---
 # a
   # b
@@ -432,11 +414,15 @@ pub fn shown(alloc: Global, text: &str) -> Result<String, Fail> {
 #[test]
 fn trees_of_chunks(rt: HostRuntime) -> Result<(), Fail> {
     let alloc = rt.alloc();
-    check_rows(&rt, alloc, TREES, |text| Ok(shown(alloc, text)?))
+    let block = format!(in alloc; "{BLOCK}\n")?;
+    let wanted = format!(in alloc; "Block :{} :\n", BLOCK.trim_end())?;
+    assert_eq!(rt; shown(alloc, block.as_str())?.as_str(), wanted.as_str());
+    check_table(&rt, alloc, TREES, |text| Ok(shown(alloc, text)?))
 }
 
 /// What the grammar accepts, and what it refuses.
-const GRAMMAR: &str = r##"1 = 2 ! x = 
+const GRAMMAR: &str = r##"
+1 = 2 ! x = 
 f ( x ) = y ! x = y = z
 a , b += c ! x = 1 ,
 x ! x ; y
@@ -479,8 +465,7 @@ x = [ ] ! x = ]"##;
 
 #[test]
 fn grammar(rt: HostRuntime) -> Result<(), Fail> {
-    for row in GRAMMAR.lines() {
-        let (accepted, refused) = row.split_once(" ! ").ok_or("a row without an answer")?;
+    for (accepted, refused) in cut_rows(rt.alloc(), GRAMMAR)? {
         assert!(rt;
             matches!(read(rt.alloc(), accepted), Ok(Some(_))),
             "{accepted}"
@@ -533,5 +518,5 @@ fn shown_lines(alloc: Global, text: &str) -> Result<String, Fail> {
 #[test]
 fn lines_of_statements(rt: HostRuntime) -> Result<(), Fail> {
     let alloc = rt.alloc();
-    check_rows(&rt, alloc, LINES, |text| shown_lines(alloc, text))
+    check_table(&rt, alloc, LINES, |text| shown_lines(alloc, text))
 }

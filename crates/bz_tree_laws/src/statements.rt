@@ -3,8 +3,8 @@
 ghost use Rattle.std.specs.Prelude.{◌≡◌, ℕ, List};
 ghost use Rattle.bz_token.specs.Places.{Placed};
 ghost use Rattle.bz_tree.specs.Tree.{Statement};
-ghost use Rattle.bz_tree.specs.Statement.{IsStatementOf, class_of};
 ghost use Rattle.bz_tree.specs.Chunk.{IsChunkOf};
+ghost use Rattle.bz_tree.specs.Statement.{IsStatementOf, class_of};
 ghost use Rattle.bz_tree_laws.specs.Answers.{HasAnswer};
 
 /// A list of tokens has one tree at most.
