@@ -58,7 +58,13 @@ pub(crate) fn edit_canonical(
     }
     let rewritten_first = progress.looks.is_rewritten();
     let mut written = progress.take_written(script.alloc);
-    match find_canonical(script, ahead.text(), max_statement, rewritten_first, &mut written)? {
+    match find_canonical(
+        script,
+        ahead.text(),
+        max_statement,
+        rewritten_first,
+        &mut written,
+    )? {
         None => {
             progress.give_back_written(written);
             progress.looked_in_vain();
