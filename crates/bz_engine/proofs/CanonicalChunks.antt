@@ -21,7 +21,6 @@ use Rattle.bz_engine.specs.declared.edit.Edited.TheVariants.{Done}
 use Rattle.bz_engine.specs.declared.next_chunk.NextChunk.{NextChunk}
 use Rattle.bz_engine.specs.declared.edit.Scripted.TheVariants.{Done as Laid}
 use Rattle.bz_engine.specs.private.Edits.{IsEdited, IsLaidOut}
-use Rattle.bz_engine.specs.private.Found.{IsFound}
 use Rattle.bz_engine.specs.private.NextChunks.{IsFirstEdited, IsKnownEdited}
 use Rattle.bz_engine.specs.private.Rows.{HasKey}
 use Rattle.bz_engine.proofs.ChunkEdits.{scripted_edited}
