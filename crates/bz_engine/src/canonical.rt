@@ -21,6 +21,7 @@ ghost use Rattle.bz_engine.specs.private.Rows.{HasKey};
 use crate::answer::{asked_attribute, is_answerable, marks_name, unchanged_by_text};
 use crate::argument::{EditedArgument, edit_lines};
 use crate::edit::{Edited, ScriptRun};
+use crate::looks::Way;
 use crate::next_chunk::NextChunk;
 use crate::progress::Progress;
 use crate::rule_passes::OnePass;
@@ -56,15 +57,9 @@ pub(crate) fn edit_canonical(
     if !may_be_known(script) || !progress.is_worth_a_look() {
         return Ok(None);
     }
-    let rewritten_first = progress.looks.is_rewritten();
+    let way = progress.way_to_look();
     let mut written = progress.take_written(script.alloc);
-    match find_canonical(
-        script,
-        ahead.text(),
-        max_statement,
-        rewritten_first,
-        &mut written,
-    )? {
+    match find_canonical(script, ahead.text(), max_statement, way, &mut written)? {
         None => {
             progress.give_back_written(written);
             progress.looked_in_vain();
@@ -121,7 +116,7 @@ fn edit_by_itself(
     ensures nothing { IfOk result (λ done. IsFalse done
         → (progress.new ≡ progress.old) × (text.new.items ≡ text.old.items)) }
 {
-    let Some(found) = find_canonical(script, chunk, u64::MAX, false, written)? else {
+    let Some(found) = find_canonical(script, chunk, u64::MAX, Way::AsIsFirst, written)? else {
         return Ok(false);
     };
     if found.chunk.chunk.len() != chunk.len() {
@@ -191,7 +186,7 @@ fn find_canonical<'a>(
     script: ScriptRun<'a>,
     text: &'a str,
     max_statement: u64,
-    rewritten_first: bool,
+    way: Way,
     written: &'a mut Vec<u8>,
 ) -> Result<Option<Found<'a>>, NoMemory>
     ensures canonical { IfOk result (λ told. IfSome told (λ found. IsCanonical script.entry.max_depth found.attr.now
@@ -201,10 +196,10 @@ fn find_canonical<'a>(
 {
     let attr = asked(script);
     let depth = script.max_depth;
-    let told = if rewritten_first {
-        rewritten_or_as_is(text, attr, depth, written)?
-    } else {
-        as_is_or_rewritten(text, attr, depth, written)?
+    let told = match way {
+        Way::AsIs => canonical(text, attr, depth),
+        Way::AsIsFirst => as_is_or_rewritten(text, attr, depth, written)?,
+        Way::RewrittenFirst => rewritten_or_as_is(text, attr, depth, written)?,
     };
     let Some(chunk) = told else {
         return Ok(None);

@@ -12,6 +12,21 @@ pub(crate) struct Looks {
     before_next: u8,
     /// The last chunk that was found stood otherwise than it is written.
     rewritten: bool,
+    /// How many looks for a chunk that stands otherwise were in vain one after another, up to eight.
+    rewritten_in_vain: u8,
+    /// So many looks come before the next such look.
+    before_rewritten: u8,
+}
+
+/// How to look for a chunk.
+#[derive(Clone, Copy)]
+pub(crate) enum Way {
+    /// As it would be written.
+    AsIs,
+    /// Where it does not stand so, otherwise.
+    AsIsFirst,
+    /// The other way round.
+    RewrittenFirst,
 }
 
 impl Looks {
@@ -21,6 +36,8 @@ impl Looks {
             in_vain: 0,
             before_next: 0,
             rewritten: false,
+            rewritten_in_vain: 0,
+            before_rewritten: 0,
         }
     }
 
@@ -33,8 +50,23 @@ impl Looks {
         false
     }
 
+    /// How to look for the next chunk.
+    pub(crate) fn way(&mut self) -> Way {
+        if self.rewritten {
+            return Way::RewrittenFirst;
+        }
+        if self.before_rewritten == 0 {
+            return Way::AsIsFirst;
+        }
+        self.before_rewritten -= 1;
+        Way::AsIs
+    }
+
     /// A look was in vain.
     pub(crate) fn fail(&mut self) {
+        if self.before_rewritten == 0 {
+            self.fail_rewritten();
+        }
         if self.in_vain < MANY {
             self.in_vain += 1;
         }
@@ -43,14 +75,21 @@ impl Looks {
         }
     }
 
+    fn fail_rewritten(&mut self) {
+        if self.rewritten_in_vain < MANY {
+            self.rewritten_in_vain += 1;
+        }
+        if self.rewritten_in_vain == MANY {
+            self.before_rewritten = MANY - 1;
+        }
+    }
+
     /// A look found such a chunk.
     pub(crate) fn succeed(&mut self, rewritten: bool) {
         self.in_vain = 0;
         self.rewritten = rewritten;
-    }
-
-    /// Whether the next chunk is likely to stand otherwise than it is written, as the last one did.
-    pub(crate) fn is_rewritten(&self) -> bool {
-        self.rewritten
+        if rewritten {
+            self.rewritten_in_vain = 0;
+        }
     }
 }

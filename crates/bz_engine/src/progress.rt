@@ -7,7 +7,7 @@ ghost use Rattle.bz_passes.specs.Exchange.{kept_and, pass_and};
 ghost use Rattle.bz_engine.specs.private.Found.{HasOneLog, one_told};
 
 use crate::chunk::newlines;
-use crate::looks::Looks;
+use crate::looks::{Looks, Way};
 use crate::rules::tell_line;
 use crate::spare::Spare;
 use bz_memory::NoMemory;
@@ -97,6 +97,13 @@ impl Progress {
         ensures { self.new ≡ self.old }
     {
         self.looks.is_due()
+    }
+
+    /// How to look for it.
+    pub(crate) fn way_to_look(&mut self) -> Way
+        ensures { self.new ≡ self.old }
+    {
+        self.looks.way()
     }
 
     /// It was not known, or the script was to see its statement.
