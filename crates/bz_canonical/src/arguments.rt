@@ -53,6 +53,7 @@ struct AfterOthers<'t> {
 }
 
 /// The argument here, with its name.
+#[inline(always)]
 pub(crate) fn argument<'t>(text: &'t [u8], attr: &[u8], depth: u8) -> Option<AfterArgument<'t>>
     requires { depth < 254 }
     ensures { IfSome result (λ read. IsArgumentFront depth attr.now text.now read.rest.now read.named read.noted) }

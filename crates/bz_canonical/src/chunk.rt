@@ -38,6 +38,7 @@ pub(crate) const DEEPEST: u8 = 253;
 
 /// The chunk that the text begins with, where it stands as it would be written, with the place of the argument of this
 /// name. None: it may be so or not.
+#[inline(always)]
 pub fn canonical<'t>(text: &'t str, attr: &str, max_depth: u8) -> Option<CanonicalChunk<'t>>
     ensures { IfSome result (λ found. IsCanonical max_depth attr.now found.class (option_map (λ name. name.now) found.name)
         (option_map between found.place) found.chunk.now found.written.now text.now) }

@@ -129,6 +129,7 @@ fn edit_by_itself(
 }
 
 /// The script on the statement of a chunk that was found. None, with nothing done: the chunk is to be read.
+#[inline(always)]
 fn edit_known(
     script: ScriptRun<'_>,
     found: Found<'_>,
@@ -182,6 +183,7 @@ pub(crate) struct Found<'a> {
 }
 
 /// The chunk that the text begins with, where it is known what would be written of it, and it is not too long.
+#[inline(always)]
 fn find_canonical<'a>(
     script: ScriptRun<'a>,
     text: &'a str,
@@ -211,6 +213,7 @@ fn find_canonical<'a>(
 }
 
 /// The chunk as it stands, where that is what would be written; or what is written of it.
+#[inline(always)]
 fn as_is_or_rewritten<'t>(
     text: &'t str,
     attr: &str,
