@@ -43,8 +43,8 @@ const BEFORE: &str = "k(";
 
 const AFTER: &str = "\n    #\n)\n";
 
-// More is not read alone.
-const LONGEST: usize = 1 << 30;
+// More bytes are not read alone: they are not worth a copy.
+const LONGEST: usize = 1 << 16;
 
 /// What a command makes of the argument that has these lines, or, where they are none, adds to a rule that has no
 /// argument of the name. None: the rule is to be seen.
@@ -152,8 +152,11 @@ fn edit_alone<'s>(
     requires { (attr : List ℕ) × (one_attribute command.now ≡ Some attr) }
     ensures { IfOk result (λ told. IfSome told (EditsLines script.entry.max_depth command.now script.entry.home.now lines.now)) }
 {
+    if lines.len() > LONGEST {
+        return Ok(None);
+    }
     put_small_rule(lines, &mut spare.small)?;
-    if spare.small.len() > LONGEST {
+    if spare.small.len() > 2 * LONGEST {
         return Ok(None);
     }
     let Ok(Some(row)) = read_text(
