@@ -164,7 +164,7 @@ fn ends_at_a_failure(rt: HostRuntime) -> Result<(), Fail> {
             ran(alloc, &mut source, &mut drip)?,
             Err(RunFault::ReadFailed)
         );
-        assert_eq!(rt; (source.failures(), drip.writes), (1, 0));
+        assert_eq!(rt; (Source::failures(&source), drip.writes), (1, 0));
         assert_eq!(rt; reader.calls, 1);
 
         let mut writer = Stumbling::new(kind);
@@ -174,7 +174,7 @@ fn ends_at_a_failure(rt: HostRuntime) -> Result<(), Fail> {
             ran(alloc, &mut source, &mut sink)?,
             Err(RunFault::WriteFailed)
         );
-        assert_eq!(rt; (source.failures(), sink.failures()), (0, 1));
+        assert_eq!(rt; (Source::failures(&source), Sink::failures(&sink)), (0, 1));
         assert_eq!(rt; writer.calls, 1);
     }
     Ok(())
