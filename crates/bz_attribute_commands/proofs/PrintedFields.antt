@@ -1,46 +1,32 @@
 -- What is printed of the head and the parts of a rule is what is printed of it.
-use Rattle.std.proofs.Common.{◌≡◌, ℕ, List, [], ◌∷◌, ◌++◌, ◌<◌, ◌≤◌, true, false, Option, Some, None, Bor, option_map, is_some, length, refl, sym, ◌∙◌, ap, arith, append_assoc, if◌then◌else◌, bytes_eq, option_and_then}
+use Rattle.std.proofs.Common.{◌≡◌, ℕ, List, [], ◌∷◌, ◌++◌, ◌<◌, ◌≤◌, false, Option, Some, None, option_map, is_some, length, refl, sym, ◌∙◌, ap, arith, append_assoc, if◌then◌else◌}
 use Rattle.std.specs.Prelude.{codes, option_to_list}
 use Rattle.bz_tree.specs.Tree.{Segment, Statement}
 use Rattle.bz_tree.specs.Rows.{RowPart}
 use Rattle.bz_command.specs.Labels.{Package}
 use Rattle.bz_command.specs.declared.arguments.Field.{Field}
-use Rattle.bz_command.specs.declared.arguments.Field.TheVariants.{Label, ValueOf}
-use Rattle.bz_attribute.specs.Rules.{Rule, rule_of, kind_text, name_in, first_named, value, string_value}
+use Rattle.bz_command.specs.declared.arguments.Field.TheVariants.{ValueOf}
+use Rattle.bz_attribute.specs.Rules.{Rule, rule_of, kind_text, first_named, value}
 use Rattle.bz_attribute.specs.RowPlaces.{IsRuleRow}
-use Rattle.bz_attribute.specs.Texts.{home_text}
 use Rattle.bz_attribute.specs.Heads.{IsHeadOf}
 use Rattle.bz_attribute.specs.declared.head.Head.{Head}
 use Rattle.bz_attribute.specs.declared.done.Done.{Done}
 use Rattle.bz_attribute.specs.declared.done.Note.{Note}
 use Rattle.bz_attribute.specs.declared.done.Note.TheVariants.{Missing}
-use Rattle.bz_attribute_commands.specs.Print.{field_text, field_name, fields_of, line_of, prints, value_text, word_form, list_text, printed}
+use Rattle.bz_attribute_commands.specs.Print.{field_name, fields_of, line_of, prints, value_text, printed}
 use Rattle.bz_attribute_commands.specs.private.PrintSteps.{HasPrinted, HasPrintedArgument, IsRuleOf}
 use Rattle.bz_attribute.specs.Effects.{done}
 use Rattle.bz_token.specs.Common.{map_or}
 use Rattle.std.specs.Option.{option_or}
-use Rattle.bz_token.proofs.Classes.{same_bytes}
 
 same_rule : (o : Option Rule) (x y : Rule) → o ≡ Some x → o ≡ Some y → x ≡ y
 same_rule o x y one other = let both : Some x ≡ Some y = sym one ∙ other in cc
-
-pub name_told : (head : Head) (ps : List RowPart) (s : Statement) (r : Rule) → IsRuleOf head ps s r → option_map (λ (t : Bor (List ℕ)). t.now) head.name ≡ name_in r.args
-name_told head ps s r h = h.head.name_is ∙ ap (λ (z : Rule). name_in z.args) (same_rule (rule_of s.nodes) h.head.rule r h.head.is h.row.rule)
 
 pub kind_told : (head : Head) (ps : List RowPart) (s : Statement) (r : Rule) → IsRuleOf head ps s r → kind_text r.kind ≡ head.kind.now
 kind_told head ps s r h = ap (λ (z : Rule). kind_text z.kind) (same_rule (rule_of s.nodes) r h.head.rule h.row.rule h.head.is) ∙ h.head.kind_is
 
 abbrev pub note_of : Field → Option (List ℕ) → Option Note
 note_of field text = if is_some text then None else Some (Missing (field_name field))
-
--- one field, whose text is the same for each such rule
-pub one_field : (home : Package) (field : Field) (head : Head) (ps : List RowPart) (old new : List ℕ) (text : Option (List ℕ))
-    → ((s : Statement) (r : Rule) → IsRuleOf head ps s r → field_text home s r field ≡ text) → new ≡ old ++ map_or (codes "(missing)") (λ text. text) text
-    → HasPrinted home (field ∷ []) head ps old new (note_of field text)
-one_field home field head ps old new text told is = record {
-  line = λ s r h. is ∙ ap (λ (t : Option (List ℕ)). old ++ map_or (codes "(missing)") (λ text. text) t) (sym (told s r h));
-  note = λ s r h. ap (note_of field) (sym (told s r h));
-}
 
 pub one_argument : (attr : List ℕ) (ps : List RowPart) (old new : List ℕ) (text : Option (List ℕ))
     → ((s : Statement) (r : Rule) → IsRuleRow s r ps → option_map (λ (a : Segment). value_text (value a)) (first_named attr r.args) ≡ text) → new ≡ old ++ map_or (codes "(missing)") (λ text. text) text
@@ -52,23 +38,6 @@ one_argument attr ps old new text told is = record {
 
 pub with_head : (home : Package) (attr : List ℕ) (head : Head) (ps : List RowPart) (old new : List ℕ) (told : Option Note) → HasPrintedArgument attr ps old new told → HasPrinted home (ValueOf attr ∷ []) head ps old new told
 with_head home attr head ps old new told a = record { line = λ s r h. a.line home s r h.row; note = λ s r h. a.note home s r h.row }
-
--- the label, where the name is this
-pub label_told : (home : Package) (head : Head) (ps : List RowPart) (name : Option (Bor (List ℕ))) → head.name ≡ name → (s : Statement) (r : Rule) → IsRuleOf head ps s r
-    → field_text home s r Label ≡ option_map (λ text. home_text home ++ text) (option_map (λ (t : Bor (List ℕ)). t.now) name)
-label_told home head ps name is s r h =
-    ap (option_map (λ text. home_text home ++ text)) (sym (name_told head ps s r h) ∙ ap (option_map (λ (t : Bor (List ℕ)). t.now)) is)
-
-name_value : (o : Option Segment) (v : List ℕ) → option_and_then (λ a. string_value (value a)) o ≡ Some v → option_map (λ (a : Segment). value_text (value a)) o ≡ Some (word_form v)
-name_value None v h = absurd cc
-name_value (Some a) v h = ap (λ (t : Option (List ℕ)). Some (map_or (list_text (value a)) word_form t)) h
-
--- the name as an attribute
-pub name_shown : (home : Package) (attr : List ℕ) (head : Head) (ps : List RowPart) (name : Bor (List ℕ)) → bytes_eq attr (codes "name") ≡ true → head.name ≡ Some name
-    → (s : Statement) (r : Rule) → IsRuleOf head ps s r → field_text home s r (ValueOf attr) ≡ Some (word_form name.now)
-name_shown home attr head ps name same is s r h =
-    ap (λ (n : List ℕ). option_map (λ (a : Segment). value_text (value a)) (first_named n r.args)) (same_bytes attr (codes "name") same)
-    ∙ name_value (first_named (codes "name") r.args) name.now (sym (name_told head ps s r h) ∙ ap (option_map (λ (t : Bor (List ℕ)). t.now)) is)
 
 -- the first argument of a name, read alone
 pub none_in : (o : Option Segment) → [] ≡ option_to_list o → o ≡ None

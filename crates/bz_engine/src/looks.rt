@@ -51,14 +51,13 @@ impl Looks {
     }
 
     /// How to look for the next chunk.
-    pub(crate) fn way(&mut self) -> Way {
+    pub(crate) fn way(&self) -> Way {
         if self.rewritten {
             return Way::RewrittenFirst;
         }
         if self.before_rewritten == 0 {
             return Way::AsIsFirst;
         }
-        self.before_rewritten -= 1;
         Way::AsIs
     }
 
@@ -66,6 +65,8 @@ impl Looks {
     pub(crate) fn fail(&mut self) {
         if self.before_rewritten == 0 {
             self.fail_rewritten();
+        } else {
+            self.before_rewritten -= 1;
         }
         if self.in_vain < MANY {
             self.in_vain += 1;

@@ -71,7 +71,7 @@ nodes_begin (item (leaf kind text) xs) ps rest some h none texts ended =
 nodes_begin (item (group kind segs one_comma end) xs) ps rest some h none texts ended =
     first_piece Operator (opening kind) (tail_of (nodes_of (item (group kind segs one_comma end) xs) ++ ps)) rest refl (opening_branch kind) texts ended
 
--- a comment begins with a number operator
+-- a comment begins with a number sign
 pub comment_begins : (comment rest : List ℕ) → is_comment_text comment ≡ true → goes_on If (comment ++ rest) ≡ false
 comment_begins [] rest h = absurd (false≢true h)
 comment_begins (b ∷ bs) rest h = by b (and_parts (b == 35) _ (and_parts ((b == 35) && not (list_any is_newline (b ∷ bs))) (not (ends_blank (b ∷ bs))) h).0).0

@@ -20,12 +20,12 @@ is_space b = b == 32
 abbrev pub is_blank : ℕ → Bool
 is_blank b = b == 32 || b == 9
 
--- a number operator, or nothing
+-- a number sign, or nothing
 abbrev pub is_operator_or_none : Option ℕ → Bool
 is_operator_or_none None = true
 is_operator_or_none (Some b) = b == 35
 
--- spaces and tabs alone, or a comment: its first character other than these is a number operator
+-- spaces and tabs alone, or a comment: its first character other than these is a number sign
 abbrev pub is_skipped : List ℕ → Bool
 is_skipped line = is_operator_or_none (find (λ b. not (is_blank b)) line)
 

@@ -52,7 +52,7 @@ none_before p (x ∷ xs) (suc n) h =
       | inr miss ↦ rw miss (none_before p xs n (omega (arith, rw miss at h)))
     ]
 
--- a number operator is no blank
+-- a number sign is no blank
 hash_no_blank : (b : ℕ) → (b == 35) ≡ true → is_blank b ≡ false
 hash_no_blank b h = grind (arith, nat_tests)
 

@@ -109,7 +109,7 @@ is_closed (Some o) text = is_closed_inside o.quotes (units (drop (opening_length
 abbrev pub is_string : List ℕ → Bool
 is_string text = is_closed (opening text) text
 
--- a number operator and what follows it on its line, without trailing white space
+-- a number sign and what follows it on its line, without trailing white space
 abbrev pub ends_blank : List ℕ → Bool
 ends_blank [] = false
 ends_blank (b ∷ []) = is_blank b
