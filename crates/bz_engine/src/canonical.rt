@@ -21,6 +21,7 @@ ghost use Rattle.bz_engine.specs.private.Rows.{HasKey};
 use crate::answer::{asked_attribute, is_answerable, marks_name, unchanged_by_text};
 use crate::argument::{EditedArgument, edit_lines};
 use crate::edit::{Edited, ScriptRun};
+use crate::failure::failure_by_text;
 use crate::looks::Way;
 use crate::next_chunk::NextChunk;
 use crate::progress::Progress;
@@ -306,9 +307,37 @@ fn edit_by_text(
         home: script.home,
     };
     match unchanged_by_text(env, only.command, found)? {
-        None => edit_argument(script, only, found, progress, text),
+        None => fail_or_edit(script, only, found, progress, text),
         Some(unchanged) => {
             progress.keep_line(unchanged.line)?;
+            put_canonical(script, found.chunk, progress, text)?;
+            Ok(true)
+        }
+    }
+}
+
+/// The one command of the script on a rule that it marks, where its text shows that it fails, or how to edit it.
+fn fail_or_edit(
+    script: ScriptRun<'_>,
+    only: OnePass<'_>,
+    found: Found<'_>,
+    progress: &mut Progress,
+    text: &mut Vec<u8>,
+) -> Result<bool, NoMemory>
+    requires fits { Fits progress.old.kept script.passes.now }
+    requires only { script.passes.now ≡ one_pass only.target.now only.command.now }
+    requires marked { IsMarked script.max_depth only.target.now found }
+    ensures fits { OnOk result (Fits progress.new.kept script.entry.passes.now) }
+    ensures line { OnOk result (progress.new.line ≡ progress.old.line) }
+    ensures done { IfOk result (λ done. IsTrue done → (s : Statement) → IsFound script.entry.max_depth found.entry s
+        → IsLaidOut (run_of script.entry) s progress.old progress.new text.old.items text.new.items) }
+    ensures nothing { IfOk result (λ done. IsFalse done
+        → (progress.new ≡ progress.old) × (text.new.items ≡ text.old.items)) }
+{
+    match failure_by_text(script, only.command, found)? {
+        None => edit_argument(script, only, found, progress, text),
+        Some(entry) => {
+            progress.keep_failure(entry)?;
             put_canonical(script, found.chunk, progress, text)?;
             Ok(true)
         }

@@ -8,8 +8,8 @@ use Rattle.bz_engine.specs.private.Found.{LeavesRule}
 use Rattle.bz_engine.proofs.OnlyPass.{one_log, stays_laid, told_fits}
 use Rattle.bz_engine.proofs.canonical.edit_by_text.Goals as goal
 
-pub edit_argument-requires-clause-marked : goal.edit_argument-requires-clause-marked
-edit_argument-requires-clause-marked c = record {
+pub fail_or_edit-requires-clause-marked : goal.fail_or_edit-requires-clause-marked
+fail_or_edit-requires-clause-marked c = record {
   met = λ s is. c.marks_name.ensures c.if-not-marks_name.false s (subst (λ (o : Option (Bor (List ℕ))). HasName (option_map (λ name. name.now) o) s) c.in-Some.is is.named);
   name = c.in-Some.name.now;
   named = ap (λ (o : Option (Bor (List ℕ))). option_map (λ name. name.now) o) c.in-Some.is;
