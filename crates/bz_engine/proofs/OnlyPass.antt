@@ -23,7 +23,8 @@ use Rattle.bz_engine.specs.Meaning.{meaning, changes, fails_on, note_told}
 use Rattle.bz_engine.specs.Outcome.{Run, Script, is_query}
 use Rattle.bz_engine.specs.Progress.{Progress, last_class, text_following}
 use Rattle.bz_engine.specs.private.Edits.{IsLaidOut}
-use Rattle.bz_engine.specs.private.Found.{HasOneLog, Makes, one_pass, one_told, told_line}
+use Rattle.bz_engine.specs.private.Found.{FailsOn, HasOneLog, Makes, one_log_of, one_pass, one_told, told_line}
+use Rattle.std.proofs.lemmas.Bool.{false≢true}
 use Rattle.bz_attribute.specs.Texts.{shown_text}
 use Rattle.bz_token.specs.Common.{map_or}
 
@@ -56,12 +57,16 @@ one_log kept passes target command is fits = by kept (subst (Fits kept) is fits)
     by (k ∷ []) size = log_in k k.logs refl size.0
     by (k ∷ j ∷ ks) other = absurd other.1
 
+pub log_fits : (kept : List (Kept Entry)) (passes : Script) (target : Target) (command : Command) (log : List Entry) → passes ≡ one_pass target command → Fits kept passes
+    → Fits (kept_and kept (one_log_of log)) passes
+log_fits kept passes target command log is fits =
+    let h : HasOneLog kept = one_log kept passes target command is fits in
+    subst (λ (ks : List (Kept Entry)). Fits (kept_and ks (one_log_of log)) passes) (sym h.2)
+    (subst (Fits (kept_and (h.0 ∷ []) (one_log_of log))) (sym is) (ap (λ (logs : List (List Entry)). length (logs_and logs (log ∷ []))) h.3, tt))
+
 pub told_fits : (kept : List (Kept Entry)) (passes : Script) (target : Target) (command : Command) (line : Option (List ℕ)) → passes ≡ one_pass target command → Fits kept passes
     → Fits (kept_and kept (one_told line)) passes
-told_fits kept passes target command line is fits =
-    let h : HasOneLog kept = one_log kept passes target command is fits in
-    subst (λ (ks : List (Kept Entry)). Fits (kept_and ks (one_told line)) passes) (sym h.2)
-    (subst (Fits (kept_and (h.0 ∷ []) (one_told line))) (sym is) (ap (λ (logs : List (List Entry)). length (logs_and logs (map Line (option_to_list line) ∷ []))) h.3, tt))
+told_fits kept passes target command line is fits = log_fits kept passes target command (map Line (option_to_list line)) is fits
 
 -- what the pass makes of a statement that it marks, and what is kept of it
 slot_of_one : (home : Package) (target : Target) (command : Command) (s : Statement) (t : Slot Statement) → marks target s ≡ true → after command home (Some s) ≡ t
@@ -71,12 +76,17 @@ slot_of_one home target command s t met is = ap (λ b. if b then after command h
 abbrev kept_by : Bool → List Entry → List (Kept Entry)
 kept_by found log = record { found = found; logs = log ∷ [] } ∷ []
 
-kept_of_one : (home : Package) (target : Target) (command : Command) (s : Statement) (d : Done) → marks target s ≡ true → done_of command home (Some s) ≡ d → d.note ≡ None
-    → kept_alone (meaning home) (one_pass target command) (Some s) ≡ one_told d.line
-kept_of_one home target command s d met told quiet =
-    let said : (meaning home).says command (Some s) ≡ map Line (option_to_list d.line) =
-    ap (λ x0. map Line (option_to_list x0.line) ++ note_told (map_or [] (shown_text home) (Some s)) x0.note) told ∙ ap (λ n. map Line (option_to_list d.line) ++ note_told (map_or [] (shown_text home) (Some s)) n) quiet ∙ append-nil (map Line (option_to_list d.line)) in
-    ap (λ b. kept_by b (if b then (meaning home).says command (Some s) else [])) met ∙ ap (kept_by true) said
+-- what is told of an execution
+abbrev log_of_one : Package → Statement → Done → List Entry
+log_of_one home s d = map Line (option_to_list d.line) ++ note_told (shown_text home s) d.note
+
+quiet_log : (home : Package) (s : Statement) (d : Done) → d.note ≡ None → log_of_one home s d ≡ map Line (option_to_list d.line)
+quiet_log home s d quiet = ap (λ n. map Line (option_to_list d.line) ++ note_told (shown_text home s) n) quiet ∙ append-nil (map Line (option_to_list d.line))
+
+kept_of_one : (home : Package) (target : Target) (command : Command) (s : Statement) (d : Done) → marks target s ≡ true → done_of command home (Some s) ≡ d
+    → kept_alone (meaning home) (one_pass target command) (Some s) ≡ one_log_of (log_of_one home s d)
+kept_of_one home target command s d met told =
+    ap (λ b. kept_by b (if b then (meaning home).says command (Some s) else [])) met ∙ ap (λ x. kept_by true (log_of_one home s x)) told
 
 or_nothing : (b : Bool) → ((b || false) || false) ≡ b
 or_nothing true = refl
@@ -92,26 +102,27 @@ or_false false = refl
 
 -- The one command makes t of s, tells this of it, and t is written.
 pub only_laid : (run : Run) (target : Target) (command : Command) (s t : Statement) (d : Done) (old new : Progress) (before after_it : List ℕ)
-    → run.passes ≡ one_pass target command → marks target s ≡ true → after command run.home (Some s) ≡ Some t → done_of command run.home (Some s) ≡ d → d.note ≡ None
-    → new ≡ record { kept = kept_and old.kept (one_told d.line); changed = old.changed || d.changed; failed = old.failed; last = Some t.class; line = old.line }
+    → run.passes ≡ one_pass target command → marks target s ≡ true → after command run.home (Some s) ≡ Some t → done_of command run.home (Some s) ≡ d
+    → (run.keep_going ≡ false → fails d.note ≡ false)
+    → new ≡ record { kept = kept_and old.kept (one_log_of (log_of_one run.home s d)); changed = old.changed || d.changed; failed = old.failed || fails d.note; last = Some t.class; line = old.line }
     → after_it ≡ before ++ (if is_query run.passes then [] else text_following old.last (Some t ∷ []))
     → IsLaidOut run s old new before after_it
 only_laid run target command s t d old new before after_it passes met made told quiet is text =
     let home = run.home in
     let slot : slot_after (meaning home) run.passes (Some s) ≡ Some t = ap (λ ps. slot_after (meaning home) ps (Some s)) passes ∙ slot_of_one home target command s (Some t) met made in
-    let kept : kept_alone (meaning home) run.passes (Some s) ≡ one_told d.line = ap (λ ps. kept_alone (meaning home) ps (Some s)) passes ∙ kept_of_one home target command s d met told quiet in
+    let kept : kept_alone (meaning home) run.passes (Some s) ≡ one_log_of (log_of_one home s d) = ap (λ ps. kept_alone (meaning home) ps (Some s)) passes ∙ kept_of_one home target command s d met told in
     let changed : some_alone (meaning home) (changes home) run.passes (Some s) ≡ d.changed =
     ap (λ ps. some_alone (meaning home) (changes home) ps (Some s)) passes ∙ some_of_one home target command s (changes home) d.changed met (ap (λ x. x.changed) told) in
-    let failed : some_alone (meaning home) (fails_on home) run.passes (Some s) ≡ false =
-    ap (λ ps. some_alone (meaning home) (fails_on home) ps (Some s)) passes ∙ some_of_one home target command s (fails_on home) false met (ap (λ x. fails x.note) told ∙ ap fails quiet) in
+    let failed : some_alone (meaning home) (fails_on home) run.passes (Some s) ≡ fails d.note =
+    ap (λ ps. some_alone (meaning home) (fails_on home) ps (Some s)) passes ∙ some_of_one home target command s (fails_on home) (fails d.note) met (ap (λ x. fails x.note) told) in
     record {
       left = λ slots left. left_more (meaning home) (changes home) (fails_on home) run.passes slots (Some s) old.kept new.kept old.changed new.changed old.failed new.failed
           (ap (λ p. p.kept) is ∙ ap (kept_and old.kept) (sym kept)) (ap (λ p. p.changed) is ∙ ap (λ b. old.changed || b) (sym changed))
-          (ap (λ p. p.failed) is ∙ or_false old.failed ∙ ap (λ b. old.failed || b) (sym failed)) left;
+          (ap (λ p. p.failed) is ∙ ap (λ b. old.failed || b) (sym failed)) left;
       last = ap (λ p. p.last) is ∙ ap (λ x. last_class old.last (x ∷ [])) (sym slot);
       line = ap (λ p. p.line) is;
       text = text ∙ ap (λ x. before ++ (if is_query run.passes then [] else text_following old.last (x ∷ []))) (sym slot);
-      calm = λ ends calm. ap (λ p. p.failed) is ∙ calm;
+      calm = λ ends calm. ap (λ p. p.failed) is ∙ (λ i. calm i || quiet ends i);
     }
 
 -- The one command leaves s as it is, and tells this line of it.
@@ -122,9 +133,11 @@ pub stays_laid : (run : Run) (target : Target) (command : Command) (line : Optio
     → after_it ≡ before ++ (if is_query run.passes then [] else text_following mid.last (Some s ∷ []))
     → IsLaidOut run s old new before after_it
 stays_laid run target command line class s old mid new before after_it passes met made told class_is kept is text =
-    only_laid run target command s s (record { changed = false; line = line; note = None }) old new before after_it passes met made told refl
+    let d : Done = record { changed = false; line = line; note = None } in
+    let log : log_of_one run.home s d ≡ map Line (option_to_list line) = quiet_log run.home s d refl in
+    only_laid run target command s s d old new before after_it passes met made told (λ ends. refl)
     (is ∙ ap (λ (p : Progress). record p { last = Some class }) kept
-    ∙ (λ i. record { kept = kept_and old.kept (one_told line); changed = or_false old.changed i; failed = old.failed; last = Some (sym class_is i); line = old.line }))
+    ∙ (λ i. record { kept = kept_and old.kept (one_log_of (sym log i)); changed = or_false old.changed i; failed = or_false old.failed i; last = Some (sym class_is i); line = old.line }))
     (text ∙ ap (λ (p : Progress). before ++ (if is_query run.passes then [] else text_following p.last (Some s ∷ []))) kept)
 
 or_true : (b : Bool) → true ≡ (b || true)
@@ -138,10 +151,23 @@ pub grown_laid : (run : Run) (target : Target) (command : Command) (class : Clas
     → after_it ≡ before ++ (if is_query run.passes then [] else text_following mid.last (Some t ∷ []))
     → IsLaidOut run s old new before after_it
 grown_laid run target command class s t old mid new before after_it passes met makes class_is kept is text =
-    only_laid run target command s t (told_line true None) old new before after_it passes met makes.after_is makes.done refl
+    only_laid run target command s t (told_line true None) old new before after_it passes met makes.after_is makes.done (λ ends. refl)
     (is ∙ ap (λ (p : Progress). record p { last = Some class; changed = true }) kept
-    ∙ (λ i. record { kept = kept_and old.kept (one_told None); changed = or_true old.changed i; failed = old.failed; last = Some (sym class_is i); line = old.line }))
+    ∙ (λ i. record { kept = kept_and old.kept (one_told None); changed = or_true old.changed i; failed = or_false old.failed i; last = Some (sym class_is i); line = old.line }))
     (text ∙ ap (λ (p : Progress). before ++ (if is_query run.passes then [] else text_following p.last (Some t ∷ []))) kept)
+
+-- The one command fails on s, and the run goes on.
+pub failed_laid : (run : Run) (target : Target) (command : Command) (entry : Entry) (class : Class) (s : Statement) (old mid new : Progress) (before after_it : List ℕ)
+    → run.passes ≡ one_pass target command → run.keep_going ≡ true → marks target s ≡ true → FailsOn command run.home s entry → s.class ≡ class
+    → mid ≡ record old { kept = kept_and old.kept (one_log_of (entry ∷ [])); failed = true } → new ≡ record mid { last = Some class }
+    → after_it ≡ before ++ (if is_query run.passes then [] else text_following mid.last (Some s ∷ []))
+    → IsLaidOut run s old new before after_it
+failed_laid run target command entry class s old mid new before after_it passes goes_on met fails class_is kept is text =
+    let d : Done = record { changed = false; line = None; note = Some fails.note } in
+    only_laid run target command s s d old new before after_it passes met fails.made.after_is fails.made.done (λ ends. absurd (false≢true (sym ends ∙ goes_on)))
+    (is ∙ ap (λ (p : Progress). record p { last = Some class }) kept
+    ∙ (λ i. record { kept = kept_and old.kept (one_log_of (sym fails.told i)); changed = or_false old.changed i; failed = (or_true old.failed ∙ ap (λ b. old.failed || b) (sym fails.failed)) i; last = Some (sym class_is i); line = old.line }))
+    (text ∙ ap (λ (p : Progress). before ++ (if is_query run.passes then [] else text_following p.last (Some s ∷ []))) kept)
 
 -- the same of what is kept before and after
 pub laid_as : (run : Run) (s : Statement) (old start end new : Progress) (before after_it : List ℕ) → start ≡ old → new ≡ end → IsLaidOut run s start end before after_it

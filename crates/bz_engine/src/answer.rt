@@ -85,7 +85,7 @@ fn printed_by_name(env: Env<'_>, command: &Command, name: &str) -> Result<Option
 }
 
 /// No argument of the rule has this name, as its place shows.
-fn is_without(found: Found<'_>, attr: &str) -> bool
+pub(crate) fn is_without(found: Found<'_>, attr: &str) -> bool
     ensures { IsTrue result → (depth : ℕ) (s : Statement) → IsFound depth found.entry s → IsWithout attr.now s }
 {
     match found.chunk.place {

@@ -21,6 +21,7 @@ ghost use Rattle.bz_engine.specs.private.Rows.{HasKey};
 use crate::answer::{asked_attribute, is_answerable, marks_name, unchanged_by_text};
 use crate::argument::{EditedArgument, edit_lines};
 use crate::edit::{Edited, ScriptRun};
+use crate::failure::failure_by_text;
 use crate::looks::Way;
 use crate::next_chunk::NextChunk;
 use crate::progress::Progress;
@@ -258,7 +259,7 @@ fn edit_unseen(
         home: script.home,
     };
     match unchanged_by_text(env, only.command, found)? {
-        None => edit_argument(script, only, found, progress, text),
+        None => fail_or_edit(script, only, found, progress, text),
         Some(unchanged) => {
             progress.keep_line(unchanged.line)?;
             put_canonical(script, found.chunk, progress, text)?;
@@ -278,6 +279,32 @@ fn marks_found<'a>(script: ScriptRun<'a>, found: Found<'_>) -> Option<OnePass<'a
         return None;
     }
     Some(only)
+}
+
+/// The one command of the script on a rule that it marks, where its text shows that it fails, or how to edit it.
+fn fail_or_edit(
+    script: ScriptRun<'_>,
+    only: OnePass<'_>,
+    found: Found<'_>,
+    progress: &mut Progress,
+    text: &mut Vec<u8>,
+) -> Result<bool, NoMemory>
+    requires only { script.passes.now ≡ one_pass only.target.now only.command.now }
+    requires marked { IsMarked script.max_depth only.target.now found }
+    requires fits { Fits progress.old.kept script.passes.now }
+    ensures fits { OnOk result (Fits progress.new.kept script.entry.passes.now) }
+    ensures line { OnOk result (progress.new.line ≡ progress.old.line) }
+    ensures edited { IfOk result (EditsFound (run_of script.entry) found.entry progress.old progress.new
+        text.old.items text.new.items) }
+{
+    match failure_by_text(script, only.command, found)? {
+        None => edit_argument(script, only, found, progress, text),
+        Some(entry) => {
+            progress.keep_failure(entry)?;
+            put_canonical(script, found.chunk, progress, text)?;
+            Ok(true)
+        }
+    }
 }
 
 /// The one command of the script on a rule that it marks, where it looks at one argument alone, and the lines of that

@@ -11,6 +11,7 @@ mod argument;
 mod canonical;
 mod chunk;
 mod edit;
+mod failure;
 pub mod laws;
 mod looks;
 mod message;

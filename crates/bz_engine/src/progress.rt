@@ -4,13 +4,14 @@ ghost use Rattle.std.specs.Prelude.{◌≡◌, ◌+◌, ◌<◌, ◌^◌, ◌∷
 ghost use Rattle.bz_passes.specs.declared.entry.Entry.TheVariants.{Line};
 ghost use Rattle.bz_token.specs.Places.{line_at};
 ghost use Rattle.bz_passes.specs.Exchange.{kept_and, pass_and};
-ghost use Rattle.bz_engine.specs.private.Found.{HasOneLog, one_told};
+ghost use Rattle.bz_engine.specs.private.Found.{HasOneLog, one_log_of, one_told};
 
 use crate::chunk::newlines;
 use crate::looks::{Looks, Way};
 use crate::rules::tell_line;
 use crate::spare::Spare;
 use bz_memory::NoMemory;
+use bz_passes::entry::Entry;
 use bz_passes::kept::Kept;
 use bz_rule::Text;
 use bz_tree::Class;
@@ -64,6 +65,16 @@ impl Progress {
             (self.new ≡ record self.old { kept = kept_and self.old.kept (one_told line) }) }
     {
         keep_line(&mut self.kept[0], line)
+    }
+
+    /// The one command of the script failed on one statement more, and this was told of it.
+    pub(crate) fn keep_failure(&mut self, entry: Entry) -> Result<(), NoMemory>
+        requires { HasOneLog self.old.kept }
+        ensures { OnOk result
+            (self.new ≡ record self.old { kept = kept_and self.old.kept (one_log_of (entry ∷ [])); failed = true }) }
+    {
+        self.failed = true;
+        keep_entry(&mut self.kept[0], entry)
     }
 
     /// The buffers, until they are given back.
@@ -129,4 +140,13 @@ fn keep_line(kept: &mut Kept, line: Option<Text>) -> Result<(), NoMemory>
 {
     kept.found = true;
     tell_line(line, &mut kept.logs[0])
+}
+
+/// The one command of a pass ran on one statement more, which the pass marked, and this was told of it.
+fn keep_entry(kept: &mut Kept, entry: Entry) -> Result<(), NoMemory>
+    requires { length kept.old.logs ≡ 1 }
+    ensures { OnOk result (kept.new ≡ pass_and kept.old (record { found = true; logs = (entry ∷ []) ∷ [] })) }
+{
+    kept.found = true;
+    kept.logs[0].push(entry)
 }

@@ -6,9 +6,14 @@ use Rattle.bz_tree.specs.Statement.{class_of}
 use Rattle.bz_tree.specs.Tree.{Statement}
 use Rattle.bz_layout.specs.Layout.{layout_text}
 use Rattle.bz_attribute.specs.declared.done.Done.{Done}
+use Rattle.bz_attribute.specs.declared.done.Note.{Note}
+use Rattle.bz_attribute.specs.Effects.{fails}
+use Rattle.bz_attribute.specs.Texts.{shown_text}
+use Rattle.bz_command.specs.declared.arguments.Commented.TheVariants.{Attribute, Value}
+use Rattle.bz_engine.specs.Meaning.{note_told}
 use Rattle.bz_command.specs.declared.arguments.Attributes.TheVariants.{Named}
 use Rattle.bz_command.specs.Labels.{Package, Target}
-use Rattle.bz_rule.specs.declared.command.Action.TheVariants.{Remove, Replace}
+use Rattle.bz_rule.specs.declared.command.Action.TheVariants.{Comment, Remove, Replace}
 use Rattle.bz_attribute.specs.Rules.{first_named, rule_of}
 use Rattle.bz_attribute.specs.Marks.{marks}
 use Rattle.bz_canonical.specs.Canonical.{HasName, HasPlace, between, rule_args}
@@ -23,9 +28,13 @@ use Rattle.bz_engine.specs.Outcome.{Script}
 abbrev pub one_pass : Target → Command → Script
 one_pass target command = record { target = target; commands = command ∷ [] } ∷ []
 
--- what is kept of one slot that it marked, of which this line was told
+-- what is kept of one slot that it marked, of which this was told
+abbrev pub one_log_of : List Entry → List (Kept Entry)
+one_log_of log = record { found = true; logs = log ∷ [] } ∷ []
+
+-- a line was told of it, or nothing
 abbrev pub one_told : Option (List ℕ) → List (Kept Entry)
-one_told line = record { found = true; logs = map Line (option_to_list line) ∷ [] } ∷ []
+one_told line = one_log_of (map Line (option_to_list line))
 
 -- a place for the log of one command
 abbrev pub HasOneLog : List (Kept Entry) → Type 0
@@ -56,6 +65,24 @@ pub record Makes (command : Command) (home : Package) (s t : Statement) (told : 
 
 abbrev pub told_line : Bool → Option (List ℕ) → Done
 told_line changed line = record { changed = changed; line = line; note = None }
+
+-- The command fails on a rule, where it tells this of it.
+pub record FailsOn (command : Command) (home : Package) (s : Statement) (entry : Entry) : Type 0 where
+  pub note : Note
+  pub made : Makes command home s s (record { changed = false; line = None; note = Some note })
+  pub told : note_told (shown_text home s) (Some note) ≡ entry ∷ []
+  pub failed : fails (Some note) ≡ true
+
+-- the attribute without which a command fails on a rule
+abbrev pub needed : Command → Option (List ℕ)
+needed (Comment (Attribute attr) text) = Some attr
+needed (Comment (Value attr value) text) = Some attr
+needed _ = None
+
+-- The command fails on each rule of which this is known, and the run goes on.
+pub record FailsRule (keep_going : Bool) (command : Command) (home : Package) (found : Found) (entry : Entry) : Type 0 where
+  pub goes_on : keep_going ≡ true
+  pub fails_on : (depth : ℕ) (s : Statement) → IsFound depth found s → FailsOn command home s entry
 
 -- the attribute without which a command leaves a rule as it is
 abbrev pub looked_at : Command → Option (List ℕ)
