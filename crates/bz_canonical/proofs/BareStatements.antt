@@ -32,7 +32,6 @@ use Rattle.bz_layout_laws.proofs.ParsedRead.{plain_same}
 use Rattle.bz_layout_laws.proofs.SameInside.{items_same}
 use Rattle.bz_attribute.specs.Rules.{first_named, rule_from}
 use Rattle.bz_canonical.specs.Canonical.{HasArgumentName, rule_args, rule_name}
-use Rattle.bz_canonical.specs.private.Arguments.{Ends}
 use Rattle.bz_canonical.specs.private.Fronts.{IsTokenFront}
 use Rattle.bz_canonical.specs.private.Segments.{IsSegmentFront}
 use Rattle.bz_canonical.specs.private.Values.{AreNodesFront}
@@ -40,7 +39,6 @@ use Rattle.bz_canonical.specs.private.Statements.{IsAssignedFront, IsBareFront, 
 use Rattle.bz_canonical.proofs.GroupSegments.{most, begin_flat, named_segment, nodes_segment}
 use Rattle.bz_canonical.proofs.Operands.{flat_group, string_value}
 use Rattle.bz_canonical.proofs.Chained.{value_nodes}
-use Rattle.bz_canonical.proofs.Places.{dotted_place, plain_place}
 use Rattle.bz_canonical.proofs.RuleCalls.{after_it, no_argument_name}
 
 absurd_of : {A : Type 0} → false ≡ true → A
@@ -64,9 +62,9 @@ assign_text true = refl
 assign_text false = refl
 
 -- a rule of one word
-pub rule_bare : (depth : ℕ) (attr : List ℕ) (name : Option (List ℕ)) (place : Option Ends) (text bracket rest : List ℕ) → IsTokenFront Identifier text bracket → IsRuleCallFront depth attr name place bracket rest
-    → IsBareFront (suc depth) attr Rule name place text rest
-rule_bare depth attr name place text bracket rest f c = record {
+pub rule_bare : (depth : ℕ) (name : Option (List ℕ)) (text bracket rest : List ℕ) → IsTokenFront Identifier text bracket → IsRuleCallFront depth name bracket rest
+    → IsBareFront (suc depth) Rule name text rest
+rule_bare depth name text bracket rest f c = record {
   nodes = leaf Identifier f.token ∷ group RuleCall c.group.segs false c.group.end ∷ [];
   some = refl;
   texts = ((f.is, refl), ((c.group.are.texts, c.group.end_is), tt));
@@ -81,16 +79,15 @@ rule_bare depth attr name place text bracket rest f c = record {
   named = c.named;
   absent = λ name none. no_argument_name name c.group.segs c.group.end
       (λ has. none (after_it name f.token _ (subst (λ (P : List Piece). HasArgumentName name (bytes_of P)) (sym (append-nil (item_pieces Broken 0 Closed (group RuleCall c.group.segs false c.group.end)))) has)));
-  has = plain_place depth attr f.token text bracket rest c.group.segs c.group.end f.front place c.has;
 }
   where
     by : (P : List Piece) → f.token ++ (bytes_of P ++ rest) ≡ bytes_of (piece Closed Identifier f.token ∷ (P ++ [])) ++ rest
     by P = rw (append-nil P) (simp append_assoc)
 
 -- a rule of two words with a dot between them
-pub dotted_bare : (depth : ℕ) (attr : List ℕ) (name : Option (List ℕ)) (place : Option Ends) (text end member bracket rest : List ℕ) → IsTokenFront Identifier text end → end ≡ 46 ∷ member → IsTokenFront Identifier member bracket
-    → IsRuleCallFront depth attr name place bracket rest → IsBareFront (suc depth) attr Rule name place text rest
-dotted_bare depth attr name place text end member bracket rest f dot g c = record {
+pub dotted_bare : (depth : ℕ) (name : Option (List ℕ)) (text end member bracket rest : List ℕ) → IsTokenFront Identifier text end → end ≡ 46 ∷ member → IsTokenFront Identifier member bracket
+    → IsRuleCallFront depth name bracket rest → IsBareFront (suc depth) Rule name text rest
+dotted_bare depth name text end member bracket rest f dot g c = record {
   nodes = leaf Identifier f.token ∷ leaf Operator (codes ".") ∷ leaf Identifier g.token ∷ group RuleCall c.group.segs false c.group.end ∷ [];
   some = refl;
   texts = ((f.is, refl), ((dot_text, refl), ((g.is, refl), ((c.group.are.texts, c.group.end_is), tt))));
@@ -107,7 +104,6 @@ dotted_bare depth attr name place text end member bracket rest f dot g c = recor
   absent = λ name none. no_argument_name name c.group.segs c.group.end
       (λ has. none (after_it name f.token _ (after_it name (codes ".") _ (after_it name g.token _
       (subst (λ (P : List Piece). HasArgumentName name (bytes_of P)) (sym (append-nil (item_pieces Broken 0 Closed (group RuleCall c.group.segs false c.group.end)))) has)))));
-  has = dotted_place depth attr f.token g.token text bracket rest c.group.segs c.group.end (f.front ∙ ap (λ (t : List ℕ). f.token ++ t) (dot ∙ ap (λ (t : List ℕ). 46 ∷ t) g.front)) place c.has;
 }
   where
     by : (P : List Piece) → f.token ++ (46 ∷ (g.token ++ (bytes_of P ++ rest)))
@@ -124,8 +120,8 @@ renamed_string text equals rest value f eq s =
     named_segment LoadGroup 0 0 text equals rest value false f eq (value_nodes 0 0 value rest false (string_value value rest s 0 0)) (IsLoadArg.renamed refl refl (IsString.string refl))
 
 -- a load
-pub load_bare : (depth : ℕ) (attr text inside rest : List ℕ) → text ≡ codes "load(" ++ inside → IsLoadFront inside rest → IsBareFront (suc depth) attr Load None None text rest
-load_bare depth attr text inside rest is l =
+pub load_bare : (depth : ℕ) (text inside rest : List ℕ) → text ≡ codes "load(" ++ inside → IsLoadFront inside rest → IsBareFront (suc depth) Load None text rest
+load_bare depth text inside rest is l =
     let all = begin_flat LoadGroup 0 0 inside l.middle false (loaded_string inside l.middle l.file) l.names.segs l.end l.names.are l.names.bare l.names.front in
     let g = flat_group LoadGroup 0 0 inside l.end rest 41 _ _ refl all (few _ _ l.names.breaks) l.ends in
     record {
@@ -142,7 +138,6 @@ load_bare depth attr text inside rest is l =
       front = is ∙ ap (λ (t : List ℕ). codes "load" ++ t) (g.front Closed) ∙ by (item_pieces Broken 0 Closed (group LoadGroup g.segs false []));
       named = refl;
       absent = λ name none. refl;
-      has = tt;
     }
   where
     few : (n : ℕ) (h : Bool) → h ≡ false → (breaks_by_count LoadGroup n || (nat_le 2 n && h)) ≡ false
@@ -184,9 +179,9 @@ listed (item x xs) = ap (λ ys. spelled x ∷ ys) (listed xs)
 second : {A : Type 0} (b : Bool) (x y z : A) → b ≡ false → x ≡ z → x ≡ (if b then y else z)
 second b x y z is same = rw is same
 
-assigned_with : (depth : ℕ) (attr text end value rest o : List ℕ) (h : Bool) → IsTokenFront Identifier text end → end ≡ 32 ∷ (o ++ 32 ∷ value) → IsAssignWord o → AreNodesFront 0 depth value rest h
-    → IsBareFront depth attr Assign None None text rest
-assigned_with depth attr text end value rest o h f is word v = record {
+assigned_with : (depth : ℕ) (text end value rest o : List ℕ) (h : Bool) → IsTokenFront Identifier text end → end ≡ 32 ∷ (o ++ 32 ∷ value) → IsAssignWord o → AreNodesFront 0 depth value rest h
+    → IsBareFront depth Assign None text rest
+assigned_with depth text end value rest o h f is word v = record {
   nodes = leaf Identifier f.token ∷ leaf Operator o ∷ v.x ∷ list_of v.xs;
   some = refl;
   texts = ((f.is, refl), ((word.text, word.mark), subst (λ ys. HaveTexts (item v.x ys)) (sym back) v.are.texts));
@@ -204,7 +199,6 @@ assigned_with depth attr text end value rest o h f is word v = record {
       ∙ by (gap_before Closed EdgeOperand (leaf Operator o)) (ap (λ c. if c then Closed else Space) word.apart) (edge_after None EdgeOperand (leaf Operator o)) word.edge (items_of (list_of v.xs)) back;
   named = ap rule_name (no_rule f.token o [] (v.x ∷ list_of v.xs) word.dot);
   absent = λ name none. ap (λ found. first_named name (rule_args found)) (no_rule f.token o [] (v.x ∷ list_of v.xs) word.dot);
-  has = tt;
 }
   where
     back : items_of (list_of v.xs) ≡ v.xs
@@ -227,5 +221,5 @@ assigned_with depth attr text end value rest o h f is word v = record {
         ≡ (f.token ++ (gap_bytes gap ++ (o ++ bytes_of (items_pieces Broken 0 None Closed e (item v.x ys))))) ++ rest
     by gap gap_is e edge_is ys same = rw (gap_is, edge_is, same) (simp append_assoc)
 
-pub assigned_bare : (depth : ℕ) (attr text end rest : List ℕ) → IsTokenFront Identifier text end → IsAssignedFront depth end rest → IsBareFront depth attr Assign None None text rest
-assigned_bare depth attr text end rest f a = assigned_with depth attr text end a.value rest (assign_operator a.adds) a.holds f a.front (assign_word a.adds) a.nodes
+pub assigned_bare : (depth : ℕ) (text end rest : List ℕ) → IsTokenFront Identifier text end → IsAssignedFront depth end rest → IsBareFront depth Assign None text rest
+assigned_bare depth text end rest f a = assigned_with depth text end a.value rest (assign_operator a.adds) a.holds f a.front (assign_word a.adds) a.nodes

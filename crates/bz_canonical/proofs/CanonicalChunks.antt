@@ -17,9 +17,7 @@ use Rattle.bz_layout_laws.proofs.CommentRead.{comments_read}
 use Rattle.bz_layout_laws.proofs.WellFormed.{formed_again, formed_legible, formed_no_block}
 use Rattle.bz_layout_laws.proofs.WholeChunk.{statement_chunked}
 use Rattle.bz_canonical.specs.Canonical.{AreReadAlone, Between, HasPlace, IsCanonical, IsReadBack, argument_lines, first_args, rule_args, rule_name}
-use Rattle.bz_canonical.specs.private.Arguments.{Ends}
-use Rattle.bz_canonical.specs.private.Statements.{HasStatementPlace, IsPlaceIn, IsStatementFront, empty_line}
-use Rattle.bz_canonical.proofs.Places.{place_cut}
+use Rattle.bz_canonical.specs.private.Statements.{IsStatementFront, empty_line}
 use Rattle.bz_canonical.proofs.Taken.{taken}
 use Rattle.bz_token.specs.Common.{is_empty}
 
@@ -50,18 +48,9 @@ place_same depth attr s t b same has = record {
       ∙ ap (λ (z : Statement). b.before ++ (argument_lines (f (first_args attr z)) ++ b.after)) (sym same);
 }
 
-place_read : (depth : ℕ) (attr : List ℕ) (s t : Statement) (text written end : List ℕ) → lineless t ≡ lineless s → text ≡ written ++ end → (ends : Option Ends) → IfSome ends (HasStatementPlace depth attr s text end)
-    → (place : Option Between) → IsPlaceIn text written ends place → IfSome place (HasPlace depth attr t)
-place_read depth attr s t text written end same whole None g None is = tt
-place_read depth attr s t text written end same whole None g (Some place) is = absurd is
-place_read depth attr s t text written end same whole (Some ends) g None is = tt
-place_read depth attr s t text written end same whole (Some ends) g (Some place) is =
-    subst (HasPlace depth attr t) (sym (place_cut text written end ends g.between g.front g.lines g.ends whole place is.0 is.1 is.2)) (place_same depth attr s t g.between same g.has)
-
-read_back : (first depth : ℕ) (attr : List ℕ) (class : Class) (name : Option (List ℕ)) (ends : Option Ends) (text end rest : List ℕ) → (f : IsStatementFront depth attr class name ends text end rest)
-    → (place : Option Between) → IsPlaceIn text (layout_text f.s) ends place
-    → IsReadBack first depth attr class name place (layout_text f.s ++ empty_line f.s.class) (layout_text f.s)
-read_back first depth attr class name ends text end rest f place is =
+read_back : (first depth : ℕ) (attr : List ℕ) (class : Class) (name : Option (List ℕ)) (text end rest : List ℕ) → (f : IsStatementFront depth class name text end rest)
+    → IsReadBack first depth attr class name None (layout_text f.s ++ empty_line f.s.class) (layout_text f.s)
+read_back first depth attr class name text end rest f =
     let again = whole_again first depth f.s f.well in
     let same : lineless again.0 ≡ lineless f.s = again.2 ∙ ap lineless f.stays in
     record {
@@ -71,24 +60,16 @@ read_back first depth attr class name ends text end rest f place is =
       named = ap (λ (z : Statement). rule_name (rule_of z.nodes)) same ∙ f.named;
       written = ap layout_text same;
       absent = λ name none. ap (λ (z : Statement). first_named name (rule_args (rule_of z.nodes))) same ∙ f.absent name none;
-      has = place_read depth attr f.s again.0 text (layout_text f.s) end same f.front ends f.has place is;
+      has = tt;
     }
 
-pub canonical_chunk : (depth : ℕ) (attr : List ℕ) (class : Class) (name : Option (List ℕ)) (ends : Option Ends) (place : Option Between) (chunk written text end rest : List ℕ)
-    → IsStatementFront depth attr class name ends text end rest
-    → chunk ≡ take (length text - length rest) text → written ≡ take (length text - length end) text → IsPlaceIn text written ends place → IsCanonical depth attr class name place chunk written text
-canonical_chunk depth attr class name ends place chunk written text end rest f chunk_is written_is place_is =
+pub canonical_chunk : (depth : ℕ) (attr : List ℕ) (class : Class) (name : Option (List ℕ)) (chunk written text end rest : List ℕ) → IsStatementFront depth class name text end rest
+    → chunk ≡ take (length text - length rest) text → written ≡ take (length text - length end) text → IsCanonical depth attr class name None chunk written text
+canonical_chunk depth attr class name chunk written text end rest f chunk_is written_is =
     let s = f.s in
     let all : List ℕ = layout_text s ++ empty_line s.class in
     let front : text ≡ all ++ rest = f.front ∙ ap (λ (t : List ℕ). layout_text s ++ t) (f.ends ∙ ap (λ c. empty_line c ++ rest) (sym f.class_is)) ∙ sym (append_assoc (layout_text s) (empty_line s.class) rest) in
     let whole : IsChunk all = whole_chunk depth s f.well in
-    let written_of : written ≡ layout_text s = written_is ∙ taken text (layout_text s) end f.front in
-    subst (λ bytes. IsCanonical depth attr class name place bytes written text) (sym (chunk_is ∙ taken text all rest front))
-    (subst (λ bytes. IsCanonical depth attr class name place all bytes text) (sym written_of)
-    (record {
-      some = chunk_some all whole;
-      rest = rest;
-      front = front;
-      ends = whole;
-      read = λ first. read_back first depth attr class name ends text end rest f place (subst (λ (w : List ℕ). IsPlaceIn text w ends place) written_of place_is);
-    }))
+    subst (λ bytes. IsCanonical depth attr class name None bytes written text) (sym (chunk_is ∙ taken text all rest front))
+    (subst (λ bytes. IsCanonical depth attr class name None all bytes text) (sym (written_is ∙ taken text (layout_text s) end f.front))
+    (record { some = chunk_some all whole; rest = rest; front = front; ends = whole; read = λ first. read_back first depth attr class name text end rest f }))

@@ -14,5 +14,6 @@ pub mod SmallRules
 pub mod SingleStrings
 pub mod OwnLayout
 pub mod ElementLists
+pub mod Pendings
 pub mod PutArguments
 pub mod PutRules

@@ -1,5 +1,5 @@
 -- The place of an argument in a rule that stands on lines.
-use Rattle.std.proofs.Common.{◌≡◌, ◌≤◌, ℕ, suc, ◌-◌, List, [], ◌∷◌, ◌++◌, Bool, true, false, ◌||◌, refl, sym, ap, ◌∙◌, arith, append_assoc, append-nil, subst, length, drop, take}
+use Rattle.std.proofs.Common.{◌≡◌, ◌≤◌, ℕ, suc, ◌+◌, List, [], ◌∷◌, ◌++◌, Bool, true, false, ◌||◌, refl, sym, ap, ◌∙◌, arith, append_assoc, append-nil, subst, length, drop, take}
 use Rattle.std.proofs.Math.Seq.{drop-append_seam}
 use Rattle.std.proofs.lemmas.Bool.{false≢true}
 use Rattle.std.proofs.lemmas.Bool.Decides.{nat_tests}
@@ -19,9 +19,8 @@ use Rattle.bz_attribute.specs.RowPlaces.{IsLocal}
 use Rattle.bz_attribute.specs.Rules.{first_named, is_named, rule_of}
 use Rattle.bz_attribute.proofs.Views.{segments_of}
 use Rattle.bz_canonical.specs.Canonical.{AreReadAlone, Between, argument_lines, first_args}
-use Rattle.bz_canonical.specs.private.Arguments.{Ends, HasLines, alone}
+use Rattle.bz_canonical.specs.private.Arguments.{alone}
 use Rattle.bz_canonical.specs.private.Segments.{AreLinesFront, IsBesideFront}
-use Rattle.bz_canonical.specs.private.Statements.{HasGroupPlace, HasNodesPlace, HasStatementPlace}
 use Rattle.bz_canonical.proofs.ArgumentLines.{counted, lines_append}
 use Rattle.bz_canonical.proofs.SmallRules.{none_alone, read_alone}
 use Rattle.bz_canonical.proofs.Taken.{taken}
@@ -83,104 +82,30 @@ group_takes attr n args before after end other splits f local some =
     whole ss b on A new same =
         rw (on, bytes_append (broken_segs Broken 1 RuleCall true ss) (comments 1 end ++ piece (Line 0) Operator (codes ")") ∷ []), bytes_append (comments 1 end) (piece (Line 0) Operator (codes ")") ∷ []), same) (simp append_assoc)
 
--- in a group of arguments after another one
-pub group_place : (depth : ℕ) (attr : List ℕ) (n : Segment) (args : List Segment) (end : List (List ℕ)) (inside next middle below rest : List ℕ) (place : Ends) → is_named attr n ≡ false
-    → inside ≡ argument_lines (n ∷ []) ++ next → HasLines depth attr args next middle place → middle ≡ bytes_of (comments 1 end) ++ below → below ≡ 10 ∷ 41 ∷ rest
-    → HasGroupPlace depth attr (segs_of (n ∷ args)) end (40 ∷ inside) rest place
-group_place depth attr n args end inside next middle below rest place other inside_is h notes closes =
-    let same : alone attr (segments (segs_of (n ∷ args))) ≡ alone attr args =
-    ap (alone attr) (segments_of (n ∷ args)) ∙ ap (λ b. option_to_list (if b then Some n else first_named attr args)) other in
-    record {
-      before = 40 ∷ (argument_lines (n ∷ []) ++ argument_lines h.before);
-      after = argument_lines h.after ++ (bytes_of (comments 1 end) ++ 10 ∷ 41 ∷ []);
-      front = ap (λ (t : List ℕ). 40 ∷ t) (inside_is ∙ ap (λ (t : List ℕ). argument_lines (n ∷ []) ++ t) h.front ∙ sym (append_assoc (argument_lines (n ∷ [])) (argument_lines h.before) place.from));
-      lines = h.lines ∙ ap (λ xs. argument_lines xs ++ place.to) (sym same);
-      ends = h.ends ∙ ap (λ (t : List ℕ). argument_lines h.after ++ t) (notes ∙ ap (λ (t : List ℕ). bytes_of (comments 1 end) ++ t) closes) ∙ simp append_assoc;
-      reads = subst (λ xs. AreReadAlone (suc depth) (argument_lines xs) xs) (sym same) (read_alone depth (alone attr args) h.are);
-      takes = λ f local some. group_takes attr n args h.before h.after end other h.splits f local (sym (ap (λ xs. is_empty (f xs)) same) ∙ some)
-          ∙ ap (λ xs. (40 ∷ (argument_lines (n ∷ []) ++ argument_lines h.before)) ++ (argument_lines (f xs) ++ (argument_lines h.after ++ (bytes_of (comments 1 end) ++ 10 ∷ 41 ∷ [])))) (sym same);
-    }
-
--- of a kind of one word, or of two with a dot between them
-pub plain_place : (depth : ℕ) (attr token text bracket rest : List ℕ) (segs : Segs) (end : List (List ℕ)) → text ≡ token ++ bracket → (place : Option Ends)
-    → IfSome place (HasGroupPlace depth attr segs end bracket rest) → IfSome place (HasNodesPlace (suc depth) attr (leaf Identifier token ∷ group RuleCall segs false end ∷ []) text rest)
-plain_place depth attr token text bracket rest segs end is None g = tt
-plain_place depth attr token text bracket rest segs end is (Some place) g = record {
-  before = token ++ g.before;
-  after = g.after;
-  front = is ∙ ap (λ (t : List ℕ). token ++ t) g.front ∙ sym (append_assoc token g.before place.from);
-  lines = g.lines;
-  ends = g.ends;
-  reads = g.reads;
-  takes = λ f local some. by (item_pieces Broken 0 Closed (group RuleCall (segs_of (f (segments segs))) false end)) (argument_lines (f (alone attr (segments segs)))) (g.takes f local some);
-}
+-- the same, where it is the first of the group
+pub first_takes : (attr : List ℕ) (n : Segment) (args : List Segment) (end : List (List ℕ)) → is_named attr n ≡ true → (is_filled end || nat_le 1 (count (segs_of args))) ≡ true
+    → (f : List Segment → List Segment) → IsLocal attr f → is_empty (f (n ∷ [])) ≡ false
+    → bytes_of (item_pieces Broken 0 Closed (group RuleCall (segs_of (f (segments (segs_of (n ∷ args))))) false end))
+    ≡ 40 ∷ (argument_lines (f (n ∷ [])) ++ (argument_lines args ++ (bytes_of (comments 1 end) ++ 10 ∷ 41 ∷ [])))
+first_takes attr n args end is more f local some =
+    let new : List Segment = f (n ∷ []) in
+    let all_is : f (segments (segs_of (n ∷ args))) ≡ new ++ args = ap f (segments_of (n ∷ args)) ∙ local.there (n ∷ args) n (ap (λ b. if b then Some n else first_named attr args) is)
+    ∙ ap (λ b. if b then f (n ∷ []) ++ args else n ∷ edit_first (is_named attr) (λ x. f (n ∷ [])) args) is in
+    ap (λ xs. bytes_of (item_pieces Broken 0 Closed (group RuleCall (segs_of xs) false end))) all_is
+    ∙ whole (segs_of (new ++ args)) (is_broken RuleCall (segs_of (new ++ args)) end (segs_hold (segs_of (new ++ args))))
+    (some_of (is_filled end) (have_comments (segs_of (new ++ args))) (nat_le 2 (count (segs_of (new ++ args)))) _ (nat_le 1 (count (segs_of args))) more
+    (λ one. most_of (count (segs_of (new ++ args))) (count (segs_of new)) (count (segs_of args)) (counted new args) (some_counted new some) one)) _ new (lines_append new args)
   where
-    by : (P : List Piece) (new : List ℕ) → bytes_of P ≡ g.before ++ (new ++ g.after) → token ++ bytes_of (P ++ []) ≡ (token ++ g.before) ++ (new ++ g.after)
-    by P new same = rw (append-nil P, same) (simp append_assoc)
+    some_of : (e c t x o : Bool) → (e || o) ≡ true → (o ≡ true → t ≡ true) → (e || c || t || x) ≡ true
+    some_of true c t x o is two = refl
+    some_of false true t x o is two = refl
+    some_of false false t x o is two = rw (two is) refl
 
-pub dotted_place : (depth : ℕ) (attr token member text bracket rest : List ℕ) (segs : Segs) (end : List (List ℕ)) → text ≡ token ++ (46 ∷ (member ++ bracket)) → (place : Option Ends)
-    → IfSome place (HasGroupPlace depth attr segs end bracket rest)
-    → IfSome place (HasNodesPlace (suc depth) attr (leaf Identifier token ∷ leaf Operator (codes ".") ∷ leaf Identifier member ∷ group RuleCall segs false end ∷ []) text rest)
-dotted_place depth attr token member text bracket rest segs end is None g = tt
-dotted_place depth attr token member text bracket rest segs end is (Some place) g = record {
-  before = token ++ (46 ∷ (member ++ g.before));
-  after = g.after;
-  front = is ∙ ap (λ (t : List ℕ). token ++ (46 ∷ (member ++ t))) g.front ∙ simp append_assoc;
-  lines = g.lines;
-  ends = g.ends;
-  reads = g.reads;
-  takes = λ f local some. by (item_pieces Broken 0 Closed (group RuleCall (segs_of (f (segments segs))) false end)) (argument_lines (f (alone attr (segments segs)))) (g.takes f local some);
-}
-  where
-    by : (P : List Piece) (new : List ℕ) → bytes_of P ≡ g.before ++ (new ++ g.after)
-        → token ++ (46 ∷ (member ++ bytes_of (P ++ []))) ≡ (token ++ (46 ∷ (member ++ g.before))) ++ (new ++ g.after)
-    by P new same = rw (append-nil P, same) (simp append_assoc)
+    most_of : (n m k : ℕ) → n ≡ m + k → 1 ≤ m → nat_le 1 k ≡ true → nat_le 2 n ≡ true
+    most_of n m k is some one = grind (arith, nat_tests, is, some, one)
 
--- of a statement with its comments
-pub statement_place : (depth : ℕ) (attr : List ℕ) (s : Statement) (text start middle end rest : List ℕ) (e : Bool) (above : AreLinesFront text start) (beside : IsBesideFront middle end e) → end ≡ 10 ∷ rest → is_comment s.class ≡ false
-    → s.before ≡ above.notes → s.suffix ≡ beside.note → (place : Option Ends)
-    → IfSome place (HasNodesPlace depth attr s.nodes start middle) → IfSome place (HasStatementPlace depth attr s text rest)
-statement_place depth attr s text start middle end rest e above beside ends other before_is suffix_is None g = tt
-statement_place depth attr s text start middle end rest e above beside ends other before_is suffix_is (Some place) g = record {
-  between = record {
-    before = bytes_of (comment_lines above.notes) ++ g.before;
-    lines = argument_lines (first_args attr s);
-    after = g.after ++ (bytes_of (suffix_piece beside.note) ++ 10 ∷ []);
-  };
-  front = above.front ∙ ap (λ (t : List ℕ). bytes_of (comment_lines above.notes) ++ t) g.front ∙ sym (append_assoc (bytes_of (comment_lines above.notes)) g.before place.from);
-  lines = g.lines;
-  ends = g.ends ∙ ap (λ (t : List ℕ). g.after ++ t) (beside.front ∙ ap (λ (t : List ℕ). bytes_of (suffix_piece beside.note) ++ t) ends) ∙ simp append_assoc;
-  has = record {
-    none = none_alone (first_args attr s);
-    reads = g.reads;
-    takes = λ f local some. by (is_comment s.class) other s.before before_is s.suffix suffix_is (items_pieces Broken 0 None Closed Start (items_of (nodes_after f s.nodes (rule_of s.nodes)))) (argument_lines (f (first_args attr s))) (g.takes f local some);
-  };
-}
-  where
-    by : (b : Bool) → b ≡ false → (notes : List (List ℕ)) → notes ≡ above.notes → (suffix : Option (List ℕ)) → suffix ≡ beside.note → (P : List Piece) (new : List ℕ) → bytes_of P ≡ g.before ++ (new ++ g.after)
-        → bytes_of (comment_lines notes ++ (if b then [] else P ++ (suffix_piece suffix ++ piece Closed Newline (codes "\n") ∷ [])))
-        ≡ (bytes_of (comment_lines above.notes) ++ g.before) ++ (new ++ (g.after ++ (bytes_of (suffix_piece beside.note) ++ 10 ∷ [])))
-    by b is notes notes_is suffix suffix_is P new same =
-        rw (
-          is,
-          notes_is,
-          suffix_is,
-          bytes_append (comment_lines above.notes) (P ++ (suffix_piece beside.note ++ piece Closed Newline (codes "\n") ∷ [])),
-          bytes_append P (suffix_piece beside.note ++ piece Closed Newline (codes "\n") ∷ []),
-          bytes_append (suffix_piece beside.note) (piece Closed Newline (codes "\n") ∷ []),
-          same,
-        ) (simp append_assoc)
-
--- what is written before the place, of it and after it, as it is cut from the text
-pub place_cut : (text written end : List ℕ) (ends : Ends) (b : Between) → text ≡ b.before ++ ends.from → ends.from ≡ b.lines ++ ends.to → ends.to ≡ b.after ++ end → text ≡ written ++ end
-    → (place : Between) → place.before ≡ take (length text - length ends.from) text → place.lines ≡ drop (length place.before) (take (length text - length ends.to) text)
-    → place.after ≡ drop (length (take (length text - length ends.to) text)) written → place ≡ b
-place_cut text written end ends b front lines after whole place before_is lines_is after_is =
-    let two : text ≡ (b.before ++ b.lines) ++ ends.to = front ∙ ap (λ (t : List ℕ). b.before ++ t) lines ∙ sym (append_assoc b.before b.lines ends.to) in
-    let three : text ≡ ((b.before ++ b.lines) ++ b.after) ++ end = two ∙ ap (λ (t : List ℕ). (b.before ++ b.lines) ++ t) after ∙ sym (append_assoc (b.before ++ b.lines) b.after end) in
-    let same : written ≡ (b.before ++ b.lines) ++ b.after = sym (taken text written end whole) ∙ taken text ((b.before ++ b.lines) ++ b.after) end three in
-    let cut : take (length text - length ends.to) text ≡ b.before ++ b.lines = taken text (b.before ++ b.lines) ends.to two in
-    let begins : place.before ≡ b.before = before_is ∙ taken text b.before ends.from front in
-    let middle : place.lines ≡ b.lines = lines_is ∙ (λ i. drop (length (begins i)) (cut i)) ∙ drop-append_seam b.before b.lines in
-    let last : place.after ≡ b.after = after_is ∙ (λ i. drop (length (cut i)) (same i)) ∙ drop-append_seam (b.before ++ b.lines) b.after in
-    λ i. record { before = begins i; lines = middle i; after = last i }
+    whole : (ss : Segs) (b : Bool) → b ≡ true → (A : List Piece) (new : List Segment) → bytes_of (broken_segs Broken 1 RuleCall true ss) ≡ argument_lines new ++ argument_lines args
+        → 40 ∷ bytes_of (if breaks Broken b then broken_segs Broken 1 RuleCall true ss ++ (comments 1 end ++ piece (Line 0) Operator (codes ")") ∷ []) else A)
+        ≡ 40 ∷ (argument_lines new ++ (argument_lines args ++ (bytes_of (comments 1 end) ++ 10 ∷ 41 ∷ [])))
+    whole ss b on A new same =
+        rw (on, bytes_append (broken_segs Broken 1 RuleCall true ss) (comments 1 end ++ piece (Line 0) Operator (codes ")") ∷ []), bytes_append (comments 1 end) (piece (Line 0) Operator (codes ")") ∷ []), same) (simp append_assoc)

@@ -1,6 +1,6 @@
 -- Arguments of a rule, and what is written of them.
-use Rattle.std.proofs.Common.{Bor, ◌||◌, ◌≡◌, ◌≤◌, ◌<◌, ℕ, suc, ◌+◌, ◌-◌, take, length, List, [], ◌∷◌, ◌++◌, Bool, true, false, refl, sym, ap, ◌∙◌, arith, append_assoc, append-nil}
-use Rattle.std.specs.Prelude.{codes, flat_map, nat_le, Some, if◌then◌else◌, None, Option, is_some, option_map, option_to_list}
+use Rattle.std.proofs.Common.{subst, ◌||◌, ◌≡◌, ◌≤◌, ◌<◌, ℕ, suc, ◌+◌, ◌-◌, take, length, List, [], ◌∷◌, ◌++◌, Bool, true, false, refl, sym, ap, ◌∙◌, arith, append_assoc, append-nil}
+use Rattle.std.specs.Prelude.{codes, flat_map, map, nat_le, IfSome, Some, if◌then◌else◌, None, Option, is_some, option_map, option_to_list}
 use Rattle.std.proofs.lemmas.Bool.{false≢true}
 use Rattle.std.proofs.lemmas.Bool.Decides.{nat_tests}
 use Rattle.std.proofs.lemmas.List.Folds.{list_any-append}
@@ -10,8 +10,8 @@ use Rattle.bz_tree.specs.declared.kinds.Shape.TheVariants.{Square}
 use Rattle.bz_tree.specs.declared.stmt.GroupKind.TheVariants.{List as ListKind, RuleCall}
 use Rattle.bz_tree.specs.Grammar.{AreArgs, AreSuffixes, AreTests, IsArg, IsChain, IsOperand, IsPrimary, IsTerm, IsTest}
 use Rattle.bz_tree.specs.Kinds.{group_kind}
-use Rattle.bz_tree.specs.Tree.{leaf, group, Items, no_items, item, Segs, no_segs, seg, items_of, segs_of, Segment}
-use Rattle.bz_layout.specs.Broken.{is_broken, segs_hold}
+use Rattle.bz_tree.specs.Tree.{leaf, group, Items, no_items, item, Segs, no_segs, seg, items_of, segments, segs_of, Segment}
+use Rattle.bz_layout.specs.Broken.{count, is_broken, segs_hold}
 use Rattle.bz_layout.specs.Layout.{breaks, broken_segs, flat_segs}
 use Rattle.bz_layout.specs.Pieces.{Piece, piece, bytes_of, comments, indent, suffix_piece}
 use Rattle.bz_layout.specs.declared.broken.Style.TheVariants.{Broken}
@@ -26,10 +26,13 @@ use Rattle.bz_attribute.specs.Effects.{has}
 use Rattle.bz_attribute.specs.Rules.{first_named, is_named}
 use Rattle.bz_attribute.proofs.EditedAt.{edited_at, first_at, none_first}
 use Rattle.bz_canonical.specs.Canonical.{argument_lines}
-use Rattle.bz_canonical.specs.private.Arguments.{IsArgumentFront, alone}
-use Rattle.bz_canonical.specs.private.Rewritten.{AreArgumentsRead, AreOthersRead, IsNamedRead, AreElements, ArePlaced, Element, IsArgumentRead, IsHeadRead, IsListRead, IsPlaced, Placed, args_of, element_list, element_segs, elements_as_is, placed_lines}
-use Rattle.bz_canonical.specs.private.Segments.{AreSegments, IsBesideFront}
-use Rattle.bz_canonical.proofs.ArgumentLines.{lines_append}
+use Rattle.bz_canonical.specs.private.Arguments.{alone}
+use Rattle.bz_canonical.specs.private.Fronts.{IsTokenFront}
+use Rattle.bz_token.specs.Common.{is_filled}
+use Rattle.bz_layout_laws.specs.Spelled.{spelled_segs}
+use Rattle.bz_canonical.specs.private.Rewritten.{AreArgumentsRead, AreFormed, AreOthersRead, ArePlacedRead, AreRead, HasPut, IsValueEnd, PutEnds, AreElements, ArePlaced, Element, IsArgumentRead, IsHeadRead, IsListRead, IsPlaced, Placed, args_of, element_list, element_segs, elements_as_is, placed_lines}
+use Rattle.bz_canonical.specs.private.Segments.{AreNotesFront, AreSegments, AreSegmentsFront, IsBesideFront}
+use Rattle.bz_canonical.proofs.ArgumentLines.{argument_front, lines_after, lines_append, segs_same}
 use Rattle.bz_canonical.proofs.ElementLists.{flat_append}
 use Rattle.bz_canonical.proofs.GroupSegments.{equals_text, most, no_segments}
 use Rattle.bz_canonical.proofs.OwnLayout.{own_items, own_spelled, own_stand}
@@ -89,16 +92,16 @@ argument_bytes C R S word =
       bytes_append R (piece Closed Operator (codes ",") ∷ S),
     ) refl
 
-pub list_read : (depth : ℕ) (attr text value end comma next front back w : List ℕ) (e : Bool) → (named : Bool) → 0 < depth → IsHeadRead attr text value named → front ≡ take (length text - length value) text → IsListRead value end w
-    → end ≡ 44 ∷ comma → IsBesideFront comma next e → back ≡ take (length end - length next) end → IsArgumentRead depth attr text next (front ++ (w ++ back)) named
-list_read depth attr text value end comma next front back w e named deep h front_is l is side back_is =
+pub list_read : (depth : ℕ) (attr text value end comma next w : List ℕ) (e named : Bool) → 0 < depth → IsHeadRead attr text value named → IsListRead value end w → end ≡ 44 ∷ comma → IsBesideFront comma next e
+    → (front back : List ℕ) × (text ≡ front ++ value) × (end ≡ back ++ next) × IsArgumentRead depth attr text next (front ++ (w ++ back)) named
+list_read depth attr text value end comma next w e named deep h l is side =
     let es : List Element = l.elements in
     let C : List ℕ = bytes_of (comments 1 h.notes) in
     let S : List ℕ = bytes_of (suffix_piece side.note) in
     let F : List ℕ = C ++ (10 ∷ (indent 1 ++ (h.word ++ codes " = "))) in
     let begins : text ≡ F ++ value = h.front ∙ start C value in
     let ends : end ≡ (44 ∷ S) ++ next = is ∙ ap (λ (t : List ℕ). 44 ∷ t) side.front in
-    record {
+    (F, 44 ∷ S, begins, ends, record {
       placed = record {
         arg = record { before = h.notes; nodes = leaf Identifier h.word ∷ leaf Operator (codes "=") ∷ element_list es ∷ []; suffix = side.note };
         choice = free true own (free true own (free true (free l.breaks (elements_as_is es) own) own));
@@ -108,7 +111,6 @@ list_read depth attr text value end comma next front back w e named deep h front
           texts = (h.are, refl, ((h.is, refl), ((equals_text, refl), ((element_texts es l.are, refl), tt))), side.is, tt);
           kinds = ((λ is. is, tt, (λ is. is, tt, (λ is. is, (Square, ap (group_kind Square Other) (sym (element_for es)), record { one = λ is. absurd_of is; comma = λ is. absurd_of is }, element_kinds es), tt))), tt);
           grammar = AreArgs.one_arg (IsArg.keyword refl refl (IsTest.plain (IsChain.single (IsTerm.primary (IsPrimary.operand (IsOperand.list (element_tests es)) AreSuffixes.no_suffix))))) AreArgs.no_arg;
-          no_for = refl;
           depth_fits = most _ _ depth (most _ _ depth (omega arith) (most _ _ depth (omega arith) (most _ _ depth (omega (arith, element_depth es, deep)) (omega arith)))) (omega arith);
         };
         stand = (tt, (tt, ((l.stands, element_stand es), tt)));
@@ -116,10 +118,10 @@ list_read depth attr text value end comma next front back w e named deep h front
       };
       front = begins ∙ ap (λ (t : List ℕ). F ++ t) (l.front ∙ ap (λ (t : List ℕ). (91 ∷ bytes_of (standing l.breaks es)) ++ t) ends)
           ∙ whole C (91 ∷ bytes_of (standing l.breaks es)) S ∙ ap (λ (t : List ℕ). t ++ next) (sym (argument_bytes (comments 1 h.notes) (standing l.breaks es) (suffix_piece side.note) h.word));
-      spells = (λ i. (front_is ∙ taken text F value begins) i ++ (l.spells i ++ (back_is ∙ taken end (44 ∷ S) next ends) i))
+      spells = ap (λ (t : List ℕ). F ++ (t ++ (44 ∷ S))) l.spells
           ∙ again C (91 ∷ bytes_of (laid es)) S ∙ sym (argument_bytes (comments 1 h.notes) (laid es) (suffix_piece side.note) h.word);
       named_is = h.named_is;
-    }
+    })
   where
     start : (C rest : List ℕ) → C ++ (10 ∷ (indent 1 ++ (h.word ++ (codes " = " ++ rest)))) ≡ (C ++ (10 ∷ (indent 1 ++ (h.word ++ codes " = ")))) ++ rest
     start C rest = simp append_assoc
@@ -136,60 +138,77 @@ abbrev nodes_in : Segs → Items
 nodes_in no_segs = no_items
 nodes_in (seg before nodes suffix ss) = nodes
 
-pub strict_read : (depth : ℕ) (attr text rest lines : List ℕ) (named noted : Bool) → IsArgumentFront depth attr text rest named noted → lines ≡ take (length text - length rest) text → IsArgumentRead depth attr text rest lines named
-strict_read depth attr text rest lines named noted a lines_is =
-    let are : AreSegments RuleCall depth (segs_of (a.arg ∷ [])) = a.are [] (no_segments RuleCall depth) in
-    record {
-      placed = record { arg = a.arg; choice = own };
-      is = record {
-        formed = record { texts = are.texts; kinds = are.kinds; grammar = are.grammar; no_for = are.no_for; depth_fits = are.depth_fits };
-        stand = own_stand (items_of a.arg.nodes);
-        spelled = own_spelled (items_of a.arg.nodes) ∙ ap nodes_in are.stays;
-      };
-      front = a.front ∙ ap (λ (P : List Piece). bytes_of (comments 1 a.arg.before ++ (P ++ (piece Closed Operator (codes ",") ∷ (suffix_piece a.arg.suffix ++ [])))) ++ rest)
-          (sym (own_items 1 (Some RuleCall) (Line 1) Start (items_of a.arg.nodes)));
-      spells = lines_is ∙ taken text (argument_lines (a.arg ∷ [])) rest a.front;
-      named_is = a.named_is;
-    }
+abbrev segs_after : Segs → Segs
+segs_after no_segs = no_segs
+segs_after (seg before nodes suffix ss) = ss
 
--- one more
+abbrev as_it_is : Segment → Placed
+as_it_is a = record { arg = a; choice = own }
 
-placed_append : (depth : ℕ) (ps : List Placed) (p : Placed) → ArePlaced depth ps → IsPlaced depth p → ArePlaced depth (ps ++ p ∷ [])
-placed_append depth [] p are is = (is, tt)
-placed_append depth (q ∷ ps) p are is = (are.0, placed_append depth ps p are.1 is)
+lines_as_is : (a : Segment) → placed_lines (as_it_is a) ≡ argument_lines (a ∷ [])
+lines_as_is a = ap (λ (P : List Piece). bytes_of (comments 1 a.before ++ (P ++ (piece Closed Operator (codes ",") ∷ (suffix_piece a.suffix ++ []))))) (own_items 1 (Some RuleCall) (Line 1) Start (items_of a.nodes))
 
-args_append : (ps : List Placed) (p : Placed) → args_of (ps ++ p ∷ []) ≡ args_of ps ++ p.arg ∷ []
-args_append [] p = refl
-args_append (q ∷ ps) p = ap (λ xs. q.arg ∷ xs) (args_append ps p)
+first_arg : (before : List (List ℕ)) (nodes : Items) (suffix : Option (List ℕ)) (ss : Segs) → AreArgs (seg before nodes suffix ss) → IsArg nodes
+first_arg before nodes suffix ss (AreArgs.one_arg h hs) = h
 
-longer : (ps : List Placed) (p : Placed) → length (ps ++ p ∷ []) ≡ length ps + 1
-longer [] p = refl
-longer (q ∷ ps) p = ap suc (longer ps p) ∙ omega arith
+later_args : (before : List (List ℕ)) (nodes : Items) (suffix : Option (List ℕ)) (ss : Segs) → AreArgs (seg before nodes suffix ss) → AreArgs ss
+later_args before nodes suffix ss (AreArgs.one_arg h hs) = hs
 
-one_at_least : (n : ℕ) → true ≡ nat_le 1 (n + 1)
-one_at_least n = grind (arith, nat_tests)
-
-pub none_read : (depth : ℕ) (attr text : List ℕ) → AreOthersRead depth attr text text [] false
-none_read depth attr text = record { placed = []; are = tt; front = refl; spells = refl; others = refl; one_is = refl }
-
-flat_one : (ps : List Placed) (p : Placed) → flat_map placed_lines (ps ++ p ∷ []) ≡ flat_map placed_lines ps ++ placed_lines p
-flat_one ps p = flat_append placed_lines ps (p ∷ []) ∙ ap (λ (t : List ℕ). flat_map placed_lines ps ++ t) (append-nil (placed_lines p))
-
-pub one_read : (depth : ℕ) (attr text rest next w v : List ℕ) (one : Bool) → AreOthersRead depth attr text rest w one → IsArgumentRead depth attr rest next v false → AreOthersRead depth attr text next (w ++ v) true
-one_read depth attr text rest next w v one a p = record {
-  placed = a.placed ++ p.placed ∷ [];
-  are = placed_append depth a.placed p.placed a.are p.is;
-  front = a.front ∙ ap (λ (t : List ℕ). flat_map placed_lines a.placed ++ t) p.front ∙ sym (append_assoc (flat_map placed_lines a.placed) (placed_lines p.placed) next)
-      ∙ ap (λ (t : List ℕ). t ++ next) (sym (flat_one a.placed p.placed));
-  spells = (λ i. a.spells i ++ p.spells i) ∙ sym (lines_append (args_of a.placed) (p.placed.arg ∷ [])) ∙ ap argument_lines (sym (args_append a.placed p.placed));
-  others = ap (has attr) (args_append a.placed p.placed) ∙ list_any-append (is_named attr) (args_of a.placed) (p.placed.arg ∷ []) ∙ none (has attr (args_of a.placed)) a.others (is_named attr p.placed.arg) p.named_is;
-  one_is = one_at_least (length a.placed) ∙ ap (nat_le 1) (sym (longer a.placed p.placed));
+first_formed : (depth : ℕ) (a : Segment) (xs : List Segment) → AreFormed depth (segs_of (a ∷ xs)) → AreFormed depth (segs_of (a ∷ []))
+first_formed depth a xs f = record {
+  texts = (f.texts.0, f.texts.1, f.texts.2, f.texts.3, tt);
+  kinds = (f.kinds.0, tt);
+  grammar = AreArgs.one_arg (first_arg a.before (items_of a.nodes) a.suffix (segs_of xs) f.grammar) AreArgs.no_arg;
+  depth_fits = omega (arith, f.depth_fits);
 }
-  where
-    none : (x : Bool) → x ≡ false → (y : Bool) → y ≡ false → (x || (y || false)) ≡ false
-    none x x_is y y_is = rw (x_is, y_is) refl
 
--- the place
+later_formed : (depth : ℕ) (a : Segment) (xs : List Segment) → AreFormed depth (segs_of (a ∷ xs)) → AreFormed depth (segs_of xs)
+later_formed depth a xs f = record {
+  texts = f.texts.4;
+  kinds = f.kinds.1;
+  grammar = later_args a.before (items_of a.nodes) a.suffix (segs_of xs) f.grammar;
+  depth_fits = omega (arith, f.depth_fits);
+}
+
+are_as_is : (depth : ℕ) (xs : List Segment) → AreFormed depth (segs_of xs) → spelled_segs (segs_of xs) ≡ segs_of xs → ArePlaced depth (map as_it_is xs)
+are_as_is depth [] f stays = tt
+are_as_is depth (a ∷ xs) f stays = (
+  record { formed = first_formed depth a xs f; stand = own_stand (items_of a.nodes); spelled = own_spelled (items_of a.nodes) ∙ ap nodes_in stays },
+  are_as_is depth xs (later_formed depth a xs f) (ap segs_after stays),
+)
+
+all_lines : (xs : List Segment) → flat_map placed_lines (map as_it_is xs) ≡ argument_lines xs
+all_lines [] = refl
+all_lines (a ∷ xs) = (λ i. lines_as_is a i ++ all_lines xs i) ∙ sym (lines_append (a ∷ []) xs)
+
+args_as_is : (xs : List Segment) → args_of (map as_it_is xs) ≡ xs
+args_as_is [] = refl
+args_as_is (a ∷ xs) = ap (λ ys. a ∷ ys) (args_as_is xs)
+
+count_as_is : (xs : List Segment) → length (map as_it_is xs) ≡ count (segs_of xs)
+count_as_is [] = refl
+count_as_is (a ∷ xs) = ap suc (count_as_is xs)
+
+pub value_read : (depth : ℕ) (attr text value rest : List ℕ) (named : Bool) → IsHeadRead attr text value named → IsValueEnd depth value rest → (w : List ℕ) × (text ≡ w ++ rest) × IsArgumentRead depth attr text rest w named
+value_read depth attr text value rest named h v =
+    let inner : List ℕ = h.word ++ (codes " = " ++ value) in
+    let ident : IsTokenFront Identifier inner (codes " = " ++ value) = record { token = h.word; is = h.is; stays = refl; front = refl } in
+    let above : AreNotesFront 1 text (10 ∷ (indent 1 ++ inner)) (is_filled h.notes) = record { notes = h.notes; are = h.are; front = h.front; some_is = refl } in
+    let a = argument_front depth attr text (10 ∷ (indent 1 ++ inner)) inner (codes " = " ++ value) value v.end v.comma rest v.holds (is_filled h.notes) v.noted above refl ident refl v.nodes v.is v.side named (sym h.named_is) _ refl in
+    let are : AreSegments RuleCall depth (segs_of (a.arg ∷ [])) = a.are [] (no_segments RuleCall depth) in
+    let formed : AreFormed depth (segs_of (a.arg ∷ [])) = record { texts = are.texts; kinds = are.kinds; grammar = are.grammar; depth_fits = are.depth_fits } in (
+      argument_lines (a.arg ∷ []),
+      a.front,
+      record {
+        placed = as_it_is a.arg;
+        is = (are_as_is depth (a.arg ∷ []) formed are.stays).0;
+        front = a.front ∙ ap (λ (t : List ℕ). t ++ rest) (sym (lines_as_is a.arg));
+        spells = refl;
+        named_is = a.named_is;
+      },
+    )
+
+-- one after another
 
 all_append : (depth : ℕ) (ps qs : List Placed) → ArePlaced depth ps → ArePlaced depth qs → ArePlaced depth (ps ++ qs)
 all_append depth [] qs are more = more
@@ -199,72 +218,151 @@ pub all_args : (ps qs : List Placed) → args_of (ps ++ qs) ≡ args_of ps ++ ar
 all_args [] qs = refl
 all_args (p ∷ ps) qs = ap (λ xs. p.arg ∷ xs) (all_args ps qs)
 
-pub none_named : (depth : ℕ) (attr text rest begun w : List ℕ) (one : Bool) (len : ℕ) → AreOthersRead depth attr text rest w one → len ≡ length (begun ++ w)
-    → AreArgumentsRead depth attr text rest begun w one (record { from = rest; to = rest; start = len; end = len })
-none_named depth attr text rest begun w one len a len_is =
-    let nobody : alone attr (args_of a.placed) ≡ [] = ap option_to_list (none_first attr (args_of a.placed) a.others) in
-    let long : len ≡ length (begun ++ argument_lines (args_of a.placed)) = len_is ∙ ap (λ (t : List ℕ). length (begun ++ t)) a.spells in
-    record {
-      placed = a.placed;
-      are = a.are;
-      front = a.front;
-      spells = a.spells;
-      one_is = a.one_is;
-      has = record {
-        before = a.placed;
-        one = [];
-        after = [];
-        all = sym (append-nil a.placed);
-        are = tt;
-        splits = λ f local. local.absent (args_of a.placed) a.others ∙ ap (λ (xs : List Segment). args_of a.placed ++ xs) (sym (append-nil (f [])));
-        alone_is = nobody;
-        front = a.front;
-        lines = refl;
-        start = long;
-        end = long ∙ ap length (sym (append-nil (begun ++ argument_lines (args_of a.placed))));
-      };
-    }
+one_of_more : (n : ℕ) → nat_le 1 (suc n) ≡ true
+one_of_more n = grind (arith, nat_tests)
 
-some_length : (n m : ℕ) → true ≡ nat_le 1 (n + suc m)
-some_length n m = grind (arith, nat_tests)
+either_one : (ps qs : List Placed) → (nat_le 1 (length ps) || nat_le 1 (length qs)) ≡ nat_le 1 (length (ps ++ qs))
+either_one [] qs = refl
+either_one (p ∷ ps) qs = ap (λ b. b || nat_le 1 (length qs)) (one_of_more (length ps)) ∙ sym (one_of_more (length (ps ++ qs)))
 
-length_append : (ps qs : List Placed) → length (ps ++ qs) ≡ length ps + length qs
-length_append [] qs = omega arith
-length_append (p ∷ ps) qs = ap suc (length_append ps qs) ∙ omega arith
+abbrev pub none_read : (depth : ℕ) (text : List ℕ) → AreRead depth text text [] false
+none_read depth text = record { placed = []; are = tt; front = refl; spells = refl; one_is = refl }
 
-pub one_named : (depth : ℕ) (attr text from to rest begun w v u : List ℕ) (one more : Bool) (start end : ℕ) → AreOthersRead depth attr text from w one → IsArgumentRead depth attr from to v true → AreOthersRead depth attr to rest u more
-    → start ≡ length (begun ++ w) → end ≡ length ((begun ++ w) ++ v) → AreArgumentsRead depth attr text rest begun (w ++ (v ++ u)) true (record { from = from; to = to; start = start; end = end })
-one_named depth attr text from to rest begun w v u one more start end a p b start_is end_is =
-    let all : List Placed = a.placed ++ (p.placed ∷ b.placed) in
-    let args : args_of all ≡ args_of a.placed ++ (p.placed.arg ∷ args_of b.placed) = all_args a.placed (p.placed ∷ b.placed) in
-    let first : first_named attr (args_of a.placed ++ (p.placed.arg ∷ args_of b.placed)) ≡ Some p.placed.arg = first_at attr (args_of a.placed) p.placed.arg (args_of b.placed) a.others p.named_is in
-    record {
-      placed = all;
-      are = all_append depth a.placed (p.placed ∷ b.placed) a.are (p.is, b.are);
-      front = a.front ∙ ap (λ (t : List ℕ). flat_map placed_lines a.placed ++ t) (p.front ∙ ap (λ (t : List ℕ). placed_lines p.placed ++ t) b.front)
-          ∙ joined (flat_map placed_lines a.placed) (placed_lines p.placed) (flat_map placed_lines b.placed) ∙ ap (λ (t : List ℕ). t ++ rest) (sym (flat_append placed_lines a.placed (p.placed ∷ b.placed)));
-      spells = (λ i. a.spells i ++ (p.spells i ++ b.spells i)) ∙ ap (λ (t : List ℕ). argument_lines (args_of a.placed) ++ t) (sym (lines_append (p.placed.arg ∷ []) (args_of b.placed)))
-          ∙ sym (lines_append (args_of a.placed) (p.placed.arg ∷ args_of b.placed)) ∙ ap argument_lines (sym args);
-      one_is = some_length (length a.placed) (length b.placed) ∙ ap (nat_le 1) (sym (length_append a.placed (p.placed ∷ b.placed)));
-      has = record {
-        before = a.placed;
-        one = p.placed ∷ [];
-        after = b.placed;
-        all = refl;
-        are = (p.is, tt);
-        splits = λ f local. ap f args ∙ local.there (args_of a.placed ++ (p.placed.arg ∷ args_of b.placed)) p.placed.arg first
-            ∙ edited_at (is_named attr) (λ x. f (p.placed.arg ∷ [])) (args_of a.placed) p.placed.arg (args_of b.placed) a.others p.named_is;
-        alone_is = ap (alone attr) args ∙ ap option_to_list first;
-        front = a.front;
-        lines = p.front ∙ ap (λ (t : List ℕ). t ++ to) (sym (append-nil (placed_lines p.placed)));
-        start = start_is ∙ ap (λ (t : List ℕ). length (begun ++ t)) a.spells;
-        end = end_is ∙ (λ i. length ((begun ++ a.spells i) ++ p.spells i));
-      };
-    }
+abbrev append_read : (depth : ℕ) (text middle rest w v : List ℕ) (one more : Bool) → AreRead depth text middle w one → AreRead depth middle rest v more → AreRead depth text rest (w ++ v) (one || more)
+append_read depth text middle rest w v one more a b = record {
+  placed = a.placed ++ b.placed;
+  are = all_append depth a.placed b.placed a.are b.are;
+  front = a.front ∙ ap (λ (t : List ℕ). flat_map placed_lines a.placed ++ t) b.front ∙ sym (append_assoc (flat_map placed_lines a.placed) (flat_map placed_lines b.placed) rest)
+      ∙ ap (λ (t : List ℕ). t ++ rest) (sym (flat_append placed_lines a.placed b.placed));
+  spells = (λ i. a.spells i ++ b.spells i) ∙ sym (lines_append (args_of a.placed) (args_of b.placed)) ∙ ap argument_lines (sym (all_args a.placed b.placed));
+  one_is = (λ i. a.one_is i || b.one_is i) ∙ either_one a.placed b.placed;
+}
+
+abbrev single_read : (depth : ℕ) (attr text rest w : List ℕ) (named : Bool) → IsArgumentRead depth attr text rest w named → AreRead depth text rest w true
+single_read depth attr text rest w named p = record {
+  placed = p.placed ∷ [];
+  are = (p.is, tt);
+  front = p.front ∙ ap (λ (t : List ℕ). t ++ rest) (sym (append-nil (placed_lines p.placed)));
+  spells = p.spells;
+  one_is = refl;
+}
+
+or_true : (b : Bool) → (b || true) ≡ true
+or_true true = refl
+or_true false = refl
+
+pub none_others : (depth : ℕ) (attr text : List ℕ) → AreOthersRead depth attr text text [] false
+none_others depth attr text = record { read = none_read depth text; others = refl }
+
+pub one_more : (depth : ℕ) (attr text rest next w v : List ℕ) (one : Bool) → AreOthersRead depth attr text rest w one → IsArgumentRead depth attr rest next v false → AreOthersRead depth attr text next (w ++ v) true
+one_more depth attr text rest next w v one a p =
+    subst (λ b. AreOthersRead depth attr text next (w ++ v) b) (or_true one) (record {
+      read = append_read depth text rest next w v one true a.read (single_read depth attr rest next v false p);
+      others = ap (has attr) (all_args a.read.placed (p.placed ∷ [])) ∙ list_any-append (is_named attr) (args_of a.read.placed) (p.placed.arg ∷ [])
+          ∙ none (has attr (args_of a.read.placed)) a.others (is_named attr p.placed.arg) p.named_is;
+    })
   where
-    joined : (x y z : List ℕ) → x ++ (y ++ (z ++ rest)) ≡ (x ++ (y ++ z)) ++ rest
-    joined x y z = simp append_assoc
+    none : (x : Bool) → x ≡ false → (y : Bool) → y ≡ false → (x || (y || false)) ≡ false
+    none x x_is y y_is = rw (x_is, y_is) refl
 
-pub not_named : (depth : ℕ) (attr text before all : List ℕ) (o : Option (Bor (List ℕ))) → is_some o ≡ false → IsNamedRead depth attr text before all (option_map (λ to. to.now) o) → all ≡ before
-not_named depth attr text before all None none is = is
-not_named depth attr text before all (Some to) none is = absurd (false≢true (sym none))
+pub all_read : (depth : ℕ) (text middle rest w v : List ℕ) (one more : Bool) → AreRead depth text middle w one → AreRead depth middle rest v more → AreRead depth text rest (w ++ v) (one || more)
+all_read depth text middle rest w v one more a b = append_read depth text middle rest w v one more a b
+
+-- the last of them, as they stand
+pub last_read : (depth : ℕ) (text middle : List ℕ) (n : ℕ) (h k one : Bool) → (t : AreSegmentsFront RuleCall 1 depth text middle n h k) → one ≡ nat_le 1 n
+    → (w : List ℕ) × (text ≡ w ++ middle) × AreRead depth text middle w one
+last_read depth text middle n h k one t one_is =
+    let all : List Segment = segments t.segs in
+    let same : segs_of all ≡ t.segs = segs_same t.segs in
+    let front : text ≡ argument_lines all ++ middle = t.front ∙ ap (λ (b : List ℕ). b ++ middle) (sym (lines_after t.segs)) in
+    let formed : AreFormed depth (segs_of all) = subst (AreFormed depth) (sym same) (record { texts = t.are.texts; kinds = t.are.kinds; grammar = t.are.grammar; depth_fits = t.are.depth_fits }) in (
+      argument_lines all,
+      front,
+      record {
+        placed = map as_it_is all;
+        are = are_as_is depth all formed (ap spelled_segs same ∙ t.are.stays ∙ sym same);
+        front = front ∙ ap (λ (b : List ℕ). b ++ middle) (sym (all_lines all));
+        spells = ap argument_lines (sym (args_as_is all));
+        one_is = one_is ∙ ap (nat_le 1) (sym t.count_is ∙ ap count (sym same) ∙ sym (count_as_is all));
+      },
+    )
+
+-- the place
+
+nobody_later : (ps : List Placed) → nat_le 1 (length ps) ≡ false → ps ≡ []
+nobody_later [] none = refl
+nobody_later (p ∷ ps) none = absurd (false≢true (sym none ∙ one_of_more (length ps)))
+
+none_put : (depth : ℕ) (attr text rest middle begun w u : List ℕ) (one more : Bool) (a : AreOthersRead depth attr text rest w one) (t : AreRead depth rest middle u more) → more ≡ false
+    → HasPut depth attr begun text (a.read.placed ++ t.placed) (record { from = rest; to = rest; start = length (begun ++ w); end = length (begun ++ w) })
+none_put depth attr text rest middle begun w u one more a t none =
+    let long : length (begun ++ w) ≡ length (begun ++ argument_lines (args_of a.read.placed)) = ap (λ (t : List ℕ). length (begun ++ t)) a.read.spells in
+    subst (λ ps. HasPut depth attr begun text ps (record { from = rest; to = rest; start = length (begun ++ w); end = length (begun ++ w) })) (sym (ap (λ (ps : List Placed). a.read.placed ++ ps) (nobody_later t.placed (sym t.one_is ∙ none)) ∙ append-nil a.read.placed))
+    (record {
+      before = a.read.placed;
+      one = [];
+      after = [];
+      all = sym (append-nil a.read.placed);
+      are = tt;
+      splits = λ f local. local.absent (args_of a.read.placed) a.others ∙ ap (λ (xs : List Segment). args_of a.read.placed ++ xs) (sym (append-nil (f [])));
+      alone_is = ap option_to_list (none_first attr (args_of a.read.placed) a.others);
+      front = a.read.front;
+      lines = refl;
+      start = long;
+      end = long ∙ ap length (sym (append-nil (begun ++ argument_lines (args_of a.read.placed))));
+    })
+
+one_put : (depth : ℕ) (attr text from to middle begun w v u : List ℕ) (one more : Bool) → (a : AreOthersRead depth attr text from w one) (p : IsArgumentRead depth attr from to v true) (t : AreRead depth to middle u more)
+    → HasPut depth attr begun text (a.read.placed ++ (p.placed ∷ t.placed)) (record { from = from; to = to; start = length (begun ++ w); end = length ((begun ++ w) ++ v) })
+one_put depth attr text from to middle begun w v u one more a p t =
+    let before : List Placed = a.read.placed in
+    let args : args_of (before ++ (p.placed ∷ t.placed)) ≡ args_of before ++ (p.placed.arg ∷ args_of t.placed) = all_args before (p.placed ∷ t.placed) in
+    let first : first_named attr (args_of before ++ (p.placed.arg ∷ args_of t.placed)) ≡ Some p.placed.arg = first_at attr (args_of before) p.placed.arg (args_of t.placed) a.others p.named_is in
+    record {
+      before = before;
+      one = p.placed ∷ [];
+      after = t.placed;
+      all = refl;
+      are = (p.is, tt);
+      splits = λ f local. ap f args ∙ local.there (args_of before ++ (p.placed.arg ∷ args_of t.placed)) p.placed.arg first
+          ∙ edited_at (is_named attr) (λ x. f (p.placed.arg ∷ [])) (args_of before) p.placed.arg (args_of t.placed) a.others p.named_is;
+      alone_is = ap (alone attr) args ∙ ap option_to_list first;
+      front = a.read.front;
+      lines = p.front ∙ ap (λ (t : List ℕ). t ++ to) (sym (append-nil (placed_lines p.placed)));
+      start = ap (λ (t : List ℕ). length (begun ++ t)) a.read.spells;
+      end = λ i. length ((begun ++ a.read.spells i) ++ p.spells i);
+    }
+
+-- all of them, and the comments after them
+
+finish : (depth : ℕ) (attr text middle rest begun w : List ℕ) (one e some : Bool) (a : AreRead depth text middle w one) (n : AreNotesFront 1 middle rest e) → some ≡ (one || e) → (place : Option PutEnds) → IfSome place (HasPut depth attr begun text a.placed)
+    → AreArgumentsRead depth attr text rest begun (w ++ bytes_of (comments 1 n.notes)) some place
+finish depth attr text middle rest begun w one e some a n some_is place has = record {
+  placed = a.placed;
+  are = a.are;
+  end = n.notes;
+  end_is = n.are;
+  front = a.front ∙ ap (λ (t : List ℕ). flat_map placed_lines a.placed ++ t) n.front;
+  spells = ap (λ (t : List ℕ). t ++ bytes_of (comments 1 n.notes)) a.spells;
+  some_is = some_is ∙ (λ i. a.one_is i || sym n.some_is i);
+  has = has;
+}
+
+pub arguments_read : (named : Bool) (depth : ℕ) (attr text to middle rest begun w u : List ℕ) (one more e some : Bool) (ends : PutEnds) → ArePlacedRead depth attr text to begun w one ends named → AreRead depth to middle u more → (n : AreNotesFront 1 middle rest e)
+    → some ≡ ((one || more) || e) → (place : Option PutEnds) → IfSome place (λ p. (p ≡ ends) × (named ≡ false → more ≡ false))
+    → AreArgumentsRead depth attr text rest begun ((w ++ u) ++ bytes_of (comments 1 n.notes)) some place
+arguments_read false depth attr text to middle rest begun w u one more e some ends r t n some_is place known =
+    finish depth attr text middle rest begun (w ++ u) (one || more) e some (append_read depth text to middle w u one more r.0.read t) n some_is place (at place known)
+  where
+    at : (place : Option PutEnds) → IfSome place (λ p. (p ≡ ends) × (false ≡ false → more ≡ false)) → IfSome place (HasPut depth attr begun text (r.0.read.placed ++ t.placed))
+    at None known = tt
+    at (Some p) known = subst (HasPut depth attr begun text (r.0.read.placed ++ t.placed)) (sym (known.0 ∙ r.1)) (none_put depth attr text to middle begun w u one more r.0 t (known.1 refl))
+arguments_read true depth attr text to middle rest begun w u one more e some ends r t n some_is place known =
+    let later = append_read depth r.0 to middle r.2 u true more (single_read depth attr r.0 to r.2 true r.5) t in
+    subst (λ (y : List ℕ). AreArgumentsRead depth attr text rest begun (y ++ bytes_of (comments 1 n.notes)) some place) (sym (append_assoc r.1 r.2 u) ∙ ap (λ (y : List ℕ). y ++ u) (sym r.6))
+    (finish depth attr text middle rest begun (r.1 ++ (r.2 ++ u)) (r.3 || true) e some (append_read depth text r.0 middle r.1 (r.2 ++ u) r.3 true r.4.read later) n
+    (some_is ∙ ap (λ b. (b || more) || e) r.7 ∙ ap (λ b. b || e) (sym (or_true r.3))) place (at place known))
+  where
+    at : (place : Option PutEnds) → IfSome place (λ p. (p ≡ ends) × (true ≡ false → more ≡ false)) → IfSome place (HasPut depth attr begun text (r.4.read.placed ++ (r.5.placed ∷ t.placed)))
+    at None known = tt
+    at (Some q) known = subst (HasPut depth attr begun text (r.4.read.placed ++ (r.5.placed ∷ t.placed))) (sym (known.0 ∙ r.8)) (one_put depth attr text r.0 to middle begun r.1 r.2 u r.3 more r.4 r.5 t)

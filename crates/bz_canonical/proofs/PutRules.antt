@@ -24,19 +24,22 @@ use Rattle.bz_layout_laws.specs.Legible.{are_some, items_depth}
 use Rattle.bz_layout_laws.specs.Lineless.{lineless}
 use Rattle.bz_attribute.specs.Rules.{first_named, rule_of}
 use Rattle.std.proofs.Math.Seq.{take-append_seam, drop-append_seam}
-use Rattle.bz_token.specs.Common.{is_empty}
+use Rattle.bz_token.specs.Common.{is_empty, is_filled}
 use Rattle.bz_token.proofs.OneFault.{one_tokens}
 use Rattle.bz_tree.specs.Chunk.{IsChunkOf, IsStatementIn}
 use Rattle.bz_tree_laws.proofs.ChunkLaws.{chunk_same}
 use Rattle.bz_attribute.specs.RowPlaces.{IsLocal}
 use Rattle.bz_attribute.proofs.Views.{segments_of}
+use Rattle.bz_canonical.proofs.Pendings.{pend_first, pend_more, pend_same}
 use Rattle.bz_canonical.proofs.PutArguments.{all_args}
 use Rattle.bz_canonical.proofs.ArgumentLines.{lines_append}
-use Rattle.bz_canonical.proofs.Places.{group_takes}
-use Rattle.bz_canonical.proofs.SmallRules.{no_bytes, small_bytes, small_formed}
+use Rattle.bz_canonical.proofs.Places.{first_takes, group_takes}
+use Rattle.bz_canonical.proofs.SmallRules.{no_bytes, read_alone, small_bytes, small_formed}
+use Rattle.bz_canonical.specs.private.Segments.{AreSegments}
+use Rattle.std.proofs.lemmas.List.{length-append}
 use Rattle.bz_canonical.specs.private.Arguments.{alone}
 use Rattle.bz_canonical.specs.Canonical.{HasArgumentName, IsCanonical, argument_lines, rule_args, rule_name, AreReadAlone, Between, HasPlace, first_args, small_rule, small_text}
-use Rattle.bz_canonical.specs.private.Rewritten.{AreArgumentsRead, AreFormed, ArePlaced, IsRuleEnd, IsRuleHead, IsRuleRead, Placed, args_of, placed_lines, HasPut, HasPutPlace, IsPutPlaceIn, PutEnds}
+use Rattle.bz_canonical.specs.private.Rewritten.{AreArgumentsRead, AreFormed, ArePlaced, IsPending, IsRuleEnd, IsRuleHead, IsRulePlace, IsRuleRead, Placed, args_of, placed_lines, HasPut, HasPutPlace, IsPutPlaceIn, PutEnds}
 use Rattle.bz_canonical.proofs.CanonicalChunks.{chunk_some, place_same}
 use Rattle.bz_canonical.proofs.GroupSegments.{equals_text, most}
 use Rattle.bz_canonical.proofs.OwnLayout.{own_stand}
@@ -62,12 +65,11 @@ formed_more depth before nodes suffix ss one more =
       texts = (one.texts.0, one.texts.1, one.texts.2, one.texts.3, more.texts);
       kinds = (one.kinds.0, more.kinds);
       grammar = AreArgs.one_arg (first_arg before nodes suffix no_segs one.grammar) more.grammar;
-      no_for = one.no_for;
       depth_fits = most _ _ depth fits more.depth_fits;
     }
 
 args_formed : (depth : ℕ) (ps : List Placed) → ArePlaced depth ps → AreFormed depth (segs_of (args_of ps))
-args_formed depth [] are = record { texts = tt; kinds = tt; grammar = AreArgs.no_arg; no_for = refl; depth_fits = omega arith }
+args_formed depth [] are = record { texts = tt; kinds = tt; grammar = AreArgs.no_arg; depth_fits = omega arith }
 args_formed depth (p ∷ ps) are = formed_more depth p.arg.before (items_of p.arg.nodes) p.arg.suffix (segs_of (args_of ps)) are.0.formed (args_formed depth ps are.1)
 
 args_stand : (depth : ℕ) (ps : List Placed) → ArePlaced depth ps → SegsStand (choices_of ps) (segs_of (args_of ps))
@@ -113,59 +115,77 @@ name_formed depth name is = record {
   texts = (refl, refl, ((name_text, refl), ((equals_text, refl), ((is, refl), tt))), refl, tt);
   kinds = ((λ e. e, tt, (λ e. e, tt, (λ e. e, tt, tt))), tt);
   grammar = AreArgs.one_arg (IsArg.keyword refl refl (IsTest.plain (IsChain.single (IsTerm.primary (IsPrimary.operand (IsOperand.text refl) AreSuffixes.no_suffix))))) AreArgs.no_arg;
-  no_for = refl;
   depth_fits = omega arith;
 }
 
 -- the whole text
 
-rule_bytes : (N Q S : List Piece) (kind name lines : List ℕ) → bytes_of Q ≡ lines
+abbrev name_line : List ℕ → List ℕ
+name_line name = 10 ∷ (indent 1 ++ (codes "name" ++ (codes " = " ++ (34 ∷ (name ++ 34 ∷ 44 ∷ [])))))
+
+abbrev end_text : List ℕ → List ℕ
+end_text S = 10 ∷ 41 ∷ (S ++ 10 ∷ [])
+
+quoted_bytes : (N Q E S : List Piece) (kind name lines : List ℕ) → bytes_of Q ≡ lines
     → bytes_of (N ++ (piece Closed Identifier kind ∷ piece Closed Operator (codes "(") ∷ piece (Line 1) Identifier (codes "name") ∷ piece Space Operator (codes "=") ∷ piece Space String name ∷ piece Closed Operator (codes ",")
-    ∷ (((Q ++ (piece (Line 0) Operator (codes ")") ∷ [])) ++ []) ++ (S ++ (piece Closed Newline (codes "\n") ∷ [])))))
-    ≡ bytes_of N ++ (kind ++ (40 ∷ 10 ∷ (indent 1 ++ (codes "name" ++ (codes " = " ++ (name ++ (44 ∷ (lines ++ (10 ∷ 41 ∷ (bytes_of S ++ 10 ∷ []))))))))))
-rule_bytes N Q S kind name lines is =
+    ∷ (((Q ++ (E ++ (piece (Line 0) Operator (codes ")") ∷ []))) ++ []) ++ (S ++ (piece Closed Newline (codes "\n") ∷ [])))))
+    ≡ bytes_of N ++ (kind ++ (40 ∷ 10 ∷ (indent 1 ++ (codes "name" ++ (codes " = " ++ (name ++ (44 ∷ (lines ++ (bytes_of E ++ (10 ∷ 41 ∷ (bytes_of S ++ 10 ∷ [])))))))))))
+quoted_bytes N Q E S kind name lines is =
     rw (
-      append-nil (Q ++ (piece (Line 0) Operator (codes ")") ∷ [])),
+      append-nil (Q ++ (E ++ (piece (Line 0) Operator (codes ")") ∷ []))),
       bytes_append N (piece Closed Identifier kind ∷ piece Closed Operator (codes "(") ∷ piece (Line 1) Identifier (codes "name") ∷ piece Space Operator (codes "=") ∷ piece Space String name ∷ piece Closed Operator (codes ",")
-          ∷ ((Q ++ (piece (Line 0) Operator (codes ")") ∷ [])) ++ (S ++ (piece Closed Newline (codes "\n") ∷ [])))),
-      bytes_append (Q ++ (piece (Line 0) Operator (codes ")") ∷ [])) (S ++ (piece Closed Newline (codes "\n") ∷ [])),
-      bytes_append Q (piece (Line 0) Operator (codes ")") ∷ []),
+          ∷ ((Q ++ (E ++ (piece (Line 0) Operator (codes ")") ∷ []))) ++ (S ++ (piece Closed Newline (codes "\n") ∷ [])))),
+      bytes_append (Q ++ (E ++ (piece (Line 0) Operator (codes ")") ∷ []))) (S ++ (piece Closed Newline (codes "\n") ∷ [])),
+      bytes_append Q (E ++ (piece (Line 0) Operator (codes ")") ∷ [])),
+      bytes_append E (piece (Line 0) Operator (codes ")") ∷ []),
       bytes_append S (piece Closed Newline (codes "\n") ∷ []),
       is,
     ) (simp append_assoc)
 
-abbrev rule_of_args : List (List ℕ) → List ℕ → List ℕ → List Segment → Option (List ℕ) → Statement
-rule_of_args notes kind name args suffix = record {
+in_quotes : (name rest : List ℕ) → (34 ∷ (name ++ 34 ∷ [])) ++ (44 ∷ rest) ≡ (34 ∷ (name ++ 34 ∷ 44 ∷ [])) ++ rest
+in_quotes name rest = ap (λ (t : List ℕ). 34 ∷ t) (append_assoc name (34 ∷ []) (44 ∷ rest) ∙ sym (append_assoc name (34 ∷ 44 ∷ []) rest))
+
+rule_bytes : (N Q E S : List Piece) (kind name lines : List ℕ) → bytes_of Q ≡ lines
+    → bytes_of (N ++ (piece Closed Identifier kind ∷ piece Closed Operator (codes "(") ∷ piece (Line 1) Identifier (codes "name") ∷ piece Space Operator (codes "=") ∷ piece Space String (quoted name) ∷ piece Closed Operator (codes ",")
+    ∷ (((Q ++ (E ++ (piece (Line 0) Operator (codes ")") ∷ []))) ++ []) ++ (S ++ (piece Closed Newline (codes "\n") ∷ [])))))
+    ≡ bytes_of N ++ (kind ++ (40 ∷ (name_line name ++ (lines ++ (bytes_of E ++ end_text (bytes_of S))))))
+rule_bytes N Q E S kind name lines is = quoted_bytes N Q E S kind (quoted name) lines is
+    ∙ ap (λ (t : List ℕ). bytes_of N ++ (kind ++ (40 ∷ 10 ∷ (indent 1 ++ (codes "name" ++ (codes " = " ++ t)))))) (in_quotes name (lines ++ (bytes_of E ++ end_text (bytes_of S))))
+
+abbrev rule_of_args : List (List ℕ) → List ℕ → List ℕ → List Segment → List (List ℕ) → Option (List ℕ) → Statement
+rule_of_args notes kind name args end suffix = record {
   before = notes;
-  nodes = leaf Identifier kind ∷ group RuleCall (seg [] (name_items name) None (segs_of args)) false [] ∷ [];
+  nodes = leaf Identifier kind ∷ group RuleCall (seg [] (name_items name) None (segs_of args)) false end ∷ [];
   suffix = suffix;
   class = RuleClass;
   start = 0;
   end = 0;
 }
 
-two_broken : (n : ℕ) → true ≡ nat_le 1 n → nat_le 2 (suc n) ≡ true
-two_broken n some = grind (arith, nat_tests, some)
-
 counted : (ps : List Placed) → count (segs_of (args_of ps)) ≡ length ps
 counted [] = refl
 counted (p ∷ ps) = ap suc (counted ps)
 
-some_or : (c t x : Bool) → t ≡ true → (false || c || t || x) ≡ true
-some_or true t x is = refl
-some_or false t x is = rw is refl
+-- other arguments or comments keep it on lines
+two_or : (e c x : Bool) (n : ℕ) → (e || nat_le 1 n) ≡ true → (e || c || nat_le 2 (suc n) || x) ≡ true
+two_or true c x n some = refl
+two_or false true x n some = refl
+two_or false false x n some = ap (λ b. b || x) (two n some)
+  where
+    two : (n : ℕ) → nat_le 1 n ≡ true → nat_le 2 (suc n) ≡ true
+    two n some = grind (arith, nat_tests, some)
 
-laid_out : (notes : List (List ℕ)) (kind name : List ℕ) (args : List Segment) (suffix : Option (List ℕ)) → nat_le 2 (suc (count (segs_of args))) ≡ true
-    → layout_text (rule_of_args notes kind name args suffix)
-    ≡ bytes_of (comment_lines notes) ++ (kind ++ (40 ∷ 10 ∷ (indent 1 ++ (codes "name" ++ (codes " = " ++ (quoted name ++ (44 ∷ (argument_lines args ++ (10 ∷ 41 ∷ (bytes_of (suffix_piece suffix) ++ 10 ∷ []))))))))))
-laid_out notes kind name args suffix many =
-    by (is_broken RuleCall (seg [] (name_items name) None (segs_of args)) [] (segs_hold (seg [] (name_items name) None (segs_of args)))) (some_or _ _ _ many) _
+laid_out : (notes : List (List ℕ)) (kind name : List ℕ) (args : List Segment) (end : List (List ℕ)) (suffix : Option (List ℕ)) → (is_filled end || nat_le 1 (count (segs_of args))) ≡ true
+    → layout_text (rule_of_args notes kind name args end suffix)
+    ≡ bytes_of (comment_lines notes) ++ (kind ++ (40 ∷ (name_line name ++ (argument_lines args ++ (bytes_of (comments 1 end) ++ end_text (bytes_of (suffix_piece suffix)))))))
+laid_out notes kind name args end suffix some =
+    by (is_broken RuleCall (seg [] (name_items name) None (segs_of args)) end (segs_hold (seg [] (name_items name) None (segs_of args)))) (two_or (is_filled end) _ _ (count (segs_of args)) some) _
   where
     by : (b : Bool) → b ≡ true → (A : List Piece)
-        → bytes_of (comment_lines notes ++ ((piece Closed Identifier kind ∷ ((piece Closed Operator (codes "(") ∷ (if breaks Broken b then broken_segs Broken 1 RuleCall true (seg [] (name_items name) None (segs_of args)) ++ (piece (Line 0) Operator (codes ")") ∷ []) else A)) ++ []))
+        → bytes_of (comment_lines notes ++ ((piece Closed Identifier kind ∷ ((piece Closed Operator (codes "(") ∷ (if breaks Broken b then broken_segs Broken 1 RuleCall true (seg [] (name_items name) None (segs_of args)) ++ (comments 1 end ++ piece (Line 0) Operator (codes ")") ∷ []) else A)) ++ []))
         ++ (suffix_piece suffix ++ (piece Closed Newline (codes "\n") ∷ []))))
-        ≡ bytes_of (comment_lines notes) ++ (kind ++ (40 ∷ 10 ∷ (indent 1 ++ (codes "name" ++ (codes " = " ++ (quoted name ++ (44 ∷ (argument_lines args ++ (10 ∷ 41 ∷ (bytes_of (suffix_piece suffix) ++ 10 ∷ []))))))))))
-    by b is A = rw is (rule_bytes (comment_lines notes) (broken_segs Broken 1 RuleCall true (segs_of args)) (suffix_piece suffix) kind (quoted name) (argument_lines args) refl)
+        ≡ bytes_of (comment_lines notes) ++ (kind ++ (40 ∷ (name_line name ++ (argument_lines args ++ (bytes_of (comments 1 end) ++ end_text (bytes_of (suffix_piece suffix)))))))
+    by b is A = rw is (rule_bytes (comment_lines notes) (broken_segs Broken 1 RuleCall true (segs_of args)) (comments 1 end) (suffix_piece suffix) kind name (argument_lines args) refl)
 
 within : (attr kind : List ℕ) (N G S : List Piece) → HasArgumentName attr (bytes_of G) → HasArgumentName attr (bytes_of (N ++ ((piece Closed Identifier kind ∷ (G ++ [])) ++ S)))
 within attr kind N G S has =
@@ -208,31 +228,40 @@ with_group N G S kind g is =
       is,
     ) refl
 
-abbrev head_text : List ℕ → List ℕ → List ℕ → List ℕ
-head_text N kind name = N ++ (kind ++ (40 ∷ 10 ∷ (indent 1 ++ (codes "name" ++ (codes " = " ++ (34 ∷ (name ++ 34 ∷ 44 ∷ [])))))))
+abbrev kind_text : List ℕ → List ℕ → List ℕ
+kind_text N kind = N ++ (kind ++ 40 ∷ [])
 
-with_new : (N S kind name before new after : List ℕ)
-    → N ++ (kind ++ (((40 ∷ ((10 ∷ (indent 1 ++ (codes "name" ++ (codes " = " ++ (quoted name ++ 44 ∷ []))))) ++ before)) ++ (new ++ (after ++ (10 ∷ 41 ∷ [])))) ++ (S ++ 10 ∷ [])))
-    ≡ (head_text N kind name ++ before) ++ (new ++ (after ++ (10 ∷ 41 ∷ (S ++ 10 ∷ []))))
-with_new N S kind name before new after = simp append_assoc
+abbrev head_text : List ℕ → List ℕ → List ℕ → List ℕ
+head_text N kind name = kind_text N kind ++ name_line name
+
+with_new : (N S kind name before new after ends : List ℕ)
+    → N ++ (kind ++ (((40 ∷ (name_line name ++ before)) ++ (new ++ (after ++ (ends ++ (10 ∷ 41 ∷ []))))) ++ (S ++ 10 ∷ [])))
+    ≡ (head_text N kind name ++ before) ++ (new ++ (after ++ (ends ++ end_text S)))
+with_new N S kind name before new after ends = simp append_assoc
 
 abbrev name_argument : List ℕ → Segment
 name_argument name = record { before = []; nodes = list_of (name_items name); suffix = None }
 
-rule_place : (depth : ℕ) (attr : List ℕ) (notes : List (List ℕ)) (kind name : List ℕ) (placed : List Placed) (suffix : Option (List ℕ)) (text next w back : List ℕ) (place : PutEnds)
-    → text ≡ head_text (bytes_of (comment_lines notes)) kind name ++ next → w ≡ argument_lines (args_of placed) → back ≡ 10 ∷ 41 ∷ (bytes_of (suffix_piece suffix) ++ 10 ∷ [])
+line_is : (name : List ℕ) → argument_lines (name_argument name ∷ []) ≡ name_line name
+line_is name = ap (λ (t : List ℕ). 10 ∷ (indent 1 ++ (codes "name" ++ (codes " = " ++ t)))) (in_quotes name [] ∙ append-nil (34 ∷ (name ++ 34 ∷ 44 ∷ [])))
+
+-- the place of an argument after the name
+rule_place : (depth : ℕ) (attr : List ℕ) (notes : List (List ℕ)) (kind name : List ℕ) (placed : List Placed) (end : List (List ℕ)) (suffix : Option (List ℕ)) (text next : List ℕ) (place : PutEnds)
+    → text ≡ head_text (bytes_of (comment_lines notes)) kind name ++ next
     → bytes_eq attr (codes "name") ≡ false → HasPut depth attr (head_text (bytes_of (comment_lines notes)) kind name) next placed place
-    → HasPutPlace (suc depth) attr (rule_of_args notes kind name (args_of placed) suffix) text (head_text (bytes_of (comment_lines notes)) kind name ++ (w ++ back)) place
-rule_place depth attr notes kind name placed suffix text next w back place begins w_is back_is other h =
+    → HasPutPlace (suc depth) attr (rule_of_args notes kind name (args_of placed) end suffix) text
+    (head_text (bytes_of (comment_lines notes)) kind name ++ (argument_lines (args_of placed) ++ (bytes_of (comments 1 end) ++ end_text (bytes_of (suffix_piece suffix))))) place
+rule_place depth attr notes kind name placed end suffix text next place begins other h =
     let F : List ℕ = head_text (bytes_of (comment_lines notes)) kind name in
     let before : List ℕ = argument_lines (args_of h.before) in
     let one : List ℕ = argument_lines (args_of h.one) in
     let after : List ℕ = argument_lines (args_of h.after) in
-    let first_is : first_args attr (rule_of_args notes kind name (args_of placed) suffix) ≡ args_of h.one = ap (λ xs. alone attr (name_argument name ∷ xs)) (segments_of (args_of placed))
+    let back : List ℕ = bytes_of (comments 1 end) ++ end_text (bytes_of (suffix_piece suffix)) in
+    let first_is : first_args attr (rule_of_args notes kind name (args_of placed) end suffix) ≡ args_of h.one = ap (λ xs. alone attr (name_argument name ∷ xs)) (segments_of (args_of placed))
     ∙ ap (λ b. option_to_list (if b then Some (name_argument name) else first_named attr (args_of placed))) other ∙ h.alone_is in
-    let lines : w ≡ before ++ (one ++ after) = w_is ∙ ap (λ ps. argument_lines (args_of ps)) h.all ∙ ap argument_lines (all_args h.before (h.one ++ h.after) ∙ ap (λ (xs : List Segment). args_of h.before ++ xs) (all_args h.one h.after))
+    let lines : argument_lines (args_of placed) ≡ before ++ (one ++ after) = ap (λ ps. argument_lines (args_of ps)) h.all ∙ ap argument_lines (all_args h.before (h.one ++ h.after) ∙ ap (λ (xs : List Segment). args_of h.before ++ xs) (all_args h.one h.after))
     ∙ lines_append (args_of h.before) (args_of h.one ++ args_of h.after) ∙ ap (λ (t : List ℕ). before ++ t) (lines_append (args_of h.one) (args_of h.after)) in
-    let whole : F ++ (w ++ back) ≡ (F ++ before) ++ (one ++ (after ++ back)) = ap (λ (t : List ℕ). F ++ (t ++ back)) lines ∙ joined F before one after in
+    let whole : F ++ (argument_lines (args_of placed) ++ back) ≡ (F ++ before) ++ (one ++ (after ++ back)) = ap (λ (t : List ℕ). F ++ (t ++ back)) lines ∙ joined F before one after back in
     record {
       between = record { before = F ++ before; lines = flat_map placed_lines h.one; after = after ++ back };
       above = F ++ flat_map placed_lines h.before;
@@ -246,34 +275,97 @@ rule_place depth attr notes kind name placed suffix text next w back place begin
         takes = λ f local some.
             let splits : (f : List Segment → List Segment) → IsLocal attr f → f (args_of placed) ≡ args_of h.before ++ (f (alone attr (args_of placed)) ++ args_of h.after) =
             λ f local. h.splits f local ∙ ap (λ xs. args_of h.before ++ (f xs ++ args_of h.after)) (sym h.alone_is) in
-            with_group (comment_lines notes) (item_pieces Broken 0 Closed (group RuleCall (segs_of (f (segments (segs_of (name_argument name ∷ args_of placed))))) false [])) (suffix_piece suffix) kind _
-            (group_takes attr (name_argument name) (args_of placed) (args_of h.before) (args_of h.after) [] other splits f local (ap (λ xs. is_empty (f xs)) (h.alone_is ∙ sym first_is) ∙ some))
-            ∙ with_new (bytes_of (comment_lines notes)) (bytes_of (suffix_piece suffix)) kind name before (argument_lines (f (alone attr (args_of placed)))) after
-            ∙ ap (λ xs. (F ++ before) ++ (argument_lines (f xs) ++ (after ++ (10 ∷ 41 ∷ (bytes_of (suffix_piece suffix) ++ 10 ∷ []))))) (h.alone_is ∙ sym first_is)
-            ∙ ap (λ (t : List ℕ). (F ++ before) ++ (argument_lines (f (first_args attr (rule_of_args notes kind name (args_of placed) suffix))) ++ (after ++ t))) (sym back_is);
+            with_group (comment_lines notes) (item_pieces Broken 0 Closed (group RuleCall (segs_of (f (segments (segs_of (name_argument name ∷ args_of placed))))) false end)) (suffix_piece suffix) kind _
+            (group_takes attr (name_argument name) (args_of placed) (args_of h.before) (args_of h.after) end other splits f local (ap (λ xs. is_empty (f xs)) (h.alone_is ∙ sym first_is) ∙ some))
+            ∙ ap (λ (t : List ℕ). bytes_of (comment_lines notes) ++ (kind ++ (((40 ∷ (t ++ before)) ++ (argument_lines (f (alone attr (args_of placed))) ++ (after ++ (bytes_of (comments 1 end) ++ 10 ∷ 41 ∷ [])))) ++ (bytes_of (suffix_piece suffix) ++ 10 ∷ [])))) (line_is name)
+            ∙ with_new (bytes_of (comment_lines notes)) (bytes_of (suffix_piece suffix)) kind name before (argument_lines (f (alone attr (args_of placed)))) after (bytes_of (comments 1 end))
+            ∙ ap (λ xs. (F ++ before) ++ (argument_lines (f xs) ++ (after ++ back))) (h.alone_is ∙ sym first_is);
       };
     }
   where
-    joined : (F x y z : List ℕ) → F ++ ((x ++ (y ++ z)) ++ back) ≡ (F ++ x) ++ (y ++ (z ++ back))
-    joined F x y z = simp append_assoc
+    joined : (F x y z back : List ℕ) → F ++ ((x ++ (y ++ z)) ++ back) ≡ (F ++ x) ++ (y ++ (z ++ back))
+    joined F x y z back = simp append_assoc
 
-pub rule_read : (depth : ℕ) (attr text name next below rest front w back : List ℕ) (one : Bool) (place : PutEnds) → IsRuleHead text name next → front ≡ take (length text - length next) text → AreArgumentsRead depth attr next below front w one place → one ≡ true
-    → IsRuleEnd below rest → back ≡ take (length below - length rest) below → (kept : Option PutEnds) → IfSome kept (λ p. (bytes_eq attr (codes "name") ≡ false) × (place ≡ p)) → IsRuleRead (depth + 1) attr name text rest (front ++ (w ++ back)) kept
-rule_read depth attr text name next below rest front w back one place h front_is a some e back_is kept other =
+size_before : (text front rest : List ℕ) → text ≡ front ++ rest → length text - length rest ≡ length front
+size_before text front rest is = omega (arith, ap length is, length-append front rest)
+
+-- the place of the name
+name_place : (depth : ℕ) (attr : List ℕ) (notes : List (List ℕ)) (kind name : List ℕ) (args : List Segment) (end : List (List ℕ)) (suffix : Option (List ℕ)) (text inside next : List ℕ) (place : PutEnds)
+    → is_text String (quoted name) ≡ true → text ≡ kind_text (bytes_of (comment_lines notes)) kind ++ inside → inside ≡ name_line name ++ next
+    → bytes_eq attr (codes "name") ≡ true → place ≡ record { from = inside; to = next; start = length text - length inside; end = length text - length next }
+    → (is_filled end || nat_le 1 (count (segs_of args))) ≡ true
+    → HasPutPlace (suc depth) attr (rule_of_args notes kind name args end suffix) text
+    (head_text (bytes_of (comment_lines notes)) kind name ++ (argument_lines args ++ (bytes_of (comments 1 end) ++ end_text (bytes_of (suffix_piece suffix))))) place
+name_place depth attr notes kind name args end suffix text inside next place is begins lines same place_is some =
+    let H : List ℕ = kind_text (bytes_of (comment_lines notes)) kind in
+    let L : List ℕ = name_line name in
+    let after : List ℕ = argument_lines args ++ (bytes_of (comments 1 end) ++ end_text (bytes_of (suffix_piece suffix))) in
+    let n : Segment = name_argument name in
+    let all : text ≡ (H ++ L) ++ next = begins ∙ ap (λ (t : List ℕ). H ++ t) lines ∙ sym (append_assoc H L next) in
+    let first_is : first_args attr (rule_of_args notes kind name args end suffix) ≡ n ∷ [] = ap (λ xs. alone attr (n ∷ xs)) (segments_of args)
+    ∙ ap (λ b. option_to_list (if b then Some n else first_named attr args)) same in
+    let formed : AreFormed depth (segs_of (n ∷ [])) = name_formed depth name is in
+    let are : AreSegments RuleCall depth (segs_of (n ∷ [])) = record { texts = formed.texts; kinds = formed.kinds; grammar = formed.grammar; no_for = refl; depth_fits = formed.depth_fits; stays = refl } in
+    record {
+      between = record { before = H; lines = L; after = after };
+      above = H;
+      front = begins ∙ ap (λ (p : PutEnds). H ++ p.from) (sym place_is);
+      lines = ap (λ (p : PutEnds). p.from) place_is ∙ lines ∙ ap (λ (p : PutEnds). L ++ p.to) (sym place_is);
+      before = (λ i. take ((ap (λ (p : PutEnds). p.start) place_is ∙ size_before text H inside begins) i) (append_assoc H L after i)) ∙ take-append_seam H (L ++ after);
+      after = (λ i. drop ((ap (λ (p : PutEnds). p.end) place_is ∙ size_before text (H ++ L) next all) i) ((H ++ L) ++ after)) ∙ drop-append_seam (H ++ L) after;
+      has = record {
+        none = ap is_empty (sym first_is);
+        reads = subst (AreReadAlone (suc depth) L) (sym first_is) (subst (λ (t : List ℕ). AreReadAlone (suc depth) t (n ∷ [])) (line_is name) (read_alone depth (n ∷ []) are));
+        takes = λ f local some_new.
+            with_group (comment_lines notes) (item_pieces Broken 0 Closed (group RuleCall (segs_of (f (segments (segs_of (n ∷ args))))) false end)) (suffix_piece suffix) kind _
+            (first_takes attr n args end same some f local (ap (λ xs. is_empty (f xs)) (sym first_is) ∙ some_new))
+            ∙ again (bytes_of (comment_lines notes)) (argument_lines (f (n ∷ []))) (argument_lines args) (bytes_of (comments 1 end)) (bytes_of (suffix_piece suffix))
+            ∙ ap (λ xs. H ++ (argument_lines (f xs) ++ after)) (sym first_is);
+      };
+    }
+  where
+    again : (N new lines ends S : List ℕ) → N ++ (kind ++ ((40 ∷ (new ++ (lines ++ (ends ++ 10 ∷ 41 ∷ [])))) ++ (S ++ 10 ∷ []))) ≡ kind_text N kind ++ (new ++ (lines ++ (ends ++ end_text S)))
+    again N new lines ends S = simp append_assoc
+
+kind_end : (N kind inside : List ℕ) → N ++ (kind ++ (40 ∷ inside)) ≡ kind_text N kind ++ inside
+kind_end N kind inside = simp append_assoc
+
+line_end : (name next : List ℕ) → 10 ∷ (indent 1 ++ (codes "name" ++ (codes " = " ++ (34 ∷ (name ++ 34 ∷ (44 ∷ next)))))) ≡ name_line name ++ next
+line_end name next = ap (λ (t : List ℕ). 10 ∷ (indent 1 ++ (codes "name" ++ (codes " = " ++ 34 ∷ t)))) (sym (append_assoc name (34 ∷ 44 ∷ []) next))
+
+pub head_is : (text name inside next : List ℕ) → (h : IsRuleHead text name inside next) → text ≡ head_text (bytes_of (comment_lines h.notes)) h.kind name ++ next
+head_is text name inside next h =
+    let N : List ℕ = bytes_of (comment_lines h.notes) in
+    h.front ∙ kind_end N h.kind inside ∙ ap (λ (t : List ℕ). kind_text N h.kind ++ t) (h.lines ∙ line_end name next) ∙ sym (append_assoc (kind_text N h.kind) (name_line name) next)
+
+flip_or : (x y : Bool) → (x || y) ≡ (y || x)
+flip_or true true = refl
+flip_or true false = refl
+flip_or false true = refl
+flip_or false false = refl
+
+-- `front` is the head, `back` the end, `w` is written between them
+pub rule_read : (depth : ℕ) (attr text name inside next below rest front w back : List ℕ) (some : Bool) (place : Option PutEnds) → IsRuleHead text name inside next → text ≡ front ++ next → AreArgumentsRead depth attr next below front w some place → some ≡ true
+    → IsRuleEnd below rest → below ≡ back ++ rest → (kept : Option PutEnds) → IfSome kept (IsRulePlace (bytes_eq attr (codes "name")) text inside next place) → IsRuleRead (depth + 1) attr name text rest (front ++ (w ++ back)) kept
+rule_read depth attr text name inside next below rest front w back some place h front_is a some_is e back_is kept known =
     let args : List Segment = args_of a.placed in
     let segs : Segs = seg [] (name_items name) None (segs_of args) in
     let N : List ℕ = bytes_of (comment_lines h.notes) in
+    let E : List ℕ = bytes_of (comments 1 a.end) in
     let S : List ℕ = bytes_of (suffix_piece e.note) in
     let F : List ℕ = head_text N h.kind name in
     let formed : AreFormed depth segs = formed_more depth [] (name_items name) None (segs_of args) (name_formed depth name h.name_is.is) (args_formed depth a.placed a.are) in
-    let begins : text ≡ F ++ next = h.front ∙ start N next in
-    let ends : below ≡ (10 ∷ 41 ∷ (S ++ 10 ∷ [])) ++ rest = e.front ∙ finish S in
-    let many : nat_le 2 (suc (count (segs_of args))) ≡ true = two_broken (count (segs_of args)) (sym some ∙ a.one_is ∙ ap (nat_le 1) (sym (counted a.placed))) in
+    let begins : text ≡ F ++ next = head_is text name inside next h in
+    let ends : below ≡ end_text S ++ rest = e.front ∙ finish S in
+    let front_at : front ≡ F = same_front text front F next front_is begins in
+    let back_at : back ≡ end_text S = same_front below back (end_text S) rest back_is ends in
+    let more : (is_filled a.end || nat_le 1 (count (segs_of args))) ≡ true = ap (λ n. is_filled a.end || nat_le 1 n) (counted a.placed) ∙ flip_or (is_filled a.end) (nat_le 1 (length a.placed)) ∙ sym a.some_is ∙ some_is in
+    let written : front ++ (w ++ back) ≡ F ++ (argument_lines args ++ (E ++ end_text S)) = (λ i. front_at i ++ (a.spells i ++ back_at i)) ∙ ap (λ (t : List ℕ). F ++ t) (append_assoc (argument_lines args) E (end_text S)) in
     record {
-      s = rule_of_args h.notes h.kind name args e.note;
+      s = rule_of_args h.notes h.kind name args a.end e.note;
       choice = free true own (free true (free true (free true own (choices_of a.placed)) own) own);
       well = record {
-        texts = record { some = λ no. refl; before = h.are; nodes = ((h.kind_is, refl), ((formed.texts, refl), tt)); suffix = e.is };
+        texts = record { some = λ no. refl; before = h.are; nodes = ((h.kind_is, refl), ((formed.texts, a.end_is), tt)); suffix = e.is };
         parsed = record {
           kinds = (λ is. refl, tt, (λ is. refl, (Round, refl, record { one = λ is. absurd_of is; comma = λ is. absurd_of is }, formed.kinds), tt));
           rule = refl;
@@ -285,39 +377,80 @@ rule_read depth attr text name next below rest front w back one place h front_is
         depth_fits = most _ _ (depth + 1) (omega arith) (most _ _ (depth + 1) (omega (arith, formed.depth_fits)) (omega arith));
       };
       stand = (tt, ((λ no. absurd_of (sym no), (own_stand (name_items name), args_stand depth a.placed a.are)), tt));
-      spelled = ap (λ ss. record { before = h.notes; nodes = leaf Identifier h.kind ∷ group RuleCall (seg [] (name_items name) None ss) false [] ∷ []; suffix = e.note; class = RuleClass; start = 0; end = 0 }) (args_spelled depth a.placed a.are);
+      spelled = ap (λ ss. record { before = h.notes; nodes = leaf Identifier h.kind ∷ group RuleCall (seg [] (name_items name) None ss) false a.end ∷ []; suffix = e.note; class = RuleClass; start = 0; end = 0 }) (args_spelled depth a.placed a.are);
       class_is = refl;
       named = h.name_is.value;
-      front = begins ∙ ap (λ (t : List ℕ). F ++ t) (a.front ∙ ap (λ (t : List ℕ). flat_map placed_lines a.placed ++ t) ends) ∙ whole N (flat_map placed_lines a.placed) S
-          ∙ ap (λ (t : List ℕ). t ++ rest) (sym (rule_bytes (comment_lines h.notes) (broken_by (choices_of a.placed) 1 RuleCall true (segs_of args)) (suffix_piece e.note) h.kind (quoted name) (flat_map placed_lines a.placed) (args_lines a.placed)));
-      spells = (λ i. (front_is ∙ taken text F next begins) i ++ (a.spells i ++ (back_is ∙ taken below (10 ∷ 41 ∷ (S ++ 10 ∷ [])) rest ends) i)) ∙ again N (argument_lines args) S ∙ sym (laid_out h.notes h.kind name args e.note many);
-      absent = λ attr none. no_argument_name attr segs [] (λ has. none (within attr h.kind (comment_lines h.notes) (item_pieces Broken 0 Closed (group RuleCall segs false [])) (suffix_piece e.note ++ (piece Closed Newline (codes "\n") ∷ [])) has));
-      has = at (front_is ∙ taken text F next begins) begins (back_is ∙ taken below (10 ∷ 41 ∷ (S ++ 10 ∷ [])) rest ends) kept other;
+      front = begins ∙ ap (λ (t : List ℕ). F ++ t) (a.front ∙ ap (λ (t : List ℕ). flat_map placed_lines a.placed ++ (E ++ t)) ends) ∙ whole N (flat_map placed_lines a.placed) E S
+          ∙ ap (λ (t : List ℕ). t ++ rest) (sym (rule_bytes (comment_lines h.notes) (broken_by (choices_of a.placed) 1 RuleCall true (segs_of args)) (comments 1 a.end) (suffix_piece e.note) h.kind name (flat_map placed_lines a.placed) (args_lines a.placed)));
+      spells = written ∙ again N (argument_lines args) E S ∙ sym (laid_out h.notes h.kind name args a.end e.note more);
+      absent = λ attr none. no_argument_name attr segs a.end (λ has. none (within attr h.kind (comment_lines h.notes) (item_pieces Broken 0 Closed (group RuleCall segs false a.end)) (suffix_piece e.note ++ (piece Closed Newline (codes "\n") ∷ [])) has));
+      has = at (bytes_eq attr (codes "name")) refl begins more (subst (λ (t : List ℕ). IfSome place (HasPut depth attr t next a.placed)) front_at a.has) written kept known;
     }
   where
-    at : front ≡ head_text (bytes_of (comment_lines h.notes)) h.kind name → text ≡ head_text (bytes_of (comment_lines h.notes)) h.kind name ++ next → back ≡ 10 ∷ 41 ∷ (bytes_of (suffix_piece e.note) ++ 10 ∷ [])
-        → (kept : Option PutEnds) → IfSome kept (λ p. (bytes_eq attr (codes "name") ≡ false) × (place ≡ p)) → IfSome kept (HasPutPlace (depth + 1) attr (rule_of_args h.notes h.kind name (args_of a.placed) e.note) text (front ++ (w ++ back)))
-    at front_at begins back_at None other = tt
-    at front_at begins back_at (Some p) other =
+    same_front : (text x y rest : List ℕ) → text ≡ x ++ rest → text ≡ y ++ rest → x ≡ y
+    same_front text x y rest is also = sym (taken text x rest is) ∙ taken text y rest also
+
+    at : (b : Bool) → bytes_eq attr (codes "name") ≡ b → text ≡ head_text (bytes_of (comment_lines h.notes)) h.kind name ++ next → (is_filled a.end || nat_le 1 (count (segs_of (args_of a.placed)))) ≡ true
+        → IfSome place (HasPut depth attr (head_text (bytes_of (comment_lines h.notes)) h.kind name) next a.placed)
+        → front ++ (w ++ back) ≡ head_text (bytes_of (comment_lines h.notes)) h.kind name ++ (argument_lines (args_of a.placed) ++ (bytes_of (comments 1 a.end) ++ end_text (bytes_of (suffix_piece e.note))))
+        → (kept : Option PutEnds) → IfSome kept (IsRulePlace b text inside next place) → IfSome kept (HasPutPlace (depth + 1) attr (rule_of_args h.notes h.kind name (args_of a.placed) a.end e.note) text (front ++ (w ++ back)))
+    at b is begins more has written None known = tt
+    at b is begins more has written (Some p) known =
         let deeper : suc depth ≡ depth + 1 = omega arith in
-        subst (λ d. HasPutPlace d attr (rule_of_args h.notes h.kind name (args_of a.placed) e.note) text (front ++ (w ++ back)) p) deeper
-        (subst (λ (t : List ℕ). HasPutPlace (suc depth) attr (rule_of_args h.notes h.kind name (args_of a.placed) e.note) text (t ++ (w ++ back)) p) (sym front_at)
-        (rule_place depth attr h.notes h.kind name a.placed e.note text next w back p begins a.spells back_at other.0 (subst (λ (t : List ℕ). HasPut depth attr t next a.placed p) front_at (subst (HasPut depth attr front next a.placed) other.1 a.has))))
+        subst (λ d. HasPutPlace d attr (rule_of_args h.notes h.kind name (args_of a.placed) a.end e.note) text (front ++ (w ++ back)) p) deeper
+        (subst (λ (t : List ℕ). HasPutPlace (suc depth) attr (rule_of_args h.notes h.kind name (args_of a.placed) a.end e.note) text t p) (sym written) (either b is known))
+      where
+        either : (b : Bool) → bytes_eq attr (codes "name") ≡ b → IsRulePlace b text inside next place p
+            → HasPutPlace (suc depth) attr (rule_of_args h.notes h.kind name (args_of a.placed) a.end e.note) text
+            (head_text (bytes_of (comment_lines h.notes)) h.kind name ++ (argument_lines (args_of a.placed) ++ (bytes_of (comments 1 a.end) ++ end_text (bytes_of (suffix_piece e.note))))) p
+        either true is known = name_place depth attr h.notes h.kind name (args_of a.placed) a.end e.note text inside next p h.name_is.is (h.front ∙ kind_end (bytes_of (comment_lines h.notes)) h.kind inside) (h.lines ∙ line_end name next) is known more
+        either false is known = rule_place depth attr h.notes h.kind name a.placed a.end e.note text next p begins is (subst (λ o. IfSome o (HasPut depth attr (head_text (bytes_of (comment_lines h.notes)) h.kind name) next a.placed)) known has)
 
-    start : (N rest : List ℕ) → N ++ (h.kind ++ (40 ∷ 10 ∷ (indent 1 ++ (codes "name" ++ (codes " = " ++ (34 ∷ (name ++ 34 ∷ 44 ∷ rest)))))))
-        ≡ (N ++ (h.kind ++ (40 ∷ 10 ∷ (indent 1 ++ (codes "name" ++ (codes " = " ++ (34 ∷ (name ++ 34 ∷ 44 ∷ [])))))))) ++ rest
-    start N rest = simp append_assoc
-
-    finish : (S : List ℕ) → 10 ∷ 41 ∷ (S ++ 10 ∷ rest) ≡ (10 ∷ 41 ∷ (S ++ 10 ∷ [])) ++ rest
+    finish : (S : List ℕ) → 10 ∷ 41 ∷ (S ++ 10 ∷ rest) ≡ end_text S ++ rest
     finish S = simp append_assoc
 
-    whole : (N L S : List ℕ) → (N ++ (h.kind ++ (40 ∷ 10 ∷ (indent 1 ++ (codes "name" ++ (codes " = " ++ (34 ∷ (name ++ 34 ∷ 44 ∷ [])))))))) ++ (L ++ ((10 ∷ 41 ∷ (S ++ 10 ∷ [])) ++ rest))
-        ≡ (N ++ (h.kind ++ (40 ∷ 10 ∷ (indent 1 ++ (codes "name" ++ (codes " = " ++ (quoted name ++ (44 ∷ (L ++ (10 ∷ 41 ∷ (S ++ 10 ∷ []))))))))))) ++ rest
-    whole N L S = simp append_assoc
+    whole : (N L E S : List ℕ) → head_text N h.kind name ++ (L ++ (E ++ (end_text S ++ rest))) ≡ (N ++ (h.kind ++ (40 ∷ (name_line name ++ (L ++ (E ++ end_text S)))))) ++ rest
+    whole N L E S = simp append_assoc
 
-    again : (N L S : List ℕ) → (N ++ (h.kind ++ (40 ∷ 10 ∷ (indent 1 ++ (codes "name" ++ (codes " = " ++ (34 ∷ (name ++ 34 ∷ 44 ∷ [])))))))) ++ (L ++ (10 ∷ 41 ∷ (S ++ 10 ∷ [])))
-        ≡ N ++ (h.kind ++ (40 ∷ 10 ∷ (indent 1 ++ (codes "name" ++ (codes " = " ++ (quoted name ++ (44 ∷ (L ++ (10 ∷ 41 ∷ (S ++ 10 ∷ []))))))))))
-    again N L S = simp append_assoc
+    again : (N L E S : List ℕ) → head_text N h.kind name ++ (L ++ (E ++ end_text S)) ≡ N ++ (h.kind ++ (40 ∷ (name_line name ++ (L ++ (E ++ end_text S)))))
+    again N L E S = simp append_assoc
+
+-- the rule, with what is pending at its end
+
+abbrev pub head_of : (text name inside next : List ℕ) → IsRuleHead text name inside next → List ℕ
+head_of text name inside next h = head_text (bytes_of (comment_lines h.notes)) h.kind name
+
+pub rule_begun : (text name inside next : List ℕ) (h : IsRuleHead text name inside next) (buffer : List ℕ) → buffer ≡ [] → IsPending text buffer (head_of text name inside next h) text next
+rule_begun text name inside next h buffer none = subst (λ (b : List ℕ). IsPending text b (head_of text name inside next h) text next) (sym none) (pend_first text (head_of text name inside next h) next (head_is text name inside next h))
+
+pub rule_pending : (depth : ℕ) (attr text name inside next below rest from buffer w : List ℕ) (some : Bool) (place kept : Option PutEnds) (h : IsRuleHead text name inside next) → IsPending text buffer (head_of text name inside next h ++ w) from below
+    → AreArgumentsRead depth attr next below (head_of text name inside next h) w some place → some ≡ true → IsRuleEnd below rest → IfSome kept (IsRulePlace (bytes_eq attr (codes "name")) text inside next place)
+    → (all : List ℕ) × IsPending text buffer all from rest × IsRuleRead (depth + 1) attr name text rest all kept
+rule_pending depth attr text name inside next below rest from buffer w some place kept h p a some_is e known =
+    let front : List ℕ = head_of text name inside next h in
+    let back : List ℕ = end_text (bytes_of (suffix_piece e.note)) in
+    let back_is : below ≡ back ++ rest = e.front ∙ ap (λ (t : List ℕ). 10 ∷ 41 ∷ t) (sym (append_assoc (bytes_of (suffix_piece e.note)) (10 ∷ []) rest)) in (
+      front ++ (w ++ back),
+      pend_same text buffer ((front ++ w) ++ back) from rest (front ++ (w ++ back)) (pend_more text buffer (front ++ w) from below back rest p back_is) (append_assoc front w back),
+      rule_read depth attr text name inside next below rest front w back some place h (head_is text name inside next h) a some_is e back_is kept known,
+    )
+
+empty_of : (xs : List ℕ) → length xs ≡ 0 → xs ≡ []
+empty_of [] none = refl
+empty_of (x ∷ xs) none = absurd (no none)
+  where
+    no : suc (length xs) ≡ 0 → ⊥
+    no is = omega (arith, is)
+
+-- nothing is in the buffer: it stands as it is written
+pub stands_as_is : (text buffer all from rest : List ℕ) → IsPending text buffer all from rest → length buffer ≡ 0 → all ≡ take (length text - length rest) text
+stands_as_is text buffer all from rest p none =
+    let empty : buffer ≡ [] = empty_of buffer none in
+    p.all_is ∙ ap (λ (b : List ℕ). b ++ p.part) empty ∙ sym (taken text p.part rest (sym (p.whole empty) ∙ p.front))
+
+-- the rest goes into the buffer
+pub all_put : (text buffer all from rest back : List ℕ) → IsPending text buffer all from rest → back ≡ take (length from - length rest) from → all ≡ buffer ++ back
+all_put text buffer all from rest back p is = p.all_is ∙ ap (λ (t : List ℕ). buffer ++ t) (sym (is ∙ taken from p.part rest p.front))
 
 -- its place in what is read of it
 place_back : (depth : ℕ) (attr : List ℕ) (s t : Statement) (text written : List ℕ) (ends : Option PutEnds) → lineless t ≡ lineless s → IfSome ends (HasPutPlace depth attr s text written) → (place : Option Between) → IsPutPlaceIn text written ends place

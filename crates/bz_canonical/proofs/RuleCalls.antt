@@ -20,70 +20,27 @@ use Rattle.bz_attribute.specs.Rules.{first_named, ident_of, is_operator_item, is
 use Rattle.bz_canonical.specs.private.Fronts.{IsTokenFront, IsQuotedFront}
 use Rattle.bz_canonical.specs.private.Segments.{AreNotesFront, AreSegmentsFront, IsGroupFront}
 use Rattle.bz_canonical.specs.Canonical.{HasArgumentName, argument_lines}
-use Rattle.bz_canonical.specs.private.Arguments.{AreArgumentsFront, Ends, HasLines}
-use Rattle.bz_canonical.specs.private.Statements.{HasGroupPlace, IsRuleCallFront}
+use Rattle.bz_canonical.specs.private.Statements.{IsRuleCallFront}
 use Rattle.bz_canonical.proofs.GroupSegments.{begin_flat, no_beside, begin_notes, finish_notes, no_segments, second_of_more, keyword_segment}
 use Rattle.bz_canonical.proofs.Operands.{broken_group, flat_group, string_value}
 use Rattle.bz_canonical.proofs.Chained.{value_nodes}
 use Rattle.bz_canonical.proofs.ArgumentLines.{argument_front, lines_append}
-use Rattle.bz_canonical.proofs.Places.{group_place}
 use Rattle.bz_canonical.proofs.Taken.{taken}
 
 name_text : is_text Identifier (codes "name") ≡ true
 unfolding keywords
 name_text = refl
 
--- two segments or comments make it stand on lines
-many : (e c o t x : Bool) → t ≡ o → (e || (c || o)) ≡ true → (e || c || t || x) ≡ true
-many true c o t x same some = refl
-many false true o t x same some = refl
-many false false true t x same some = rw same refl
-many false false false t x same some = absurd (false≢true some)
-
--- the first argument is the name
-pub named_front : (depth : ℕ) (attr start last next middle below after rest name : List ℕ) (o c e : Bool) (place : Option Ends) → IsQuotedFront start name last → last ≡ 44 ∷ next
-    → AreArgumentsFront depth attr next middle o c place → AreNotesFront 1 middle below e → (e || (c || o)) ≡ true → below ≡ 10 ∷ after → after ≡ 41 ∷ rest
-    → (kept : Option Ends) → IfSome kept (λ p. (bytes_eq attr (codes "name") ≡ false) × (place ≡ Some p))
-    → IsRuleCallFront depth attr (Some name) kept (40 ∷ 10 ∷ (indent 1 ++ (codes "name" ++ (codes " = " ++ start)))) rest
-named_front depth attr start last next middle below after rest name o c e place q comma s notes some closes bracketed kept other =
-    let first : List ℕ = codes "name" ++ (codes " = " ++ start) in
-    let inside : List ℕ = 10 ∷ (indent 1 ++ first) in
-    let string : IsTokenFront String start last = record { token = 34 ∷ (name ++ 34 ∷ []); is = q.is; stays = refl; front = q.front } in
-    let ident : IsTokenFront Identifier first (codes " = " ++ start) = record { token = codes "name"; is = name_text; stays = refl; front = refl } in
-    let n = argument_front depth attr inside inside first (codes " = " ++ start) start last next next false false false (finish_notes 1 inside inside false (begin_notes 1 inside)) refl ident refl
-    (value_nodes 1 depth start last false (string_value start last string 1 depth)) comma (no_beside next) (bytes_eq attr (codes "name")) refl false refl in
-    let all : List Segment = n.arg ∷ s.args in
-    let front : inside ≡ argument_lines all ++ middle = n.front ∙ ap (λ (t : List ℕ). argument_lines (n.arg ∷ []) ++ t) s.front ∙ sym (append_assoc (argument_lines (n.arg ∷ [])) (argument_lines s.args) middle)
-    ∙ ap (λ (t : List ℕ). t ++ middle) (sym (lines_append (n.arg ∷ []) s.args)) in
-    let are : AreSegmentsFront RuleCall 1 depth inside middle (suc (count (segs_of s.args))) (segs_hold (segs_of all)) (have_comments (segs_of all)) =
-    record { segs = segs_of all; are = n.are s.args s.are; front = front; count_is = refl; breaks = refl; notes = refl } in
-    let counted : nat_le 2 (suc (count (segs_of s.args))) ≡ o = ap (nat_le 2) (omega arith) ∙ sym (second_of_more (count (segs_of s.args))) ∙ sym s.one_is in
-    record {
-      holds = true;
-      group = broken_group RuleCall 0 depth inside middle below after rest 41 (suc (count (segs_of s.args))) (segs_hold (segs_of all)) (have_comments (segs_of all)) e refl (λ k. refl) are notes
-          (subst (λ b. (e || b || nat_le 2 (suc (count (segs_of s.args))) || (nat_le 2 (suc (count (segs_of s.args))) && segs_hold (segs_of all))) ≡ true) (sym (n.notes s.args ∙ s.notes))
-          (many e c o (nat_le 2 (suc (count (segs_of s.args)))) (nat_le 2 (suc (count (segs_of s.args))) && segs_hold (segs_of all)) counted some)) closes bracketed;
-      named = q.value;
-      has = at depth attr n.arg s.args notes.notes inside next middle below rest place s.has (λ is. n.named_is ∙ is) n.front notes.front (closes ∙ ap (λ (t : List ℕ). 10 ∷ t) bracketed) kept other;
-    }
-  where
-    at : (depth : ℕ) (attr : List ℕ) (n : Segment) (args : List Segment) (end : List (List ℕ)) (inside next middle below rest : List ℕ) (place : Option Ends) → IfSome place (HasLines depth attr args next middle)
-        → (bytes_eq attr (codes "name") ≡ false → is_named attr n ≡ false) → inside ≡ argument_lines (n ∷ []) ++ next → middle ≡ bytes_of (comments 1 end) ++ below → below ≡ 10 ∷ 41 ∷ rest
-        → (kept : Option Ends) → IfSome kept (λ p. (bytes_eq attr (codes "name") ≡ false) × (place ≡ Some p)) → IfSome kept (HasGroupPlace depth attr (segs_of (n ∷ args)) end (40 ∷ inside) rest)
-    at depth attr n args end inside next middle below rest place has unnamed inside_is notes closes None other = tt
-    at depth attr n args end inside next middle below rest place has unnamed inside_is notes closes (Some p) other =
-        group_place depth attr n args end inside next middle below rest p (unnamed other.0) inside_is (subst (λ o. IfSome o (HasLines depth attr args next middle)) other.1 has) notes closes
-
 -- the only argument is the name, in place
-pub only_named_front : (depth : ℕ) (attr text start last rest name : List ℕ) → text ≡ 40 ∷ (codes "name" ++ (codes " = " ++ start)) → IsQuotedFront start name last → last ≡ 41 ∷ rest → IsRuleCallFront depth attr (Some name) None text rest
-only_named_front depth attr text start last rest name is q closes =
+pub only_named_front : (depth : ℕ) (text start last rest name : List ℕ) → text ≡ 40 ∷ (codes "name" ++ (codes " = " ++ start)) → IsQuotedFront start name last → last ≡ 41 ∷ rest → IsRuleCallFront depth (Some name) text rest
+only_named_front depth text start last rest name is q closes =
     let first : List ℕ = codes "name" ++ (codes " = " ++ start) in
     let string : IsTokenFront String start last = record { token = 34 ∷ (name ++ 34 ∷ []); is = q.is; stays = refl; front = q.front } in
     let ident : IsTokenFront Identifier first (codes " = " ++ start) = record { token = codes "name"; is = name_text; stays = refl; front = refl } in
     let arg = keyword_segment RuleCall 0 depth first (codes " = " ++ start) last start false refl ident refl (value_nodes 0 depth start last false (string_value start last string 0 depth)) in
     let all = begin_flat RuleCall 0 depth first last false arg no_segs last (no_segments RuleCall depth) refl refl in
-    subst (λ t. IsRuleCallFront depth attr (Some name) None t rest) (sym is)
-    (record { holds = false; group = flat_group RuleCall 0 depth first last rest 41 1 false refl all refl closes; named = q.value; has = tt })
+    subst (λ t. IsRuleCallFront depth (Some name) t rest) (sym is)
+    (record { holds = false; group = flat_group RuleCall 0 depth first last rest 41 1 false refl all refl closes; named = q.value })
 
 -- no argument has a name that does not stand in the text
 
@@ -181,13 +138,12 @@ no_argument_name attr segs end none = by (is_broken RuleCall segs end (segs_hold
     by false none = none_in_place attr 0 true segs (bytes_of (piece Closed Operator (codes ")") ∷ []))
         (λ h. none (after_it attr (codes "(") _ (subst (HasArgumentName attr) (sym (bytes_append (flat_segs Broken 0 RuleCall true segs) (piece Closed Operator (codes ")") ∷ []))) h)))
 
-pub unnamed_front : (depth : ℕ) (attr text call rest : List ℕ) (h : Bool) → IsGroupFront RuleCall 0 depth text rest h → call ≡ take (length text - length rest) text → (HasArgumentName (codes "name") call → ⊥)
-    → IsRuleCallFront depth attr None None text rest
-unnamed_front depth attr text call rest h g is none = record {
+pub unnamed_front : (depth : ℕ) (text call rest : List ℕ) (h : Bool) → IsGroupFront RuleCall 0 depth text rest h → call ≡ take (length text - length rest) text → (HasArgumentName (codes "name") call → ⊥)
+    → IsRuleCallFront depth None text rest
+unnamed_front depth text call rest h g is none = record {
   holds = h;
   group = g;
   named = ap (option_and_then (λ a. value_string (value a))) (no_argument_name (codes "name") g.segs g.end (λ has. none (subst (HasArgumentName (codes "name")) (sym (is ∙ taken text (bytes_of (item_pieces Broken 0 Closed (group RuleCall g.segs false g.end))) rest (g.front Closed))) has)));
-  has = tt;
 }
 
 abbrev all_but_first : List ℕ → List ℕ

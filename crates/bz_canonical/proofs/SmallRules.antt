@@ -62,7 +62,7 @@ written : (args : List Segment) → layout_text (small_rule args) ≡ small_text
 written args = small_bytes (broken_segs Broken 1 RuleCall true (segs_of args))
 
 formed_of : (depth : ℕ) (args : List Segment) → AreSegments RuleCall depth (segs_of args) → AreFormed depth (segs_of args)
-formed_of depth args are = record { texts = are.texts; kinds = are.kinds; grammar = are.grammar; no_for = are.no_for; depth_fits = are.depth_fits }
+formed_of depth args are = record { texts = are.texts; kinds = are.kinds; grammar = are.grammar; depth_fits = are.depth_fits }
 
 pub read_alone : (depth : ℕ) (args : List Segment) → AreSegments RuleCall depth (segs_of args) → AreReadAlone (suc depth) (argument_lines args) args
 read_alone depth args are = λ first t read.

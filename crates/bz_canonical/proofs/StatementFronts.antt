@@ -15,18 +15,16 @@ use Rattle.bz_layout.specs.Pieces.{Piece, piece, bytes_of, comment_lines, suffix
 use Rattle.bz_layout.proofs.Pieces.{bytes_append}
 use Rattle.bz_layout_laws.specs.Legible.{are_some}
 use Rattle.bz_canonical.specs.Canonical.{HasArgumentName}
-use Rattle.bz_canonical.specs.private.Arguments.{Ends}
 use Rattle.bz_canonical.specs.private.Segments.{AreLinesFront, IsBesideFront}
 use Rattle.bz_canonical.specs.private.Statements.{IsBareFront, IsStatementFront}
-use Rattle.bz_canonical.proofs.Places.{statement_place}
 use Rattle.bz_canonical.proofs.RuleCalls.{after_it, before_it}
 use Rattle.bz_token.specs.Common.{is_filled}
 
 -- a statement that is more than comments
-pub statement_front : (depth : ℕ) (attr : List ℕ) (class : Class) (name : Option (List ℕ)) (place : Option Ends) (text start middle end rest : List ℕ) (b : Bool) → AreLinesFront text start
-    → IsBareFront depth attr class name place start middle → IsBesideFront middle end b
-    → end ≡ 10 ∷ rest → IsStatementFront depth attr class name place text rest rest
-statement_front depth attr class name place text start middle end rest b above s beside ends = record {
+pub statement_front : (depth : ℕ) (class : Class) (name : Option (List ℕ)) (text start middle end rest : List ℕ) (b : Bool) → AreLinesFront text start
+    → IsBareFront depth class name start middle → IsBesideFront middle end b
+    → end ≡ 10 ∷ rest → IsStatementFront depth class name text rest rest
+statement_front depth class name text start middle end rest b above s beside ends = record {
   s = record { before = above.notes; nodes = s.nodes; suffix = beside.note; class = class; start = 0; end = 0 };
   well = record {
     texts = record { some = λ no. s.some; before = above.are; nodes = s.texts; suffix = beside.is };
@@ -49,7 +47,6 @@ statement_front depth attr class name place text start middle end rest b above s
       ∙ by (comment_lines above.notes) (items_pieces Broken 0 None Closed Start (items_of s.nodes)) (suffix_piece beside.note) (is_comment class) s.other;
   ends = none (is_comment class) s.other;
   absent = λ name no. s.absent name (λ has. no (within name (comment_lines above.notes) (items_pieces Broken 0 None Closed Start (items_of s.nodes)) _ (is_comment class) s.other has));
-  has = statement_place depth attr (record { before = above.notes; nodes = s.nodes; suffix = beside.note; class = class; start = 0; end = 0 }) text start middle end rest b above beside ends s.other refl refl place s.has;
 }
   where
     within : (attr : List ℕ) (C P S : List Piece) (b : Bool) → b ≡ false → HasArgumentName attr (bytes_of P) → HasArgumentName attr (bytes_of (C ++ (if b then [] else P ++ S)))
@@ -63,8 +60,8 @@ statement_front depth attr class name place text start middle end rest b above s
     none b is = rw is refl
 
 -- comment lines alone, one at least
-pub comments_front : (depth : ℕ) (attr text start rest : List ℕ) → AreLinesFront text start → length start ≢ length text → start ≡ 10 ∷ rest → IsStatementFront depth attr Comment None None text start rest
-comments_front depth attr text start rest above some ends = record {
+pub comments_front : (depth : ℕ) (text start rest : List ℕ) → AreLinesFront text start → length start ≢ length text → start ≡ 10 ∷ rest → IsStatementFront depth Comment None text start rest
+comments_front depth text start rest above some ends = record {
   s = record { before = above.notes; nodes = []; suffix = None; class = Comment; start = 0; end = 0 };
   well = record {
     texts = record { some = λ no. absurd (false≢true (sym no)); before = above.are; nodes = tt; suffix = refl };
@@ -78,7 +75,6 @@ comments_front depth attr text start rest above some ends = record {
   front = above.front ∙ ap (λ (ps : List Piece). bytes_of ps ++ start) (sym (append-nil (comment_lines above.notes)));
   ends = ends;
   absent = λ name no. refl;
-  has = tt;
 }
   where
     by : (notes : List (List ℕ)) → text ≡ bytes_of (comment_lines notes) ++ start → is_filled notes ≡ true

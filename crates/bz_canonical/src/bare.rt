@@ -2,9 +2,7 @@
 
 ghost use Rattle.std.specs.Prelude.{◌≡◌, ◌<◌, ◌++◌, codes, option_map, IfSome};
 ghost use Rattle.bz_canonical.specs.private.Statements.{IsBareFront};
-ghost use Rattle.bz_canonical.specs.private.Arguments.{ends_of};
 
-use crate::arguments::Lines;
 use crate::assignment::assigned;
 use crate::front::{after, identifier};
 use crate::load::loaded;
@@ -17,21 +15,14 @@ pub(crate) struct BareStatement<'t> {
     pub(crate) class: Class,
     /// The name of a rule. None: it is no rule, or has no name.
     pub(crate) name: Option<&'t [u8]>,
-    /// Where the first argument of the name stands, or would stand, that is asked for.
-    pub(crate) place: Option<Lines<'t>>,
     pub(crate) rest: &'t [u8],
 }
 
 /// The load, rule or assignment here.
 #[inline(always)]
-pub(crate) fn bare_statement<'t>(
-    text: &'t [u8],
-    attr: &[u8],
-    max_depth: u8,
-) -> Option<BareStatement<'t>>
+pub(crate) fn bare_statement(text: &[u8], max_depth: u8) -> Option<BareStatement<'_>>
     requires { max_depth < 254 }
-    ensures { IfSome result (λ read. IsBareFront max_depth attr.now read.class (option_map (λ name. name.now) read.name)
-        (option_map ends_of read.place) text.now read.rest.now) }
+    ensures { IfSome result (λ read. IsBareFront max_depth read.class (option_map (λ name. name.now) read.name) text.now read.rest.now) }
 {
     if max_depth == 0 {
         return None;
@@ -41,18 +32,16 @@ pub(crate) fn bare_statement<'t>(
         return Some(BareStatement {
             class: Class::Load,
             name: None,
-            place: None,
             rest,
         });
     }
     let end = identifier(text)?;
     if let Some(member) = after(end, b'.') {
         let bracket = identifier(member)?;
-        let read = rule_call(bracket, attr, max_depth - 1)?;
+        let read = rule_call(bracket, max_depth - 1)?;
         return Some(BareStatement {
             class: Class::Rule,
             name: read.name,
-            place: read.place,
             rest: read.rest,
         });
     }
@@ -62,17 +51,15 @@ pub(crate) fn bare_statement<'t>(
             Some(BareStatement {
                 class: Class::Assign,
                 name: None,
-                place: None,
-                rest,
+                    rest,
             })
         }
         _ => {
-            let read = rule_call(end, attr, max_depth - 1)?;
+            let read = rule_call(end, max_depth - 1)?;
             Some(BareStatement {
                 class: Class::Rule,
                 name: read.name,
-                place: read.place,
-                rest: read.rest,
+                    rest: read.rest,
             })
         }
     }

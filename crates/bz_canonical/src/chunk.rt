@@ -1,12 +1,12 @@
 //! The chunk that a text begins with, where it stands as it would be written.
 
-ghost use Rattle.std.specs.Prelude.{◌≡◌, ◌-◌, ◌≤◌, ◌<◌, length, option_map, drop, take, IfSome};
+ghost use Rattle.std.specs.Prelude.{◌≡◌, ◌-◌, ◌<◌, ℕ, List, length, option_map, take, IfOk, IfSome};
 ghost use Rattle.bz_canonical.specs.Canonical.{IsCanonical, between};
-ghost use Rattle.bz_canonical.specs.private.Statements.{IsPlaceIn};
-ghost use Rattle.bz_canonical.specs.private.Arguments.{ends_of};
 
-use crate::arguments::Lines;
+use crate::put_rule::rule_head;
+use crate::rewrite::rule_chunk;
 use crate::statement::statement;
+use bz_memory::NoMemory;
 use bz_token::check_utf8;
 use bz_tree::Class;
 
@@ -36,27 +36,46 @@ pub struct ArgumentPlace<'t> {
 // Brackets may be open so deep, and no deeper: an indent's level is one byte.
 pub(crate) const DEEPEST: u8 = 253;
 
-/// The chunk that the text begins with, where it stands as it would be written, with the place of the argument of this
-/// name. None: it may be so or not.
+/// The chunk that the text begins with, where it is known what would be written of it, with the place of the argument of
+/// this name. The bytes in the buffer are lost: what is written of a rule is put there, if the rule stands otherwise. None:
+/// it may be known or not.
 #[inline(always)]
-pub fn canonical<'t>(text: &'t str, attr: &str, max_depth: u8) -> Option<CanonicalChunk<'t>>
-    ensures { IfSome result (λ found. IsCanonical max_depth attr.now found.class (option_map (λ name. name.now) found.name)
-        (option_map between found.place) found.chunk.now found.written.now text.now) }
+pub fn canonical<'t>(
+    text: &'t str,
+    attr: &str,
+    max_depth: u8,
+    written: &'t mut Vec<u8>,
+) -> Result<Option<CanonicalChunk<'t>>, NoMemory>
+    ensures { IfOk result (λ told. IfSome told (λ found. IsCanonical max_depth attr.now found.class
+        (option_map (λ name. name.now) found.name) (option_map between found.place)
+        found.chunk.now found.written.now text.now)) }
 {
     if max_depth > DEEPEST {
-        return None;
+        return Ok(None);
     }
-    let read = statement(text.as_bytes(), attr.as_bytes(), max_depth)?;
+    match rule_head(text.as_bytes()) {
+        Some(head) => rule_chunk(text, head, attr, max_depth, written),
+        None => Ok(other_chunk(text, max_depth)),
+    }
+}
+
+/// The same, where it stands as it would be written. There is no place of an argument.
+fn other_chunk(text: &str, max_depth: u8) -> Option<CanonicalChunk<'_>>
+    requires { max_depth < 254 }
+    ensures { IfSome result (λ found. (attr : List ℕ) → IsCanonical max_depth attr found.class
+        (option_map (λ name. name.now) found.name) (option_map between found.place)
+        found.chunk.now found.written.now text.now) }
+{
+    let read = statement(text.as_bytes(), max_depth)?;
     let chunk = without(text, read.rest.len())?;
     let written = without(text, read.end.len())?;
-    let place = place_in(text, written, read.place);
     match read.name {
         None => Some(CanonicalChunk {
             chunk,
             written,
             class: read.class,
             name: None,
-            place,
+            place: None,
         }),
         Some(bytes) => {
             let Ok(name) = check_utf8(bytes) else {
@@ -67,30 +86,10 @@ pub fn canonical<'t>(text: &'t str, attr: &str, max_depth: u8) -> Option<Canonic
                 written,
                 class: read.class,
                 name: Some(name),
-                place,
+                place: None,
             })
         }
     }
-}
-
-/// The place of these lines of the text, in what is written of it.
-fn place_in<'t>(
-    text: &'t str,
-    written: &'t str,
-    lines: Option<Lines<'_>>,
-) -> Option<ArgumentPlace<'t>>
-    ensures { IsPlaceIn text.now written.now (option_map ends_of lines.entry) (option_map between result) }
-{
-    let Lines { from, to } = lines?;
-    let before = without(text, from.len())?;
-    let front = without(text, to.len())?;
-    let (_, lines) = front.split_at_checked(before.len())?;
-    let (_, after) = written.split_at_checked(front.len())?;
-    Some(ArgumentPlace {
-        before,
-        lines,
-        after,
-    })
 }
 
 /// The text without so many of its last bytes, where it may be cut there.

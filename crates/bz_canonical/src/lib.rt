@@ -6,7 +6,6 @@
 //! otherwise, and writes these as the layout does.
 #![tactic(auto)]
 
-mod arguments;
 mod assignment;
 mod bare;
 mod chunk;
@@ -24,4 +23,3 @@ mod statement;
 mod value;
 
 pub use chunk::{ArgumentPlace, CanonicalChunk, canonical};
-pub use rewrite::rewritten;

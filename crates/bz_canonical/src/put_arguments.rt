@@ -1,166 +1,184 @@
 //! The arguments of a rule as they would be written, where lists of strings among them stand otherwise.
 
-ghost use Rattle.std.specs.Prelude.{◌≡◌, ◌<◌, ◌∷◌, ◌++◌, ℕ, List, length, option_map, IfOk, IfSome};
-ghost use Rattle.bz_canonical.specs.private.Rewritten.{AreArgumentsRead, AreOthersRead, IsArgumentRead, IsHeadRead, IsNamedRead, put_ends};
+ghost use Rattle.std.specs.Prelude.{◌≡◌, ◌<◌, ℕ, List, Bool, length, option_map, IfOk, IfSome, true, false};
+ghost use Rattle.bz_canonical.specs.private.Rewritten.{AreArgumentsRead, AreOthersRead, AreRead, IsArgumentRead, IsHeadRead, ArePlacedRead, IsPending, IsValueEnd, Puts, pending, put_ends};
 
-use crate::arguments::{Lines, argument};
 use crate::front::{after_equals, before, identifier, line};
 use crate::lists::{after_value, put_list};
 use crate::notes::notes;
+use crate::segments::segments;
+use crate::value::{either, nodes};
 use bz_memory::{NoMemory, extend_from_slice};
+use bz_tree::GroupKind;
 
-/// What follows an argument.
+/// The lines of an argument, or of none.
 #[derive(Clone, Copy)]
-struct PutArgument<'t> {
-    rest: &'t [u8],
-    /// It has the name.
-    named: bool,
+pub(crate) struct Lines<'t> {
+    /// The text from the first of them on.
+    pub(crate) from: &'t [u8],
+    /// What follows the last.
+    pub(crate) to: &'t [u8],
 }
 
-/// What follows the argument here, and puts it into the buffer.
-fn put_argument<'t>(
-    text: &'t [u8],
-    attr: &[u8],
-    depth: u8,
-    written: &mut Vec<u8>,
-) -> Result<Option<PutArgument<'t>>, NoMemory>
-    requires { depth < 254 }
-    ensures { IfOk result (λ told. IfSome told (λ read. (w : List ℕ) × (written.new.items ≡ written.old.items ++ w)
-        × IsArgumentRead depth attr.now text.now read.rest.now w read.named)) }
+/// What is not in the buffer yet, as it stands as it is written.
+#[derive(Clone, Copy)]
+pub(crate) struct Pending<'t> {
+    /// The text from there on.
+    pub(crate) from: &'t [u8],
+    /// What follows it, and is to be read.
+    pub(crate) rest: &'t [u8],
+}
+
+/// So much is written up to here.
+pub(crate) fn written_len(at: Pending<'_>, written: &Vec<u8>) -> Option<usize>
+    ensures { IfSome result (λ len. (text all : List ℕ)
+        → IsPending text written.now.items all at.entry.from.now at.entry.rest.now → len ≡ length all) }
 {
-    match argument(text, attr, depth) {
-        Some(read) => {
-            let Some(lines) = before(text, read.rest.len()) else {
-                return Ok(None);
-            };
-            extend_from_slice(written, lines)?;
-            Ok(Some(PutArgument {
-                rest: read.rest,
-                named: read.named,
-            }))
-        }
-        None => put_list_argument(text, attr, depth, written),
-    }
+    let pending = at.from.len().checked_sub(at.rest.len())?;
+    let len = written.len().checked_add(pending)?;
+    Some(len)
 }
 
-/// The value of an argument whose name stands before it.
+/// The name of an argument.
 #[derive(Clone, Copy)]
-struct NamedValue<'t> {
+struct ArgumentHead<'t> {
+    /// What follows the equals sign.
     value: &'t [u8],
     /// The argument has the name that is asked for.
     named: bool,
 }
 
-/// The value of the argument here.
-fn argument_value<'t>(text: &'t [u8], attr: &[u8]) -> Option<NamedValue<'t>>
-    ensures { IfSome result (λ read. IsHeadRead attr.now text.now read.value.now read.named) }
+/// The name of the argument here.
+#[inline(always)]
+fn argument_head<'t>(text: &'t [u8], attr: &[u8]) -> Option<ArgumentHead<'t>>
+    ensures { IfSome result (λ head. IsHeadRead attr.now text.now head.value.now head.named) }
 {
     let above = notes(text, 1);
     let inner = line(above.rest, 1)?;
     let equals = identifier(inner)?;
     let value = after_equals(equals)?;
     let keyword = before(inner, equals.len())?;
-    Some(NamedValue {
+    Some(ArgumentHead {
         value,
         named: attr == keyword,
     })
 }
 
-/// What follows the argument here whose value is a list of strings.
-fn put_list_argument<'t>(
-    text: &'t [u8],
-    attr: &[u8],
+/// What follows the value here and its comma, where it stands as it is written.
+#[inline(always)]
+fn value_end(value: &[u8], depth: u8) -> Option<&[u8]>
+    requires { depth < 254 }
+    ensures { IfSome result (λ rest. IsValueEnd depth value.now rest.now) }
+{
+    let read = nodes(value, 1, depth)?;
+    let side = after_value(read.rest)?;
+    Some(side.rest)
+}
+
+/// Passes the argument here, whose name was read. If its value is a list of strings that stands otherwise than it is
+/// written, it goes into the buffer, after what is pending.
+#[inline(always)]
+fn put_argument<'t>(
+    at: Pending<'t>,
+    value: &'t [u8],
     depth: u8,
     written: &mut Vec<u8>,
-) -> Result<Option<PutArgument<'t>>, NoMemory>
-    ensures { IfOk result (λ told. IfSome told (λ read. (w : List ℕ) × (written.new.items ≡ written.old.items ++ w)
-        × IsArgumentRead depth attr.now text.now read.rest.now w read.named)) }
+) -> Result<Option<Pending<'t>>, NoMemory>
+    requires { depth < 254 }
+    ensures { IfOk result (λ told. IfSome told (λ next. (attr : List ℕ) (named : Bool)
+        → IsHeadRead attr at.entry.rest.now value.now named
+        → Puts written.old.items (pending at.entry) written.new.items (pending next)
+        (λ begun w. IsArgumentRead depth attr at.entry.rest.now next.rest.now w named))) }
+{
+    match value_end(value, depth) {
+        Some(rest) => Ok(Some(Pending {
+            from: at.from,
+            rest,
+        })),
+        None => put_list_argument(at, value, depth, written),
+    }
+}
+
+/// The same of a list of strings.
+#[inline(never)]
+fn put_list_argument<'t>(
+    at: Pending<'t>,
+    value: &'t [u8],
+    depth: u8,
+    written: &mut Vec<u8>,
+) -> Result<Option<Pending<'t>>, NoMemory>
+    ensures { IfOk result (λ told. IfSome told (λ next. (attr : List ℕ) (named : Bool)
+        → IsHeadRead attr at.entry.rest.now value.now named
+        → Puts written.old.items (pending at.entry) written.new.items (pending next)
+        (λ begun w. IsArgumentRead depth attr at.entry.rest.now next.rest.now w named))) }
 {
     if depth == 0 {
         return Ok(None);
     }
-    let Some(read) = argument_value(text, attr) else {
-        return Ok(None);
-    };
-    let Some(front) = before(text, read.value.len()) else {
+    let Some(front) = before(at.from, value.len()) else {
         return Ok(None);
     };
     extend_from_slice(written, front)?;
-    let Some(end) = put_list(read.value, written)? else {
+    let Some(end) = put_list(value, written)? else {
         return Ok(None);
     };
     let Some(side) = after_value(end) else {
         return Ok(None);
     };
-    let Some(back) = before(end, side.rest.len()) else {
-        return Ok(None);
-    };
-    extend_from_slice(written, back)?;
-    Ok(Some(PutArgument {
+    Ok(Some(Pending {
+        from: end,
         rest: side.rest,
-        named: read.named,
     }))
 }
 
-/// Arguments of other names, and the one after them, if it has the name.
+/// Arguments of other names.
 #[derive(Clone, Copy)]
 struct PutOthers<'t> {
-    rest: &'t [u8],
+    at: Pending<'t>,
     /// There is one at least.
     one: bool,
-    /// So long is what is written up to here.
-    len: usize,
-    /// What follows the one of the name.
+    /// The value of the argument of the name after them, if there is one.
     named: Option<&'t [u8]>,
 }
 
-/// The arguments here up to the first of the name, or to the end, and puts them into the buffer.
+/// Passes the arguments here up to the first of the name, or to the last that has one.
 fn put_others<'t>(
-    text: &'t [u8],
+    start: Pending<'t>,
     attr: &[u8],
     depth: u8,
     written: &mut Vec<u8>,
 ) -> Result<Option<PutOthers<'t>>, NoMemory>
     requires { depth < 254 }
-    ensures { IfOk result (λ told. IfSome told (λ read. (w : List ℕ)
-        × AreOthersRead depth attr.now text.now read.rest.now w read.one
-        × (read.len ≡ length (written.old.items ++ w))
-        × IsNamedRead depth attr.now read.rest.now (written.old.items ++ w) written.new.items
-        (option_map (λ to. to.now) read.named))) }
+    ensures passed { IfOk result (λ told. IfSome told (λ read.
+        Puts written.old.items (pending start.entry) written.new.items (pending read.at)
+        (λ begun w. AreOthersRead depth attr.now start.entry.rest.now read.at.rest.now w read.one))) }
+    ensures named { IfOk result (λ told. IfSome told (λ read. IfSome read.named (λ value.
+        IsHeadRead attr.now read.at.rest.now value.now true))) }
 {
-    let mut rest = text;
+    let mut at = start;
     let mut one = false;
-    for _ in 0..text.len() {
-        let len = written.len();
-        if is_end(rest) {
+    for _ in 0..start.rest.len() {
+        let Some(head) = argument_head(at.rest, attr) else {
             return Ok(Some(PutOthers {
-                rest,
+                at,
                 one,
-                len,
                 named: None,
             }));
-        }
-        let Some(next) = put_argument(rest, attr, depth, written)? else {
-            return Ok(None);
         };
-        if next.named {
+        if head.named {
             return Ok(Some(PutOthers {
-                rest,
+                at,
                 one,
-                len,
-                named: Some(next.rest),
+                named: Some(head.value),
             }));
         }
-        rest = next.rest;
+        let Some(next) = put_argument(at, head.value, depth, written)? else {
+            return Ok(None);
+        };
+        at = next;
         one = true;
     }
     Ok(None)
-}
-
-/// The arguments end here.
-#[inline(always)]
-fn is_end(text: &[u8]) -> bool {
-    matches!(text, [b'\n', b')', ..])
 }
 
 /// Where an argument stands in a text and in what is written.
@@ -174,63 +192,146 @@ pub(crate) struct PutPlace<'t> {
     pub(crate) end: usize,
 }
 
-/// What follows the arguments of a rule.
+/// The arguments up to the first of the name. Where there is none: all that have a name.
 #[derive(Clone, Copy)]
-pub(crate) struct PutArguments<'t> {
-    pub(crate) rest: &'t [u8],
-    /// The first one of the name. Where there is none: after the last.
-    pub(crate) place: PutPlace<'t>,
+struct PutPlaced<'t> {
+    at: Pending<'t>,
+    place: PutPlace<'t>,
+    /// There is one of the name.
+    named: bool,
     /// There is one at least.
-    pub(crate) one: bool,
+    one: bool,
 }
 
-/// What follows the arguments here, which go into the buffer, and where the first one of the name stands.
+/// Passes the arguments here up to the first of the name and with it, or to the last that has one.
+fn put_placed<'t>(
+    start: Pending<'t>,
+    attr: &[u8],
+    depth: u8,
+    written: &mut Vec<u8>,
+) -> Result<Option<PutPlaced<'t>>, NoMemory>
+    requires { depth < 254 }
+    ensures { IfOk result (λ told. IfSome told (λ read.
+        Puts written.old.items (pending start.entry) written.new.items (pending read.at)
+        (λ begun w. ArePlacedRead depth attr.now start.entry.rest.now read.at.rest.now begun w read.one (put_ends read.place) read.named))) }
+{
+    let Some(others) = put_others(start, attr, depth, written)? else {
+        return Ok(None);
+    };
+    let Some(len) = written_len(others.at, written) else {
+        return Ok(None);
+    };
+    match others.named {
+        None => Ok(Some(PutPlaced {
+            at: others.at,
+            place: place_between(others.at, len, others.at, len),
+            named: false,
+            one: others.one,
+        })),
+        Some(value) => {
+            let Some(at) = put_argument(others.at, value, depth, written)? else {
+                return Ok(None);
+            };
+            let Some(end) = written_len(at, written) else {
+                return Ok(None);
+            };
+            Ok(Some(PutPlaced {
+                at,
+                place: place_between(others.at, len, at, end),
+                named: true,
+                one: true,
+            }))
+        }
+    }
+}
+
+fn place_between<'t>(from: Pending<'t>, start: usize, to: Pending<'t>, end: usize) -> PutPlace<'t>
+    ensures { put_ends result ≡ record { from = from.entry.rest.now; to = to.entry.rest.now; start = start; end = end } }
+{
+    PutPlace {
+        lines: Lines {
+            from: from.rest,
+            to: to.rest,
+        },
+        start,
+        end,
+    }
+}
+
+/// Passes the arguments here, which follow the one of the name.
+fn put_later<'t>(
+    placed: PutPlaced<'t>,
+    depth: u8,
+    written: &mut Vec<u8>,
+) -> Result<Option<PutOthers<'t>>, NoMemory>
+    requires { depth < 254 }
+    ensures { IfOk result (λ told. IfSome told (λ read.
+        Puts written.old.items (pending placed.entry.at) written.new.items (pending read.at)
+        (λ begun w. AreRead depth placed.entry.at.rest.now read.at.rest.now w read.one))) }
+{
+    if !placed.named {
+        return Ok(Some(PutOthers {
+            at: placed.at,
+            one: false,
+            named: None,
+        }));
+    }
+    let Some(later) = put_others(placed.at, b"".as_slice(), depth, written)? else {
+        return Ok(None);
+    };
+    Ok(Some(later))
+}
+
+/// The arguments of a rule, and the comments after them.
+#[derive(Clone, Copy)]
+pub(crate) struct PutArguments<'t> {
+    pub(crate) at: Pending<'t>,
+    /// The first one of the name. Where there is none: after the last. None: it is not known.
+    pub(crate) place: Option<PutPlace<'t>>,
+    /// There is one at least, or a comment.
+    pub(crate) some: bool,
+}
+
+/// Passes the arguments here, with the comments after them.
 pub(crate) fn put_arguments<'t>(
-    text: &'t [u8],
+    start: Pending<'t>,
     attr: &[u8],
     depth: u8,
     written: &mut Vec<u8>,
 ) -> Result<Option<PutArguments<'t>>, NoMemory>
     requires { depth < 254 }
-    ensures { IfOk result (λ told. IfSome told (λ read. (w : List ℕ) × (written.new.items ≡ written.old.items ++ w)
-        × AreArgumentsRead depth attr.now text.now read.rest.now written.old.items w read.one (put_ends read.place))) }
+    ensures { IfOk result (λ told. IfSome told (λ read.
+        Puts written.old.items (pending start.entry) written.new.items (pending read.at)
+        (λ begun w. AreArgumentsRead depth attr.now start.entry.rest.now read.at.rest.now begun w read.some
+        (option_map put_ends read.place)))) }
 {
-    let Some(first) = put_others(text, attr, depth, written)? else {
+    let Some(placed) = put_placed(start, attr, depth, written)? else {
         return Ok(None);
     };
-    match first.named {
-        None => Ok(Some(PutArguments {
-            rest: first.rest,
-            place: PutPlace {
-                lines: Lines {
-                    from: first.rest,
-                    to: first.rest,
-                },
-                start: first.len,
-                end: first.len,
-            },
-            one: first.one,
-        })),
-        Some(to) => {
-            let end = written.len();
-            let Some(last) = put_others(to, attr, depth, written)? else {
-                return Ok(None);
-            };
-            if last.named.is_some() {
-                return Ok(None);
-            }
-            Ok(Some(PutArguments {
-                rest: last.rest,
-                place: PutPlace {
-                    lines: Lines {
-                        from: first.rest,
-                        to,
-                    },
-                    start: first.len,
-                    end,
-                },
-                one: true,
-            }))
-        }
+    let Some(later) = put_later(placed, depth, written)? else {
+        return Ok(None);
+    };
+    let Some(last) = segments(GroupKind::RuleCall, later.at.rest, 1, depth) else {
+        return Ok(None);
+    };
+    let more = either(later.one, last.one);
+    let some = either(placed.one, more);
+    Ok(Some(PutArguments {
+        at: Pending {
+            from: later.at.from,
+            rest: last.rest,
+        },
+        place: known_place(placed, more),
+        some: either(some, last.ended),
+    }))
+}
+
+/// The place of the argument of the name, or the place after all, where none follows.
+fn known_place(placed: PutPlaced<'_>, more: bool) -> Option<PutPlace<'_>>
+    ensures { IfSome result (λ place. (place ≡ placed.entry.place) × (placed.entry.named ≡ false → more ≡ false)) }
+{
+    if more && !placed.named {
+        return None;
     }
+    Some(placed.place)
 }

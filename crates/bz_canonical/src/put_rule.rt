@@ -1,70 +1,84 @@
 //! A rule as it would be written, where lists of strings in it stand otherwise.
 
-ghost use Rattle.std.specs.Prelude.{◌≡◌, ◌+◌, ◌<◌, codes, option_map, IfOk, IfSome, bytes_eq, false};
-ghost use Rattle.bz_canonical.specs.private.Rewritten.{IsRuleEnd, IsRuleHead, IsRuleRead, put_ends};
+ghost use Rattle.std.specs.Prelude.{◌≡◌, ◌+◌, ◌<◌, ◌-◌, codes, length, take, option_map, if◌then◌else◌, IfOk, IfSome, bytes_eq, true, false};
+ghost use Rattle.bz_canonical.specs.private.Rewritten.{IsRuleEnd, IsRuleHead, IsRulePlace, IsRuleRead, put_ends};
 
 use crate::front::{after, after_name, before, identifier, line, simple_string};
 use crate::notes::{beside, lines};
-use crate::put_arguments::{PutPlace, put_arguments};
+use crate::put_arguments::{Lines, Pending, PutPlace, put_arguments};
 use bz_memory::{NoMemory, extend_from_slice};
 
-/// A rule's name, and what follows the rule.
+/// A rule, and what follows it.
 #[derive(Clone, Copy)]
 pub(crate) struct PutRule<'t> {
-    pub(crate) name: &'t [u8],
     /// Where the first argument of the name stands, or would stand, that is asked for.
     pub(crate) place: Option<PutPlace<'t>>,
     pub(crate) rest: &'t [u8],
+    /// It stands as it is written, and is not in the buffer.
+    pub(crate) as_is: bool,
 }
 
-/// What follows the rule here, and puts it into the buffer.
+/// Passes the rule here. If it stands otherwise than it is written, what is written goes into the buffer.
 pub(crate) fn put_rule<'t>(
     text: &'t [u8],
+    head: RuleHead<'t>,
     attr: &[u8],
     depth: u8,
     written: &mut Vec<u8>,
 ) -> Result<Option<PutRule<'t>>, NoMemory>
-    requires { depth < 253 }
-    ensures { IfOk result (λ told. IfSome told (λ read. IsRuleRead (depth + 1) attr.now read.name.now text.now
-        read.rest.now written.new.items (option_map put_ends read.place))) }
+    requires deep { depth < 253 }
+    requires head { IsRuleHead text.now head.name.now head.inside.now head.rest.now }
+    ensures { IfOk result (λ told. IfSome told (λ read. IsRuleRead (depth + 1) attr.now head.entry.name.now text.now read.rest.now
+        (if read.as_is then take (length text.now - length read.rest.now) text.now else written.new.items)
+        (option_map put_ends read.place))) }
 {
-    let Some(head) = rule_head(text) else {
-        return Ok(None);
-    };
-    let Some(front) = before(text, head.rest.len()) else {
-        return Ok(None);
-    };
     written.clear();
-    extend_from_slice(written, front)?;
-    let Some(read) = put_arguments(head.rest, attr, depth, written)? else {
+    let start = Pending {
+        from: text,
+        rest: head.rest,
+    };
+    let Some(read) = put_arguments(start, attr, depth, written)? else {
         return Ok(None);
     };
-    if !read.one {
+    if !read.some {
         return Ok(None);
     }
-    let Some(rest) = rule_end(read.rest) else {
+    let Some(rest) = rule_end(read.at.rest) else {
         return Ok(None);
     };
-    let Some(back) = before(read.rest, rest.len()) else {
+    let place = place_of(text, head, attr, read.place);
+    if written.is_empty() {
+        return Ok(Some(PutRule {
+            place,
+            rest,
+            as_is: true,
+        }));
+    }
+    let Some(back) = before(read.at.from, rest.len()) else {
         return Ok(None);
     };
     extend_from_slice(written, back)?;
     Ok(Some(PutRule {
-        name: head.name,
-        place: place_of_other(read.place, attr),
+        place,
         rest,
+        as_is: false,
     }))
 }
 
 /// The beginning of a rule: the comments above it, its kind, its name.
 #[derive(Clone, Copy)]
-struct RuleHead<'t> {
-    name: &'t [u8],
-    rest: &'t [u8],
+pub(crate) struct RuleHead<'t> {
+    pub(crate) name: &'t [u8],
+    /// What follows the bracket.
+    pub(crate) inside: &'t [u8],
+    /// What follows the name and its comma.
+    pub(crate) rest: &'t [u8],
 }
 
-fn rule_head(text: &[u8]) -> Option<RuleHead<'_>>
-    ensures { IfSome result (λ head. IsRuleHead text.now head.name.now head.rest.now) }
+/// The beginning of the rule here, whose name is its first argument, on a line of its own.
+#[inline(always)]
+pub(crate) fn rule_head(text: &[u8]) -> Option<RuleHead<'_>>
+    ensures { IfSome result (λ head. IsRuleHead text.now head.name.now head.inside.now head.rest.now) }
 {
     let start = lines(text);
     let bracket = identifier(start)?;
@@ -75,11 +89,13 @@ fn rule_head(text: &[u8]) -> Option<RuleHead<'_>>
     let rest = after(name.rest, b',')?;
     Some(RuleHead {
         name: name.inner,
+        inside,
         rest,
     })
 }
 
 /// What follows the bracket that closes a rule, the comment beside it and its newline.
+#[inline(always)]
 fn rule_end(text: &[u8]) -> Option<&[u8]>
     ensures { IfSome result (λ rest. IsRuleEnd text.now rest.now) }
 {
@@ -90,13 +106,27 @@ fn rule_end(text: &[u8]) -> Option<&[u8]>
     Some(rest)
 }
 
-/// The place of an argument that is not the name.
-fn place_of_other<'t>(place: PutPlace<'t>, attr: &[u8]) -> Option<PutPlace<'t>>
-    ensures { IfSome (option_map put_ends result) (λ kept. (bytes_eq attr.now (codes "name") ≡ false)
-        × (put_ends place.entry ≡ kept)) }
+/// The place of the argument that is asked for, by that of one after the name.
+fn place_of<'t>(
+    text: &[u8],
+    head: RuleHead<'t>,
+    attr: &[u8],
+    place: Option<PutPlace<'t>>,
+) -> Option<PutPlace<'t>>
+    ensures { IfSome (option_map put_ends result) (IsRulePlace (bytes_eq attr.now (codes "name")) text.now
+        head.entry.inside.now head.entry.rest.now (option_map put_ends place.entry)) }
 {
-    if attr == b"name".as_slice() {
-        return None;
+    if attr != b"name".as_slice() {
+        return place;
     }
-    Some(place)
+    let start = text.len().checked_sub(head.inside.len())?;
+    let end = text.len().checked_sub(head.rest.len())?;
+    Some(PutPlace {
+        lines: Lines {
+            from: head.inside,
+            to: head.rest,
+        },
+        start,
+        end,
+    })
 }

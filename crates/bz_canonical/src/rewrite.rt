@@ -1,62 +1,78 @@
-//! The rule that a text begins with, where it stands as it would be written but for lists of strings.
+//! The rule that a text begins with, as a chunk.
 
-ghost use Rattle.std.specs.Prelude.{◌≡◌, ℕ, List, option_map, IfOk, IfSome};
+ghost use Rattle.std.specs.Prelude.{◌≡◌, ◌-◌, ◌<◌, ℕ, List, length, take, option_map, if◌then◌else◌, IfOk, IfSome};
 ghost use Rattle.bz_canonical.specs.Canonical.{IsCanonical, between};
-ghost use Rattle.bz_canonical.specs.private.Rewritten.{IsPutPlaceIn, IsRuleRead, put_ends};
+ghost use Rattle.bz_canonical.specs.private.Rewritten.{IsPutPlaceIn, IsRuleHead, IsRuleRead, put_ends};
 
-use crate::chunk::{ArgumentPlace, CanonicalChunk, DEEPEST, without};
+use crate::chunk::{ArgumentPlace, CanonicalChunk, without};
 use crate::put_arguments::PutPlace;
-use crate::put_rule::{PutRule, put_rule};
+use crate::put_rule::{PutRule, RuleHead, put_rule};
 use bz_memory::NoMemory;
 use bz_token::check_utf8;
 use bz_tree::Class;
 
-/// The chunk that the text begins with, where it is a rule that stands as it would be written but for arguments whose
-/// value is a list of strings. What is written of it goes into the buffer, whose bytes are lost. None: it may be so or
-/// not.
-pub fn rewritten<'t>(
+/// The chunk of the rule that begins with this head, where it stands as it would be written but for arguments whose value
+/// is a list of strings. If there are such, what is written goes into the buffer, whose bytes are lost.
+pub(crate) fn rule_chunk<'t>(
     text: &'t str,
+    head: RuleHead<'t>,
     attr: &str,
     max_depth: u8,
     written: &'t mut Vec<u8>,
 ) -> Result<Option<CanonicalChunk<'t>>, NoMemory>
+    requires deep { max_depth < 254 }
+    requires head { IsRuleHead text.now head.name.now head.inside.now head.rest.now }
     ensures { IfOk result (λ told. IfSome told (λ found. IsCanonical max_depth attr.now found.class
         (option_map (λ name. name.now) found.name) (option_map between found.place)
         found.chunk.now found.written.now text.now)) }
 {
-    if max_depth > DEEPEST {
-        return Ok(None);
-    }
     let Some(depth) = max_depth.checked_sub(1) else {
         return Ok(None);
     };
-    let Some(read) = put_rule(text.as_bytes(), attr.as_bytes(), depth, written)? else {
+    let Some(read) = put_rule(text.as_bytes(), head, attr.as_bytes(), depth, written)? else {
         return Ok(None);
     };
-    Ok(chunk_of(text, written.as_slice(), read))
+    Ok(chunk_of(text, head.name, written.as_slice(), read))
 }
 
-/// The chunk of the rule of which this is written.
-fn chunk_of<'t>(text: &'t str, written: &'t [u8], read: PutRule<'t>) -> Option<CanonicalChunk<'t>>
-    ensures { IfSome result (λ found. (depth : ℕ) (attr : List ℕ) → IsRuleRead depth attr read.entry.name.now text.now
-        read.entry.rest.now written.now (option_map put_ends read.entry.place) → IsCanonical depth attr found.class
+/// The chunk of the rule of this name, which is in the buffer if it stands otherwise than it is written.
+fn chunk_of<'t>(
+    text: &'t str,
+    name: &'t [u8],
+    buffer: &'t [u8],
+    read: PutRule<'t>,
+) -> Option<CanonicalChunk<'t>>
+    ensures { IfSome result (λ found. (depth : ℕ) (attr : List ℕ) → IsRuleRead depth attr name.now text.now
+        read.entry.rest.now (if read.entry.as_is then take (length text.now - length read.entry.rest.now) text.now else buffer.now)
+        (option_map put_ends read.entry.place) → IsCanonical depth attr found.class
         (option_map (λ name. name.now) found.name) (option_map between found.place)
         found.chunk.now found.written.now text.now) }
 {
     let chunk = without(text, read.rest.len())?;
-    let Ok(all) = check_utf8(written) else {
-        return None;
-    };
-    let Ok(name) = check_utf8(read.name) else {
+    let written = written_of(chunk, buffer, read.as_is)?;
+    let Ok(name) = check_utf8(name) else {
         return None;
     };
     Some(CanonicalChunk {
         chunk,
-        written: all,
+        written,
         class: Class::Rule,
         name: Some(name),
-        place: place_in_both(text, all, read.place),
+        place: place_in_both(text, written, read.place),
     })
+}
+
+/// What is written of a rule: its chunk, or what is in the buffer.
+fn written_of<'t>(chunk: &'t str, buffer: &'t [u8], as_is: bool) -> Option<&'t str>
+    ensures { IfSome result (λ written. written.now ≡ (if as_is then chunk.now else buffer.now)) }
+{
+    if as_is {
+        return Some(chunk);
+    }
+    let Ok(written) = check_utf8(buffer) else {
+        return None;
+    };
+    Some(written)
 }
 
 /// The place of an argument: its lines in the text, and what stands before and after it in what is written.

@@ -2,9 +2,7 @@
 
 ghost use Rattle.std.specs.Prelude.{◌≡◌, ◌-◌, ◌<◌, length, option_map, take, IfSome};
 ghost use Rattle.bz_canonical.specs.private.Statements.{IsStatementFront};
-ghost use Rattle.bz_canonical.specs.private.Arguments.{ends_of};
 
-use crate::arguments::Lines;
 use crate::bare::bare_statement;
 use crate::front::after;
 use crate::notes::{beside, lines};
@@ -16,8 +14,6 @@ pub(crate) struct ReadStatement<'t> {
     pub(crate) class: Class,
     /// The name of a rule. None: it is no rule, or has no name.
     pub(crate) name: Option<&'t [u8]>,
-    /// Where the first argument of the name stands, or would stand, that is asked for.
-    pub(crate) place: Option<Lines<'t>>,
     /// What follows its text.
     pub(crate) end: &'t [u8],
     /// What follows its chunk: that of comment lines alone has the empty line after them.
@@ -26,10 +22,10 @@ pub(crate) struct ReadStatement<'t> {
 
 /// The statement that the text begins with.
 #[inline(always)]
-pub(crate) fn statement<'t>(text: &'t [u8], attr: &[u8], max_depth: u8) -> Option<ReadStatement<'t>>
+pub(crate) fn statement(text: &[u8], max_depth: u8) -> Option<ReadStatement<'_>>
     requires { max_depth < 254 }
-    ensures { IfSome result (λ read. IsStatementFront max_depth attr.now read.class (option_map (λ name. name.now) read.name)
-        (option_map ends_of read.place) text.now read.end.now read.rest.now) }
+    ensures { IfSome result (λ read. IsStatementFront max_depth read.class (option_map (λ name. name.now) read.name)
+        text.now read.end.now read.rest.now) }
 {
     let start = lines(text);
     if let Some(rest) = after(start, b'\n') {
@@ -39,18 +35,16 @@ pub(crate) fn statement<'t>(text: &'t [u8], attr: &[u8], max_depth: u8) -> Optio
         return Some(ReadStatement {
             class: Class::Comment,
             name: None,
-            place: None,
             end: start,
             rest,
         });
     }
-    let read = bare_statement(start, attr, max_depth)?;
+    let read = bare_statement(start, max_depth)?;
     let side = beside(read.rest)?;
     let rest = after(side.rest, b'\n')?;
     Some(ReadStatement {
         class: read.class,
         name: read.name,
-        place: read.place,
         end: rest,
         rest,
     })

@@ -22,13 +22,12 @@ use crate::answer::{asked_attribute, is_answerable, marks_name, unchanged_by_tex
 use crate::argument::{EditedArgument, edit_lines};
 use crate::edit::{Edited, ScriptRun};
 use crate::failure::failure_by_text;
-use crate::looks::Way;
 use crate::next_chunk::NextChunk;
 use crate::progress::Progress;
 use crate::rule_passes::OnePass;
 use crate::rules::Rules;
 use bz_attribute::Env;
-use bz_canonical::{ArgumentPlace, CanonicalChunk, canonical, rewritten};
+use bz_canonical::{ArgumentPlace, CanonicalChunk, canonical};
 use bz_devices::ahead::Ahead;
 use bz_layout::put_gap;
 use bz_memory::{NoMemory, extend_from_slice};
@@ -57,15 +56,8 @@ pub(crate) fn edit_canonical(
     if !may_be_known(script) || !progress.is_worth_a_look() {
         return Ok(None);
     }
-    let way = progress.way_to_look();
     let mut written = progress.take_written(script.alloc);
-    match find_canonical(
-        script,
-        ahead.text(),
-        script.max_statement,
-        way,
-        &mut written,
-    )? {
+    match find_canonical(script, ahead.text(), script.max_statement, &mut written)? {
         None => {
             progress.give_back_written(written);
             progress.looked_in_vain();
@@ -96,7 +88,7 @@ pub(crate) fn edit_whole(
         return Ok(false);
     }
     let mut written = progress.take_written(script.alloc);
-    match find_canonical(script, chunk, u64::MAX, Way::AsIsFirst, &mut written)? {
+    match find_canonical(script, chunk, u64::MAX, &mut written)? {
         Some(found) if found.chunk.chunk.len() == chunk.len() => {
             let next = edit_known(script, found, progress, text)?;
             progress.give_back_written(written);
@@ -129,20 +121,12 @@ fn edit_known(
         progress.looked_in_vain();
         return Ok(None);
     }
-    progress.looked_well(is_rewritten(found.chunk));
+    progress.looked_well();
     progress.pass_lines(found.chunk.chunk.as_bytes());
     Ok(Some(NextChunk {
         len: found.chunk.chunk.len(),
         edited: Edited::Done,
     }))
-}
-
-/// Whether a rule stands otherwise than it is written, as its length shows. A matter of speed.
-fn is_rewritten(chunk: CanonicalChunk<'_>) -> bool {
-    match chunk.class {
-        Class::Rule => chunk.chunk.len() != chunk.written.len(),
-        _ => false,
-    }
 }
 
 /// Whether what the script makes of some statements may be known without them.
@@ -169,7 +153,6 @@ fn find_canonical<'a>(
     script: ScriptRun<'a>,
     text: &'a str,
     max_statement: u64,
-    way: Way,
     written: &'a mut Vec<u8>,
 ) -> Result<Option<Found<'a>>, NoMemory>
     ensures canonical { IfOk result (λ told. IfSome told (λ found. IsCanonical script.entry.max_depth found.attr.now
@@ -178,52 +161,13 @@ fn find_canonical<'a>(
     ensures size { IfOk result (λ told. IfSome told (λ found. length found.chunk.chunk.now ≤ max_statement)) }
 {
     let attr = asked(script);
-    let depth = script.max_depth;
-    let told = match way {
-        Way::AsIs => canonical(text, attr, depth),
-        Way::AsIsFirst => as_is_or_rewritten(text, attr, depth, written)?,
-        Way::RewrittenFirst => rewritten_or_as_is(text, attr, depth, written)?,
-    };
-    let Some(chunk) = told else {
+    let Some(chunk) = canonical(text, attr, script.max_depth, written)? else {
         return Ok(None);
     };
     if chunk.chunk.len() as u64 > max_statement {
         return Ok(None);
     }
     Ok(Some(Found { chunk, attr }))
-}
-
-/// The chunk as it stands, where that is what would be written; or what is written of it.
-#[inline(always)]
-fn as_is_or_rewritten<'t>(
-    text: &'t str,
-    attr: &str,
-    max_depth: u8,
-    written: &'t mut Vec<u8>,
-) -> Result<Option<CanonicalChunk<'t>>, NoMemory>
-    ensures { IfOk result (λ told. IfSome told (λ found. IsCanonical max_depth attr.now found.class
-        (option_map (λ name. name.now) found.name) (option_map between found.place) found.chunk.now found.written.now text.now)) }
-{
-    match canonical(text, attr, max_depth) {
-        Some(chunk) => Ok(Some(chunk)),
-        None => rewritten(text, attr, max_depth, written),
-    }
-}
-
-/// The same, where a chunk is likely to stand otherwise.
-fn rewritten_or_as_is<'t>(
-    text: &'t str,
-    attr: &str,
-    max_depth: u8,
-    written: &'t mut Vec<u8>,
-) -> Result<Option<CanonicalChunk<'t>>, NoMemory>
-    ensures { IfOk result (λ told. IfSome told (λ found. IsCanonical max_depth attr.now found.class
-        (option_map (λ name. name.now) found.name) (option_map between found.place) found.chunk.now found.written.now text.now)) }
-{
-    match rewritten(text, attr, max_depth, written)? {
-        Some(chunk) => Ok(Some(chunk)),
-        None => Ok(canonical(text, attr, max_depth)),
-    }
 }
 
 /// The attribute whose argument is to be looked for. Empty: there is none.

@@ -7,7 +7,7 @@ ghost use Rattle.bz_passes.specs.Exchange.{kept_and, pass_and};
 ghost use Rattle.bz_engine.specs.private.Found.{HasOneLog, one_log_of, one_told};
 
 use crate::chunk::newlines;
-use crate::looks::{Looks, Way};
+use crate::looks::Looks;
 use crate::rules::tell_line;
 use crate::spare::Spare;
 use bz_memory::NoMemory;
@@ -110,13 +110,6 @@ impl Progress {
         self.looks.is_due()
     }
 
-    /// How to look for it.
-    pub(crate) fn way_to_look(&mut self) -> Way
-        ensures { self.new ≡ self.old }
-    {
-        self.looks.way()
-    }
-
     /// It was not known, or the script was to see its statement.
     pub(crate) fn looked_in_vain(&mut self)
         ensures { self.new ≡ self.old }
@@ -124,11 +117,11 @@ impl Progress {
         self.looks.fail();
     }
 
-    /// It was known, and the script did without its statement. `rewritten`: it stood otherwise than it is written.
-    pub(crate) fn looked_well(&mut self, rewritten: bool)
+    /// It was known, and the script did without its statement.
+    pub(crate) fn looked_well(&mut self)
         ensures { self.new ≡ self.old }
     {
-        self.looks.succeed(rewritten);
+        self.looks.succeed();
     }
 }
 

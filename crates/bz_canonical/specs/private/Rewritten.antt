@@ -23,10 +23,12 @@ use Rattle.bz_attribute.specs.Effects.{has}
 use Rattle.bz_attribute.specs.RowPlaces.{IsLocal}
 use Rattle.bz_attribute.specs.Rules.{first_named, is_named, rule_of}
 use Rattle.bz_canonical.specs.Canonical.{Between, HasArgumentName, HasName, HasPlace, argument_lines, rule_args}
+use Rattle.bz_canonical.specs.declared.put_arguments.Pending.{Pending}
 use Rattle.bz_canonical.specs.declared.put_arguments.PutPlace.{PutPlace}
-use Rattle.bz_canonical.specs.private.Arguments.{alone}
+use Rattle.bz_canonical.specs.private.Arguments.{Ends, alone}
 use Rattle.bz_canonical.specs.private.Fronts.{IsQuotedFront}
-use Rattle.bz_canonical.specs.private.Segments.{AreOf}
+use Rattle.bz_canonical.specs.private.Segments.{AreOf, IsBesideFront}
+use Rattle.bz_canonical.specs.private.Values.{AreNodesFront}
 
 -- a byte that stands for itself in a string, in double quotes too
 abbrev pub is_plain_inside : ℕ → Bool
@@ -129,7 +131,6 @@ pub record AreFormed (depth : ℕ) (segs : Segs) : Type 0 where
   pub texts : SegsHaveTexts segs
   pub kinds : SegsHaveKinds false segs
   pub grammar : AreOf RuleCall segs
-  pub no_for : have_for segs ≡ false
   pub depth_fits : segs_depth segs ≤ depth
 
 -- an argument, and how it stands
@@ -162,19 +163,43 @@ ArePlaced depth (p ∷ ps) = IsPlaced depth p × ArePlaced depth ps
 abbrev pub args_of : List Placed → List Segment
 args_of ps = map (λ p. p.arg) ps
 
--- arguments of other names, and what is written of them
-pub record AreOthersRead (depth : ℕ) (attr text rest written : List ℕ) (one : Bool) : Type 0 where
+-- arguments, and what is written of them
+pub record AreRead (depth : ℕ) (text rest written : List ℕ) (one : Bool) : Type 0 where
   pub placed : List Placed
   pub are : ArePlaced depth placed
   pub front : text ≡ flat_map placed_lines placed ++ rest
   pub spells : written ≡ argument_lines (args_of placed)
-  pub others : has attr (args_of placed) ≡ false
   pub one_is : one ≡ nat_le 1 (length placed)
 
--- the argument of the name after them, if there is one, and what is written up to its end
-abbrev pub IsNamedRead : ℕ → List ℕ → List ℕ → List ℕ → List ℕ → Option (List ℕ) → Type 0
-IsNamedRead depth attr text before all None = all ≡ before
-IsNamedRead depth attr text before all (Some rest) = (w : List ℕ) × (all ≡ before ++ w) × IsArgumentRead depth attr text rest w true
+-- of other names
+pub record AreOthersRead (depth : ℕ) (attr text rest written : List ℕ) (one : Bool) : Type 0 where
+  pub read : AreRead depth text rest written one
+  pub others : has attr (args_of read.placed) ≡ false
+
+-- Of what was read of a text up to `rest`, `all` is written: what is in the buffer, and a part that stands as it is written. As
+-- long as all does, nothing is in the buffer.
+pub record IsPending (text buffer all from rest : List ℕ) : Type 0 where
+  pub part : List ℕ
+  pub front : from ≡ part ++ rest
+  pub all_is : all ≡ buffer ++ part
+  pub whole : buffer ≡ [] → from ≡ text
+
+-- What is read on the way, after `begun`, and what is written of it. Ends of a way: `from` and `to` of what is pending.
+abbrev pub Puts : List ℕ → Ends → List ℕ → Ends → (List ℕ → List ℕ → Type 0) → Type 0
+Puts old start new end IsRead = (text begun : List ℕ) → IsPending text old begun start.from start.to → (w : List ℕ) × IsPending text new (begun ++ w) end.from end.to × IsRead begun w
+
+abbrev pub pending : Pending → Ends
+pending at = record { from = at.from.now; to = at.rest.now }
+
+-- a value that stands as it is written, its comma, and the comment beside it
+pub record IsValueEnd (depth : ℕ) (value rest : List ℕ) : Type 0 where
+  pub end : List ℕ
+  pub comma : List ℕ
+  pub holds : Bool
+  pub noted : Bool
+  pub nodes : AreNodesFront 1 depth value end holds
+  pub is : end ≡ 44 ∷ comma
+  pub side : IsBesideFront comma rest noted
 
 -- where an argument stands in a text, and in what is written
 pub record PutEnds : Type 0 where
@@ -200,14 +225,23 @@ pub record HasPut (depth : ℕ) (attr begun text : List ℕ) (placed : List Plac
   pub start : place.start ≡ length (begun ++ argument_lines (args_of before))
   pub end : place.end ≡ length ((begun ++ argument_lines (args_of before)) ++ argument_lines (args_of one))
 
--- all arguments
-pub record AreArgumentsRead (depth : ℕ) (attr text rest begun written : List ℕ) (one : Bool) (place : PutEnds) : Type 0 where
+-- arguments up to the first of the name and with it, or others, and the place
+abbrev pub ArePlacedRead : ℕ → List ℕ → List ℕ → List ℕ → List ℕ → List ℕ → Bool → PutEnds → Bool → Type 0
+ArePlacedRead depth attr text rest begun written one place false = AreOthersRead depth attr text rest written one × (place ≡ record { from = rest; to = rest; start = length (begun ++ written); end = length (begun ++ written) })
+ArePlacedRead depth attr text rest begun written one place true =
+    (from v u : List ℕ) × (more : Bool) × AreOthersRead depth attr text from v more × IsArgumentRead depth attr from rest u true × (written ≡ v ++ u) × (one ≡ true)
+    × (place ≡ record { from = from; to = rest; start = length (begun ++ v); end = length ((begun ++ v) ++ u) })
+
+-- all arguments, and the comments after them
+pub record AreArgumentsRead (depth : ℕ) (attr text rest begun written : List ℕ) (some : Bool) (place : Option PutEnds) : Type 0 where
   pub placed : List Placed
   pub are : ArePlaced depth placed
-  pub front : text ≡ flat_map placed_lines placed ++ rest
-  pub spells : written ≡ argument_lines (args_of placed)
-  pub one_is : one ≡ nat_le 1 (length placed)
-  pub has : HasPut depth attr begun text placed place
+  pub end : List (List ℕ)
+  pub end_is : AreComments end
+  pub front : text ≡ flat_map placed_lines placed ++ (bytes_of (comments 1 end) ++ rest)
+  pub spells : written ≡ argument_lines (args_of placed) ++ bytes_of (comments 1 end)
+  pub some_is : some ≡ (nat_le 1 (length placed) || is_filled end)
+  pub has : IfSome place (HasPut depth attr begun text placed)
 
 -- the name of an argument and its equals sign, with the comments above it
 pub record IsHeadRead (attr text value : List ℕ) (named : Bool) : Type 0 where
@@ -219,19 +253,25 @@ pub record IsHeadRead (attr text value : List ℕ) (named : Bool) : Type 0 where
   pub named_is : bytes_eq attr word ≡ named
 
 -- the comments above a rule, its kind and its name
-pub record IsRuleHead (text name rest : List ℕ) : Type 0 where
+pub record IsRuleHead (text name inside rest : List ℕ) : Type 0 where
   pub notes : List (List ℕ)
   pub are : AreComments notes
   pub kind : List ℕ
   pub kind_is : is_text Identifier kind ≡ true
   pub name_is : IsQuotedFront (34 ∷ (name ++ 34 ∷ (44 ∷ rest))) name (44 ∷ rest)
-  pub front : text ≡ bytes_of (comment_lines notes) ++ (kind ++ (40 ∷ 10 ∷ (indent 1 ++ (codes "name" ++ (codes " = " ++ (34 ∷ (name ++ 34 ∷ (44 ∷ rest))))))))
+  pub front : text ≡ bytes_of (comment_lines notes) ++ (kind ++ (40 ∷ inside))
+  pub lines : inside ≡ 10 ∷ (indent 1 ++ (codes "name" ++ (codes " = " ++ (34 ∷ (name ++ 34 ∷ (44 ∷ rest))))))
 
 -- the bracket that closes a rule, the comment beside it and the newline
 pub record IsRuleEnd (text rest : List ℕ) : Type 0 where
   pub note : Option (List ℕ)
   pub is : AreComments (beside note)
   pub front : text ≡ 10 ∷ 41 ∷ (bytes_of (suffix_piece note) ++ 10 ∷ rest)
+
+-- the place of the name, if that is asked for, or of an argument after it
+abbrev pub IsRulePlace : Bool → List ℕ → List ℕ → List ℕ → Option PutEnds → PutEnds → Type 0
+IsRulePlace true text inside rest place kept = kept ≡ record { from = inside; to = rest; start = length text - length inside; end = length text - length rest }
+IsRulePlace false text inside rest place kept = place ≡ Some kept
 
 -- the place of an argument
 pub record HasPutPlace (depth : ℕ) (attr : List ℕ) (s : Statement) (text written : List ℕ) (place : PutEnds) : Type 0 where

@@ -27,34 +27,11 @@ use Rattle.bz_canonical.specs.private.Segments.{AreFlatFront, IsGroupFront}
 use Rattle.bz_canonical.specs.private.Values.{AreNodesFront}
 use Rattle.bz_token.specs.Common.{is_empty}
 
--- The place of an argument in a group of arguments, which `rest` follows.
-pub record HasGroupPlace (depth : ℕ) (attr : List ℕ) (segs : Segs) (end : List (List ℕ)) (text rest : List ℕ) (place : Ends) : Type 0 where
-  pub before : List ℕ
-  pub after : List ℕ
-  pub front : text ≡ before ++ place.from
-  pub lines : place.from ≡ argument_lines (alone attr (segments segs)) ++ place.to
-  pub ends : place.to ≡ after ++ rest
-  pub reads : AreReadAlone (suc depth) (argument_lines (alone attr (segments segs))) (alone attr (segments segs))
-  pub takes : (f : List Segment → List Segment) → IsLocal attr f → is_empty (f (alone attr (segments segs))) ≡ false
-      → bytes_of (item_pieces Broken 0 Closed (group RuleCall (segs_of (f (segments segs))) false end)) ≡ before ++ (argument_lines (f (alone attr (segments segs))) ++ after)
-
--- the same of the nodes of a statement
-pub record HasNodesPlace (depth : ℕ) (attr : List ℕ) (nodes : List Item) (text rest : List ℕ) (place : Ends) : Type 0 where
-  pub before : List ℕ
-  pub after : List ℕ
-  pub front : text ≡ before ++ place.from
-  pub lines : place.from ≡ argument_lines (alone attr (rule_args (rule_of nodes))) ++ place.to
-  pub ends : place.to ≡ after ++ rest
-  pub reads : AreReadAlone depth (argument_lines (alone attr (rule_args (rule_of nodes)))) (alone attr (rule_args (rule_of nodes)))
-  pub takes : (f : List Segment → List Segment) → IsLocal attr f → is_empty (f (alone attr (rule_args (rule_of nodes)))) ≡ false
-      → bytes_of (items_pieces Broken 0 None Closed Start (items_of (nodes_after f nodes (rule_of nodes)))) ≡ before ++ (argument_lines (f (alone attr (rule_args (rule_of nodes)))) ++ after)
-
--- the call of a rule of this name, with the place of an argument
-pub record IsRuleCallFront (depth : ℕ) (attr : List ℕ) (name : Option (List ℕ)) (place : Option Ends) (text rest : List ℕ) : Type 0 where
+-- the call of a rule of this name
+pub record IsRuleCallFront (depth : ℕ) (name : Option (List ℕ)) (text rest : List ℕ) : Type 0 where
   pub holds : Bool
   pub group : IsGroupFront RuleCall 0 depth text rest holds
   pub named : name_in (segments group.segs) ≡ name
-  pub has : IfSome place (HasGroupPlace depth attr group.segs group.end text rest)
 
 -- what stands in the bracket of a load, in place, and the closing bracket
 pub record IsLoadFront (inside rest : List ℕ) : Type 0 where
@@ -77,7 +54,7 @@ pub record IsAssignedFront (depth : ℕ) (text rest : List ℕ) : Type 0 where
   pub nodes : AreNodesFront 0 depth value rest holds
 
 -- what well-formed statements ask of the nodes of one, where no string is to be spelled anew
-pub record IsBareFront (depth : ℕ) (attr : List ℕ) (class : Class) (name : Option (List ℕ)) (place : Option Ends) (text rest : List ℕ) : Type 0 where
+pub record IsBareFront (depth : ℕ) (class : Class) (name : Option (List ℕ)) (text rest : List ℕ) : Type 0 where
   pub nodes : List Item
   pub some : are_some (items_of nodes) ≡ true
   pub texts : HaveTexts (items_of nodes)
@@ -92,31 +69,14 @@ pub record IsBareFront (depth : ℕ) (attr : List ℕ) (class : Class) (name : O
   pub named : rule_name (rule_of nodes) ≡ name
   pub absent : (attr : List ℕ) → (HasArgumentName attr (bytes_of (items_pieces Broken 0 None Closed Start (items_of nodes))) → ⊥)
       → first_named attr (rule_args (rule_of nodes)) ≡ None
-  pub has : IfSome place (HasNodesPlace depth attr nodes text rest)
 
 -- comment lines alone are a chunk with the empty line after them
 abbrev pub empty_line : Class → List ℕ
 empty_line class = if is_comment class then codes "\n" else []
 
--- The place of an argument in a statement, whose text ends before `end`.
-pub record HasStatementPlace (depth : ℕ) (attr : List ℕ) (s : Statement) (text end : List ℕ) (place : Ends) : Type 0 where
-  pub between : Between
-  pub front : text ≡ between.before ++ place.from
-  pub lines : place.from ≡ between.lines ++ place.to
-  pub ends : place.to ≡ between.after ++ end
-  pub has : HasPlace depth attr s between
-
--- The place in what is written of a text: what is cut from the text before its ends, and what is written after that.
-abbrev pub IsPlaceIn : List ℕ → List ℕ → Option Ends → Option Between → Type 0
-IsPlaceIn text written ends None = Unit {0}
-IsPlaceIn text written None (Some place) = ⊥
-IsPlaceIn text written (Some ends) (Some place) =
-    let front : List ℕ = take (length text - length ends.to) text in
-    (place.before ≡ take (length text - length ends.from) text) × (place.lines ≡ drop (length place.before) front) × (place.after ≡ drop (length front) written)
-
 -- The text begins with what is written of a well-formed statement of this class and name, in which no string is to be spelled
 -- anew. `end` follows that, `rest` its chunk.
-pub record IsStatementFront (depth : ℕ) (attr : List ℕ) (class : Class) (name : Option (List ℕ)) (place : Option Ends) (text end rest : List ℕ) : Type 0 where
+pub record IsStatementFront (depth : ℕ) (class : Class) (name : Option (List ℕ)) (text end rest : List ℕ) : Type 0 where
   pub s : Statement
   pub well : IsWellFormed depth s
   pub stays : spelled_statement s ≡ s
@@ -125,4 +85,3 @@ pub record IsStatementFront (depth : ℕ) (attr : List ℕ) (class : Class) (nam
   pub front : text ≡ layout_text s ++ end
   pub ends : end ≡ empty_line class ++ rest
   pub absent : (attr : List ℕ) → (HasArgumentName attr (layout_text s) → ⊥) → first_named attr (rule_args (rule_of s.nodes)) ≡ None
-  pub has : IfSome place (HasStatementPlace depth attr s text end)

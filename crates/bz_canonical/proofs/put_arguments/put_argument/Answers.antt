@@ -1,10 +1,10 @@
-use Rattle.bz_canonical.proofs.PutArguments.{strict_read}
+use Rattle.std.proofs.Common.{◌++◌}
+use Rattle.bz_canonical.proofs.Pendings.{pend_more}
+use Rattle.bz_canonical.proofs.PutArguments.{value_read}
 use Rattle.bz_canonical.proofs.put_arguments.put_argument.Goals as goal
 
-pub returns-in_ok-extend_from_slice-in-Some : goal.returns-in_ok-extend_from_slice-in-Some
-returns-in_ok-extend_from_slice-in-Some c =
-    let read = c.in-Some.read in (
-      c.in-Some-before.lines.now,
-      c.in_ok-extend_from_slice-in-Some.ensures.items,
-      strict_read c.args.depth c.args.attr.now c.args.text.now read.rest.now c.in-Some-before.lines.now read.named read.noted c.in-Some.ensures c.in-Some-before.ensures,
-    )
+pub returns-in-Some : goal.returns-in-Some
+returns-in-Some c = λ attr named head text begun p.
+    let at = c.args.at in
+    let read = value_read c.args.depth attr at.rest.now c.args.value.now c.in-Some.rest.now named head c.in-Some.ensures in
+    (read.0, pend_more text c.args.written.now.items begun at.from.now at.rest.now read.0 c.in-Some.rest.now p read.1, read.2)

@@ -1,36 +1,45 @@
-use Rattle.std.proofs.Common.{◌≡◌, ◌++◌, ◌∙◌, ℕ, List, length, append_assoc, ap, arith, sym, subst}
-use Rattle.std.specs.Prelude.{IfSome, option_map}
-use Rattle.bz_canonical.specs.private.Rewritten.{AreOthersRead, IsNamedRead}
-use Rattle.bz_canonical.proofs.PutArguments.{none_named, not_named, one_named}
+use Rattle.std.proofs.Common.{◌≡◌, ◌++◌, ◌∙◌, ◌||◌, ℕ, List, None, Some, false, append_assoc, sym, ap, subst}
+use Rattle.std.specs.Prelude.{Option, IfSome, option_map}
+use Rattle.bz_layout.specs.Pieces.{bytes_of, comments}
+use Rattle.bz_canonical.specs.private.Rewritten.{ArePlacedRead, AreRead, Puts, pending, put_ends}
+use Rattle.bz_canonical.specs.declared.put_arguments.PutOthers.{PutOthers}
+use Rattle.bz_canonical.specs.declared.put_arguments.PutPlace.{PutPlace}
+use Rattle.bz_canonical.specs.declared.put_arguments.PutPlaced.{PutPlaced}
+use Rattle.bz_canonical.proofs.Pendings.{pend_more, pend_same}
+use Rattle.bz_canonical.proofs.PutArguments.{all_read, arguments_read, last_read}
 use Rattle.bz_canonical.proofs.put_arguments.put_arguments.Goals as goal
 
-pub returns-in-None : goal.returns-in-None
-returns-in-None c =
-    let first = c.in-Some.first in
-    let old = c.args.written.now.items in
-    let got = subst (λ o. IfSome o (λ read. (w : List ℕ) × AreOthersRead c.args.depth c.args.attr.now c.args.text.now read.rest.now w read.one × (read.len ≡ length (old ++ w))
-    × IsNamedRead c.args.depth c.args.attr.now read.rest.now (old ++ w) c.put_others.new.written.items (option_map (λ to. to.now) read.named))) c.in-Some.is c.in_ok-first.ensures in (
-      got.0,
-      subst (λ o. IsNamedRead c.args.depth c.args.attr.now first.rest.now (old ++ got.0) c.put_others.new.written.items (option_map (λ to. to.now) o)) c.in-None.is got.3,
-      none_named c.args.depth c.args.attr.now c.args.text.now first.rest.now old got.0 first.one first.len got.1 got.2,
+pub returns : goal.returns
+returns c = λ text begun p.
+    let depth = c.args.depth in
+    let attr = c.args.attr.now in
+    let start = c.args.start in
+    let placed = c.in-Some.placed in
+    let later = c.in-Some-2.later in
+    let last = c.in-Some-segments.last in
+    let first = subst (λ (o : Option PutPlaced). IfSome o (λ read. Puts c.args.written.now.items (pending start) c.put_placed.new.written.items (pending read.at)
+    (λ begun w. ArePlacedRead depth attr start.rest.now read.at.rest.now begun w read.one (put_ends read.place) read.named))) c.in-Some.is c.in_ok-placed.ensures in
+    let second = subst (λ (o : Option PutOthers). IfSome o (λ read. Puts c.put_placed.new.written.items (pending placed.at) c.put_later.new.written.items (pending read.at)
+    (λ begun w. AreRead depth placed.at.rest.now read.at.rest.now w read.one))) c.in-Some-2.is c.in_ok-later.ensures in
+    let one = first text begun p in
+    let two = second text (begun ++ one.0) one.1 in
+    let tail = c.in-Some-segments.ensures in
+    let three = last_read depth later.at.rest.now tail.3 tail.0 last.holds last.noted last.one tail.4 tail.1 in
+    let n = tail.5 in
+    let notes : List ℕ = bytes_of (comments 1 n.notes) in
+    let more = all_read depth placed.at.rest.now later.at.rest.now tail.3 two.0 three.0 later.one last.one two.2 three.2 in
+    let at3 = pend_more text c.put_later.new.written.items ((begun ++ one.0) ++ two.0) later.at.from.now later.at.rest.now three.0 tail.3 two.1 three.1 in
+    let at4 = pend_more text c.put_later.new.written.items (((begun ++ one.0) ++ two.0) ++ three.0) later.at.from.now tail.3 notes last.rest.now at3 n.front in (
+      (one.0 ++ (two.0 ++ three.0)) ++ notes,
+      pend_same text c.put_later.new.written.items ((((begun ++ one.0) ++ two.0) ++ three.0) ++ notes) later.at.from.now last.rest.now (begun ++ ((one.0 ++ (two.0 ++ three.0)) ++ notes)) at4 (joined begun one.0 two.0 three.0 notes),
+      arguments_read placed.named depth attr start.rest.now placed.at.rest.now tail.3 last.rest.now begun one.0 (two.0 ++ three.0) placed.one (later.one || last.one) last.ended _ (put_ends placed.place) one.2 more n
+          (c.either.ensures ∙ ap (λ b. b || last.ended) (c.either-some.ensures ∙ ap (λ b. placed.one || b) c.either-more.ensures)) (option_map put_ends c.known_place.result) (known c.known_place.result c.known_place.ensures),
     )
+  where
+    known : (place : Option PutPlace) → IfSome place (λ p. (p ≡ c.in-Some.placed.place) × (c.in-Some.placed.named ≡ false → c.either-more.result ≡ false))
+        → IfSome (option_map put_ends place) (λ p. (p ≡ put_ends c.in-Some.placed.place) × (c.in-Some.placed.named ≡ false → (c.in-Some-2.later.one || c.in-Some-segments.last.one) ≡ false))
+    known None is = tt
+    known (Some p) is = (ap put_ends is.0, λ no. sym c.either-more.ensures ∙ is.1 no)
 
-pub returns-else-is_some : goal.returns-else-is_some
-returns-else-is_some c =
-    let first = c.in-Some.first in
-    let to = c.in-Some-named.to.now in
-    let last = c.in-Some-2.last in
-    let old = c.args.written.now.items in
-    let middle = c.put_others.new.written.items in
-    let all = c.put_others-in-Some-named.new.written.items in
-    let long : c.len-end.result ≡ length middle = omega (arith, c.len-end.ensures, c.put_others.new.written.ok.0) in
-    let got = subst (λ o. IfSome o (λ read. (w : List ℕ) × AreOthersRead c.args.depth c.args.attr.now c.args.text.now read.rest.now w read.one × (read.len ≡ length (old ++ w))
-    × IsNamedRead c.args.depth c.args.attr.now read.rest.now (old ++ w) middle (option_map (λ to. to.now) read.named))) c.in-Some.is c.in_ok-first.ensures in
-    let named = subst (λ o. IsNamedRead c.args.depth c.args.attr.now first.rest.now (old ++ got.0) middle (option_map (λ to. to.now) o)) c.in-Some-named.is got.3 in
-    let more = subst (λ o. IfSome o (λ read. (w : List ℕ) × AreOthersRead c.args.depth c.args.attr.now to read.rest.now w read.one × (read.len ≡ length (middle ++ w))
-    × IsNamedRead c.args.depth c.args.attr.now read.rest.now (middle ++ w) all (option_map (λ to. to.now) read.named))) c.in-Some-2.is c.in_ok-last-in-Some-named.ensures in
-    let ends : all ≡ middle ++ more.0 = not_named c.args.depth c.args.attr.now last.rest.now (middle ++ more.0) all last.named (sym c.is_some.ensures ∙ c.if-is_some.false) more.3 in (
-      got.0 ++ (named.0 ++ more.0),
-      ends ∙ ap (λ (t : List ℕ). t ++ more.0) named.1 ∙ append_assoc (old ++ got.0) named.0 more.0 ∙ append_assoc old got.0 (named.0 ++ more.0),
-      one_named c.args.depth c.args.attr.now c.args.text.now first.rest.now to last.rest.now old got.0 named.0 more.0 first.one last.one first.len c.len-end.result got.1 named.2 more.1 got.2 (long ∙ ap length named.1),
-    )
+    joined : (b x y z n : List ℕ) → (((b ++ x) ++ y) ++ z) ++ n ≡ b ++ ((x ++ (y ++ z)) ++ n)
+    joined b x y z n = simp append_assoc

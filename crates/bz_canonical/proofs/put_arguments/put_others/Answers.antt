@@ -1,20 +1,26 @@
-use Rattle.std.proofs.Common.{◌≡◌, ◌++◌, ℕ, List, [], append-nil, sym, subst}
-use Rattle.std.specs.Prelude.{IfSome}
-use Rattle.bz_canonical.specs.private.Rewritten.{IsArgumentRead}
-use Rattle.bz_canonical.proofs.ElementLists.{put_two}
-use Rattle.bz_canonical.proofs.PutArguments.{none_read, one_read}
+use Rattle.std.proofs.Common.{◌++◌, ℕ, List, [], append-nil, append_assoc, sym, subst, false}
+use Rattle.std.specs.Prelude.{Bool, IfSome}
+use Rattle.bz_canonical.specs.private.Rewritten.{IsArgumentRead, IsHeadRead, Puts, pending}
+use Rattle.bz_canonical.proofs.Pendings.{pend_same}
+use Rattle.bz_canonical.proofs.PutArguments.{none_others, one_more}
 use Rattle.bz_canonical.proofs.put_arguments.put_others.Goals as goal
 
 pub loop-init : goal.loop-init
-loop-init c = ([], sym (append-nil c.args.written.now.items), none_read c.args.depth c.args.attr.now c.args.text.now)
+loop-init c = λ text begun p. (
+  [],
+  pend_same text c.args.written.now.items begun c.args.start.from.now c.args.start.rest.now (begun ++ []) p (sym (append-nil begun)),
+  none_others c.args.depth c.args.attr.now c.args.start.rest.now,
+)
 
 pub loop-preserved : goal.loop-preserved
-loop-preserved c =
-    let i = c.loop.invariant in
-    let next = c.in-Some.next in
-    let got = subst (λ o. IfSome o (λ read. (x : List ℕ) × (c.put_argument.new.written.items ≡ c.loop.written.items ++ x) × IsArgumentRead c.args.depth c.args.attr.now c.loop.rest.now read.rest.now x read.named)) c.in-Some.is c.in_ok-next.ensures in (
-      i.0 ++ got.0,
-      put_two c.args.written.now.items c.loop.written.items c.put_argument.new.written.items i.0 got.0 i.1 got.1,
-      one_read c.args.depth c.args.attr.now c.args.text.now c.loop.rest.now next.rest.now i.0 got.0 c.loop.one i.2
-          (subst (λ b. IsArgumentRead c.args.depth c.args.attr.now c.loop.rest.now next.rest.now got.0 b) c.if-next.false got.2),
+loop-preserved c = λ text begun p.
+    let at = c.loop.at in
+    let next = c.in-Some-2.next in
+    let i = c.loop.invariant text begun p in
+    let step = subst (λ o. IfSome o (λ next. (attr : List ℕ) (named : Bool) → IsHeadRead attr at.rest.now c.in-Some.head.value.now named
+    → Puts c.loop.written.items (pending at) c.put_argument.new.written.items (pending next) (λ begun w. IsArgumentRead c.args.depth attr at.rest.now next.rest.now w named))) c.in-Some-2.is c.in_ok-next.ensures in
+    let one = step c.args.attr.now false (subst (λ b. IsHeadRead c.args.attr.now at.rest.now c.in-Some.head.value.now b) c.if-head.false c.in-Some.ensures) text (begun ++ i.0) i.1 in (
+      i.0 ++ one.0,
+      pend_same text c.put_argument.new.written.items ((begun ++ i.0) ++ one.0) next.from.now next.rest.now (begun ++ (i.0 ++ one.0)) one.1 (append_assoc begun i.0 one.0),
+      one_more c.args.depth c.args.attr.now c.args.start.rest.now at.rest.now next.rest.now i.0 one.0 c.loop.one i.2 one.2,
     )

@@ -1,22 +1,42 @@
-use Rattle.std.proofs.Common.{◌≡◌, ◌+◌, ◌++◌, ◌∙◌, ℕ, List, [], ap, sym, subst}
-use Rattle.std.specs.Prelude.{IfSome, option_map}
-use Rattle.bz_canonical.specs.private.Rewritten.{AreArgumentsRead, IsRuleRead, put_ends}
-use Rattle.bz_canonical.proofs.ElementLists.{put_three}
-use Rattle.bz_canonical.proofs.PutRules.{rule_read}
+use Rattle.std.proofs.Common.{◌≡◌, ◌+◌, ◌++◌, ◌∙◌, ℕ, List, arith, length, tests, sym, subst}
+use Rattle.std.specs.Prelude.{Option, IfSome, option_map}
+use Rattle.bz_canonical.specs.declared.put_arguments.PutArguments.{PutArguments}
+use Rattle.bz_canonical.specs.private.Rewritten.{AreArgumentsRead, IsRuleRead, Puts, pending, put_ends}
+use Rattle.bz_canonical.proofs.PutRules.{all_put, head_of, rule_begun, rule_pending, stands_as_is}
 use Rattle.bz_canonical.proofs.put_rule.put_rule.Goals as goal
+
+pub returns-then-is_empty : goal.returns-then-is_empty
+returns-then-is_empty c =
+    let text = c.args.text.now in
+    let attr = c.args.attr.now in
+    let head = c.args.head in
+    let read = c.in-Some.read in
+    let rest = c.in-Some-rule_end.rest.now in
+    let buffer = c.put_arguments.new.written.items in
+    let h = c.requires.head in
+    let front = head_of text head.name.now head.inside.now head.rest.now h in
+    let puts = subst (λ (o : Option PutArguments). IfSome o (λ read. Puts c.clear.new.self.items (record { from = text; to = head.rest.now }) buffer (pending read.at)
+    (λ begun w. AreArgumentsRead c.args.depth attr head.rest.now read.at.rest.now begun w read.some (option_map put_ends read.place)))) c.in-Some.is c.in_ok-read.ensures in
+    let got = puts text front (rule_begun text head.name.now head.inside.now head.rest.now h c.clear.new.self.items c.clear.ensures.items) in
+    let all = rule_pending c.args.depth attr text head.name.now head.inside.now head.rest.now read.at.rest.now rest read.at.from.now buffer got.0 read.some (option_map put_ends read.place) (option_map put_ends c.place_of-place.result) h
+        got.1 got.2 c.if-not-read.false c.in-Some-rule_end.ensures c.place_of-place.ensures in
+    let none : length buffer ≡ 0 = grind (arith, tests, c.if-is_empty.true, c.is_empty.ensures, c.put_arguments.new.written.ok.0) in
+    subst (λ (t : List ℕ). IsRuleRead (c.args.depth + 1) attr head.name.now text rest t (option_map put_ends c.place_of-place.result)) (stands_as_is text buffer all.0 read.at.from.now rest all.1 none) all.2
 
 pub returns : goal.returns
 returns c =
-    let head = c.in-Some.head in
-    let front = c.in-Some-before.front.now in
-    let read = c.in-Some-2.read in
-    let back = c.in-Some-before-2.back.now in
+    let text = c.args.text.now in
+    let attr = c.args.attr.now in
+    let head = c.args.head in
+    let read = c.in-Some.read in
     let rest = c.in-Some-rule_end.rest.now in
-    let begun = c.extend_from_slice.new.list.items in
-    let begun_is : begun ≡ front = c.in_ok-extend_from_slice.ensures.items ∙ ap (λ (t : List ℕ). t ++ front) c.clear.ensures.items in
-    let got = subst (λ o. IfSome o (λ read. (x : List ℕ) × (c.put_arguments.new.written.items ≡ begun ++ x) × AreArgumentsRead c.args.depth c.args.attr.now head.rest.now read.rest.now begun x read.one (put_ends read.place))) c.in-Some-2.is c.in_ok-read.ensures in
-    let all = put_three [] begun c.put_arguments.new.written.items c.extend_from_slice-2.new.list.items front got.0 back begun_is got.1 c.in_ok-extend_from_slice-2.ensures.items in
-    let kept = option_map put_ends c.place_of_other.result in
-    subst (λ (t : List ℕ). IsRuleRead (c.args.depth + 1) c.args.attr.now head.name.now c.args.text.now rest t kept) (sym all)
-    (rule_read c.args.depth c.args.attr.now c.args.text.now head.name.now head.rest.now read.rest.now rest front got.0 back read.one (put_ends read.place) c.in-Some.ensures c.in-Some-before.ensures
-    (subst (λ (t : List ℕ). AreArgumentsRead c.args.depth c.args.attr.now head.rest.now read.rest.now t got.0 read.one (put_ends read.place)) begun_is got.2) c.if-not-read.false c.in-Some-rule_end.ensures c.in-Some-before-2.ensures kept c.place_of_other.ensures)
+    let buffer = c.put_arguments.new.written.items in
+    let h = c.requires.head in
+    let front = head_of text head.name.now head.inside.now head.rest.now h in
+    let puts = subst (λ (o : Option PutArguments). IfSome o (λ read. Puts c.clear.new.self.items (record { from = text; to = head.rest.now }) buffer (pending read.at)
+    (λ begun w. AreArgumentsRead c.args.depth attr head.rest.now read.at.rest.now begun w read.some (option_map put_ends read.place)))) c.in-Some.is c.in_ok-read.ensures in
+    let got = puts text front (rule_begun text head.name.now head.inside.now head.rest.now h c.clear.new.self.items c.clear.ensures.items) in
+    let all = rule_pending c.args.depth attr text head.name.now head.inside.now head.rest.now read.at.rest.now rest read.at.from.now buffer got.0 read.some (option_map put_ends read.place) (option_map put_ends c.place_of-place.result) h
+        got.1 got.2 c.if-not-read.false c.in-Some-rule_end.ensures c.place_of-place.ensures in
+    subst (λ (t : List ℕ). IsRuleRead (c.args.depth + 1) attr head.name.now text rest t (option_map put_ends c.place_of-place.result))
+    (all_put text buffer all.0 read.at.from.now rest c.in-Some-before.back.now all.1 c.in-Some-before.ensures ∙ sym c.in_ok-extend_from_slice.ensures.items) all.2

@@ -15,4 +15,4 @@ returns-in_ok-next-in-Some-clause-chunk c =
     f.chunk.chunk.now f.chunk.written.now c.text.result.now)) c.in-Some.is told.canonical in
     known_edited (run_of c.args.script) c.args.script.max_statement c.args.ahead.now found c.text.result.now c.args.progress.now c.take_written-written.new.self c.edit_known.new.progress
     c.give_back_written-in-Some.new.self c.args.text.now.items c.edit_known.new.text.items c.in_ok-next-in-Some.next c.requires.few c.text.ensures.front size canonical
-    (c.take_written-written.ensures ∙ c.way_to_look-way.ensures ∙ c.is_worth_a_look.ensures) c.give_back_written-in-Some.ensures c.in_ok-next-in-Some.ensures.chunk
+    (c.take_written-written.ensures ∙ c.is_worth_a_look.ensures) c.give_back_written-in-Some.ensures c.in_ok-next-in-Some.ensures.chunk
