@@ -8,6 +8,7 @@ mod AsideTargets
 mod Below
 mod CallArguments
 pub mod Commands
+mod CommentEdits
 pub mod FirstEdits
 mod Found
 mod Gone

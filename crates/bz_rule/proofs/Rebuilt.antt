@@ -1,5 +1,5 @@
 -- A statement with other arguments: the rule that it is.
-use Rattle.std.proofs.Common.{◌≡◌, ℕ, ◌<◌, ◌==◌, List, [], ◌∷◌, ◌++◌, true, false, Option, Some, None, is_some, option_map, length, if◌then◌else◌, refl, ap, sym, ◌∙◌, arith, not}
+use Rattle.std.proofs.Common.{◌≡◌, ℕ, ◌<◌, ◌==◌, List, [], ◌∷◌, true, false, Option, Some, None, is_some, option_map, length, if◌then◌else◌, refl, ap, sym, ◌∙◌, arith, not}
 use Rattle.bz_attribute.proofs.RuleParts.{rule_dotted}
 use Rattle.std.specs.Prelude.{bytes_eq}
 use Rattle.std.specs.List.{slice_split}
@@ -10,7 +10,6 @@ use Rattle.bz_attribute.specs.Rules.{Rule, dotted, kind_text, rule_of}
 use Rattle.bz_attribute.specs.declared.done.Done.{Done}
 use Rattle.bz_attribute.specs.Effects.{holds_rule, nodes_after, nodes_of, slot_done, with_args, done}
 use Rattle.bz_attribute.specs.Set.{joined_by_dots, kind_after, kind_items, sets_kind_of, with_kind}
-use Rattle.bz_attribute.specs.Comment.{comment_rule, comment_line}
 use Rattle.bz_attribute.proofs.Calls.{rule_from_end}
 use Rattle.bz_attribute.proofs.RuleNodes.{rule_nodes}
 use Rattle.bz_attribute.proofs.Views.{segments_of}
@@ -114,13 +113,3 @@ pub kind_told : (kind : List ℕ) (f : List Segment → List Segment) (slot : Op
 kind_told kind f None = refl
 kind_told kind f (Some s) =
     ap (λ x0. map_or (done None false) (λ r. done None (not (bytes_eq (kind_text r.kind) kind))) x0) (rule_after f s) ∙ elim (rule_of s.nodes) as (λ o. (map_or (done None false) (λ r. done None (not (bytes_eq (kind_text r.kind) kind))) (option_map (rule_with f) o)) ≡ (map_or (done None false) (λ r. done None (not (bytes_eq (kind_text r.kind) kind))) o)) [ None ↦ refl | Some r ↦ refl ]
-
--- a comment above a rule
-pub comment_exchanged : (text : List ℕ) (f : List Segment → List Segment) (slot : Option Statement)
-    → option_map (comment_rule text) (option_map (with_args f) slot) ≡ option_map (with_args f) (option_map (comment_rule text) slot)
-comment_exchanged text f None = refl
-comment_exchanged text f (Some s) =
-    let before : map_or s.before (λ r. s.before ++ comment_line text ∷ []) (rule_of (with_args f s).nodes) ≡ map_or s.before (λ r. s.before ++ comment_line text ∷ []) (rule_of s.nodes) =
-    ap (λ x0. map_or s.before (λ r. s.before ++ comment_line text ∷ []) x0) (rule_after f s)
-    ∙ elim (rule_of s.nodes) as (λ o. map_or s.before (λ r. s.before ++ comment_line text ∷ []) (option_map (rule_with f) o) ≡ map_or s.before (λ r. s.before ++ comment_line text ∷ []) o) [ None ↦ refl | Some r ↦ refl ] in
-    ap (λ (lines : List (List ℕ)). Some (record (with_args f s) { before = lines })) before

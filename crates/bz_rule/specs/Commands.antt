@@ -9,8 +9,6 @@ use Rattle.bz_command.specs.declared.arguments.Moved.{Moved}
 use Rattle.bz_command.specs.declared.arguments.Moved.TheVariants.{All, Values}
 use Rattle.bz_command.specs.declared.arguments.Commented.{Commented}
 use Rattle.bz_command.specs.declared.arguments.Commented.TheVariants.{Rule, Attribute, Value}
-use Rattle.bz_command.specs.declared.arguments.Field.{Field}
-use Rattle.bz_command.specs.declared.arguments.Field.TheVariants.{Label, Kind, StartLine, EndLine, ValueOf}
 use Rattle.bz_rule.specs.declared.command.Action.{Action}
 use Rattle.bz_rule.specs.declared.command.Action.TheVariants.{Add, Remove, Set, SetIfAbsent, Delete, Rename, Move, Replace, Comment, Print}
 use Rattle.bz_rule.specs.declared.command.CommandFault.{CommandFault}

@@ -1,5 +1,5 @@
 -- What is owed of `replace`: it changes something where an element equals `old` and is not exactly `new`, and afterwards there is none; it leaves what is well formed so, texts that pass a test, and comments.
-use Rattle.std.proofs.Common.{◌≡◌, ℕ, List, [], ◌∷◌, Bool, true, false, not, ◌&&◌, ◌||◌, Option, Some, None, option_map, map, if◌then◌else◌, refl, ap, sym, ◌∙◌, inl, inr, suc, ◌++◌, rules, Ok, IfSome}
+use Rattle.std.proofs.Common.{◌≡◌, ℕ, List, [], ◌∷◌, Bool, true, false, not, ◌&&◌, ◌||◌, Option, Some, None, option_map, map, if◌then◌else◌, refl, ap, sym, ◌∙◌, inl, inr, suc, ◌++◌, rules, Ok}
 use Rattle.bz_token.specs.declared.token.Kind.TheVariants.{String}
 use Rattle.std.specs.List.{list_any, list_all}
 use Rattle.std.proofs.lemmas.Bool.{cases_Bool, or_parts, and_parts}

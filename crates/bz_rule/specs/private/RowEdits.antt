@@ -7,7 +7,7 @@ use Rattle.bz_tree.specs.Rows.{RowPart, part_view, parts_of}
 use Rattle.bz_command.specs.Labels.{Package}
 use Rattle.bz_command.specs.declared.arguments.Commented.TheVariants.{Rule as Above}
 use Rattle.bz_command.specs.declared.arguments.Setting.TheVariants.{ToKind}
-use Rattle.bz_rule.specs.Commands.{Command, args_after, args_done, done_of}
+use Rattle.bz_rule.specs.Commands.{Command, args_after, done_of}
 use Rattle.bz_rule.specs.declared.command.Action.TheVariants.{Comment, Delete, Print, Set}
 use Rattle.bz_attribute.specs.Comment.{comment_rule}
 use Rattle.bz_attribute.specs.Effects.{with_args}
