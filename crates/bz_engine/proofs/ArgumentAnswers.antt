@@ -22,7 +22,7 @@ use Rattle.bz_rule.specs.OneAttribute.{one_attribute}
 use Rattle.bz_rule.proofs.Commands.{local}
 use Rattle.bz_engine.specs.declared.argument.EditedArgument.{EditedArgument}
 use Rattle.bz_engine.specs.declared.argument.EditedArgument.TheVariants.{Unchanged, Lines}
-use Rattle.bz_engine.specs.private.ArgumentEdits.{AddsArgument, AreLinesAfter, ChangesArgs, EditsLines, Setting, list_argument, set_by}
+use Rattle.bz_engine.specs.private.ArgumentEdits.{AddsArgument, AreLinesAfter, ChangesArgs, EditsLines, EditsSmallRule, Setting, list_argument, set_by}
 use Rattle.bz_engine.specs.private.Found.{Makes, told_line}
 use Rattle.bz_engine.proofs.OnlyPass.{named_rule}
 use Rattle.bz_engine.proofs.TextAnswers.{no_args, none_has, stays_by}
@@ -83,13 +83,20 @@ edits_alone depth command attr home lines text one text_is first t read told tol
         known.2 (with_args (args_after command home) t) (args_after command home args) (slot_is ∙ law.slot t) (small_after (args_after command home) args t (reads first t read_lines)) in
         record { told = done_is args reads ∙ known.0; some = not_nil (args_after command home args) new.now known.1 new_is; lines_are = new_is }
 
-pub edited_alone : {E : Type 0} (depth : ℕ) (command : Command) (attr : List ℕ) (home : Package) (lines text : List ℕ) → one_attribute command ≡ Some attr → text ≡ small_text lines → (first : ℕ) (t : Statement)
+pub edited_alone : {E : Type 0} (depth : ℕ) (command : Command) (attr : List ℕ) (home : Package) (text small : List ℕ) → one_attribute command ≡ Some attr → text ≡ small → (first : ℕ) (t : Statement)
     → IsStatementIn first depth text t → (told : Done) → told ≡ done_of command home (Some t) → (slot : Option Statement) → slot ≡ after command home (Some t)
-    → (r : Result (Option EditedArgument) E) → IfOk r (λ edited. IfSome edited (AreLinesAfter told slot)) → IfOk r (λ edited. IfSome edited (EditsLines depth command home lines))
-edited_alone depth command attr home lines text one text_is first t read told told_is slot slot_is (Ok (Some edited)) known =
-    edits_alone depth command attr home lines text one text_is first t read told told_is slot slot_is edited known
-edited_alone depth command attr home lines text one text_is first t read told told_is slot slot_is (Ok None) known = tt
-edited_alone depth command attr home lines text one text_is first t read told told_is slot slot_is (Err e) known = known
+    → (r : Result (Option EditedArgument) E) → IfOk r (λ edited. IfSome edited (AreLinesAfter told slot)) → IfOk r (λ edited. IfSome edited (EditsSmallRule depth command home small))
+edited_alone depth command attr home text small one same first t read told told_is slot slot_is (Ok (Some edited)) known =
+    λ lines is. edits_alone depth command attr home lines text one (same ∙ is) first t read told told_is slot slot_is edited known
+edited_alone depth command attr home text small one same first t read told told_is slot slot_is (Ok None) known = tt
+edited_alone depth command attr home text small one same first t read told told_is slot slot_is (Err e) known = known
+
+-- of the small rule of these lines
+pub edited_of : {E : Type 0} (depth : ℕ) (command : Command) (home : Package) (lines small : List ℕ) → small ≡ small_text lines
+    → (r : Result (Option EditedArgument) E) → IfOk r (λ edited. IfSome edited (EditsSmallRule depth command home small)) → IfOk r (λ edited. IfSome edited (EditsLines depth command home lines))
+edited_of depth command home lines small is (Ok (Some edited)) known = known lines is
+edited_of depth command home lines small is (Ok None) known = tt
+edited_of depth command home lines small is (Err e) known = known
 
 -- the lines in the text of the small rule
 pub lines_in : (text new : List ℕ) → text ≡ small_text new → take (length (drop 2 text) - 9) (drop 2 text) ≡ new

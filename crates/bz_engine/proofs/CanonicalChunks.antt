@@ -5,7 +5,7 @@ use Rattle.std.proofs.lemmas.Bool.{false≢true}
 use Rattle.std.proofs.lemmas.List.{length-append}
 use Rattle.std.proofs.lemmas.List.Sums.{count_by-le-length}
 use Rattle.std.proofs.lemmas.Slice.Eq.{bytes_eq-Decides}
-use Rattle.std.specs.Prelude.{Option, None, Some, IfSome, option_map, ◌==◌}
+use Rattle.std.specs.Prelude.{Option, None, Some, IfSome, IfNone, is_some, option_map, ◌==◌}
 use Rattle.std.specs.Str.{IsUtf8}
 use Rattle.bz_token.specs.Places.{line_at}
 use Rattle.bz_tree.specs.Chunk.{IsStatementIn}
@@ -16,13 +16,14 @@ use Rattle.bz_attribute.specs.Rules.{Rule, is_text, rule_of}
 use Rattle.bz_canonical.specs.Canonical.{HasName, IsCanonical, between, rule_name}
 use Rattle.bz_devices.specs.Ahead.{Ahead, IsFewAfter}
 use Rattle.bz_passes.specs.declared.index.Key.TheVariants.{Name as Named, NoName}
+use Rattle.bz_passes.specs.Exchange.{Fits}
 use Rattle.bz_engine.specs.Outcome.{Run}
 use Rattle.bz_engine.specs.Progress.{Progress}
 use Rattle.bz_engine.specs.declared.canonical.Found.{Found}
 use Rattle.bz_engine.specs.declared.edit.Edited.TheVariants.{Done}
 use Rattle.bz_engine.specs.declared.next_chunk.NextChunk.{NextChunk}
 use Rattle.bz_engine.specs.declared.edit.Scripted.TheVariants.{Done as Laid}
-use Rattle.bz_engine.specs.private.Edits.{EditsChunk, IsEdited, IsLaidOut}
+use Rattle.bz_engine.specs.private.Edits.{DoesNothing, EditsChunk, EditsWhole, IsEdited, IsLaidOut}
 use Rattle.bz_engine.specs.private.NextChunks.{IsFirstEdited, IsKnownEdited}
 use Rattle.bz_engine.specs.private.Rows.{HasKey}
 use Rattle.bz_engine.proofs.ChunkEdits.{line_passed, scripted_edited}
@@ -83,7 +84,7 @@ all_taken chunk [] text is size = sym (is ∙ append-nil chunk)
 all_taken chunk (b ∷ bs) text is size = absurd (omega (arith, ap length is, length-append chunk (b ∷ bs), size))
 
 -- the chunk is the whole text
-pub whole_edited : (run : Run) (found : Found) (text : List ℕ) (old new : Progress) (before after : List ℕ) (next : NextChunk) → length found.chunk.chunk.now ≡ length text
+whole_edited : (run : Run) (found : Found) (text : List ℕ) (old new : Progress) (before after : List ℕ) (next : NextChunk) → length found.chunk.chunk.now ≡ length text
     → IsCanonical run.max_depth found.attr.now found.chunk.class (option_map (λ name. name.now) found.chunk.name) (option_map between found.chunk.place) found.chunk.chunk.now found.chunk.written.now text
     → IsKnownEdited run found old new before after next → EditsChunk run text old new before after Done × (new.line ≤ old.line + length text)
 whole_edited run found text old new before after next size c known =
@@ -97,6 +98,29 @@ whole_edited run found text old new before after next size c known =
           (subst IsUtf8 whole known.utf8, subst (λ bytes. IsStatementIn old.line run.max_depth bytes s) whole read.read) done (known.passed ∙ ap (λ bytes. line_passed bytes known.mid) whole),
       omega (arith, at, few_lines old.line chunk, size),
     )
+
+no_line : (n old new : ℕ) → new ≡ old → new ≤ old + n
+no_line n old new is = omega arith
+
+-- where a buffer is taken before it, and given back after it
+pub whole_known : (run : Run) (found : Found) (text : List ℕ) (start old mid new : Progress) (before after : List ℕ) (next : Option NextChunk) → length found.chunk.chunk.now ≡ length text
+    → IsCanonical run.max_depth found.attr.now found.chunk.class (option_map (λ name. name.now) found.chunk.name) (option_map between found.chunk.place) found.chunk.chunk.now found.chunk.written.now text
+    → old ≡ start → new ≡ mid → Fits mid.kept run.passes → IfSome next (IsKnownEdited run found old mid before after) → IfNone next (DoesNothing old mid before after)
+    → EditsWhole run text start new before after (is_some next)
+whole_known run found text start old mid new before after next size c first last fits known none =
+    subst (λ (p : Progress). EditsWhole run text p new before after (is_some next)) first
+    (subst (λ (p : Progress). EditsWhole run text old p before after (is_some next)) (sym last) (by next known none))
+  where
+    by : (next : Option NextChunk) → IfSome next (IsKnownEdited run found old mid before after) → IfNone next (DoesNothing old mid before after) → EditsWhole run text old mid before after (is_some next)
+    by None known none = record {
+      fits = fits;
+      lines = no_line (length text) old.line mid.line (ap (λ (p : Progress). p.line) none.0);
+      edited = λ done. absurd (false≢true done);
+      nothing = λ _. none;
+    }
+    by (Some next) known none =
+        let whole = whole_edited run found text old mid before after next size c known in
+        record { fits = fits; lines = whole.1; edited = λ _. whole.0; nothing = λ other. absurd (false≢true (sym other)) }
 
 canonical_edited : (run : Run) (most : ℕ) (ahead : Ahead) (found : Found) (text : List ℕ) (old new : Progress) (before after : List ℕ) (next : NextChunk)
     → IsFewAfter ahead → IsTakenOf text ahead.bytes → length found.chunk.chunk.now ≤ most

@@ -4,7 +4,7 @@ ghost use Rattle.std.specs.Prelude.{◌≡◌, ◌++◌, ◌∷◌, ℕ, List, [
 ghost use Rattle.bz_canonical.specs.Canonical.{argument_lines, small_text};
 ghost use Rattle.bz_rule.specs.OneAttribute.{one_attribute};
 ghost use Rattle.bz_rule.specs.declared.command.Action.TheVariants.{Add};
-ghost use Rattle.bz_engine.specs.private.ArgumentEdits.{AddsArgument, AreLinesAfter, EditsLines, list_argument, new_of, set_by};
+ghost use Rattle.bz_engine.specs.private.ArgumentEdits.{AddsArgument, AreLinesAfter, EditsLines, EditsSmallRule, list_argument, new_of, set_by};
 
 use crate::edit::ScriptRun;
 use crate::spare::Spare;
@@ -57,16 +57,17 @@ pub(crate) fn edit_lines<'s>(
     requires { (attr : List ℕ) × (one_attribute command.now ≡ Some attr) }
     ensures { IfOk result (λ told. IfSome told (EditsLines script.entry.max_depth command.now script.entry.home.now lines.now)) }
 {
-    if !lines.is_empty() {
-        return edit_alone(script, command, lines, spare);
-    }
-    if is_comment(command) {
+    if lines.is_empty() && is_comment(command) {
         return Ok(None);
     }
-    if !put_new(script.alloc, command, &mut spare.laid)? {
-        return edit_alone(script, command, lines, spare);
+    if lines.is_empty() && put_new(script.alloc, command, &mut spare.laid)? {
+        return Ok(Some(EditedArgument::Lines(spare.laid.as_slice())));
     }
-    Ok(Some(EditedArgument::Lines(spare.laid.as_slice())))
+    if lines.len() > LONGEST {
+        return Ok(None);
+    }
+    put_small_rule(lines, &mut spare.small)?;
+    edit_small_rule(script, command, spare)
 }
 
 // Where there is no argument to put a comment at, it fails, and its note is told of the rule.
@@ -142,20 +143,16 @@ fn set_by(command: &Command) -> Option<NewArgument<'_>>
     }
 }
 
-/// The command on the small rule that has the argument of these lines alone.
-fn edit_alone<'s>(
+/// The command on the small rule in the buffer.
+fn edit_small_rule<'s>(
     script: ScriptRun<'_>,
     command: &Command,
-    lines: &str,
     spare: &'s mut Spare,
 ) -> Result<Option<EditedArgument<'s>>, NoMemory>
     requires { (attr : List ℕ) × (one_attribute command.now ≡ Some attr) }
-    ensures { IfOk result (λ told. IfSome told (EditsLines script.entry.max_depth command.now script.entry.home.now lines.now)) }
+    ensures { IfOk result (λ told. IfSome told (EditsSmallRule script.entry.max_depth command.now script.entry.home.now
+        (string_bytes spare.old.small))) }
 {
-    if lines.len() > LONGEST {
-        return Ok(None);
-    }
-    put_small_rule(lines, &mut spare.small)?;
     if spare.small.len() > 2 * LONGEST {
         return Ok(None);
     }

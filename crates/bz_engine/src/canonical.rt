@@ -1,7 +1,8 @@
 //! Chunks of which it is known what would be written without reading them, of statements that the script leaves as they
-//! are, or of which it edits one argument: they are copied.
+//! are, or of which it edits one argument: they are copied. `next_chunk.rt` asks here first, of the first chunk of the
+//! text ahead (`edit_canonical`) and of one that was found line by line (`edit_whole`), and reads what is left.
 
-ghost use Rattle.std.specs.Prelude.{◌≡◌, ◌+◌, ◌<◌, ◌≤◌, ◌^◌, ◌++◌, if◌then◌else◌, [], ◌∷◌, Some, true, length, option_map, IfOk, OnOk, IfSome, IfNone, IsFalse, IsTrue};
+ghost use Rattle.std.specs.Prelude.{◌≡◌, ◌+◌, ◌<◌, ◌≤◌, ◌^◌, ◌++◌, if◌then◌else◌, [], ◌∷◌, Some, true, length, option_map, IfOk, OnOk, IfSome, IfNone, IsTrue};
 ghost use Rattle.bz_tree.specs.Statement.{class_of};
 ghost use Rattle.bz_tree.specs.Tree.{Statement};
 ghost use Rattle.bz_layout.specs.Layout.{layout_text};
@@ -12,10 +13,9 @@ ghost use Rattle.bz_rule.specs.OneAttribute.{one_attribute};
 ghost use Rattle.bz_engine.specs.Meaning.{meaning, changes, fails_on};
 ghost use Rattle.bz_engine.specs.Outcome.{is_query};
 ghost use Rattle.bz_engine.specs.Progress.{text_following};
-ghost use Rattle.bz_engine.specs.declared.edit.Edited.TheVariants.{Done};
-ghost use Rattle.bz_engine.specs.private.Edits.{EditsChunk, IsLaidOut, run_of};
+ghost use Rattle.bz_engine.specs.private.Edits.{DoesNothing, EditsWhole, run_of};
 ghost use Rattle.bz_engine.specs.private.Found.{IsFound, IsMarked, one_pass};
-ghost use Rattle.bz_engine.specs.private.NextChunks.{IsFirstEdited, IsKnownEdited};
+ghost use Rattle.bz_engine.specs.private.NextChunks.{EditsFound, IsFirstEdited, IsKnownEdited};
 ghost use Rattle.bz_engine.specs.private.Rows.{HasKey};
 
 use crate::answer::{asked_attribute, is_answerable, marks_name, unchanged_by_text};
@@ -39,9 +39,8 @@ use bz_tree::Class;
 /// The script on the first chunk of the text ahead, where what would be written of it and what the script makes of its
 /// statement are known without it: it is copied. None, with nothing done: it is to be read.
 pub(crate) fn edit_canonical(
-    script: ScriptRun<'_>,
     ahead: &Ahead,
-    max_statement: u64,
+    script: ScriptRun<'_>,
     progress: &mut Progress,
     text: &mut Vec<u8>,
 ) -> Result<Option<NextChunk>, NoMemory>
@@ -49,17 +48,23 @@ pub(crate) fn edit_canonical(
     requires fits { Fits progress.old.kept script.passes.now }
     requires lines { progress.old.line + length ahead.now.bytes < 2 ^ 64 }
     ensures fits { OnOk result (Fits progress.new.kept script.entry.passes.now) }
-    ensures chunk { IfOk result (λ found. IfSome found (IsFirstEdited (run_of script.entry) max_statement ahead.now
-        progress.old progress.new text.old.items text.new.items)) }
+    ensures chunk { IfOk result (λ found. IfSome found (IsFirstEdited (run_of script.entry) script.entry.max_statement
+        ahead.now progress.old progress.new text.old.items text.new.items)) }
     ensures none { IfOk result (λ found. IfNone found
-        ((progress.new ≡ progress.old) × (text.new.items ≡ text.old.items))) }
+        (DoesNothing progress.old progress.new text.old.items text.new.items)) }
 {
     if !may_be_known(script) || !progress.is_worth_a_look() {
         return Ok(None);
     }
     let way = progress.way_to_look();
     let mut written = progress.take_written(script.alloc);
-    match find_canonical(script, ahead.text(), max_statement, way, &mut written)? {
+    match find_canonical(
+        script,
+        ahead.text(),
+        script.max_statement,
+        way,
+        &mut written,
+    )? {
         None => {
             progress.give_back_written(written);
             progress.looked_in_vain();
@@ -83,49 +88,24 @@ pub(crate) fn edit_whole(
 ) -> Result<bool, NoMemory>
     requires fits { Fits progress.old.kept script.passes.now }
     requires lines { progress.old.line + length chunk.now < 2 ^ 64 }
-    ensures fits { OnOk result (Fits progress.new.kept script.entry.passes.now) }
-    ensures lines { OnOk result (progress.new.line ≤ progress.old.line + length chunk.now) }
-    ensures done { IfOk result (λ done. IsTrue done → EditsChunk (run_of script.entry) chunk.now
-        progress.old progress.new text.old.items text.new.items Done) }
-    ensures nothing { IfOk result (λ done. IsFalse done
-        → (progress.new ≡ progress.old) × (text.new.items ≡ text.old.items)) }
+    ensures { IfOk result (EditsWhole (run_of script.entry) chunk.now progress.old progress.new
+        text.old.items text.new.items) }
 {
     if !may_be_known(script) {
         return Ok(false);
     }
     let mut written = progress.take_written(script.alloc);
-    let edited = edit_by_itself(script, chunk, &mut written, progress, text)?;
-    progress.give_back_written(written);
-    Ok(edited)
-}
-
-/// The same, with a buffer for what is written of the chunk.
-fn edit_by_itself(
-    script: ScriptRun<'_>,
-    chunk: &str,
-    written: &mut Vec<u8>,
-    progress: &mut Progress,
-    text: &mut Vec<u8>,
-) -> Result<bool, NoMemory>
-    requires fits { Fits progress.old.kept script.passes.now }
-    requires lines { progress.old.line + length chunk.now < 2 ^ 64 }
-    ensures fits { OnOk result (Fits progress.new.kept script.entry.passes.now) }
-    ensures lines { OnOk result (progress.new.line ≤ progress.old.line + length chunk.now) }
-    ensures done { IfOk result (λ done. IsTrue done → EditsChunk (run_of script.entry) chunk.now
-        progress.old progress.new text.old.items text.new.items Done) }
-    ensures nothing { IfOk result (λ done. IsFalse done
-        → (progress.new ≡ progress.old) × (text.new.items ≡ text.old.items)) }
-{
-    let Some(found) = find_canonical(script, chunk, u64::MAX, Way::AsIsFirst, written)? else {
-        return Ok(false);
-    };
-    if found.chunk.chunk.len() != chunk.len() {
-        return Ok(false);
+    match find_canonical(script, chunk, u64::MAX, Way::AsIsFirst, &mut written)? {
+        Some(found) if found.chunk.chunk.len() == chunk.len() => {
+            let next = edit_known(script, found, progress, text)?;
+            progress.give_back_written(written);
+            Ok(next.is_some())
+        }
+        _ => {
+            progress.give_back_written(written);
+            Ok(false)
+        }
     }
-    let Some(_next) = edit_known(script, found, progress, text)? else {
-        return Ok(false);
-    };
-    Ok(true)
 }
 
 /// The script on the statement of a chunk that was found. None, with nothing done: the chunk is to be read.
@@ -142,9 +122,9 @@ fn edit_known(
     ensures chunk { IfOk result (λ next. IfSome next (IsKnownEdited (run_of script.entry) found.entry
         progress.old progress.new text.old.items text.new.items)) }
     ensures none { IfOk result (λ next. IfNone next
-        ((progress.new ≡ progress.old) × (text.new.items ≡ text.old.items))) }
+        (DoesNothing progress.old progress.new text.old.items text.new.items)) }
 {
-    if !edit_found(script, found, progress, text)? {
+    if !edit_unseen(script, found, progress, text)? {
         progress.looked_in_vain();
         return Ok(None);
     }
@@ -254,7 +234,7 @@ fn asked<'a>(script: ScriptRun<'a>) -> &'a str {
 }
 
 /// The script on the statement of such a chunk. False, with nothing done: the statement is to be seen.
-fn edit_found(
+fn edit_unseen(
     script: ScriptRun<'_>,
     found: Found<'_>,
     progress: &mut Progress,
@@ -263,44 +243,16 @@ fn edit_found(
     requires fits { Fits progress.old.kept script.passes.now }
     ensures fits { OnOk result (Fits progress.new.kept script.entry.passes.now) }
     ensures line { OnOk result (progress.new.line ≡ progress.old.line) }
-    ensures done { IfOk result (λ done. IsTrue done → (s : Statement) → IsFound script.entry.max_depth found.entry s
-        → IsLaidOut (run_of script.entry) s progress.old progress.new text.old.items text.new.items) }
-    ensures nothing { IfOk result (λ done. IsFalse done
-        → (progress.new ≡ progress.old) × (text.new.items ≡ text.old.items)) }
+    ensures edited { IfOk result (EditsFound (run_of script.entry) found.entry progress.old progress.new
+        text.old.items text.new.items) }
 {
     if is_passed_by(script, found) {
         put_canonical(script, found.chunk, progress, text)?;
         return Ok(true);
     }
-    match script.passes.only() {
-        None => Ok(false),
-        Some(only) => edit_by_text(script, only, found, progress, text),
-    }
-}
-
-/// The one command of the script on the statement, where what it makes of it is known by its name and its text.
-fn edit_by_text(
-    script: ScriptRun<'_>,
-    only: OnePass<'_>,
-    found: Found<'_>,
-    progress: &mut Progress,
-    text: &mut Vec<u8>,
-) -> Result<bool, NoMemory>
-    requires fits { Fits progress.old.kept script.passes.now }
-    requires only { script.passes.now ≡ one_pass only.target.now only.command.now }
-    ensures fits { OnOk result (Fits progress.new.kept script.entry.passes.now) }
-    ensures line { OnOk result (progress.new.line ≡ progress.old.line) }
-    ensures done { IfOk result (λ done. IsTrue done → (s : Statement) → IsFound script.entry.max_depth found.entry s
-        → IsLaidOut (run_of script.entry) s progress.old progress.new text.old.items text.new.items) }
-    ensures nothing { IfOk result (λ done. IsFalse done
-        → (progress.new ≡ progress.old) × (text.new.items ≡ text.old.items)) }
-{
-    let Some(name) = found.chunk.name else {
+    let Some(only) = marks_found(script, found) else {
         return Ok(false);
     };
-    if !marks_name(only.target, name) {
-        return Ok(false);
-    }
     let env = Env {
         alloc: script.alloc,
         home: script.home,
@@ -315,6 +267,19 @@ fn edit_by_text(
     }
 }
 
+/// The one command of the script, with its target, where that marks the rule of the chunk.
+fn marks_found<'a>(script: ScriptRun<'a>, found: Found<'_>) -> Option<OnePass<'a>>
+    ensures only { IfSome result (λ only. script.entry.passes.now ≡ one_pass only.target.now only.command.now) }
+    ensures marked { IfSome result (λ only. IsMarked script.entry.max_depth only.target.now found.entry) }
+{
+    let only = script.passes.only()?;
+    let name = found.chunk.name?;
+    if !marks_name(only.target, name) {
+        return None;
+    }
+    Some(only)
+}
+
 /// The one command of the script on a rule that it marks, where it looks at one argument alone, and the lines of that
 /// are known.
 fn edit_argument(
@@ -324,15 +289,13 @@ fn edit_argument(
     progress: &mut Progress,
     text: &mut Vec<u8>,
 ) -> Result<bool, NoMemory>
-    requires fits { Fits progress.old.kept script.passes.now }
     requires only { script.passes.now ≡ one_pass only.target.now only.command.now }
     requires marked { IsMarked script.max_depth only.target.now found }
+    requires fits { Fits progress.old.kept script.passes.now }
     ensures fits { OnOk result (Fits progress.new.kept script.entry.passes.now) }
     ensures line { OnOk result (progress.new.line ≡ progress.old.line) }
-    ensures done { IfOk result (λ done. IsTrue done → (s : Statement) → IsFound script.entry.max_depth found.entry s
-        → IsLaidOut (run_of script.entry) s progress.old progress.new text.old.items text.new.items) }
-    ensures nothing { IfOk result (λ done. IsFalse done
-        → (progress.new ≡ progress.old) × (text.new.items ≡ text.old.items)) }
+    ensures edited { IfOk result (EditsFound (run_of script.entry) found.entry progress.old progress.new
+        text.old.items text.new.items) }
 {
     let Some(place) = place_for(only.command, found) else {
         return Ok(false);
@@ -356,7 +319,7 @@ fn edit_argument(
                 place,
                 lines,
             };
-            put_changed(script, changed, progress, text)?;
+            changed.put(script, progress, text)?;
             progress.give_back(spare);
             Ok(true)
         }
@@ -440,26 +403,28 @@ struct Changed<'t> {
     lines: &'t [u8],
 }
 
-/// Writes the text of a rule that has other lines in the place of an argument.
-fn put_changed(
-    script: ScriptRun<'_>,
-    changed: Changed<'_>,
-    progress: &mut Progress,
-    text: &mut Vec<u8>,
-) -> Result<(), NoMemory>
-    ensures last { OnOk result (progress.new ≡ record progress.old { last = Some changed.entry.class; changed = true }) }
-    ensures text { OnOk result ((s : Statement) → s.class ≡ changed.entry.class
-        → layout_text s ≡ changed.entry.place.before.now ++ (changed.entry.lines.now ++ changed.entry.place.after.now)
-        → text.new.items ≡ text.old.items
-        ++ (if is_query script.entry.passes.now then [] else text_following progress.old.last (Some s ∷ []))) }
-{
-    if !script.passes.is_query() {
-        put_gap(progress.last, changed.class, text)?;
-        extend_from_slice(text, changed.place.before.as_bytes())?;
-        extend_from_slice(text, changed.lines)?;
-        extend_from_slice(text, changed.place.after.as_bytes())?;
+impl Changed<'_> {
+    /// Writes the text of the rule.
+    fn put(
+        self,
+        script: ScriptRun<'_>,
+        progress: &mut Progress,
+        text: &mut Vec<u8>,
+    ) -> Result<(), NoMemory>
+        ensures last { OnOk result (progress.new ≡ record progress.old { last = Some self.entry.class; changed = true }) }
+        ensures text { OnOk result ((s : Statement) → s.class ≡ self.entry.class
+            → layout_text s ≡ self.entry.place.before.now ++ (self.entry.lines.now ++ self.entry.place.after.now)
+            → text.new.items ≡ text.old.items
+            ++ (if is_query script.entry.passes.now then [] else text_following progress.old.last (Some s ∷ []))) }
+    {
+        if !script.passes.is_query() {
+            put_gap(progress.last, self.class, text)?;
+            extend_from_slice(text, self.place.before.as_bytes())?;
+            extend_from_slice(text, self.lines)?;
+            extend_from_slice(text, self.place.after.as_bytes())?;
+        }
+        progress.last = Some(self.class);
+        progress.changed = true;
+        Ok(())
     }
-    progress.last = Some(changed.class);
-    progress.changed = true;
-    Ok(())
 }

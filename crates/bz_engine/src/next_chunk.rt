@@ -1,6 +1,6 @@
 //! The script on the chunk that is found next.
 
-ghost use Rattle.std.specs.Prelude.{◌≡◌, ℕ, ◌+◌, ◌<◌, ◌≤◌, ◌^◌, ◌∷◌, List, length, map, IfOk, OnOk, IfSome, IfNone, IsTrue};
+ghost use Rattle.std.specs.Prelude.{◌≡◌, ℕ, ◌+◌, ◌<◌, ◌≤◌, ◌^◌, ◌∷◌, List, length, map, IfOk, OnOk, IsTrue};
 ghost use Rattle.bz_token.specs.Places.{placed};
 ghost use Rattle.bz_token.specs.Reading.{AreTokensOf};
 ghost use Rattle.bz_devices.specs.Ahead.{IsFewAfter};
@@ -39,9 +39,8 @@ pub(crate) enum First {
 /// The script on the first chunk of the text ahead, which is read by the tokens that were made to find its end. Nothing
 /// is done where the text does not show where it ends, where it has a fault, is a block, or is too long.
 pub(crate) fn edit_first(
-    script: ScriptRun<'_>,
     ahead: &Ahead,
-    max_statement: u64,
+    script: ScriptRun<'_>,
     progress: &mut Progress,
     text: &mut Vec<u8>,
 ) -> Result<First, NoMemory>
@@ -49,46 +48,27 @@ pub(crate) fn edit_first(
     requires fits { Fits progress.old.kept script.passes.now }
     requires lines { progress.old.line + length ahead.now.bytes < 2 ^ 64 }
     ensures fits { OnOk result (Fits progress.new.kept script.entry.passes.now) }
-    ensures first { IfOk result (IsFirst (run_of script.entry) max_statement ahead.now progress.old progress.new
-        text.old.items text.new.items) }
+    ensures first { IfOk result (IsFirst (run_of script.entry) script.entry.max_statement ahead.now
+        progress.old progress.new text.old.items text.new.items) }
 {
-    if begins_blank(ahead.text()) && 0 < max_statement {
+    let text_ahead = ahead.text();
+    if begins_blank(text_ahead) && 0 < script.max_statement {
         progress.line += 1;
         return Ok(First::Edited(NextChunk {
             len: 1,
             edited: Edited::Done,
         }));
     }
-    if let Some(next) = edit_canonical(script, ahead, max_statement, progress, text)? {
+    if let Some(next) = edit_canonical(ahead, script, progress, text)? {
         return Ok(First::Edited(next));
     }
-    edit_front(script, ahead, max_statement, progress, text)
-}
-
-/// The same where the chunk is to be read.
-fn edit_front(
-    script: ScriptRun<'_>,
-    ahead: &Ahead,
-    max_statement: u64,
-    progress: &mut Progress,
-    text: &mut Vec<u8>,
-) -> Result<First, NoMemory>
-    requires few { IsFewAfter ahead.now }
-    requires fits { Fits progress.old.kept script.passes.now }
-    requires lines { progress.old.line + length ahead.now.bytes < 2 ^ 64 }
-    ensures fits { OnOk result (Fits progress.new.kept script.entry.passes.now) }
-    ensures first { IfOk result (IsFirst (run_of script.entry) max_statement ahead.now progress.old progress.new
-        text.old.items text.new.items) }
-{
-    let text_ahead = ahead.text();
-    let line = progress.line;
-    let chunk = match first_chunk(script.bump, text_ahead, line, script.max_depth)? {
+    let chunk = match first_chunk(script.bump, text_ahead, progress.line, script.max_depth)? {
         Front::Chunk(chunk) => chunk,
         Front::Short if text_ahead.len() == ahead.bytes().len() => return Ok(First::Short),
         _ => return Ok(First::Other),
     };
     let len = chunk.text.len();
-    if len as u64 > max_statement {
+    if len as u64 > script.max_statement {
         return Ok(First::Other);
     }
     let edited = edit_tokens(script, chunk.text, chunk.tokens, progress, text)?;

@@ -3,16 +3,16 @@
 //! and writes its text. It begins with `Stopped`: after a fault the session is of no use.
 
 ghost use Rattle.bz_memory.specs.NoMemory.{no_memory};
-ghost use Rattle.std.specs.Prelude.{◌≡◌, ◌≢◌, ℕ, ◌+◌, ◌<◌, ◌≤◌, ◌^◌, ◌++◌, false, List, [], length, take, drop, IfOk, OnOk, OnErr, IfSome, IfNone, IsTrue};
+ghost use Rattle.std.specs.Prelude.{◌≡◌, ◌≢◌, ℕ, ◌+◌, ◌<◌, ◌≤◌, ◌^◌, false, List, [], length, take, drop, IfOk, OnOk, OnErr, IfSome, IfNone, IsTrue};
 ghost use Rattle.bz_token.specs.Cuts.{IsPart};
-ghost use Rattle.bz_devices.specs.Device.{NoneEnds, Rises};
+ghost use Rattle.bz_devices.specs.Device.{Rises};
 ghost use Rattle.bz_passes.specs.Exchange.{Fits};
-ghost use Rattle.bz_devices.specs.Ahead.{IsReadOn, IsNextChunk, IsTooLong, IsUncertain, IsFewAfter};
-ghost use Rattle.bz_engine.specs.Outcome.{told_by};
+ghost use Rattle.bz_devices.specs.Ahead.{IsReadOn, IsNextChunk, IsFewAfter};
+ghost use Rattle.bz_engine.specs.Outcome.{run_with, told_by};
 ghost use Rattle.bz_engine.specs.private.ChunkFaults.{fault_at};
-ghost use Rattle.bz_engine.specs.private.Edits.{EditsChunk};
-ghost use Rattle.bz_engine.specs.private.Finds.{Finds};
-ghost use Rattle.bz_engine.specs.private.NextChunks.{IsNextEdited, IsFirstNext, CanTake};
+ghost use Rattle.bz_engine.specs.private.Edits.{EditsChunk, run_of};
+ghost use Rattle.bz_engine.specs.private.Finds.{Finds, FindsNext};
+ghost use Rattle.bz_engine.specs.private.NextChunks.{IsNext, IsFirstNext, CanTake};
 ghost use Rattle.bz_engine.specs.SessionValue.{at_start, run_in, IsSameRun, IsReady, told_at};
 ghost use Rattle.bz_engine.specs.SessionSteps.{Steps, reader, writer};
 ghost use Rattle.bz_engine.specs.declared.session.SessionState.TheVariants.{Going, Ended, Stopped};
@@ -261,25 +261,24 @@ impl Session {
         source: &mut S,
         text: &mut Vec<u8>,
     ) -> Result<Option<NextChunk>, RunFault>
-        requires stopped { self.old.stage ≡ Stopped }
-        requires made { self.old.ahead.reads ≤ self.old.options.max_reads }
         requires ready { IsReady self.old }
+        requires made { self.old.ahead.reads ≤ self.old.options.max_reads }
+        requires stopped { self.old.stage ≡ Stopped }
         ensures same { self.new ≡ record self.old { ahead = self.new.ahead; progress = self.new.progress } }
-        ensures finds { Finds S.gave S.failures self.old.options self.old.progress.line source.old source.new
-            self.old.ahead self.new.ahead result }
+        ensures finds { FindsNext S.gave S.failures source.old source.new self.old self.new result }
         ensures fits { OnOk result (Fits self.new.progress.kept self.new.passes) }
-        ensures chunk { IfOk result (λ found. IfSome found
-            (IsNextEdited self.old self.new text.old.items text.new.items)) }
-        ensures none { IfOk result (λ found. IfNone found ((self.new.progress ≡ self.old.progress)
-            × (self.new.ahead.bytes ≡ []) × IsTrue self.new.ahead.ended)) }
+        ensures next { IfOk result (IsNext self.old self.new text.old.items text.new.items) }
     {
         let mut may_read = true;
         loop {
             match self.edit_ahead(text)? {
                 First::Edited(next) => return Ok(Some(next)),
                 First::Short if may_read => {
-                    let line = self.progress.line;
-                    if !read_more(&mut self.ahead, source, self.options, line)? {
+                    let search = Search {
+                        options: self.options,
+                        line: self.progress.line,
+                    };
+                    if !read_more(&mut self.ahead, source, search)? {
                         return self.edit_found(source, text);
                     }
                     may_read = false;
@@ -299,16 +298,15 @@ impl Session {
         requires ready { CanTake self.old }
         requires bound { length self.old.ahead.bytes ≤ self.old.options.max_statement + 8192 }
         ensures same { self.new ≡ record self.old { ahead = self.new.ahead; progress = self.new.progress } }
-        ensures finds { Finds S.gave S.failures self.old.options self.old.progress.line source.old source.new
-            self.old.ahead self.new.ahead result }
+        ensures finds { FindsNext S.gave S.failures source.old source.new self.old self.new result }
         ensures fits { OnOk result (Fits self.new.progress.kept self.new.passes) }
-        ensures chunk { IfOk result (λ found. IfSome found
-            (IsNextEdited self.old self.new text.old.items text.new.items)) }
-        ensures none { IfOk result (λ found. IfNone found ((self.new.progress ≡ self.old.progress)
-            × (self.new.ahead.bytes ≡ []) × IsTrue self.new.ahead.ended)) }
+        ensures next { IfOk result (IsNext self.old self.new text.old.items text.new.items) }
     {
-        let line = self.progress.line;
-        let Some(len) = find_chunk(&mut self.ahead, source, self.options, line)? else {
+        let search = Search {
+            options: self.options,
+            line: self.progress.line,
+        };
+        let Some(len) = find_chunk(&mut self.ahead, source, search)? else {
             return Ok(None);
         };
         let edited = self.edit(len, text)?;
@@ -326,16 +324,9 @@ impl Session {
     {
         // The lists of the last chunk are given up.
         clear(self.alloc, &mut self.bump);
-        let max_statement = self.options.max_statement;
-        let script = ScriptRun {
-            alloc: self.alloc,
-            bump: &self.bump,
-            home: &self.home,
-            passes: &self.passes,
-            keep_going: self.options.keep_going,
-            max_depth: self.options.max_depth,
-        };
-        edit_first(script, &self.ahead, max_statement, &mut self.progress, text)
+        let options = self.options;
+        let script = script_run(self.alloc, &self.bump, &self.home, &self.passes, options);
+        edit_first(&self.ahead, script, &mut self.progress, text)
     }
 
     /// The script on the chunk of the first bytes ahead.
@@ -350,14 +341,8 @@ impl Session {
         ensures edited { IfOk result (EditsChunk (run_in self.old) (take len self.old.ahead.bytes)
             self.old.progress self.new.progress text.old.items text.new.items) }
     {
-        let script = ScriptRun {
-            alloc: self.alloc,
-            bump: &self.bump,
-            home: &self.home,
-            passes: &self.passes,
-            keep_going: self.options.keep_going,
-            max_depth: self.options.max_depth,
-        };
+        let options = self.options;
+        let script = script_run(self.alloc, &self.bump, &self.home, &self.passes, options);
         edit_bytes(script, &self.ahead.bytes()[..len], &mut self.progress, text)
     }
 
@@ -385,51 +370,77 @@ impl Session {
     }
 }
 
-/// The length of the next chunk in bytes, which begins on this line; none where the input has ended.
-fn find_chunk<S: Source>(
-    ahead: &mut Ahead,
-    source: &mut S,
+/// What a run is to do with each chunk.
+fn script_run<'a>(
+    alloc: Global,
+    bump: &'a Bump,
+    home: &'a Package,
+    passes: &'a RulePasses,
     options: Options,
-    line: u64,
-) -> Result<Option<usize>, RunFault>
-    requires made { ahead.old.reads ≤ options.max_reads }
-    requires few { IsFewAfter ahead.old }
-    requires bound { length ahead.old.bytes ≤ options.max_statement + 8192 }
-    ensures finds { Finds S.gave S.failures options line source.old source.new ahead.old ahead.new result }
-    ensures chunk { IfOk result (λ found. IfSome found (IsNextChunk options.max_statement ahead.new)) }
-    ensures none { IfOk result (λ found. IfNone found ((ahead.new.bytes ≡ []) × IsTrue ahead.new.ended)) }
+) -> ScriptRun<'a>
+    ensures run { run_of result ≡ run_with home.now passes.now options }
+    ensures size { result.max_statement ≡ options.max_statement }
 {
-    let limits = Limits {
-        statement: options.max_statement,
-        reads: options.max_reads,
-    };
-    match next_chunk(ahead, source, limits) {
-        Ok(found) => Ok(found),
-        Err(fault) => Err(fault_at(fault, line)),
+    ScriptRun {
+        alloc,
+        bump,
+        home,
+        passes,
+        keep_going: options.keep_going,
+        max_depth: options.max_depth,
+        max_statement: options.max_statement,
     }
 }
 
-/// Reads once, where all that is ahead is a part of the next chunk, which begins on this line; answers whether it did.
-fn read_more<S: Source>(
-    ahead: &mut Ahead,
-    source: &mut S,
+/// The next chunk that is looked for, which begins on this line.
+#[derive(Clone, Copy)]
+struct Search {
     options: Options,
     line: u64,
-) -> Result<bool, RunFault>
-    requires made { ahead.old.reads ≤ options.max_reads }
+}
+
+impl Search {
+    fn limits(self) -> Limits
+        ensures { result ≡ record { statement = self.options.max_statement; reads = self.options.max_reads } }
+    {
+        Limits {
+            statement: self.options.max_statement,
+            reads: self.options.max_reads,
+        }
+    }
+}
+
+/// The length of the next chunk in bytes; none where the input has ended.
+fn find_chunk<S: Source>(
+    ahead: &mut Ahead,
+    source: &mut S,
+    search: Search,
+) -> Result<Option<usize>, RunFault>
+    requires made { ahead.old.reads ≤ search.options.max_reads }
+    requires few { IsFewAfter ahead.old }
+    requires bound { length ahead.old.bytes ≤ search.options.max_statement + 8192 }
+    ensures finds { Finds S.gave S.failures search.options search.line source.old source.new ahead.old ahead.new result }
+    ensures chunk { IfOk result (λ found. IfSome found (IsNextChunk search.options.max_statement ahead.new)) }
+    ensures none { IfOk result (λ found. IfNone found ((ahead.new.bytes ≡ []) × IsTrue ahead.new.ended)) }
+{
+    match next_chunk(ahead, source, search.limits()) {
+        Ok(found) => Ok(found),
+        Err(fault) => Err(fault_at(fault, search.line)),
+    }
+}
+
+/// Reads once, where all that is ahead is a part of the next chunk; answers whether it did.
+fn read_more<S: Source>(ahead: &mut Ahead, source: &mut S, search: Search) -> Result<bool, RunFault>
+    requires made { ahead.old.reads ≤ search.options.max_reads }
     requires part { IsPart ahead.old.bytes }
     requires few { length ahead.old.bytes ≤ 8192 }
-    ensures finds { Finds S.gave S.failures options line source.old source.new ahead.old ahead.new result }
+    ensures finds { Finds S.gave S.failures search.options search.line source.old source.new ahead.old ahead.new result }
     ensures few { OnOk result (IsFewAfter ahead.new) }
     ensures fitting { (at : ℕ) → result ≢ Err (RunFault.StatementTooLong at) }
 {
-    let limits = Limits {
-        statement: options.max_statement,
-        reads: options.max_reads,
-    };
-    match read_on(ahead, source, limits) {
+    match read_on(ahead, source, search.limits()) {
         Ok(read) => Ok(read),
-        Err(fault) => Err(fault_at(fault, line)),
+        Err(fault) => Err(fault_at(fault, search.line)),
     }
 }
 

@@ -48,6 +48,10 @@ abbrev pub EditsLines : ℕ → Command → Package → List ℕ → EditedArgum
 EditsLines depth command home lines Unchanged = (args : List Segment) → is_empty lines ≡ is_empty args → AreReadAlone depth lines args → args_done command home args ≡ told_line false None
 EditsLines depth command home lines (Lines new) = (args : List Segment) → is_empty lines ≡ is_empty args → AreReadAlone depth lines args → ChangesArgs command home args new.now
 
+-- the same, of each argument of which this is the small rule
+abbrev pub EditsSmallRule : ℕ → Command → Package → List ℕ → EditedArgument → Type 0
+EditsSmallRule depth command home text edited = (lines : List ℕ) → text ≡ small_text lines → EditsLines depth command home lines edited
+
 -- what stands in the small rule, where this was told
 abbrev pub AreLinesAfter : Done → Option Statement → EditedArgument → Type 0
 AreLinesAfter done slot Unchanged = done ≡ told_line false None

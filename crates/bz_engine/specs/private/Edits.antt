@@ -1,5 +1,5 @@
 -- What the script on one chunk answers, for private clauses.
-use Rattle.std.specs.Prelude.{◌≡◌, ℕ, true, false, if◌then◌else◌, List, [], ◌∷◌, ◌++◌, Option, Some, Ok, Err, option_to_list, flat_map, take}
+use Rattle.std.specs.Prelude.{◌≡◌, ℕ, ◌+◌, ◌≤◌, Bool, true, false, IsTrue, IsFalse, if◌then◌else◌, List, [], ◌∷◌, ◌++◌, length, Option, Some, Ok, Err, option_to_list, flat_map, take}
 use Rattle.bz_tree.specs.Tree.{Statement}
 use Rattle.bz_engine.specs.declared.edit.ScriptRun.{ScriptRun}
 use Rattle.bz_engine.specs.declared.edit.Edited.{Edited}
@@ -9,7 +9,7 @@ use Rattle.bz_engine.specs.declared.edit.Scripted.TheVariants as scripted
 use Rattle.bz_engine.specs.declared.report.SyntaxFault.{SyntaxFault}
 use Rattle.bz_engine.specs.File.{Gives}
 use Rattle.bz_command.specs.Passes.{Slot}
-use Rattle.bz_passes.specs.Exchange.{IsLeftBy, slot_after}
+use Rattle.bz_passes.specs.Exchange.{Fits, IsLeftBy, slot_after}
 use Rattle.bz_engine.specs.Meaning.{meaning, changes, fails_on}
 use Rattle.bz_engine.specs.Outcome.{Run, is_query, text_after, said, slots_of, some_failure}
 use Rattle.bz_engine.specs.Progress.{Progress, IsKeptOf, last_class, text_following}
@@ -52,6 +52,17 @@ IsEdited run cs statements chunk old new before after (Failed message) = IsFaile
 abbrev pub EditsChunk : Run → List ℕ → Progress → Progress → List ℕ → List ℕ → Edited → Type 0
 EditsChunk run chunk old new before after edited =
     (cs : List (List ℕ)) (statements : List Statement) → IsKeptOf run cs statements old → IsEdited run cs statements chunk old new before after edited
+
+-- nothing was done
+abbrev pub DoesNothing : Progress → Progress → List ℕ → List ℕ → Type 0
+DoesNothing old new before after = (new ≡ old) × (after ≡ before)
+
+-- The script on a chunk that may be known as a whole: it is done, or nothing is.
+pub record EditsWhole (run : Run) (chunk : List ℕ) (old new : Progress) (before after : List ℕ) (done : Bool) : Type 0 where
+  pub fits : Fits new.kept run.passes
+  pub lines : new.line ≤ old.line + length chunk
+  pub edited : IsTrue done → EditsChunk run chunk old new before after Done
+  pub nothing : IsFalse done → DoesNothing old new before after
 
 -- The script on one statement: it is done,
 pub record IsLaidOut (run : Run) (s : Statement) (old new : Progress) (before after : List ℕ) : Type 0 where

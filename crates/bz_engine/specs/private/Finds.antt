@@ -2,6 +2,7 @@
 use Rattle.std.specs.Prelude.{◌≡◌, ◌≢◌, ℕ, ◌+◌, ◌≤◌, false, List, length, Result, Err}
 use Rattle.bz_devices.specs.Ahead.{Ahead, IsReadOn, AreNeeded, IsTooLong, IsUncertain}
 use Rattle.bz_devices.specs.Device.{Rises}
+use Rattle.bz_engine.specs.SessionValue.{SessionValue}
 use Rattle.bz_engine.specs.declared.options.Options.{Options}
 use Rattle.bz_engine.specs.declared.run_fault.RunFault.{RunFault}
 use Rattle.bz_engine.specs.declared.run_fault.RunFault.TheVariants.{ReadFailed, WriteFailed, InputTooLong, StatementTooLong, Stopped}
@@ -19,3 +20,7 @@ pub record Finds {S T : Type 0} (gave : S → List (List ℕ) → S → Type 0) 
   pub failed : result ≡ Err ReadFailed → Rises (failures source) (failures source_after)
   pub steady : result ≢ Err ReadFailed → failures source_after ≡ failures source
   pub runs : (result ≢ Err Stopped) × (result ≢ Err WriteFailed)
+
+-- the same of the session that looks for it
+abbrev pub FindsNext : {S T : Type 0} → (S → List (List ℕ) → S → Type 0) → (S → ℕ) → S → S → SessionValue → SessionValue → Result T RunFault → Type 0
+FindsNext gave failures source after old new result = Finds gave failures old.options old.progress.line source after old.ahead new.ahead result

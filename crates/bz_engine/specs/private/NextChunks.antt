@@ -1,5 +1,5 @@
 -- What the script on the next chunk answers, for private clauses.
-use Rattle.std.specs.Prelude.{◌≡◌, ℕ, ◌+◌, ◌*◌, ◌≤◌, List, length, take}
+use Rattle.std.specs.Prelude.{◌≡◌, ℕ, ◌+◌, ◌*◌, ◌≤◌, Bool, true, false, IsTrue, List, [], length, take, Option, None, Some}
 use Rattle.std.specs.Str.{IsUtf8}
 use Rattle.bz_token.specs.Cuts.{IsPart}
 use Rattle.bz_token.specs.Places.{line_at}
@@ -11,7 +11,7 @@ use Rattle.bz_engine.specs.Progress.{Progress}
 use Rattle.bz_engine.specs.SessionValue.{SessionValue, run_in}
 use Rattle.bz_engine.specs.declared.canonical.Found.{Found}
 use Rattle.bz_engine.specs.declared.edit.Edited.TheVariants.{Done}
-use Rattle.bz_engine.specs.private.Edits.{EditsChunk, IsLaidOut}
+use Rattle.bz_engine.specs.private.Edits.{DoesNothing, EditsChunk, IsLaidOut}
 use Rattle.bz_engine.specs.private.Found.{IsFound}
 use Rattle.bz_engine.specs.declared.next_chunk.NextChunk.{NextChunk}
 use Rattle.bz_engine.specs.declared.next_chunk.First.{First}
@@ -22,6 +22,11 @@ pub record IsFirstEdited (run : Run) (max_statement : ℕ) (ahead : Ahead) (old 
   pub chunk : IsNextChunk max_statement ahead next.len
   pub lines : new.line ≤ old.line + next.len
   pub edited : EditsChunk run (take next.len ahead.bytes) old new before after next.edited
+
+-- The script on the statement of a chunk that was found: it is done, or nothing is.
+abbrev pub EditsFound : Run → Found → Progress → Progress → List ℕ → List ℕ → Bool → Type 0
+EditsFound run found old new before after true = (s : Statement) → IsFound run.max_depth found s → IsLaidOut run s old new before after
+EditsFound run found old new before after false = DoesNothing old new before after
 
 -- This is what the script made of the statement of a chunk that was found.
 pub record IsKnownEdited (run : Run) (found : Found) (old new : Progress) (before after : List ℕ) (next : NextChunk) : Type 0 where
@@ -35,7 +40,7 @@ pub record IsKnownEdited (run : Run) (found : Found) (old new : Progress) (befor
 abbrev pub IsFirst : Run → ℕ → Ahead → Progress → Progress → List ℕ → List ℕ → First → Type 0
 IsFirst run max_statement ahead old new before after (Edited next) = IsFirstEdited run max_statement ahead old new before after next
 IsFirst run max_statement ahead old new before after Short = IsPart ahead.bytes × (new ≡ old) × (after ≡ before)
-IsFirst run max_statement ahead old new before after Other = (new ≡ old) × (after ≡ before)
+IsFirst run max_statement ahead old new before after Other = DoesNothing old new before after
 
 -- the same of a session
 abbrev pub IsFirstNext : SessionValue → SessionValue → List ℕ → List ℕ → First → Type 0
@@ -43,6 +48,11 @@ IsFirstNext old new before after first = IsFirst (run_in old) old.options.max_st
 
 abbrev pub IsNextEdited : SessionValue → SessionValue → List ℕ → List ℕ → NextChunk → Type 0
 IsNextEdited old new before after next = IsFirstEdited (run_in old) old.options.max_statement new.ahead old.progress new.progress before after next
+
+-- The next chunk of a session is done; or the input has ended, and nothing is.
+abbrev pub IsNext : SessionValue → SessionValue → List ℕ → List ℕ → Option NextChunk → Type 0
+IsNext old new before after (Some next) = IsNextEdited old new before after next
+IsNext old new before after None = (new.progress ≡ old.progress) × (new.ahead.bytes ≡ []) × IsTrue new.ahead.ended
 
 -- A session that can take a chunk, though more is ahead than between two chunks.
 pub record CanTake (v : SessionValue) : Type 0 where

@@ -32,8 +32,8 @@ returns-in_ok-put_canonical-in-Some-Unchanged-clause-fits c =
     (told_fits c.take_spare-spare.new.self.kept c.args.script.passes.now c.args.only.target.now c.args.only.command.now None c.requires.only
     (subst (λ (p : Progress). Fits p.kept c.args.script.passes.now) (sym c.take_spare-spare.ensures) c.requires.fits))
 
-pub returns-in_ok-put_canonical-in-Some-Unchanged-clause-done : goal.returns-in_ok-put_canonical-in-Some-Unchanged-clause-done
-returns-in_ok-put_canonical-in-Some-Unchanged-clause-done c = λ done s is.
+pub returns-in_ok-put_canonical-in-Some-Unchanged-clause-edited : goal.returns-in_ok-put_canonical-in-Some-Unchanged-clause-edited
+returns-in_ok-put_canonical-in-Some-Unchanged-clause-edited c = λ s is.
     let put = c.in_ok-put_canonical-in-Some-Unchanged.ensures in
     let depth = c.args.script.max_depth in
     let attr : List ℕ = c.args.found.attr.now in
@@ -54,17 +54,17 @@ returns-in_ok-put_canonical-in-Some-Unchanged-clause-done c = λ done s is.
     c.args.text.now.items c.put_canonical.new.text.items c.requires.only (marked.met s is) makes.after_is makes.done is.class_is
     c.in_ok-keep_line-in-Some-Unchanged.ensures put.last (put.text s is.class_is is.written))
 
-pub returns-in_ok-put_changed-in-Some-Lines-clause-fits : goal.returns-in_ok-put_changed-in-Some-Lines-clause-fits
-returns-in_ok-put_changed-in-Some-Lines-clause-fits c =
+pub returns-in_ok-put-in-Some-Lines-clause-fits : goal.returns-in_ok-put-in-Some-Lines-clause-fits
+returns-in_ok-put-in-Some-Lines-clause-fits c =
     subst (λ (p : Progress). Fits p.kept c.args.script.passes.now)
-    (sym (c.give_back-in-Some-Lines.ensures ∙ c.in_ok-put_changed-in-Some-Lines.ensures.last
+    (sym (c.give_back-in-Some-Lines.ensures ∙ c.in_ok-put-in-Some-Lines.ensures.last
     ∙ ap (λ (p : Progress). record p { last = Some c.args.found.chunk.class; changed = true }) c.in_ok-keep_line-in-Some-Lines.ensures))
     (told_fits c.take_spare-spare.new.self.kept c.args.script.passes.now c.args.only.target.now c.args.only.command.now None c.requires.only
     (subst (λ (p : Progress). Fits p.kept c.args.script.passes.now) (sym c.take_spare-spare.ensures) c.requires.fits))
 
-pub returns-in_ok-put_changed-in-Some-Lines-clause-done : goal.returns-in_ok-put_changed-in-Some-Lines-clause-done
-returns-in_ok-put_changed-in-Some-Lines-clause-done c = λ done s is.
-    let put = c.in_ok-put_changed-in-Some-Lines.ensures in
+pub returns-in_ok-put-in-Some-Lines-clause-edited : goal.returns-in_ok-put-in-Some-Lines-clause-edited
+returns-in_ok-put-in-Some-Lines-clause-edited c = λ s is.
+    let put = c.in_ok-put-in-Some-Lines.ensures in
     let depth = c.args.script.max_depth in
     let attr : List ℕ = c.args.found.attr.now in
     let home = c.args.script.home.now in
@@ -77,9 +77,9 @@ returns-in_ok-put_changed-in-Some-Lines-clause-done c = λ done s is.
     (subst (λ (o : Option EditedArgument). IfSome o (EditsLines depth command home place.lines.now)) c.in-Some-Lines.is c.in_ok-edit_lines.ensures) in
     let changed = argument_changes depth command attr marked.name home s (between place) c.in-Some-Lines.lines.now c.in-Some.ensures.0 named has told in
     let start = c.take_spare-spare.new.self in
-    let end = c.put_changed.new.progress in
-    laid_as (run_of c.args.script) s c.args.progress.now start end c.give_back-in-Some-Lines.new.self c.args.text.now.items c.put_changed.new.text.items
+    let end = c.put.new.progress in
+    laid_as (run_of c.args.script) s c.args.progress.now start end c.give_back-in-Some-Lines.new.self c.args.text.now.items c.put.new.text.items
     c.take_spare-spare.ensures c.give_back-in-Some-Lines.ensures
     (grown_laid (run_of c.args.script) c.args.only.target.now command c.args.found.chunk.class s (with_args (args_after command home) s) start c.keep_line-in-Some-Lines.new.self end
-    c.args.text.now.items c.put_changed.new.text.items c.requires.only (marked.met s is) changed.0 is.class_is
+    c.args.text.now.items c.put.new.text.items c.requires.only (marked.met s is) changed.0 is.class_is
     c.in_ok-keep_line-in-Some-Lines.ensures put.last (put.text (with_args (args_after command home) s) is.class_is changed.1))

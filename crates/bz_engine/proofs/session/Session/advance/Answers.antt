@@ -1,14 +1,12 @@
-use Rattle.std.proofs.Common.{◌≡◌, refl, ◌∙◌, ap, subst, take, []}
-use Rattle.std.specs.Prelude.{IsTrue}
+use Rattle.std.proofs.Common.{refl, ◌∙◌, ap, subst, take}
 use Rattle.std.proofs.lemmas.Result.{err_from_is_err_and}
 use Rattle.bz_devices.proofs.PassedOn.{err_is}
 use Rattle.bz_engine.specs.declared.run_fault.RunFault.TheVariants.{WriteFailed}
 use Rattle.bz_engine.specs.declared.session.SessionState.TheVariants.{Going, Stopped}
 use Rattle.bz_engine.specs.declared.session.Step.TheVariants.{More}
 use Rattle.bz_engine.specs.private.Finds.{Finds}
-use Rattle.bz_engine.specs.private.NextChunks.{IsNextEdited}
+use Rattle.bz_engine.specs.private.NextChunks.{IsNext}
 use Rattle.bz_engine.specs.SessionValue.{SessionValue}
-use Rattle.bz_engine.proofs.Advances.{some_of, none_of}
 use Rattle.bz_engine.proofs.SessionSteps.{adds_one, ends_whole, ends_at_fault, ends_at_failure, left_by_write, steps_as, step_unread, step_unwritten, step_on, step_ended}
 use Rattle.bz_engine.proofs.session.Session.advance.Goals as goal
 
@@ -31,7 +29,7 @@ returns-in_default-clause-steps g c =
     let stops : SessionValue → SessionValue = λ x. record x { stage = Stopped } in
     let at = c.take_text-text.ensures.same ∙ ap stops c.self.view_is in
     let finds = subst (Finds g.S.Source.gave g.S.Source.failures v.options v.progress.line c.args.source.now c.edit_next.new.source v.ahead e.ahead) c.in_ok-len.was c.edit_next.ensures.finds in
-    let none = none_of ((e.progress ≡ v.progress) × (e.ahead.bytes ≡ []) × IsTrue e.ahead.ended) _ c.in_ok-len.ensures.none c.in_default.is in
+    let none = subst (IsNext v e c.take_text-text.result.items c.edit_next.new.text.items) c.in_default.is c.in_ok-len.ensures.next in
     step_ended g.S.Source.gave g.S.Source.failures g.W.Sink.took g.W.Sink.failures c.args.self.now v e _ _ _ c.args.source.now c.edit_next.new.source c.args.sink.now (g.met.W.Sink.took_nothing _) c.end_at.ensures.end at finds
     (ends_whole c.args.self.now v e _ finds.read.0 at finds.read.2 finds.read.3 none c.edit_next.ensures.same c.end_at.ensures.ended)
 
@@ -42,7 +40,7 @@ returns-in_err-write-in-Done-clause-steps g c =
     let stops : SessionValue → SessionValue = λ x. record x { stage = Stopped } in
     let at = c.take_text-text.ensures.same ∙ ap stops c.self.view_is in
     let finds = subst (Finds g.S.Source.gave g.S.Source.failures v.options v.progress.line c.args.source.now c.edit_next.new.source v.ahead e.ahead) c.in_ok-len.was c.edit_next.ensures.finds in
-    let next = some_of (IsNextEdited v e c.take_text-text.result.items c.edit_next.new.text.items) _ _ c.in_ok-len.ensures.chunk c.in-Some.is in
+    let next = subst (IsNext v e c.take_text-text.result.items c.edit_next.new.text.items) c.in-Some.is c.in_ok-len.ensures.next in
     let p = err_from_is_err_and c.from_residual-in_err-write-in-Done.result c.from_residual-in_err-write-in-Done.ensures.1 in
     let cut = c.in_err-write-in-Done.ensures.front in
     steps_as _ _ _ _ c.from_residual-in_err-write-in-Done.result p.0 WriteFailed p.1 (p.2 ∙ err_is c.in_err-write-in-Done.field-0.0 WriteFailed c.in_err-write-in-Done.ensures.fault)
@@ -58,7 +56,7 @@ returns-in_ok-write-in-Done-clause-steps g c =
     let stops : SessionValue → SessionValue = λ x. record x { stage = Stopped } in
     let at = c.take_text-text.ensures.same ∙ ap stops c.self.view_is in
     let finds = subst (Finds g.S.Source.gave g.S.Source.failures v.options v.progress.line c.args.source.now c.edit_next.new.source v.ahead e.ahead) c.in_ok-len.was c.edit_next.ensures.finds in
-    let next = some_of (IsNextEdited v e c.take_text-text.result.items c.edit_next.new.text.items) _ _ c.in_ok-len.ensures.chunk c.in-Some.is in
+    let next = subst (IsNext v e c.take_text-text.result.items c.edit_next.new.text.items) c.in-Some.is c.in_ok-len.ensures.next in
     let goes : SessionValue → SessionValue = λ x. record x { stage = Going } in
     step_on g.S.Source.gave g.S.Source.failures g.W.Sink.took g.W.Sink.failures c.args.self.now v e _ _ More c.args.source.now c.edit_next.new.source c.args.sink.now c.write.new.sink c.edit_next.new.text.items
     (subst (λ t. g.W.Sink.took c.args.sink.now t c.write.new.sink) c.as_slice.ensures.value c.in_ok-write-in-Done.ensures.ok) c.in_ok-write-in-Done.ensures.steady
@@ -73,7 +71,7 @@ returns-in-Faulty-clause-steps g c =
     let stops : SessionValue → SessionValue = λ x. record x { stage = Stopped } in
     let at = c.take_text-text.ensures.same ∙ ap stops c.self.view_is in
     let finds = subst (Finds g.S.Source.gave g.S.Source.failures v.options v.progress.line c.args.source.now c.edit_next.new.source v.ahead e.ahead) c.in_ok-len.was c.edit_next.ensures.finds in
-    let next = some_of (IsNextEdited v e c.take_text-text.result.items c.edit_next.new.text.items) _ _ c.in_ok-len.ensures.chunk c.in-Some.is in
+    let next = subst (IsNext v e c.take_text-text.result.items c.edit_next.new.text.items) c.in-Some.is c.in_ok-len.ensures.next in
     step_ended g.S.Source.gave g.S.Source.failures g.W.Sink.took g.W.Sink.failures c.args.self.now v e _ _ _ c.args.source.now c.edit_next.new.source c.args.sink.now (g.met.W.Sink.took_nothing _) c.end_at-in-Faulty.ensures.end at finds
     (ends_at_fault c.args.self.now v e _ c.take_text-text.result.items c.edit_next.new.text.items c.in-Some.field-0 c.in-Faulty.fault finds.read.0 at finds.read.2 finds.read.3 next
     c.take_text-text.ensures.empty c.in-Faulty.is c.edit_next.ensures.same c.end_at-in-Faulty.ensures.ended)
@@ -85,7 +83,7 @@ returns-in-Failed-clause-steps g c =
     let stops : SessionValue → SessionValue = λ x. record x { stage = Stopped } in
     let at = c.take_text-text.ensures.same ∙ ap stops c.self.view_is in
     let finds = subst (Finds g.S.Source.gave g.S.Source.failures v.options v.progress.line c.args.source.now c.edit_next.new.source v.ahead e.ahead) c.in_ok-len.was c.edit_next.ensures.finds in
-    let next = some_of (IsNextEdited v e c.take_text-text.result.items c.edit_next.new.text.items) _ _ c.in_ok-len.ensures.chunk c.in-Some.is in
+    let next = subst (IsNext v e c.take_text-text.result.items c.edit_next.new.text.items) c.in-Some.is c.in_ok-len.ensures.next in
     let fails : SessionValue → SessionValue = λ x. record x { failure = c.in-Failed.message } in
     step_ended g.S.Source.gave g.S.Source.failures g.W.Sink.took g.W.Sink.failures c.args.self.now v e _ _ _ c.args.source.now c.edit_next.new.source c.args.sink.now (g.met.W.Sink.took_nothing _) c.end_at-in-Failed.ensures.end at finds
     (ends_at_failure c.args.self.now v e _ _ c.take_text-text.result.items c.edit_next.new.text.items c.in-Some.field-0 c.in-Failed.message finds.read.0 at finds.read.2 finds.read.3 next

@@ -13,14 +13,8 @@ use Rattle.bz_engine.specs.private.Finds.{Finds}
 use Rattle.bz_engine.proofs.Finds.{finds_found, finds_failed, finds_memory}
 use Rattle.bz_engine.proofs.session.Session.edit_found.Goals as goal
 
-pub returns-in_err-edited-clause-chunk : goal.returns-in_err-edited-clause-chunk
-returns-in_err-edited-clause-chunk g c =
-    let fault = c.from_residual-in_err-edited in
-    let p = err_from_is_err_and fault.result fault.ensures.1 in
-    err_if_ok _ fault.result p.0 p.1
-
-pub returns-in_err-edited-clause-none : goal.returns-in_err-edited-clause-none
-returns-in_err-edited-clause-none g c =
+pub returns-in_err-edited-clause-next : goal.returns-in_err-edited-clause-next
+returns-in_err-edited-clause-next g c =
     let fault = c.from_residual-in_err-edited in
     let p = err_from_is_err_and fault.result fault.ensures.1 in
     err_if_ok _ fault.result p.0 p.1
@@ -31,20 +25,8 @@ returns-in_err-edited-clause-fits g c =
     let p = err_from_is_err_and fault.result fault.ensures.1 in
     err_on_ok _ fault.result p.0 p.1
 
-pub returns-clause-none : goal.returns-clause-none
-returns-clause-none g c = tt
-
-pub returns-in_default-clause-chunk : goal.returns-in_default-clause-chunk
-returns-in_default-clause-chunk g c = tt
-
-pub returns-in_err-len-clause-chunk : goal.returns-in_err-len-clause-chunk
-returns-in_err-len-clause-chunk g c =
-    let fault = c.from_residual in
-    let p = err_from_is_err_and fault.result fault.ensures.1 in
-    err_if_ok _ fault.result p.0 p.1
-
-pub returns-in_err-len-clause-none : goal.returns-in_err-len-clause-none
-returns-in_err-len-clause-none g c =
+pub returns-in_err-len-clause-next : goal.returns-in_err-len-clause-next
+returns-in_err-len-clause-next g c =
     let fault = c.from_residual in
     let p = err_from_is_err_and fault.result fault.ensures.1 in
     err_if_ok _ fault.result p.0 p.1
@@ -61,8 +43,8 @@ returns-clause-fits g c = c.in_ok-edited.ensures.fits
 pub returns-in_default-clause-fits : goal.returns-in_default-clause-fits
 returns-in_default-clause-fits g c = subst (λ v. Fits v.progress.kept v.passes) (sym (ap the_view c.self-inside.view_is ∙ c.self.view_is)) c.requires.ready.fits
 
-pub returns-in_default-clause-none : goal.returns-in_default-clause-none
-returns-in_default-clause-none g c =
+pub returns-in_default-clause-next : goal.returns-in_default-clause-next
+returns-in_default-clause-next g c =
     let over = none_of ((c.find_chunk.new.ahead.bytes ≡ []) × IsTrue c.find_chunk.new.ahead.ended) _ c.in_ok-len.ensures.none c.in_default.is in
     (ap (λ v. v.progress) (ap the_view c.self-inside.view_is ∙ c.self.view_is), over.0, over.1)
 
@@ -103,8 +85,8 @@ invariant_of-self g c =
     let read = c.find_chunk.ensures.finds.read in
     session_ahead _ _ c.find_chunk.new.ahead read.0 (ap the_view c.self-inside.view_is) c.self.invariant (ap (λ v. v.stage) (c.self.view_is) ∙ c.requires.stopped) read.2
 
-pub returns-clause-chunk : goal.returns-clause-chunk
-returns-clause-chunk g c =
+pub returns-clause-next : goal.returns-clause-next
+returns-clause-next g c =
     let v = c.args.self.now in
     let mid = c.find_chunk.new.ahead in
     let reads : SessionValue → SessionValue = λ x. record x { ahead = mid } in
