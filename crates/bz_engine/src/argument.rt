@@ -57,13 +57,11 @@ pub(crate) fn edit_lines<'s>(
     requires { (attr : List ℕ) × (one_attribute command.now ≡ Some attr) }
     ensures { IfOk result (λ told. IfSome told (EditsLines script.entry.max_depth command.now script.entry.home.now lines.now)) }
 {
-    if lines.is_empty() {
-        if is_comment(command) {
-            return Ok(None);
-        }
-        if put_new(script.alloc, command, &mut spare.laid)? {
-            return Ok(Some(EditedArgument::Lines(spare.laid.as_slice())));
-        }
+    if lines.is_empty() && is_comment(command) {
+        return Ok(None);
+    }
+    if lines.is_empty() && put_new(script.alloc, command, &mut spare.laid)? {
+        return Ok(Some(EditedArgument::Lines(spare.laid.as_slice())));
     }
     if lines.len() > LONGEST {
         return Ok(None);
