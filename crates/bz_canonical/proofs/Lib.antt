@@ -14,5 +14,7 @@ pub mod SmallRules
 pub mod SingleStrings
 pub mod OwnLayout
 pub mod ElementLists
+pub mod AddedElements
 pub mod PutArguments
 pub mod PutRules
+pub mod AddedLines

@@ -6,6 +6,7 @@
 //! otherwise, and writes these as the layout does.
 #![tactic(auto)]
 
+mod added;
 mod arguments;
 mod assignment;
 mod bare;
@@ -23,5 +24,6 @@ mod segments;
 mod statement;
 mod value;
 
+pub use added::{Added, AddedValue, put_added};
 pub use chunk::{ArgumentPlace, CanonicalChunk, canonical};
 pub use rewrite::rewritten;

@@ -45,14 +45,14 @@ fn put_argument<'t>(
 
 /// The value of an argument whose name stands before it.
 #[derive(Clone, Copy)]
-struct NamedValue<'t> {
-    value: &'t [u8],
+pub(crate) struct NamedValue<'t> {
+    pub(crate) value: &'t [u8],
     /// The argument has the name that is asked for.
-    named: bool,
+    pub(crate) named: bool,
 }
 
 /// The value of the argument here.
-fn argument_value<'t>(text: &'t [u8], attr: &[u8]) -> Option<NamedValue<'t>>
+pub(crate) fn argument_value<'t>(text: &'t [u8], attr: &[u8]) -> Option<NamedValue<'t>>
     ensures { IfSome result (λ read. IsHeadRead attr.now text.now read.value.now read.named) }
 {
     let above = notes(text, 1);
