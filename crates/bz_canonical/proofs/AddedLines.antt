@@ -4,7 +4,7 @@ use Rattle.std.proofs.lemmas.Bool.{false≢true}
 use Rattle.std.proofs.lemmas.Bool.Decides.{nat_tests}
 use Rattle.std.specs.Prelude.{codes, nat_le, not, Option, Some, None, if◌then◌else◌}
 use Rattle.std.specs.List.{list_any}
-use Rattle.bz_token.specs.Common.{is_empty}
+use Rattle.bz_token.specs.Common.{is_empty, map_or}
 use Rattle.bz_token.specs.declared.token.Kind.TheVariants.{Identifier, Operator, String}
 use Rattle.bz_tree.specs.Chunk.{IsStatementIn}
 use Rattle.bz_tree.specs.declared.stmt.Class.TheVariants.{Rule as RuleClass}
@@ -22,12 +22,12 @@ use Rattle.bz_command.specs.Labels.{Package}
 use Rattle.bz_command.specs.Values.{quoted}
 use Rattle.bz_command.specs.declared.arguments.Moved.TheVariants.{Values}
 use Rattle.bz_attribute.specs.Add.{add, adds, new_elements}
-use Rattle.bz_attribute.specs.Effects.{is_chosen, not_a_list, string}
+use Rattle.bz_attribute.specs.Effects.{chooses, is_chosen, not_a_list, string}
 use Rattle.bz_attribute.specs.Rules.{first_named, rule_of}
 use Rattle.bz_attribute.proofs.Views.{segments_of}
-use Rattle.bz_canonical.specs.Added.{IsNew, IsPresent}
+use Rattle.bz_canonical.specs.Added.{IsNew, IsPresent, LacksInLines}
 use Rattle.bz_canonical.specs.Canonical.{AreReadAlone, argument_lines, rule_args, small_rule, small_text}
-use Rattle.bz_canonical.specs.private.Added.{AreElementsTold, have_word, is_word, last_line}
+use Rattle.bz_canonical.specs.private.Added.{AreElementsTold, IsListTold, have_word, is_word, last_line, list_arg}
 use Rattle.bz_canonical.specs.private.Rewritten.{Element, IsHeadRead, IsPlaced, Placed, element_line, element_lines, element_list, element_segs, is_noted, placed_lines}
 use Rattle.bz_canonical.specs.private.Segments.{IsBesideFront}
 use Rattle.bz_canonical.proofs.ElementLists.{closed, flat_one, longer, or_yes, written_broken}
@@ -51,9 +51,6 @@ read_same depth lines args p is lines_are reads =
     sym (segments_of args) ∙ ap (λ (z : Statement). rule_args (rule_of z.nodes)) same ∙ segments_of (p.arg ∷ [])
 
 -- the argument
-
-abbrev list_arg : List (List ℕ) → List ℕ → List Element → Option (List ℕ) → Segment
-list_arg notes word es suffix = record { before = notes; nodes = leaf Identifier word ∷ leaf Operator (codes "=") ∷ element_list es ∷ []; suffix = suffix }
 
 abbrev new_element : List ℕ → Element
 new_element value = record { before = []; token = quoted value; suffix = None }
@@ -107,88 +104,71 @@ list_written one value (e ∷ es) is =
 
 -- the argument of these lines
 
-record IsListArgument (depth : ℕ) (home : Package) (attr value text inside end : List ℕ) (w : List ℕ) (one equal : Bool) : Type 0 where
-  notes : List (List ℕ)
-  word : List ℕ
-  elements : List Element
-  suffix : Option (List ℕ)
-  named : bytes_eq attr word ≡ true
-  spells : w ≡ element_lines (respell String) elements
-  one_is : one ≡ nat_le 1 (length elements)
-  equal_is : equal ≡ have_word home value elements
-  front : text ≡ bytes_of (comments 1 notes) ++ (10 ∷ (indent 1 ++ (word ++ (codes " = " ++ (91 ∷ inside)))))
-  back : end ≡ 44 ∷ bytes_of (suffix_piece suffix)
-  same : (args : List Segment) → AreReadAlone (suc depth) text args → args ≡ list_arg notes word elements suffix ∷ []
-
-list_argument : (depth : ℕ) (home : Package) (attr value text inside end comma w : List ℕ) (e one equal : Bool) → 0 < depth → IsHeadRead attr text (91 ∷ inside) true → AreElementsTold home value inside end w one equal
-    → end ≡ 44 ∷ comma → IsBesideFront comma [] e → IsListArgument depth home attr value text inside end w one equal
-list_argument depth home attr value text inside end comma w e one equal deep h t is side =
+pub list_told : (depth : ℕ) (home : Package) (attr value text inside end comma front w written : List ℕ) (e one equal : Bool) → 0 < depth → IsHeadRead attr text (91 ∷ inside) true → AreElementsTold home value inside end w one equal
+    → end ≡ 44 ∷ comma → IsBesideFront comma [] e → front ≡ take (length text - length inside) text → written ≡ front ++ w → IsListTold (suc depth) home attr value text end written one equal
+list_told depth home attr value text inside end comma front w written e one equal deep h t is side front_is written_is =
     let p : Placed = list_placed h.notes h.word t.breaks t.elements side.note in
     let C : List ℕ = bytes_of (comments 1 h.notes) in
+    let F : List ℕ = C ++ (10 ∷ (indent 1 ++ (h.word ++ codes " = ["))) in
     let back : end ≡ 44 ∷ bytes_of (suffix_piece side.note) = is ∙ ap (λ (t : List ℕ). 44 ∷ t) (side.front ∙ append-nil (bytes_of (suffix_piece side.note))) in
     let lines : text ≡ placed_lines p = h.front ∙ ap (λ (x : List ℕ). C ++ (10 ∷ (indent 1 ++ (h.word ++ (codes " = " ++ x))))) (t.front ∙ ap (λ (x : List ℕ). (91 ∷ bytes_of (standing t.breaks t.elements)) ++ x) back)
     ∙ sym (list_lines h.notes h.word t.breaks t.elements side.note) in
     record {
       notes = h.notes;
-      word = h.word;
+      name = h.word;
       elements = t.elements;
       suffix = side.note;
       named = h.named_is;
-      spells = t.spells;
+      spells = written_is ∙ (λ i. (front_is ∙ taken text F inside (h.front ∙ start C)) i ++ t.spells i);
       one_is = t.one_is;
       equal_is = t.equal_is;
-      front = h.front;
       back = back;
       same = λ args reads. read_same depth text args p (list_is_placed depth h.notes h.word t.breaks t.elements side.note deep h.are h.is t.are t.stands side.is) lines reads;
     }
+  where
+    start : (C : List ℕ) → C ++ (10 ∷ (indent 1 ++ (h.word ++ (codes " = " ++ (91 ∷ inside))))) ≡ (C ++ (10 ∷ (indent 1 ++ (h.word ++ codes " = [")))) ++ inside
+    start C = simp append_assoc
 
 -- what `add` makes of it
 
-pub value_present : (depth : ℕ) (home : Package) (attr value text inside end comma w : List ℕ) (e one equal : Bool) → 0 < depth → IsHeadRead attr text (91 ∷ inside) true → AreElementsTold home value inside end w one equal
-    → end ≡ 44 ∷ comma → IsBesideFront comma [] e → equal ≡ true → (args : List Segment) → AreReadAlone (suc depth) text args → IsPresent home attr value args
-value_present depth home attr value text inside end comma w e one equal deep h t is side there args reads =
-    let a = list_argument depth home attr value text inside end comma w e one equal deep h t is side in
-    let first = first_is attr a.word a.notes a.elements a.suffix a.named in
+pub value_present : (depth : ℕ) (home : Package) (attr value text end written : List ℕ) (one equal : Bool) → IsListTold depth home attr value text end written one equal → equal ≡ true → (args : List Segment) → AreReadAlone depth text args → IsPresent home attr value args
+value_present depth home attr value text end written one equal a there args reads =
+    let first = first_is attr a.name a.notes a.elements a.suffix a.named in
     subst (IsPresent home attr value) (sym (a.same args reads)) (record {
       list = ap (not_a_list attr) first;
       present = ap (adds home (value ∷ [])) first ∙ ap (λ (ss : List Segment). not (is_empty ss)) (new_is home value a.elements true (sym there ∙ a.equal_is));
     })
 
-pub value_new : (depth : ℕ) (home : Package) (attr value text inside end comma front w new : List ℕ) (e one equal : Bool) → 0 < depth → IsHeadRead attr text (91 ∷ inside) true → AreElementsTold home value inside end w one equal
-    → end ≡ 44 ∷ comma → IsBesideFront comma [] e → equal ≡ false → front ≡ take (length text - length inside) text → new ≡ ((front ++ w) ++ last_line one value) ++ end
-    → (args : List Segment) → AreReadAlone (suc depth) text args → IsNew home attr value args new
-value_new depth home attr value text inside end comma front w new e one equal deep h t is side none front_is new_is_put args reads =
-    let a = list_argument depth home attr value text inside end comma w e one equal deep h t is side in
-    let first = first_is attr a.word a.notes a.elements a.suffix a.named in
+pub value_new : (depth : ℕ) (home : Package) (attr value text end written put new : List ℕ) (one equal : Bool) → IsListTold depth home attr value text end written one equal → equal ≡ false → put ≡ written ++ last_line one value → new ≡ put ++ end
+    → (args : List Segment) → AreReadAlone depth text args → IsNew home attr value args new
+value_new depth home attr value text end written put new one equal a none put_is all_is args reads =
+    let first = first_is attr a.name a.notes a.elements a.suffix a.named in
     let other : false ≡ have_word home value a.elements = sym none ∙ a.equal_is in
-    let added = add_is home attr value a.word a.notes a.elements a.suffix a.named other in
+    let added = add_is home attr value a.name a.notes a.elements a.suffix a.named other in
     let C : List ℕ = bytes_of (comments 1 a.notes) in
     let S : List ℕ = bytes_of (suffix_piece a.suffix) in
-    let F : List ℕ = C ++ (10 ∷ (indent 1 ++ (a.word ++ (codes " = " ++ (91 ∷ []))))) in
-    let E : List ℕ = element_lines (respell String) a.elements in
-    let begins : front ≡ F = front_is ∙ taken text F inside (a.front ∙ start C a.word) in
-    let written : argument_lines (list_arg a.notes a.word (a.elements ++ new_element value ∷ []) a.suffix ∷ []) ≡ ((F ++ E) ++ last_line one value) ++ (44 ∷ S) =
-    argument_bytes (comments 1 a.notes) (laid (a.elements ++ new_element value ∷ [])) (suffix_piece a.suffix) a.word
-    ∙ ap (λ (t : List ℕ). C ++ (10 ∷ (indent 1 ++ (a.word ++ (codes " = " ++ (t ++ (44 ∷ S))))))) (list_written one value a.elements a.one_is) ∙ whole C a.word E (last_line one value) S in
+    let lines : argument_lines (list_arg a.notes a.name (a.elements ++ new_element value ∷ []) a.suffix ∷ []) ≡ (((C ++ (10 ∷ (indent 1 ++ (a.name ++ codes " = [")))) ++ element_lines (respell String) a.elements) ++ last_line one value) ++ (44 ∷ S) =
+    argument_bytes (comments 1 a.notes) (laid (a.elements ++ new_element value ∷ [])) (suffix_piece a.suffix) a.name
+    ∙ ap (λ (t : List ℕ). C ++ (10 ∷ (indent 1 ++ (a.name ++ (codes " = " ++ (t ++ (44 ∷ S))))))) (list_written one value a.elements a.one_is) ∙ whole C a.name (element_lines (respell String) a.elements) (last_line one value) S in
     subst (λ xs. IsNew home attr value xs new) (sym (a.same args reads)) (record {
       list = ap (not_a_list attr) first;
       new = ap (adds home (value ∷ [])) first ∙ ap (λ (ss : List Segment). not (is_empty ss)) (new_is home value a.elements false other);
       some = ap is_empty added;
-      lines_are = new_is_put ∙ (λ i. ((begins i ++ a.spells i) ++ last_line one value) ++ a.back i) ∙ sym written ∙ ap argument_lines (sym added);
+      lines_are = all_is ∙ (λ i. (put_is ∙ ap (λ (t : List ℕ). t ++ last_line one value) a.spells) i ++ a.back i) ∙ sym lines ∙ ap argument_lines (sym added);
     })
   where
-    start : (C word : List ℕ) → C ++ (10 ∷ (indent 1 ++ (word ++ (codes " = " ++ (91 ∷ inside))))) ≡ (C ++ (10 ∷ (indent 1 ++ (word ++ (codes " = " ++ (91 ∷ [])))))) ++ inside
-    start C word = simp append_assoc
-
-    whole : (C word E L S : List ℕ) → C ++ (10 ∷ (indent 1 ++ (word ++ (codes " = " ++ ((91 ∷ (E ++ L)) ++ (44 ∷ S)))))) ≡ (((C ++ (10 ∷ (indent 1 ++ (word ++ (codes " = " ++ (91 ∷ [])))))) ++ E) ++ L) ++ (44 ∷ S)
+    whole : (C word E L S : List ℕ) → C ++ (10 ∷ (indent 1 ++ (word ++ (codes " = " ++ ((91 ∷ (E ++ L)) ++ (44 ∷ S)))))) ≡ (((C ++ (10 ∷ (indent 1 ++ (word ++ codes " = [")))) ++ E) ++ L) ++ (44 ∷ S)
     whole C word E L S = simp append_assoc
+
+-- it has no such element
+pub value_lacks : (depth : ℕ) (home : Package) (attr value text end written : List ℕ) (one equal : Bool) → IsListTold depth home attr value text end written one equal → equal ≡ false → LacksInLines depth home attr value text
+value_lacks depth home attr value text end written one equal a none = λ args reads.
+    subst (λ xs. map_or false (chooses home (Values (value ∷ []))) (first_named attr xs) ≡ false) (sym (a.same args reads))
+    (ap (map_or false (chooses home (Values (value ∷ [])))) (first_is attr a.name a.notes a.elements a.suffix a.named)
+    ∙ or_no (list_any (is_chosen home (Values (value ∷ []))) (segments (element_segs a.elements))) ∙ chosen home value a.elements ∙ sym a.equal_is ∙ none)
 
 -- of the function
 
 pub none_left : (xs : List ℕ) → length xs ≡ 0 → xs ≡ []
 none_left [] is = refl
 none_left (x ∷ xs) is = absurd (omega (arith, is))
-
-pub put_all : (cleared a b c new front w last end : List ℕ) → cleared ≡ [] → a ≡ cleared ++ front → b ≡ a ++ w → c ≡ b ++ last → new ≡ c ++ end → new ≡ ((front ++ w) ++ last) ++ end
-put_all cleared a b c new front w last end none first second third fourth =
-    fourth ∙ ap (λ (t : List ℕ). t ++ end) (third ∙ ap (λ (t : List ℕ). t ++ last) (second ∙ ap (λ (t : List ℕ). t ++ w) (first ∙ ap (λ (t : List ℕ). t ++ front) none)))

@@ -1,11 +1,12 @@
--- What `add` of one value makes of the lines of an argument.
+-- Whether a value is in an argument that has these lines, and what `add` of it makes of the lines.
 -- Begin with `AddsToLines`.
 use Rattle.std.specs.Prelude.{◌≡◌, ℕ, List, [], ◌∷◌, true, false, None}
-use Rattle.bz_token.specs.Common.{is_empty}
+use Rattle.bz_token.specs.Common.{is_empty, map_or}
 use Rattle.bz_tree.specs.Tree.{Segment}
 use Rattle.bz_command.specs.Labels.{Package}
 use Rattle.bz_attribute.specs.Add.{add, adds}
-use Rattle.bz_attribute.specs.Effects.{not_a_list}
+use Rattle.bz_command.specs.declared.arguments.Moved.TheVariants.{Values}
+use Rattle.bz_attribute.specs.Effects.{chooses, not_a_list}
 use Rattle.bz_attribute.specs.Rules.{first_named}
 use Rattle.bz_canonical.specs.Canonical.{AreReadAlone, argument_lines}
 use Rattle.bz_canonical.specs.declared.added.Added.{Added}
@@ -27,3 +28,7 @@ pub record IsNew (home : Package) (attr value : List ℕ) (args : List Segment) 
 abbrev pub AddsToLines : ℕ → Package → List ℕ → List ℕ → List ℕ → List ℕ → Added → Type 0
 AddsToLines depth home attr value lines written Present = (args : List Segment) → AreReadAlone depth lines args → IsPresent home attr value args
 AddsToLines depth home attr value lines written New = (args : List Segment) → AreReadAlone depth lines args → IsNew home attr value args written
+
+-- Of the arguments that are read of these lines alone, no list of the first of the name has an element that equals the value.
+abbrev pub LacksInLines : ℕ → Package → List ℕ → List ℕ → List ℕ → Type 0
+LacksInLines depth home attr value lines = (args : List Segment) → AreReadAlone depth lines args → map_or false (chooses home (Values (value ∷ []))) (first_named attr args) ≡ false

@@ -1,8 +1,9 @@
-//! A value that is added to an argument whose value is one list of strings, by the lines of the argument.
+//! A value that is looked for in an argument whose value is one list of strings, or added to it, by the lines of the
+//! argument.
 
-ghost use Rattle.std.specs.Prelude.{◌≡◌, ◌∷◌, ◌++◌, ℕ, List, IfOk, IfSome, OnOk, true};
-ghost use Rattle.bz_canonical.specs.Added.{AddsToLines};
-ghost use Rattle.bz_canonical.specs.private.Added.{AreElementsTold, IsElementTold, IsStringTold, is_word, last_line};
+ghost use Rattle.std.specs.Prelude.{◌≡◌, ◌∷◌, ◌++◌, ℕ, List, IfOk, IfSome, IsTrue, OnOk, true};
+ghost use Rattle.bz_canonical.specs.Added.{AddsToLines, LacksInLines};
+ghost use Rattle.bz_canonical.specs.private.Added.{AreElementsTold, IsElementTold, IsListTold, IsStringTold, is_word, last_line};
 ghost use Rattle.bz_canonical.specs.private.Rewritten.{IsHeadRead};
 
 use crate::front::{after, after_comma, before, line};
@@ -17,9 +18,9 @@ use bz_memory::{NoMemory, extend_from_slice, push};
 use bz_token::check_utf8;
 use std::alloc::Global;
 
-/// A value that `add` adds.
+/// A value, and the attribute whose list has it or not.
 #[derive(Clone, Copy)]
-pub struct AddedValue<'c> {
+pub struct ListValue<'c> {
     pub attr: &'c str,
     pub value: &'c str,
 }
@@ -41,18 +42,59 @@ const BRACKETS: u8 = 2;
 pub fn put_added(
     env: Env<'_>,
     lines: &str,
-    new: AddedValue<'_>,
+    new: ListValue<'_>,
     max_depth: u8,
     written: &mut Vec<u8>,
 ) -> Result<Option<Added>, NoMemory>
     ensures { IfOk result (λ told. IfSome told (AddsToLines max_depth env.entry.home.now new.entry.attr.now
         new.entry.value.now lines.now written.new.items)) }
 {
+    let Some(list) = put_list(env.home, lines, new, max_depth, written)? else {
+        return Ok(None);
+    };
+    if list.equal {
+        return Ok(Some(Added::Present));
+    }
+    put_last(env.alloc, new.value, list.one, written)?;
+    extend_from_slice(written, list.rest)?;
+    Ok(Some(Added::New))
+}
+
+/// The value of the argument that has these lines is one list of strings, none of which equals the value. False: it may
+/// be so or not. The buffer's bytes are lost.
+pub fn lacks(
+    home: &Package,
+    lines: &str,
+    sought: ListValue<'_>,
+    max_depth: u8,
+    written: &mut Vec<u8>,
+) -> Result<bool, NoMemory>
+    ensures { IfOk result (λ lacks. IsTrue lacks → LacksInLines max_depth home.now sought.entry.attr.now
+        sought.entry.value.now lines.now) }
+{
+    match put_list(home, lines, sought, max_depth, written)? {
+        None => Ok(false),
+        Some(list) => Ok(!list.equal),
+    }
+}
+
+/// Writes the argument that has these lines up to the bracket after its elements, each on lines, where its value is one
+/// list of strings.
+fn put_list<'t>(
+    home: &Package,
+    lines: &'t str,
+    sought: ListValue<'_>,
+    max_depth: u8,
+    written: &mut Vec<u8>,
+) -> Result<Option<PutElements<'t>>, NoMemory>
+    ensures { IfOk result (λ told. IfSome told (λ list. IsListTold max_depth home.now sought.entry.attr.now
+        sought.entry.value.now lines.now list.rest.now written.new.items list.one list.equal)) }
+{
     if max_depth < BRACKETS {
         return Ok(None);
     }
     let text = lines.as_bytes();
-    let Some(inside) = list_of(text, new.attr.as_bytes()) else {
+    let Some(inside) = list_of(text, sought.attr.as_bytes()) else {
         return Ok(None);
     };
     let Some(front) = before(text, inside.len()) else {
@@ -60,7 +102,7 @@ pub fn put_added(
     };
     written.clear();
     extend_from_slice(written, front)?;
-    let Some(list) = put_elements(env.home, inside, new.value, written)? else {
+    let Some(list) = put_elements(home, inside, sought.value, written)? else {
         return Ok(None);
     };
     let Some(side) = after_value(list.rest) else {
@@ -69,12 +111,7 @@ pub fn put_added(
     if !side.rest.is_empty() {
         return Ok(None);
     }
-    if list.equal {
-        return Ok(Some(Added::Present));
-    }
-    put_last(env.alloc, new.value, list.one, written)?;
-    extend_from_slice(written, list.rest)?;
-    Ok(Some(Added::New))
+    Ok(Some(list))
 }
 
 /// What follows the bracket of the list that is the value of the argument here.

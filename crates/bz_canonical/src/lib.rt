@@ -24,6 +24,6 @@ mod segments;
 mod statement;
 mod value;
 
-pub use added::{Added, AddedValue, put_added};
+pub use added::{Added, ListValue, lacks, put_added};
 pub use chunk::{ArgumentPlace, CanonicalChunk, canonical};
 pub use rewrite::rewritten;

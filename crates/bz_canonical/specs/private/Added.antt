@@ -1,17 +1,19 @@
 -- Lists of strings, each of which is told whether it equals a word, for private clauses.
-use Rattle.std.specs.Prelude.{◌≡◌, ℕ, List, [], ◌∷◌, ◌++◌, codes, length, Bool, true, false, if◌then◌else◌, nat_le}
+use Rattle.std.specs.Prelude.{◌≡◌, ℕ, List, [], ◌∷◌, ◌++◌, codes, length, bytes_eq, Bool, true, false, if◌then◌else◌, nat_le, Option}
 use Rattle.std.specs.List.{list_any}
 use Rattle.bz_token.specs.Common.{map_or}
 use Rattle.bz_token.specs.Lexical.{is_text}
-use Rattle.bz_token.specs.declared.token.Kind.TheVariants.{String}
+use Rattle.bz_token.specs.declared.token.Kind.TheVariants.{Identifier, Operator, String}
+use Rattle.bz_tree.specs.Tree.{Segment, leaf}
 use Rattle.bz_command.specs.Labels.{Package}
 use Rattle.bz_command.specs.Values.{quoted, value_of}
 use Rattle.bz_layout.specs.Broken.{have_comments}
-use Rattle.bz_layout.specs.Pieces.{bytes_of, indent}
+use Rattle.bz_layout.specs.Pieces.{bytes_of, comments, indent, suffix_piece}
 use Rattle.bz_layout.specs.Respell.{respell}
 use Rattle.bz_layout.specs.declared.spacing.Gap.TheVariants.{Closed}
 use Rattle.bz_layout_laws.specs.FreeLayout.{free, item_by, own}
 use Rattle.bz_attribute.specs.Lists.{same}
+use Rattle.bz_canonical.specs.Canonical.{AreReadAlone}
 use Rattle.bz_canonical.specs.private.Rewritten.{AreElements, Element, as_is, element_line, element_lines, element_list, element_segs, elements_as_is, is_noted, others_in_place}
 
 -- the value of a string token is the same label as the word
@@ -66,6 +68,22 @@ pub record AreElementsTold (home : Package) (word text rest written : List ℕ) 
   pub spells : written ≡ element_lines (respell String) elements
   pub one_is : one ≡ nat_le 1 (length elements)
   pub equal_is : equal ≡ have_word home word elements
+
+abbrev pub list_arg : List (List ℕ) → List ℕ → List Element → Option (List ℕ) → Segment
+list_arg notes word es suffix = record { before = notes; nodes = leaf Identifier word ∷ leaf Operator (codes "=") ∷ element_list es ∷ []; suffix = suffix }
+
+-- an argument of the name, whose lines are the text; what is written up to the bracket after its elements, and what follows that
+pub record IsListTold (depth : ℕ) (home : Package) (attr word text end written : List ℕ) (one equal : Bool) : Type 0 where
+  pub notes : List (List ℕ)
+  pub name : List ℕ
+  pub elements : List Element
+  pub suffix : Option (List ℕ)
+  pub named : bytes_eq attr name ≡ true
+  pub spells : written ≡ (bytes_of (comments 1 notes) ++ (10 ∷ (indent 1 ++ (name ++ codes " = [")))) ++ element_lines (respell String) elements
+  pub one_is : one ≡ nat_le 1 (length elements)
+  pub equal_is : equal ≡ have_word home word elements
+  pub back : end ≡ 44 ∷ bytes_of (suffix_piece suffix)
+  pub same : (args : List Segment) → AreReadAlone depth text args → args ≡ list_arg notes name elements suffix ∷ []
 
 -- a new last element, and the bracket after it: on lines after others
 abbrev pub last_line : Bool → List ℕ → List ℕ
