@@ -10,7 +10,7 @@ ghost use Rattle.bz_attribute.specs.Lists.{same};
 /// have. A label in full ends as its text does, where that ends with no slash, and the value of a literal as that does
 /// before its last quote, where no backslash stands there.
 #[inline(always)]
-pub(crate) fn literal_apart(text: &[u8], word: &[u8]) -> bool
+pub fn literal_apart(text: &[u8], word: &[u8]) -> bool
     ensures { result ≡ true → (home : Package)
         → map_or false (λ value. same home value word.now) (value_of text.now) ≡ false }
 {

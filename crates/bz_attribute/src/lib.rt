@@ -24,6 +24,7 @@ mod value;
 mod word_set;
 mod written;
 
+pub use apart::literal_apart;
 pub use arguments::{FirstArgument, first_argument};
 pub use done::{Done, Executed, Note};
 pub use edit::Edit;

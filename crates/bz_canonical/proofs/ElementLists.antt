@@ -15,7 +15,7 @@ use Rattle.bz_layout.specs.Respell.{respell}
 use Rattle.bz_layout.specs.declared.broken.Style.TheVariants.{Broken}
 use Rattle.bz_layout.specs.declared.spacing.Gap.TheVariants.{Closed, Line}
 use Rattle.bz_layout.proofs.Pieces.{bytes_append}
-use Rattle.bz_layout_laws.specs.FreeLayout.{broken_by, flat_by}
+use Rattle.bz_layout_laws.specs.FreeLayout.{broken_by, flat_by, free, item_by, own}
 use Rattle.bz_canonical.specs.private.Rewritten.{AreElements, AreInPlaceRead, AreLinesRead, Element, IsElementRead, IsListRead, IsStringRead, as_is, element_line, element_lines, element_list, element_segs, elements_as_is, is_noted, others_in_place}
 use Rattle.bz_canonical.specs.private.Segments.{AreNotesFront, IsBesideFront}
 use Rattle.bz_canonical.proofs.GroupSegments.{or_no, second_of_more}
@@ -27,9 +27,9 @@ on_line : (C S Q : List Piece) (token new : List ℕ) → bytes_of Q ≡ new
     → bytes_of (C ++ (piece (Line 2) String token ∷ (piece Closed Operator (codes ",") ∷ (S ++ Q)))) ≡ (bytes_of C ++ (10 ∷ (indent 2 ++ (token ++ (44 ∷ bytes_of S))))) ++ new
 on_line C S Q token new is = rw (bytes_append C (piece (Line 2) String token ∷ (piece Closed Operator (codes ",") ∷ (S ++ Q))), bytes_append S Q, is) (simp append_assoc)
 
-lines_stand : (es : List Element) → bytes_of (broken_by (elements_as_is es) 2 ListKind true (element_segs es)) ≡ element_lines as_is es
-lines_stand [] = refl
-lines_stand (e ∷ es) = on_line (comments 2 e.before) (suffix_piece e.suffix) (broken_by (elements_as_is es) 2 ListKind true (element_segs es)) e.token (element_lines as_is es) (lines_stand es)
+lines_as_is : (es : List Element) → bytes_of (broken_by (elements_as_is es) 2 ListKind true (element_segs es)) ≡ element_lines as_is es
+lines_as_is [] = refl
+lines_as_is (e ∷ es) = on_line (comments 2 e.before) (suffix_piece e.suffix) (broken_by (elements_as_is es) 2 ListKind true (element_segs es)) e.token (element_lines as_is es) (lines_as_is es)
 
 lines_written : (es : List Element) → bytes_of (broken_segs Broken 2 ListKind true (element_segs es)) ≡ element_lines (respell String) es
 lines_written [] = refl
@@ -39,13 +39,13 @@ others_stand : (es : List Element) → bytes_of (flat_by (elements_as_is es) 1 L
 others_stand [] = refl
 others_stand (e ∷ es) = ap (λ (t : List ℕ). 44 ∷ 32 ∷ (e.token ++ t)) (others_stand es)
 
-abbrev closed : List ℕ
+abbrev pub closed : List ℕ
 closed = 10 ∷ (indent 1 ++ 93 ∷ [])
 
 broken_text : (P : List Piece) (lines : List ℕ) → bytes_of P ≡ lines → bytes_of (piece Closed Operator (codes "[") ∷ (P ++ (piece (Line 1) Operator (codes "]") ∷ []))) ≡ 91 ∷ (lines ++ closed)
 broken_text P lines is = ap (λ (t : List ℕ). 91 ∷ t) (bytes_append P (piece (Line 1) Operator (codes "]") ∷ []) ∙ ap (λ (t : List ℕ). t ++ closed) is)
 
-noted : (es : List Element) → have_comments (element_segs es) ≡ list_any is_noted es
+pub noted : (es : List Element) → have_comments (element_segs es) ≡ list_any is_noted es
 noted [] = refl
 noted (e ∷ es) = by (is_filled e.before) _ (have_comments (element_segs es)) ∙ ap (λ b. is_noted e || b) (noted es)
   where
@@ -66,7 +66,7 @@ broken es h some = rw (noted es, counted es) (by (list_any is_noted es) (nat_le 
     by false true some = refl
     by false false some = absurd (false≢true some)
 
-written_broken : (es : List Element) → (list_any is_noted es || nat_le 2 (length es)) ≡ true → bytes_of (item_pieces Broken 1 Closed (element_list es)) ≡ 91 ∷ (element_lines (respell String) es ++ closed)
+pub written_broken : (es : List Element) → (list_any is_noted es || nat_le 2 (length es)) ≡ true → bytes_of (item_pieces Broken 1 Closed (element_list es)) ≡ 91 ∷ (element_lines (respell String) es ++ closed)
 written_broken es some = by _ (broken es _ some) _
   where
     by : (b : Bool) → b ≡ true → (A : List Piece)
@@ -75,7 +75,7 @@ written_broken es some = by _ (broken es _ some) _
 
 -- one more
 
-elements_append : (xs ys : List Element) → AreElements xs → AreElements ys → AreElements (xs ++ ys)
+pub elements_append : (xs ys : List Element) → AreElements xs → AreElements ys → AreElements (xs ++ ys)
 elements_append [] ys are more = more
 elements_append (x ∷ xs) ys are more = (are.0, are.1, are.2, elements_append xs ys are.3 more)
 
@@ -83,14 +83,14 @@ pub flat_append : {A : Type 0} (f : A → List ℕ) (xs ys : List A) → flat_ma
 flat_append f [] ys = refl
 flat_append f (x ∷ xs) ys = ap (λ (t : List ℕ). f x ++ t) (flat_append f xs ys) ∙ sym (append_assoc (f x) (flat_map f xs) (flat_map f ys))
 
-flat_one : {A : Type 0} (f : A → List ℕ) (xs : List A) (y : A) → flat_map f (xs ++ y ∷ []) ≡ flat_map f xs ++ f y
+pub flat_one : {A : Type 0} (f : A → List ℕ) (xs : List A) (y : A) → flat_map f (xs ++ y ∷ []) ≡ flat_map f xs ++ f y
 flat_one f xs y = flat_append f xs (y ∷ []) ∙ ap (λ (t : List ℕ). flat_map f xs ++ t) (append-nil (f y))
 
-longer : {A : Type 0} (xs : List A) (y : A) → length (xs ++ y ∷ []) ≡ length xs + 1
+pub longer : {A : Type 0} (xs : List A) (y : A) → length (xs ++ y ∷ []) ≡ length xs + 1
 longer [] y = refl
 longer (x ∷ xs) y = ap suc (longer xs y) ∙ omega arith
 
-one_at_least : (n : ℕ) → true ≡ nat_le 1 (n + 1)
+pub one_at_least : (n : ℕ) → true ≡ nat_le 1 (n + 1)
 one_at_least n = grind (arith, nat_tests)
 
 one_of_two : (n : ℕ) → nat_le 2 n ≡ true → nat_le 1 n ≡ true
@@ -160,18 +160,32 @@ place_more text rest next end w v two l comma s =
 
 -- the list
 
+pub lines_stand : (es : List Element) (rest : List ℕ) → 91 ∷ (element_lines as_is es ++ (10 ∷ (indent 1 ++ 93 ∷ rest))) ≡ bytes_of (item_by (free true (elements_as_is es) own) 1 Closed (element_list es)) ++ rest
+lines_stand es rest = ap (λ (t : List ℕ). 91 ∷ t) (sym (append_assoc (element_lines as_is es) closed rest))
+    ∙ ap (λ (t : List ℕ). t ++ rest) (sym (broken_text (broken_by (elements_as_is es) 2 ListKind true (element_segs es)) (element_lines as_is es) (lines_as_is es)))
+
+pub place_stands : (first : Element) (others : List Element) (rest : List ℕ)
+    → 91 ∷ (first.token ++ (others_in_place others ++ (93 ∷ rest))) ≡ bytes_of (item_by (free false (elements_as_is (first ∷ others)) own) 1 Closed (element_list (first ∷ others))) ++ rest
+place_stands first others rest = by (flat_by (elements_as_is others) 1 ListKind false (element_segs others)) (others_stand others)
+  where
+    last : (T O : List ℕ) → 91 ∷ (T ++ (O ++ (93 ∷ rest))) ≡ (91 ∷ (T ++ (O ++ 93 ∷ []))) ++ rest
+    last T O = simp append_assoc
+
+    by : (P : List Piece) → bytes_of P ≡ others_in_place others
+        → 91 ∷ (first.token ++ (others_in_place others ++ (93 ∷ rest))) ≡ bytes_of (piece Closed Operator (codes "[") ∷ ((piece Closed String first.token ∷ P) ++ (piece Closed Operator (codes "]") ∷ []))) ++ rest
+    by P is = rw (bytes_append P (piece Closed Operator (codes "]") ∷ []), is) (last first.token (others_in_place others))
+
 pub lines_list : (text middle rest w : List ℕ) (one b : Bool) → AreLinesRead text middle w one b → b ≡ true → middle ≡ 10 ∷ (indent 1 ++ 93 ∷ rest) → IsListRead (91 ∷ text) rest (91 ∷ (w ++ codes "\n    ]"))
 lines_list text middle rest w one b l some ends = record {
   elements = l.elements;
   are = l.are;
   breaks = true;
   stands = λ no. absurd (false≢true (sym no));
-  front = ap (λ (t : List ℕ). 91 ∷ t) (l.front ∙ ap (λ (t : List ℕ). element_lines as_is l.elements ++ t) ends ∙ sym (append_assoc (element_lines as_is l.elements) closed rest))
-      ∙ ap (λ (t : List ℕ). t ++ rest) (sym (broken_text (broken_by (elements_as_is l.elements) 2 ListKind true (element_segs l.elements)) (element_lines as_is l.elements) (lines_stand l.elements)));
+  front = ap (λ (t : List ℕ). 91 ∷ t) (l.front ∙ ap (λ (t : List ℕ). element_lines as_is l.elements ++ t) ends) ∙ lines_stand l.elements rest;
   spells = ap (λ (t : List ℕ). 91 ∷ (t ++ closed)) l.spells ∙ sym (written_broken l.elements (sym l.broken_is ∙ some));
 }
 
-or_yes : (b t : Bool) → t ≡ true → (b || t) ≡ true
+pub or_yes : (b t : Bool) → t ≡ true → (b || t) ≡ true
 or_yes true t is = refl
 or_yes false t is = is
 
@@ -183,17 +197,9 @@ place_list text middle rest w two l some ends =
       are = l.are;
       breaks = false;
       stands = λ no. noted all ∙ l.bare;
-      front = ap (λ (t : List ℕ). 91 ∷ t) (l.front ∙ ap (λ (t : List ℕ). l.first.token ++ (others_in_place l.others ++ t)) ends)
-          ∙ by (flat_by (elements_as_is l.others) 1 ListKind false (element_segs l.others)) (others_stand l.others);
+      front = ap (λ (t : List ℕ). 91 ∷ t) (l.front ∙ ap (λ (t : List ℕ). l.first.token ++ (others_in_place l.others ++ t)) ends) ∙ place_stands l.first l.others rest;
       spells = ap (λ (t : List ℕ). 91 ∷ (t ++ closed)) l.spells ∙ sym (written_broken all (or_yes (list_any is_noted all) (nat_le 2 (length all)) (sym l.two_is ∙ some)));
     }
-  where
-    last : (T O : List ℕ) → 91 ∷ (T ++ (O ++ (93 ∷ rest))) ≡ (91 ∷ (T ++ (O ++ 93 ∷ []))) ++ rest
-    last T O = simp append_assoc
-
-    by : (P : List Piece) → bytes_of P ≡ others_in_place l.others
-        → 91 ∷ (l.first.token ++ (others_in_place l.others ++ (93 ∷ rest))) ≡ bytes_of (piece Closed Operator (codes "[") ∷ ((piece Closed String l.first.token ∷ P) ++ (piece Closed Operator (codes "]") ∷ []))) ++ rest
-    by P is = rw (bytes_append P (piece Closed Operator (codes "]") ∷ []), is) (last l.first.token (others_in_place l.others))
 
 pub one_in_place : (text middle rest w : List ℕ) → IsStringRead text middle w → middle ≡ 93 ∷ rest → IsListRead (91 ∷ text) rest (91 ∷ (w ++ 93 ∷ []))
 one_in_place text middle rest w s ends = record {

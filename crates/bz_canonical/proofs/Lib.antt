@@ -15,5 +15,7 @@ pub mod SingleStrings
 pub mod OwnLayout
 pub mod ElementLists
 pub mod Pendings
+pub mod AddedElements
 pub mod PutArguments
 pub mod PutRules
+pub mod AddedLines

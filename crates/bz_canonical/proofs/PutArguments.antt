@@ -9,9 +9,11 @@ use Rattle.bz_tree.specs.declared.kinds.Preceding.TheVariants.{Other}
 use Rattle.bz_tree.specs.declared.kinds.Shape.TheVariants.{Square}
 use Rattle.bz_tree.specs.declared.stmt.GroupKind.TheVariants.{List as ListKind, RuleCall}
 use Rattle.bz_tree.specs.Grammar.{AreArgs, AreSuffixes, AreTests, IsArg, IsChain, IsOperand, IsPrimary, IsTerm, IsTest}
+use Rattle.bz_token.specs.Lexical.{is_text}
+use Rattle.bz_tree.specs.Comments.{beside}
 use Rattle.bz_tree.specs.Kinds.{group_kind}
 use Rattle.bz_tree.specs.Tree.{leaf, group, Items, no_items, item, Segs, no_segs, seg, items_of, segments, segs_of, Segment}
-use Rattle.bz_layout.specs.Broken.{count, is_broken, segs_hold}
+use Rattle.bz_layout.specs.Broken.{count, have_comments, is_broken, segs_hold}
 use Rattle.bz_layout.specs.Layout.{breaks, broken_segs, flat_segs}
 use Rattle.bz_layout.specs.Pieces.{Piece, piece, bytes_of, comments, indent, suffix_piece}
 use Rattle.bz_layout.specs.declared.broken.Style.TheVariants.{Broken}
@@ -19,7 +21,7 @@ use Rattle.bz_layout.specs.declared.spacing.Edge.TheVariants.{Start}
 use Rattle.bz_layout.specs.declared.spacing.Gap.TheVariants.{Closed, Line, Space}
 use Rattle.bz_layout.proofs.Pieces.{bytes_append}
 use Rattle.bz_layout_laws.specs.FreeLayout.{SegsStand, broken_by, flat_by, free, own, segs_spelled_by}
-use Rattle.bz_layout_laws.specs.Legible.{segs_depth}
+use Rattle.bz_layout_laws.specs.Legible.{AreComments, segs_depth}
 use Rattle.bz_layout_laws.specs.Parsed.{SegsHaveKinds, have_for}
 use Rattle.bz_layout_laws.specs.TextsOfKinds.{SegsHaveTexts}
 use Rattle.bz_attribute.specs.Effects.{has}
@@ -74,14 +76,14 @@ absurd_of h = absurd (false≢true h)
 -- an argument whose value is a list of strings
 
 -- what follows the first bracket, as it stands, and as it is written
-abbrev standing : Bool → List Element → List Piece
+abbrev pub standing : Bool → List Element → List Piece
 standing b es = if b then broken_by (elements_as_is es) 2 ListKind true (element_segs es) ++ (piece (Line 1) Operator (codes "]") ∷ []) else flat_by (elements_as_is es) 1 ListKind true (element_segs es) ++ (piece Closed Operator (codes "]") ∷ [])
 
-abbrev laid : List Element → List Piece
+abbrev pub laid : List Element → List Piece
 laid es = if breaks Broken (is_broken ListKind (element_segs es) [] (segs_hold (element_segs es))) then broken_segs Broken 2 ListKind true (element_segs es) ++ (piece (Line 1) Operator (codes "]") ∷ [])
     else flat_segs Broken 1 ListKind true (element_segs es) ++ (piece Closed Operator (codes "]") ∷ [])
 
-argument_bytes : (C R S : List Piece) (word : List ℕ)
+pub argument_bytes : (C R S : List Piece) (word : List ℕ)
     → bytes_of (C ++ ((piece (Line 1) Identifier word ∷ piece Space Operator (codes "=") ∷ piece Space Operator (codes "[") ∷ (R ++ [])) ++ (piece Closed Operator (codes ",") ∷ (S ++ []))))
     ≡ bytes_of C ++ (10 ∷ (indent 1 ++ (word ++ (codes " = " ++ ((91 ∷ bytes_of R) ++ (44 ∷ bytes_of S))))))
 argument_bytes C R S word =
@@ -91,6 +93,29 @@ argument_bytes C R S word =
       bytes_append C (piece (Line 1) Identifier word ∷ piece Space Operator (codes "=") ∷ piece Space Operator (codes "[") ∷ (R ++ (piece Closed Operator (codes ",") ∷ S))),
       bytes_append R (piece Closed Operator (codes ",") ∷ S),
     ) refl
+
+abbrev pub list_placed : List (List ℕ) → List ℕ → Bool → List Element → Option (List ℕ) → Placed
+list_placed notes word breaks es suffix = record {
+  arg = record { before = notes; nodes = leaf Identifier word ∷ leaf Operator (codes "=") ∷ element_list es ∷ []; suffix = suffix };
+  choice = free true own (free true own (free true (free breaks (elements_as_is es) own) own));
+}
+
+pub list_lines : (notes : List (List ℕ)) (word : List ℕ) (breaks : Bool) (es : List Element) (suffix : Option (List ℕ))
+    → placed_lines (list_placed notes word breaks es suffix) ≡ bytes_of (comments 1 notes) ++ (10 ∷ (indent 1 ++ (word ++ (codes " = " ++ ((91 ∷ bytes_of (standing breaks es)) ++ (44 ∷ bytes_of (suffix_piece suffix)))))))
+list_lines notes word breaks es suffix = argument_bytes (comments 1 notes) (standing breaks es) (suffix_piece suffix) word
+
+pub list_is_placed : (depth : ℕ) (notes : List (List ℕ)) (word : List ℕ) (breaks : Bool) (es : List Element) (suffix : Option (List ℕ)) → 0 < depth → AreComments notes → is_text Identifier word ≡ true → AreElements es
+    → (breaks ≡ false → have_comments (element_segs es) ≡ false) → AreComments (beside suffix) → IsPlaced depth (list_placed notes word breaks es suffix)
+list_is_placed depth notes word breaks es suffix deep above is are stands side = record {
+  formed = record {
+    texts = (above, refl, ((is, refl), ((equals_text, refl), ((element_texts es are, refl), tt))), side, tt);
+    kinds = ((λ is. is, tt, (λ is. is, tt, (λ is. is, (Square, ap (group_kind Square Other) (sym (element_for es)), record { one = λ is. absurd_of is; comma = λ is. absurd_of is }, element_kinds es), tt))), tt);
+    grammar = AreArgs.one_arg (IsArg.keyword refl refl (IsTest.plain (IsChain.single (IsTerm.primary (IsPrimary.operand (IsOperand.list (element_tests es)) AreSuffixes.no_suffix))))) AreArgs.no_arg;
+    depth_fits = most _ _ depth (most _ _ depth (omega arith) (most _ _ depth (omega arith) (most _ _ depth (omega (arith, element_depth es, deep)) (omega arith)))) (omega arith);
+  };
+  stand = (tt, (tt, ((stands, element_stand es), tt)));
+  spelled = ap (λ ss. item (leaf Identifier word) (item (leaf Operator (codes "=")) (item (group ListKind ss false []) no_items))) (element_spelled es);
+}
 
 pub list_read : (depth : ℕ) (attr text value end comma next w : List ℕ) (e named : Bool) → 0 < depth → IsHeadRead attr text value named → IsListRead value end w → end ≡ 44 ∷ comma → IsBesideFront comma next e
     → (front back : List ℕ) × (text ≡ front ++ value) × (end ≡ back ++ next) × IsArgumentRead depth attr text next (front ++ (w ++ back)) named
@@ -102,22 +127,10 @@ list_read depth attr text value end comma next w e named deep h l is side =
     let begins : text ≡ F ++ value = h.front ∙ start C value in
     let ends : end ≡ (44 ∷ S) ++ next = is ∙ ap (λ (t : List ℕ). 44 ∷ t) side.front in
     (F, 44 ∷ S, begins, ends, record {
-      placed = record {
-        arg = record { before = h.notes; nodes = leaf Identifier h.word ∷ leaf Operator (codes "=") ∷ element_list es ∷ []; suffix = side.note };
-        choice = free true own (free true own (free true (free l.breaks (elements_as_is es) own) own));
-      };
-      is = record {
-        formed = record {
-          texts = (h.are, refl, ((h.is, refl), ((equals_text, refl), ((element_texts es l.are, refl), tt))), side.is, tt);
-          kinds = ((λ is. is, tt, (λ is. is, tt, (λ is. is, (Square, ap (group_kind Square Other) (sym (element_for es)), record { one = λ is. absurd_of is; comma = λ is. absurd_of is }, element_kinds es), tt))), tt);
-          grammar = AreArgs.one_arg (IsArg.keyword refl refl (IsTest.plain (IsChain.single (IsTerm.primary (IsPrimary.operand (IsOperand.list (element_tests es)) AreSuffixes.no_suffix))))) AreArgs.no_arg;
-          depth_fits = most _ _ depth (most _ _ depth (omega arith) (most _ _ depth (omega arith) (most _ _ depth (omega (arith, element_depth es, deep)) (omega arith)))) (omega arith);
-        };
-        stand = (tt, (tt, ((l.stands, element_stand es), tt)));
-        spelled = ap (λ ss. item (leaf Identifier h.word) (item (leaf Operator (codes "=")) (item (group ListKind ss false []) no_items))) (element_spelled es);
-      };
+      placed = list_placed h.notes h.word l.breaks es side.note;
+      is = list_is_placed depth h.notes h.word l.breaks es side.note deep h.are h.is l.are l.stands side.is;
       front = begins ∙ ap (λ (t : List ℕ). F ++ t) (l.front ∙ ap (λ (t : List ℕ). (91 ∷ bytes_of (standing l.breaks es)) ++ t) ends)
-          ∙ whole C (91 ∷ bytes_of (standing l.breaks es)) S ∙ ap (λ (t : List ℕ). t ++ next) (sym (argument_bytes (comments 1 h.notes) (standing l.breaks es) (suffix_piece side.note) h.word));
+          ∙ whole C (91 ∷ bytes_of (standing l.breaks es)) S ∙ ap (λ (t : List ℕ). t ++ next) (sym (list_lines h.notes h.word l.breaks es side.note));
       spells = ap (λ (t : List ℕ). F ++ (t ++ (44 ∷ S))) l.spells
           ∙ again C (91 ∷ bytes_of (laid es)) S ∙ sym (argument_bytes (comments 1 h.notes) (laid es) (suffix_piece side.note) h.word);
       named_is = h.named_is;

@@ -5,3 +5,4 @@ pub mod Arguments
 pub mod Chains
 pub mod Statements
 pub mod Rewritten
+pub mod Added

@@ -6,6 +6,7 @@
 //! otherwise, and writes these as the layout does.
 #![tactic(auto)]
 
+mod added;
 mod assignment;
 mod bare;
 mod chunk;
@@ -22,4 +23,5 @@ mod segments;
 mod statement;
 mod value;
 
+pub use added::{Added, ListValue, lacks, put_added};
 pub use chunk::{ArgumentPlace, CanonicalChunk, canonical};

@@ -12,16 +12,16 @@ use bz_memory::{NoMemory, extend_from_slice, push};
 
 /// A string and what follows it.
 #[derive(Clone, Copy)]
-struct ReadString<'t> {
+pub(crate) struct ReadString<'t> {
     /// In single quotes: what stands between them. Else: all of it.
-    body: &'t [u8],
-    single: bool,
-    rest: &'t [u8],
+    pub(crate) body: &'t [u8],
+    pub(crate) single: bool,
+    pub(crate) rest: &'t [u8],
 }
 
 /// The string here.
 #[inline(always)]
-fn read_string(text: &[u8]) -> Option<ReadString<'_>>
+pub(crate) fn read_string(text: &[u8]) -> Option<ReadString<'_>>
     ensures { IfSome result (λ read. IsStringRead text.now read.rest.now (spelling read.single read.body.now)) }
 {
     match text {
@@ -47,7 +47,7 @@ fn read_string(text: &[u8]) -> Option<ReadString<'_>>
 
 /// Writes a string.
 #[inline(always)]
-fn put_string(read: ReadString<'_>, written: &mut Vec<u8>) -> Result<(), NoMemory>
+pub(crate) fn put_string(read: ReadString<'_>, written: &mut Vec<u8>) -> Result<(), NoMemory>
     ensures { OnOk result (written.new.items ≡ written.old.items ++ spelling read.entry.single read.entry.body.now) }
 {
     if read.single {
@@ -112,7 +112,7 @@ fn only_string(inside: &[u8]) -> Option<OnlyString<'_>>
 
 /// What follows the bracket that closes a list on lines.
 #[inline(always)]
-fn after_last(text: &[u8]) -> Option<&[u8]>
+pub(crate) fn after_last(text: &[u8]) -> Option<&[u8]>
     ensures { IfSome result (λ rest. text.now ≡ 10 ∷ (indent 1 ++ 93 ∷ rest.now)) }
 {
     let end = line(text, 1)?;

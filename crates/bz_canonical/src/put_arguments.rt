@@ -41,16 +41,16 @@ pub(crate) fn written_len(at: Pending<'_>, written: &Vec<u8>) -> Option<usize>
 
 /// The name of an argument.
 #[derive(Clone, Copy)]
-struct ArgumentHead<'t> {
+pub(crate) struct ArgumentHead<'t> {
     /// What follows the equals sign.
-    value: &'t [u8],
+    pub(crate) value: &'t [u8],
     /// The argument has the name that is asked for.
-    named: bool,
+    pub(crate) named: bool,
 }
 
 /// The name of the argument here.
 #[inline(always)]
-fn argument_head<'t>(text: &'t [u8], attr: &[u8]) -> Option<ArgumentHead<'t>>
+pub(crate) fn argument_head<'t>(text: &'t [u8], attr: &[u8]) -> Option<ArgumentHead<'t>>
     ensures { IfSome result (λ head. IsHeadRead attr.now text.now head.value.now head.named) }
 {
     let above = notes(text, 1);
