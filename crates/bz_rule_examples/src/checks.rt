@@ -18,7 +18,11 @@ pub fn check_table<F: Fn(Global, &str) -> Result<String, Fail>>(
     for (asked, wanted) in cut_rows(alloc, table)? {
         let text = plain(alloc, asked)?;
         let wanted = plain(alloc, wanted)?;
-        assert_eq!(rt; shown(alloc, text.as_str())?.as_str(), wanted.as_str(), "{asked}");
+        assert_eq!(rt;
+            shown(alloc, text.as_str())?.as_str(),
+            wanted.as_str(),
+            "{asked}"
+        );
     }
     Ok(())
 }

@@ -245,7 +245,12 @@ fn shown_in(alloc: Global, home: &str, text: &str) -> Result<String, Fail> {
 #[test]
 fn shown_rules(rt: HostRuntime) -> Result<(), Fail> {
     let alloc = rt.alloc();
-    check_table(&rt, alloc, SHOWN, |alloc, text| shown_in(alloc, "//p:a", text))?;
+    check_table(
+        &rt,
+        alloc,
+        SHOWN,
+        |alloc, text| shown_in(alloc, "//p:a", text),
+    )?;
     assert_eq!(rt; shown_in(alloc, "-:a", "f(name = '')")?.as_str(), "-:");
     Ok(())
 }
