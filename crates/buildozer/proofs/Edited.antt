@@ -13,7 +13,7 @@ use Rattle.buildozer.specs.declared.file_run.Ended.TheVariants.{Told, Failed, No
 use Rattle.buildozer.specs.Runs.{Asked, IsRun, IsKeptText, is_kept, is_whole}
 use Rattle.buildozer.specs.FileRuns.{GaveText, Gives}
 use Rattle.buildozer.specs.Files.{IsFileOf, MayBe, MayHold, MayHoldNothing, IsEdited}
-use Rattle.buildozer.specs.Handled.{IsStatusOver, IsFileStatus, IsStatusAt, LeavesFiles}
+use Rattle.buildozer.specs.Handled.{IsStatusOver, IsFileStatus, LeavesFiles}
 use Rattle.bz_engine.specs.Outcome.{status_of}
 use Rattle.bz_script.specs.Groups.{Step}
 use Rattle.bz_script.specs.Names.{IsBuildPath}
@@ -152,12 +152,6 @@ pub shown_status : {F : Type 0} (leads : List ℕ → List ℕ → F → Type 0)
     → (status : ℕ) → IsStatusOver gave asked source source_after status → (status ≡ 2) ⊎ IsFileStatus leads gave asked status
 shown_status leads gave asked file source source_after is_its status is =
     ⊎_elim (λ failed. inl failed.0) (λ ran. inr (record { file = file; source = source; source_after = source_after; is_its = is_its; ran = ran })) is
-
--- a package that failed after its run
-pub failed_after : {F S : Type 0} (leads : List ℕ → List ℕ → F → Type 0) (gave : F → List (List ℕ) → F → Type 0) (input_gave : S → List (List ℕ) → S → Type 0) (home : Package) (asked : Asked)
-    (input input_after : S) (status : ℕ) → IsStatusAt leads gave input_gave home asked input input_after status → IsStatusAt leads gave input_gave home asked input input_after 2
-failed_after leads gave input_gave None asked input input_after status is = ⊎_elim (λ failed. inl (refl, failed.1, failed.2)) (λ ran. inl (refl, ran.read, ran.gave_is)) is
-failed_after leads gave input_gave (Some folder) asked input input_after status is = (is.0, inl refl)
 
 -- one of two values, as a function of the test
 abbrev pub if_reads : {P : Type 0} → P → P → Bool → P

@@ -44,33 +44,19 @@ pub fn edit_package<D: Folder, S: Source, O: Sink, E: Sink>(
         devices.old.draft.folder devices.new.draft.folder result }
     ensures status { IsStatusOf D.leads D.File.gave S.gave asked devices.old.input devices.new.input result }
 {
-    let status = edit_home(alloc, flags, asked, devices);
+    let status = match asked.home.path() {
+        None => edit_shown(alloc, asked, "-", &mut devices.input, &mut devices.console),
+        Some(folder) => match BuildFiles::of(alloc, folder) {
+            Ok(files) => edit_found(alloc, flags, asked, &files, devices),
+            Err(_) => {
+                devices.console.put_message(folder, "out of memory");
+                FAILED
+            }
+        },
+    };
     match devices.console.flush() {
         Ok(()) => status,
         Err(_) => FAILED,
-    }
-}
-
-/// Edits standard input, or the package's file.
-fn edit_home<D: Folder, S: Source, O: Sink, E: Sink>(
-    alloc: Global,
-    flags: &Flags,
-    asked: Asked,
-    devices: &mut Devices<D, S, O, E>,
-) -> u8
-    ensures files { LeavesFiles D.did (MayHold D.leads D.File.gave asked) (is_shown flags.now.stdout asked.passes)
-        devices.old.draft.folder devices.new.draft.folder result }
-    ensures status { IsStatusOf D.leads D.File.gave S.gave asked devices.old.input devices.new.input result }
-{
-    let Some(folder) = asked.home.path() else {
-        return edit_shown(alloc, asked, "-", &mut devices.input, &mut devices.console);
-    };
-    match BuildFiles::of(alloc, folder) {
-        Ok(files) => edit_found(alloc, flags, asked, &files, devices),
-        Err(_) => {
-            devices.console.put_message(folder, "out of memory");
-            FAILED
-        }
     }
 }
 

@@ -4,20 +4,8 @@
 //! of the whole program.
 #![tactic(auto)]
 
-#[cfg(test)]
-mod buffers;
-#[cfg(test)]
-mod devices;
 pub mod drip;
-#[cfg(test)]
-mod faults;
 pub mod feed;
-#[cfg(test)]
-mod limits;
-#[cfg(test)]
-mod runs;
 pub mod script;
 #[cfg(test)]
-mod sessions;
-#[cfg(test)]
-mod sizes;
+mod tests;

@@ -124,27 +124,17 @@ fn replaced(
 }
 
 #[test]
-fn a_short_text(rt: HostRuntime) -> Result<(), Fail> {
+fn each_answer(rt: HostRuntime) -> Result<(), Fail> {
     let cases = [
-        (Ok(true), Ok(true), *b"mwsn    "),
-        (Ok(false), Ok(false), *b"        "),
-        (Err(Failed), Err(Trouble::Clean), *b"        "),
+        (SHORT, Ok(true), Ok(true), *b"mwsn    "),
+        (SHORT, Ok(false), Ok(false), *b"        "),
+        (SHORT, Err(Failed), Err(Trouble::Clean), *b"        "),
+        (LONG, Ok(true), Ok(true), *b"mwwsn   "),
+        (LONG, Ok(false), Ok(false), *b"mwr     "),
+        (LONG, Err(Failed), Err(Trouble::Clean), *b"mwr     "),
     ];
-    for (answer, want, calls) in cases {
-        assert_eq!(rt; replaced(rt.alloc(), SHORT, answer, 0)?, (want, calls));
-    }
-    Ok(())
-}
-
-#[test]
-fn a_long_text(rt: HostRuntime) -> Result<(), Fail> {
-    let cases = [
-        (Ok(true), Ok(true), *b"mwwsn   "),
-        (Ok(false), Ok(false), *b"mwr     "),
-        (Err(Failed), Err(Trouble::Clean), *b"mwr     "),
-    ];
-    for (answer, want, calls) in cases {
-        assert_eq!(rt; replaced(rt.alloc(), LONG, answer, 0)?, (want, calls));
+    for (len, answer, want, calls) in cases {
+        assert_eq!(rt; replaced(rt.alloc(), len, answer, 0)?, (want, calls));
     }
     Ok(())
 }

@@ -7,7 +7,7 @@ use std::process::Abort;
 use std::test::Fail;
 
 /// Checks that `shown` makes of each row its answer.
-pub fn check_table<F: Fn(&str) -> Result<String, Fail>>(
+pub fn check_table<F: Fn(Global, &str) -> Result<String, Fail>>(
     rt: &impl Abort,
     alloc: Global,
     table: &str,
@@ -18,7 +18,11 @@ pub fn check_table<F: Fn(&str) -> Result<String, Fail>>(
     for (asked, wanted) in cut_rows(alloc, table)? {
         let text = plain(alloc, asked)?;
         let wanted = plain(alloc, wanted)?;
-        assert_eq!(rt; shown(text.as_str())?.as_str(), wanted.as_str(), "{asked}");
+        assert_eq!(rt;
+            shown(alloc, text.as_str())?.as_str(),
+            wanted.as_str(),
+            "{asked}"
+        );
     }
     Ok(())
 }

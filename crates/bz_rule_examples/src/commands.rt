@@ -153,6 +153,5 @@ fn edited(alloc: Global, asked: &str) -> Result<String, Fail> {
 
 #[test]
 fn commands_on_statements(rt: HostRuntime) -> Result<(), Fail> {
-    let alloc = rt.alloc();
-    check_table(&rt, alloc, EDITS, |asked| edited(alloc, asked))
+    check_table(&rt, rt.alloc(), EDITS, edited)
 }

@@ -82,8 +82,7 @@ fn quoted(alloc: Global, text: &str) -> Result<String, Fail> {
 
 #[test]
 fn quotes(rt: HostRuntime) -> Result<(), Fail> {
-    let alloc = rt.alloc();
-    check_table(&rt, alloc, QUOTED, |text| quoted(alloc, text))
+    check_table(&rt, rt.alloc(), QUOTED, quoted)
 }
 
 /// Labels, and how they are shown, or why they are refused.
@@ -134,8 +133,7 @@ fn shown_label(alloc: Global, text: &str) -> Result<String, Fail> {
 
 #[test]
 fn labels(rt: HostRuntime) -> Result<(), Fail> {
-    let alloc = rt.alloc();
-    check_table(&rt, alloc, LABELS, |text| shown_label(alloc, text))
+    check_table(&rt, rt.alloc(), LABELS, shown_label)
 }
 
 pub fn package(alloc: Global, label: &str) -> Result<Package, Fail> {
@@ -178,14 +176,12 @@ fn shown_same(alloc: Global, asked: &str) -> Result<String, Fail> {
     let (home, labels) = asked.split_once(' ').ok_or("a row without labels")?;
     let (a, b) = labels.split_once(' ').ok_or("a row of one label")?;
     let are_same = are_same(alloc, home, a, b)?;
-    let shown = String::from_str(alloc, if are_same { "same" } else { "others" })?;
-    Ok(shown)
+    Ok(String::from_str(alloc, if are_same { "same" } else { "others" })?)
 }
 
 #[test]
 fn same_labels(rt: HostRuntime) -> Result<(), Fail> {
-    let alloc = rt.alloc();
-    check_table(&rt, alloc, SAME, |asked| shown_same(alloc, asked))
+    check_table(&rt, rt.alloc(), SAME, shown_same)
 }
 
 /// Labels and statements, and whether they are marked.
@@ -215,14 +211,12 @@ fn shown_mark(alloc: Global, asked: &str) -> Result<String, Fail> {
     let (label, text) = asked.split_once(' ').ok_or("a row without a statement")?;
     let (_, target) = read_label(alloc, label)?;
     let is_marked = is_marked(alloc, &target, text)?;
-    let shown = String::from_str(alloc, if is_marked { "marked" } else { "not" })?;
-    Ok(shown)
+    Ok(String::from_str(alloc, if is_marked { "marked" } else { "not" })?)
 }
 
 #[test]
 fn marks(rt: HostRuntime) -> Result<(), Fail> {
-    let alloc = rt.alloc();
-    check_table(&rt, alloc, MARKS, |asked| shown_mark(alloc, asked))
+    check_table(&rt, rt.alloc(), MARKS, shown_mark)
 }
 
 /// Statements, and how they are shown in package `p`.
@@ -251,7 +245,12 @@ fn shown_in(alloc: Global, home: &str, text: &str) -> Result<String, Fail> {
 #[test]
 fn shown_rules(rt: HostRuntime) -> Result<(), Fail> {
     let alloc = rt.alloc();
-    check_table(&rt, alloc, SHOWN, |text| shown_in(alloc, "//p:a", text))?;
+    check_table(
+        &rt,
+        alloc,
+        SHOWN,
+        |alloc, text| shown_in(alloc, "//p:a", text),
+    )?;
     assert_eq!(rt; shown_in(alloc, "-:a", "f(name = '')")?.as_str(), "-:");
     Ok(())
 }

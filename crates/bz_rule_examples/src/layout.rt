@@ -2,226 +2,25 @@
 
 use crate::checks::{check_table, read, statement};
 use crate::table::{BLOCK, cut_rows, plain};
+use crate::texts::TEXTS;
 use crate::trees;
 use bz_layout::{flat, put_gap, put_stmt};
 use bz_tree::{Class, Group, Node, ParseFault};
 use std::alloc::Global;
 use std::test::Fail;
 
-/// A chunk, and the canonical text of its statement.
-const TEXTS: &str = r##"
----
-f(name='a')
-->
-f(name = "a")
----
-f(
-    name = "a",
-    deps = [ # c1
-        "x", # c2
-        "y" # c3
-        , "z"
-        # c4
-    ],
-)
-->
-f(
-    name = "a",
-    deps = [
-        # c1
-        "x",  # c2
-        "y",  # c3
-        "z",
-        # c4
-    ],
-)
----
-f(name = "a", deps = ["a","d"] + select({"c": ["b"]}))
-->
-f(
-    name = "a",
-    deps = [
-        "a",
-        "d",
-    ] + select({
-        "c": ["b"],
-    }),
-)
----
-x = [k+v for k,v in d.items()]
-->
-x = [k + v for k, v in d.items()]
----
-x=(1)
-->
-x = (1)
----
-y=(1,)
-->
-y = (1,)
----
-f( # note
-name = "a")
-->
-f(
-    # note
-    name = "a",
-)
----
-# top
-
-->
-# top
----
-# of x
-x = 1 # s
-->
-# of x
-x = 1  # s
----
-# end␄
-->
-# end
----
-f(name = "a", deps = [":x", ":y"])
-->
-f(
-    name = "a",
-    deps = [
-        ":x",
-        ":y",
-    ],
-)
----
-f(name = "a", deps = ["x y", "z"], n = 1+2)
-->
-f(
-    name = "a",
-    deps = [
-        "x y",
-        "z",
-    ],
-    n = 1 + 2,
-)
----
-x={'a':[1,2]}
-->
-x = {
-    "a": [
-        1,
-        2,
-    ],
-}
----
-x[1 : - 2]
-->
-x[1:-2]
----
-x = [ ':a', "b"[ : : ], a not in b ]
-->
-x = [
-    ":a",
-    "b"[::],
-    a not in b,
-]
----
-f ( name = "a" , deps = [ "x" ] , n = 1 + 2 , l = [ "a" , "b" ] )␄
-->
-f(
-    name = "a",
-    deps = ["x"],
-    n = 1 + 2,
-    l = [
-        "a",
-        "b",
-    ],
-)
----
-f ( [ a , b ] ) . c␄
-->
-f([
-    a,
-    b,
-]).c
----
-x = f ( [ a , b ] , c )␄
-->
-x = f(
-    [
-        a,
-        b,
-    ],
-    c,
-)
----
-[ [ a , b ] ]␄
-->
-[[
-    a,
-    b,
-]]
----
-[ [ a ] ]␄
-->
-[[a]]
----
-f ( x = { } )␄
-->
-f(x = {})
----
-f ( a = g ( [ 1 , 2 ] ) , b = 1 )␄
-->
-f(
-    a = g([
-        1,
-        2,
-    ]),
-    b = 1,
-)
----
-x = ( a , b )␄
-->
-x = (a, b)
----
-x = ( a , [ 1 , 2 ] )␄
-->
-x = (
-    a,
-    [
-        1,
-        2,
-    ],
-)
----
-load ( "m" , a = 'b' )␄
-->
-load("m", a = "b")
-"##;
-
 /// Texts that are canonical as they stand.
 const CANONICAL: &str = r##"
 ---
 f(
-    name = "a",
+    data = ["x"],
     # d
     deps = [
         # one
         "x",
         "y",  # two
     ],
-    data = ["x"],
-)
----
-f(
     name = "a",
-    deps = [
-        # c1
-        "x",  # c2
-        "y",  # c3
-        "z",
-        "w",
-        # c4
-    ],
 )
 ---
 f(
@@ -432,8 +231,8 @@ fn flat_segment(alloc: Global, text: &str) -> Result<String, Fail> {
 #[test]
 fn texts_on_one_line(rt: HostRuntime) -> Result<(), Fail> {
     let alloc = rt.alloc();
-    check_table(&rt, alloc, FLAT, |text| flat_text(alloc, text))?;
-    check_table(&rt, alloc, FLAT_SEGMENTS, |text| flat_segment(alloc, text))
+    check_table(&rt, alloc, FLAT, flat_text)?;
+    check_table(&rt, alloc, FLAT_SEGMENTS, flat_segment)
 }
 
 #[test]

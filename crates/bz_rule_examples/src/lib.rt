@@ -15,6 +15,7 @@ mod layout;
 #[cfg(test)]
 mod rows;
 pub mod table;
+pub mod texts;
 #[cfg(test)]
 mod tokens;
 #[cfg(test)]

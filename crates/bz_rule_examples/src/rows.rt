@@ -282,17 +282,16 @@ fn has_row(alloc: Global, text: &str) -> Result<bool, Fail> {
 
 #[test]
 fn rows_of_chunks(rt: HostRuntime) -> Result<(), Fail> {
-    let alloc = rt.alloc();
-    check_table(&rt, alloc, ROWS, |text| shown(alloc, text))
+    check_table(&rt, rt.alloc(), ROWS, shown)
 }
 
 #[test]
 fn statements_of_chunks(rt: HostRuntime) -> Result<(), Fail> {
     let alloc = rt.alloc();
-    check_table(&rt, alloc, ROWS, |text| shown_text(alloc, text))?;
-    check_table(&rt, alloc, ROWS, |text| shown_tokens(alloc, text))?;
-    check_table(&rt, alloc, RARE, |text| shown_text(alloc, text))?;
-    check_table(&rt, alloc, RARE, |text| shown_tokens(alloc, text))
+    check_table(&rt, alloc, ROWS, shown_text)?;
+    check_table(&rt, alloc, ROWS, shown_tokens)?;
+    check_table(&rt, alloc, RARE, shown_text)?;
+    check_table(&rt, alloc, RARE, shown_tokens)
 }
 
 #[test]

@@ -139,8 +139,7 @@ fn shown(alloc: Global, text: &str) -> Result<String, Fail> {
 
 #[test]
 fn tokens_of_texts(rt: HostRuntime) -> Result<(), Fail> {
-    let alloc = rt.alloc();
-    check_table(&rt, alloc, TOKENS, |text| shown(alloc, text))
+    check_table(&rt, rt.alloc(), TOKENS, shown)
 }
 
 #[test]
@@ -193,8 +192,7 @@ fn after_if(alloc: Global, asked: &str) -> Result<String, Fail> {
 
 #[test]
 fn if_blocks_go_on(rt: HostRuntime) -> Result<(), Fail> {
-    let alloc = rt.alloc();
-    check_table(&rt, alloc, AFTER_IF, |asked| after_if(alloc, asked))
+    check_table(&rt, rt.alloc(), AFTER_IF, after_if)
 }
 
 #[test]
@@ -256,6 +254,5 @@ fn shown_chunk(alloc: Global, text: &str) -> Result<String, Fail> {
 
 #[test]
 fn first_chunks(rt: HostRuntime) -> Result<(), Fail> {
-    let alloc = rt.alloc();
-    check_table(&rt, alloc, CHUNKS, |text| Ok(shown_chunk(alloc, text)?))
+    check_table(&rt, rt.alloc(), CHUNKS, shown_chunk)
 }

@@ -417,7 +417,7 @@ fn trees_of_chunks(rt: HostRuntime) -> Result<(), Fail> {
     let block = format!(in alloc; "{BLOCK}\n")?;
     let wanted = format!(in alloc; "Block :{} :\n", BLOCK.trim_end())?;
     assert_eq!(rt; shown(alloc, block.as_str())?.as_str(), wanted.as_str());
-    check_table(&rt, alloc, TREES, |text| Ok(shown(alloc, text)?))
+    check_table(&rt, alloc, TREES, shown)
 }
 
 /// What the grammar accepts, and what it refuses.
@@ -517,6 +517,5 @@ fn shown_lines(alloc: Global, text: &str) -> Result<String, Fail> {
 
 #[test]
 fn lines_of_statements(rt: HostRuntime) -> Result<(), Fail> {
-    let alloc = rt.alloc();
-    check_table(&rt, alloc, LINES, |text| shown_lines(alloc, text))
+    check_table(&rt, rt.alloc(), LINES, shown_lines)
 }

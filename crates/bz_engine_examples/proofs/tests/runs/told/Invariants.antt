@@ -1,5 +1,5 @@
 use Rattle.std.proofs.Common.{length}
-use Rattle.bz_engine_examples.proofs.runs.told.Given as goal
+use Rattle.bz_engine_examples.proofs.tests.runs.told.Given as goal
 
 abbrev pub invariant-loop-line : goal.invariant-loop-line
 invariant-loop-line l = Unit {0}

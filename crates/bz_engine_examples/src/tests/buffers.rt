@@ -92,12 +92,10 @@ fn reads_and_writes_much_at_once(rt: HostRuntime) -> Result<(), Fail> {
 // Bytes are kept back until they are 65,536, and none is lost.
 #[test]
 fn keeps_bytes_back(rt: HostRuntime) -> Result<(), Fail> {
-    let alloc = rt.alloc();
-    let text = vec![in alloc; b'x'; 1000]?;
     let mut basin = Basin::new(0);
-    let mut buffered = Buffered::new(alloc, ToWrite::new(&mut basin))?;
+    let mut buffered = Buffered::new(rt.alloc(), ToWrite::new(&mut basin))?;
     for _ in 0..200 {
-        buffered.put(&text);
+        buffered.put(&[b'x'; 1000]);
     }
     assert_eq!(rt; buffered.flush(), Ok(()));
     drop(buffered);
@@ -126,7 +124,6 @@ fn stops_at_a_failed_write(rt: HostRuntime) -> Result<(), Fail> {
 // All that is text is known as text: after a read, and after bytes are taken from its front.
 #[test]
 fn knows_what_is_text(rt: HostRuntime) -> Result<(), Fail> {
-    let alloc = rt.alloc();
     let rows: [(&[u8], usize, &str, &str); 4] = [
         (b"f()\nx = 1\n", 4, "f()\nx = 1\n", "x = 1\n"),
         ("f()\n# é\n".as_bytes(), 4, "f()\n# é\n", "# é\n"),
@@ -134,7 +131,7 @@ fn knows_what_is_text(rt: HostRuntime) -> Result<(), Fail> {
         (b"f()\nx\xffy\n", 4, "f()\nx", "x"),
     ];
     for (bytes, taken, text, left) in rows {
-        let mut ahead = Ahead::new(alloc);
+        let mut ahead = Ahead::new(rt.alloc());
         let mut source = FromRead::new(bytes);
         let limits = Limits {
             statement: 99,

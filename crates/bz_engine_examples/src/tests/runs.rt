@@ -6,6 +6,7 @@ use crate::feed::{Feed, Input, Piece};
 use crate::script::{program, read_script};
 use bz_engine::{End, Report, run};
 use bz_rule_examples::table::{BLOCK, cut_rows, plain};
+use bz_rule_examples::texts::TEXTS;
 use std::alloc::Global;
 use std::process::Abort;
 use std::test::Fail;
@@ -75,25 +76,18 @@ line: g
 status 0
 ---
 add deps w ! -:a
-f(
-    name = "a",
-    deps = [ # c1
-        "x", # c2
-        "y" # c3
-        , "z"
-        # c4
-    ],
-)
+f(name = "a", deps = [ # c1
+    "x" # c2
+    # c3
+])
 ->
 f(
     name = "a",
     deps = [
         # c1
         "x",  # c2
-        "y",  # c3
-        "z",
         "w",
-        # c4
+        # c3
     ],
 )
 =>
@@ -282,6 +276,9 @@ const SET: &str = "set a 1 ! -:*";
 
 const SAME: &str = "set_if_absent name z ! -:*";
 
+/// What marks no statement.
+const NONE: &str = "set a 1 ! -:%none";
+
 // The text of a run is written again as it stands, and nothing is told of it.
 #[test]
 fn runs_byte_by_byte(rt: HostRuntime) -> Result<(), Fail> {
@@ -305,6 +302,19 @@ fn runs_byte_by_byte(rt: HostRuntime) -> Result<(), Fail> {
         )?;
     }
     check_fronts(&rt, alloc, SET, input.as_bytes())
+}
+
+// What no pass marks is laid out too, and its text is copied.
+#[test]
+fn layouts_byte_by_byte(rt: HostRuntime) -> Result<(), Fail> {
+    let alloc = rt.alloc();
+    for (input, text) in cut_rows(alloc, TEXTS)? {
+        let input = plain(alloc, input)?;
+        for input in [input.as_str(), text] {
+            check(&rt, alloc, NONE, input.as_bytes(), text, "status 3\n")?;
+        }
+    }
+    Ok(())
 }
 
 #[test]

@@ -1,0 +1,9 @@
+//! The tests, each file on its own.
+
+mod buffers;
+mod devices;
+mod faults;
+mod limits;
+mod runs;
+mod sessions;
+mod sizes;
