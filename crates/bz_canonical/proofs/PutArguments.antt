@@ -1,6 +1,6 @@
 -- Arguments of a rule, and what is written of them.
-use Rattle.std.proofs.Common.{subst, ◌||◌, ◌≡◌, ◌≤◌, ◌<◌, ℕ, suc, ◌+◌, ◌-◌, take, length, List, [], ◌∷◌, ◌++◌, Bool, true, false, refl, sym, ap, ◌∙◌, arith, append_assoc, append-nil}
-use Rattle.std.specs.Prelude.{codes, flat_map, map, nat_le, IfSome, Some, if◌then◌else◌, None, Option, is_some, option_map, option_to_list}
+use Rattle.std.proofs.Common.{subst, ◌||◌, ◌≡◌, ◌≤◌, ◌<◌, ℕ, suc, length, List, [], ◌∷◌, ◌++◌, Bool, true, false, refl, sym, ap, ◌∙◌, arith, append_assoc, append-nil}
+use Rattle.std.specs.Prelude.{codes, flat_map, map, nat_le, IfSome, Some, if◌then◌else◌, None, Option, option_to_list}
 use Rattle.std.proofs.lemmas.Bool.{false≢true}
 use Rattle.std.proofs.lemmas.Bool.Decides.{nat_tests}
 use Rattle.std.proofs.lemmas.List.Folds.{list_any-append}
@@ -30,13 +30,12 @@ use Rattle.bz_canonical.specs.private.Arguments.{alone}
 use Rattle.bz_canonical.specs.private.Fronts.{IsTokenFront}
 use Rattle.bz_token.specs.Common.{is_filled}
 use Rattle.bz_layout_laws.specs.Spelled.{spelled_segs}
-use Rattle.bz_canonical.specs.private.Rewritten.{AreArgumentsRead, AreFormed, AreOthersRead, ArePlacedRead, AreRead, HasPut, IsValueEnd, PutEnds, AreElements, ArePlaced, Element, IsArgumentRead, IsHeadRead, IsListRead, IsPlaced, Placed, args_of, element_list, element_segs, elements_as_is, placed_lines}
+use Rattle.bz_canonical.specs.private.Rewritten.{AreArgumentsRead, AreFormed, AreOthersRead, ArePlacedRead, AreRead, HasPut, IsValueEnd, PutEnds, AreElements, ArePlaced, Element, IsArgumentRead, IsHeadRead, IsListRead, Placed, args_of, element_list, element_segs, elements_as_is, placed_lines}
 use Rattle.bz_canonical.specs.private.Segments.{AreNotesFront, AreSegments, AreSegmentsFront, IsBesideFront}
 use Rattle.bz_canonical.proofs.ArgumentLines.{argument_front, lines_after, lines_append, segs_same}
 use Rattle.bz_canonical.proofs.ElementLists.{flat_append}
 use Rattle.bz_canonical.proofs.GroupSegments.{equals_text, most, no_segments}
 use Rattle.bz_canonical.proofs.OwnLayout.{own_items, own_spelled, own_stand}
-use Rattle.bz_canonical.proofs.Taken.{taken}
 
 -- elements, as a well-formed statement has them
 
@@ -100,28 +99,33 @@ list_read depth attr text value end comma next w e named deep h l is side =
     let S : List ℕ = bytes_of (suffix_piece side.note) in
     let F : List ℕ = C ++ (10 ∷ (indent 1 ++ (h.word ++ codes " = "))) in
     let begins : text ≡ F ++ value = h.front ∙ start C value in
-    let ends : end ≡ (44 ∷ S) ++ next = is ∙ ap (λ (t : List ℕ). 44 ∷ t) side.front in
-    (F, 44 ∷ S, begins, ends, record {
-      placed = record {
-        arg = record { before = h.notes; nodes = leaf Identifier h.word ∷ leaf Operator (codes "=") ∷ element_list es ∷ []; suffix = side.note };
-        choice = free true own (free true own (free true (free l.breaks (elements_as_is es) own) own));
-      };
-      is = record {
-        formed = record {
-          texts = (h.are, refl, ((h.is, refl), ((equals_text, refl), ((element_texts es l.are, refl), tt))), side.is, tt);
-          kinds = ((λ is. is, tt, (λ is. is, tt, (λ is. is, (Square, ap (group_kind Square Other) (sym (element_for es)), record { one = λ is. absurd_of is; comma = λ is. absurd_of is }, element_kinds es), tt))), tt);
-          grammar = AreArgs.one_arg (IsArg.keyword refl refl (IsTest.plain (IsChain.single (IsTerm.primary (IsPrimary.operand (IsOperand.list (element_tests es)) AreSuffixes.no_suffix))))) AreArgs.no_arg;
-          depth_fits = most _ _ depth (most _ _ depth (omega arith) (most _ _ depth (omega arith) (most _ _ depth (omega (arith, element_depth es, deep)) (omega arith)))) (omega arith);
+    let ends : end ≡ (44 ∷ S) ++ next = is ∙ ap (λ (t : List ℕ). 44 ∷ t) side.front in (
+      F,
+      44 ∷ S,
+      begins,
+      ends,
+      record {
+        placed = record {
+          arg = record { before = h.notes; nodes = leaf Identifier h.word ∷ leaf Operator (codes "=") ∷ element_list es ∷ []; suffix = side.note };
+          choice = free true own (free true own (free true (free l.breaks (elements_as_is es) own) own));
         };
-        stand = (tt, (tt, ((l.stands, element_stand es), tt)));
-        spelled = ap (λ ss. item (leaf Identifier h.word) (item (leaf Operator (codes "=")) (item (group ListKind ss false []) no_items))) (element_spelled es);
-      };
-      front = begins ∙ ap (λ (t : List ℕ). F ++ t) (l.front ∙ ap (λ (t : List ℕ). (91 ∷ bytes_of (standing l.breaks es)) ++ t) ends)
-          ∙ whole C (91 ∷ bytes_of (standing l.breaks es)) S ∙ ap (λ (t : List ℕ). t ++ next) (sym (argument_bytes (comments 1 h.notes) (standing l.breaks es) (suffix_piece side.note) h.word));
-      spells = ap (λ (t : List ℕ). F ++ (t ++ (44 ∷ S))) l.spells
-          ∙ again C (91 ∷ bytes_of (laid es)) S ∙ sym (argument_bytes (comments 1 h.notes) (laid es) (suffix_piece side.note) h.word);
-      named_is = h.named_is;
-    })
+        is = record {
+          formed = record {
+            texts = (h.are, refl, ((h.is, refl), ((equals_text, refl), ((element_texts es l.are, refl), tt))), side.is, tt);
+            kinds = ((λ is. is, tt, (λ is. is, tt, (λ is. is, (Square, ap (group_kind Square Other) (sym (element_for es)), record { one = λ is. absurd_of is; comma = λ is. absurd_of is }, element_kinds es), tt))), tt);
+            grammar = AreArgs.one_arg (IsArg.keyword refl refl (IsTest.plain (IsChain.single (IsTerm.primary (IsPrimary.operand (IsOperand.list (element_tests es)) AreSuffixes.no_suffix))))) AreArgs.no_arg;
+            depth_fits = most _ _ depth (most _ _ depth (omega arith) (most _ _ depth (omega arith) (most _ _ depth (omega (arith, element_depth es, deep)) (omega arith)))) (omega arith);
+          };
+          stand = (tt, (tt, ((l.stands, element_stand es), tt)));
+          spelled = ap (λ ss. item (leaf Identifier h.word) (item (leaf Operator (codes "=")) (item (group ListKind ss false []) no_items))) (element_spelled es);
+        };
+        front = begins ∙ ap (λ (t : List ℕ). F ++ t) (l.front ∙ ap (λ (t : List ℕ). (91 ∷ bytes_of (standing l.breaks es)) ++ t) ends)
+            ∙ whole C (91 ∷ bytes_of (standing l.breaks es)) S ∙ ap (λ (t : List ℕ). t ++ next) (sym (argument_bytes (comments 1 h.notes) (standing l.breaks es) (suffix_piece side.note) h.word));
+        spells = ap (λ (t : List ℕ). F ++ (t ++ (44 ∷ S))) l.spells
+            ∙ again C (91 ∷ bytes_of (laid es)) S ∙ sym (argument_bytes (comments 1 h.notes) (laid es) (suffix_piece side.note) h.word);
+        named_is = h.named_is;
+      },
+    )
   where
     start : (C rest : List ℕ) → C ++ (10 ∷ (indent 1 ++ (h.word ++ (codes " = " ++ rest)))) ≡ (C ++ (10 ∷ (indent 1 ++ (h.word ++ codes " = ")))) ++ rest
     start C rest = simp append_assoc
@@ -194,7 +198,7 @@ value_read depth attr text value rest named h v =
     let inner : List ℕ = h.word ++ (codes " = " ++ value) in
     let ident : IsTokenFront Identifier inner (codes " = " ++ value) = record { token = h.word; is = h.is; stays = refl; front = refl } in
     let above : AreNotesFront 1 text (10 ∷ (indent 1 ++ inner)) (is_filled h.notes) = record { notes = h.notes; are = h.are; front = h.front; some_is = refl } in
-    let a = argument_front depth attr text (10 ∷ (indent 1 ++ inner)) inner (codes " = " ++ value) value v.end v.comma rest v.holds (is_filled h.notes) v.noted above refl ident refl v.nodes v.is v.side named (sym h.named_is) _ refl in
+    let a = argument_front depth attr text (10 ∷ (indent 1 ++ inner)) inner (codes " = " ++ value) value v.end v.comma rest v.holds (is_filled h.notes) v.noted above refl ident refl v.nodes v.is v.side named (sym h.named_is) in
     let are : AreSegments RuleCall depth (segs_of (a.arg ∷ [])) = a.are [] (no_segments RuleCall depth) in
     let formed : AreFormed depth (segs_of (a.arg ∷ [])) = record { texts = are.texts; kinds = are.kinds; grammar = are.grammar; depth_fits = are.depth_fits } in (
       argument_lines (a.arg ∷ []),

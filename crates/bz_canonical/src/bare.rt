@@ -51,7 +51,7 @@ pub(crate) fn bare_statement(text: &[u8], max_depth: u8) -> Option<BareStatement
             Some(BareStatement {
                 class: Class::Assign,
                 name: None,
-                    rest,
+                rest,
             })
         }
         _ => {
@@ -59,7 +59,7 @@ pub(crate) fn bare_statement(text: &[u8], max_depth: u8) -> Option<BareStatement
             Some(BareStatement {
                 class: Class::Rule,
                 name: read.name,
-                    rest: read.rest,
+                rest: read.rest,
             })
         }
     }
