@@ -1,30 +1,23 @@
 -- Arguments of a rule on lines of their own, and the first one of a name among them.
-use Rattle.std.proofs.Common.{◌≡◌, ℕ, suc, ◌+◌, List, [], ◌∷◌, ◌++◌, Bool, true, false, ◌||◌, refl, sym, ap, ◌∙◌, arith, append_assoc, append-nil, subst, bytes_eq}
-use Rattle.std.specs.Prelude.{codes, nat_le, Option, Some, None, is_some, IfSome, option_to_list}
-use Rattle.std.proofs.lemmas.Bool.{false≢true}
-use Rattle.std.proofs.lemmas.Bool.Decides.{nat_tests}
-use Rattle.std.proofs.lemmas.List.Folds.{list_any-append}
+use Rattle.std.proofs.Common.{◌≡◌, ℕ, suc, ◌+◌, List, [], ◌∷◌, ◌++◌, Bool, true, false, refl, sym, ap, ◌∙◌, arith, append_assoc, subst, bytes_eq}
+use Rattle.std.specs.Prelude.{codes, Some}
 use Rattle.bz_token.specs.declared.token.Kind.TheVariants.{Identifier, Operator}
 use Rattle.bz_tree.specs.declared.stmt.GroupKind.TheVariants.{RuleCall}
 use Rattle.bz_tree.specs.Tree.{Segs, no_segs, seg, Segment, items_of, list_of, segments, segs_of}
 use Rattle.bz_layout.specs.declared.spacing.Edge.TheVariants.{Start}
 use Rattle.bz_layout.specs.declared.spacing.Gap.TheVariants.{Closed, Line}
 use Rattle.bz_layout.specs.declared.broken.Style.TheVariants.{Broken}
-use Rattle.bz_layout.specs.Broken.{count, have_comments}
+use Rattle.bz_layout.specs.Broken.{count}
 use Rattle.bz_layout.specs.Layout.{broken_segs, items_pieces}
 use Rattle.bz_layout.specs.Pieces.{Piece, piece, bytes_of, comments, indent, suffix_piece}
 use Rattle.bz_layout.proofs.Pieces.{bytes_append}
 use Rattle.bz_layout_laws.proofs.SameInside.{items_same}
-use Rattle.bz_attribute.specs.Effects.{has}
-use Rattle.bz_attribute.specs.Rules.{first_named, is_named}
-use Rattle.bz_attribute.proofs.EditedAt.{edited_at, first_at, none_first}
 use Rattle.bz_canonical.specs.Canonical.{argument_lines}
 use Rattle.bz_canonical.specs.private.Arguments.{IsArgumentFront}
 use Rattle.bz_canonical.specs.private.Fronts.{IsTokenFront}
-use Rattle.bz_canonical.specs.private.Segments.{AreNotesFront, AreSegments, AreSegmentsFront, IsBesideFront}
+use Rattle.bz_canonical.specs.private.Segments.{AreNotesFront, AreSegments, IsBesideFront}
 use Rattle.bz_canonical.specs.private.Values.{AreNodesFront}
-use Rattle.bz_canonical.proofs.GroupSegments.{begin, keyword_segment, more, no_segments, noted_before, or_assoc}
-use Rattle.bz_token.specs.Common.{is_filled}
+use Rattle.bz_canonical.proofs.GroupSegments.{begin, keyword_segment, more, no_segments, noted_before}
 
 -- the lines of arguments one after another
 pub lines_append : (xs ys : List Segment) → argument_lines (xs ++ ys) ≡ argument_lines xs ++ argument_lines ys
@@ -53,8 +46,8 @@ counted (x ∷ xs) ys = ap suc (counted xs ys) ∙ omega arith
 -- one argument with its comments
 abbrev pub argument_front : (depth : ℕ) (attr text below inner equals value end after next : List ℕ) (k d e : Bool) → AreNotesFront 1 text below d → below ≡ 10 ∷ (indent 1 ++ inner)
     → (f : IsTokenFront Identifier inner equals) → equals ≡ codes " = " ++ value → AreNodesFront 1 depth value end k → end ≡ 44 ∷ after → IsBesideFront after next e → (named : Bool) → named ≡ bytes_eq attr f.token
-    → (noted : Bool) → noted ≡ (d || e) → IsArgumentFront depth attr text next named noted
-argument_front depth attr text below inner equals value end after next k d e above line f eq v comma beside named named_is noted noted_is =
+    → IsArgumentFront depth attr text next named
+argument_front depth attr text below inner equals value end after next k d e above line f eq v comma beside named named_is =
     let s = keyword_segment RuleCall 1 depth inner equals end value k refl f eq v in
     record {
       arg = record { before = above.notes; nodes = list_of s.xs; suffix = beside.note };
@@ -63,11 +56,7 @@ argument_front depth attr text below inner equals value end after next k d e abo
       are = λ others are. subst (λ xs. AreSegments RuleCall depth (seg above.notes xs beside.note (segs_of others))) (sym (items_same s.xs))
           (noted_before RuleCall 1 depth text below inner end after next k d e above s beside (segs_of others) are);
       named_is = sym named_is;
-      notes = λ others. by (is_filled above.notes) above.some_is (is_some beside.note) beside.some_is (have_comments (segs_of others));
     }
-  where
-    by : (x : Bool) → x ≡ d → (y : Bool) → y ≡ e → (t : Bool) → (x || y || t) ≡ (noted || t)
-    by x x_is y y_is t = rw (x_is, y_is, noted_is) refl
 
 pub segs_same : (ss : Segs) → segs_of (segments ss) ≡ ss
 segs_same no_segs = refl

@@ -1,6 +1,6 @@
 -- What is written of a well-formed statement is a canonical chunk.
 use Rattle.std.proofs.Common.{◌≡◌, ℕ, ◌-◌, ◌<◌, List, [], ◌∷◌, ◌++◌, Bool, true, false, length, take, refl, sym, ◌∙◌, ap, subst, arith, append-nil, append_assoc}
-use Rattle.std.specs.Prelude.{codes, if◌then◌else◌, Option, None, Some, IfSome}
+use Rattle.std.specs.Prelude.{codes, if◌then◌else◌, Option, None}
 use Rattle.bz_token.specs.Chunks.{chunks}
 use Rattle.bz_token.specs.Cuts.{IsChunk}
 use Rattle.bz_tree.specs.declared.stmt.Class.{Class}

@@ -1,5 +1,5 @@
 -- What is written up to here, and is not in the buffer yet.
-use Rattle.std.proofs.Common.{◌≡◌, ℕ, ◌+◌, ◌-◌, List, [], ◌∷◌, ◌++◌, refl, length, take, sym, ap, ◌∙◌, arith, append_assoc, subst}
+use Rattle.std.proofs.Common.{◌≡◌, ℕ, ◌-◌, List, [], ◌∷◌, ◌++◌, refl, length, take, sym, ap, ◌∙◌, arith, append_assoc, subst}
 use Rattle.std.proofs.lemmas.List.{length-append}
 use Rattle.bz_canonical.specs.private.Rewritten.{IsPending, IsListRead}
 use Rattle.bz_canonical.proofs.Taken.{taken}
@@ -19,9 +19,6 @@ pend_same text buffer all from rest other p is = subst (λ (t : List ℕ). IsPen
 -- where reading begins
 pub pend_first : (text front rest : List ℕ) → text ≡ front ++ rest → IsPending text [] front text rest
 pend_first text front rest is = record { part = front; front = is; all_is = refl; whole = λ none. refl }
-
-pub pend_len : (text buffer all from rest : List ℕ) → IsPending text buffer all from rest → length all ≡ length buffer + (length from - length rest)
-pend_len text buffer all from rest p = omega (arith, ap length p.front, ap length p.all_is, length-append p.part rest, length-append buffer p.part)
 
 -- a list goes into the buffer, after what was pending
 pub pend_list : (text old new begun from at value end next front back w put : List ℕ) → IsPending text old begun from at → at ≡ front ++ value → end ≡ back ++ next → IsListRead value end w → put ≡ take (length from - length value) from

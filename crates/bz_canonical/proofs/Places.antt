@@ -1,29 +1,24 @@
 -- The place of an argument in a rule that stands on lines.
-use Rattle.std.proofs.Common.{◌≡◌, ◌≤◌, ℕ, suc, ◌+◌, List, [], ◌∷◌, ◌++◌, Bool, true, false, ◌||◌, refl, sym, ap, ◌∙◌, arith, append_assoc, append-nil, subst, length, drop, take}
-use Rattle.std.proofs.Math.Seq.{drop-append_seam}
+use Rattle.std.proofs.Common.{◌≡◌, ◌≤◌, ℕ, suc, ◌+◌, List, [], ◌∷◌, ◌++◌, Bool, true, false, ◌||◌, refl, sym, ap, ◌∙◌, arith, append_assoc}
 use Rattle.std.proofs.lemmas.Bool.{false≢true}
 use Rattle.std.proofs.lemmas.Bool.Decides.{nat_tests}
-use Rattle.std.specs.Prelude.{codes, nat_le, Option, Some, None, IfSome, if◌then◌else◌, option_to_list}
-use Rattle.bz_token.specs.declared.token.Kind.TheVariants.{Identifier, Newline, Operator}
+use Rattle.std.specs.Prelude.{codes, nat_le, Option, Some, None, if◌then◌else◌}
+use Rattle.bz_token.specs.declared.token.Kind.TheVariants.{Operator}
 use Rattle.bz_tree.specs.declared.stmt.GroupKind.TheVariants.{RuleCall}
-use Rattle.bz_tree.specs.Tree.{leaf, group, Segs, Segment, Statement, items_of, segments, segs_of}
-use Rattle.bz_layout.specs.declared.spacing.Edge.TheVariants.{Start}
+use Rattle.bz_tree.specs.Tree.{group, Segs, Segment, segments, segs_of}
 use Rattle.bz_layout.specs.declared.spacing.Gap.TheVariants.{Closed, Line}
 use Rattle.bz_layout.specs.declared.broken.Style.TheVariants.{Broken}
 use Rattle.bz_layout.specs.Broken.{count, have_comments, is_broken, segs_hold}
-use Rattle.bz_layout.specs.Layout.{breaks, broken_segs, is_comment, item_pieces, items_pieces}
-use Rattle.bz_layout.specs.Pieces.{Piece, piece, bytes_of, comment_lines, comments, suffix_piece}
+use Rattle.bz_layout.specs.Layout.{breaks, broken_segs, item_pieces}
+use Rattle.bz_layout.specs.Pieces.{Piece, piece, bytes_of, comments}
 use Rattle.bz_layout.proofs.Pieces.{bytes_append}
-use Rattle.bz_attribute.specs.Effects.{edit_first, has, nodes_after}
+use Rattle.bz_attribute.specs.Effects.{edit_first, has}
 use Rattle.bz_attribute.specs.RowPlaces.{IsLocal}
-use Rattle.bz_attribute.specs.Rules.{first_named, is_named, rule_of}
+use Rattle.bz_attribute.specs.Rules.{first_named, is_named}
 use Rattle.bz_attribute.proofs.Views.{segments_of}
-use Rattle.bz_canonical.specs.Canonical.{AreReadAlone, Between, argument_lines, first_args}
+use Rattle.bz_canonical.specs.Canonical.{argument_lines}
 use Rattle.bz_canonical.specs.private.Arguments.{alone}
-use Rattle.bz_canonical.specs.private.Segments.{AreLinesFront, IsBesideFront}
 use Rattle.bz_canonical.proofs.ArgumentLines.{counted, lines_append}
-use Rattle.bz_canonical.proofs.SmallRules.{none_alone, read_alone}
-use Rattle.bz_canonical.proofs.Taken.{taken}
 use Rattle.bz_token.specs.Common.{is_empty, is_filled}
 
 none_has : (attr : List ℕ) (args : List Segment) → first_named attr args ≡ None → has attr args ≡ false

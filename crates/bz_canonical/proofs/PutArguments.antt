@@ -1,6 +1,6 @@
 -- Arguments of a rule, and what is written of them.
-use Rattle.std.proofs.Common.{subst, ◌||◌, ◌≡◌, ◌≤◌, ◌<◌, ℕ, suc, ◌+◌, ◌-◌, take, length, List, [], ◌∷◌, ◌++◌, Bool, true, false, refl, sym, ap, ◌∙◌, arith, append_assoc, append-nil}
-use Rattle.std.specs.Prelude.{codes, flat_map, map, nat_le, IfSome, Some, if◌then◌else◌, None, Option, is_some, option_map, option_to_list}
+use Rattle.std.proofs.Common.{subst, ◌||◌, ◌≡◌, ◌≤◌, ◌<◌, ℕ, suc, length, List, [], ◌∷◌, ◌++◌, Bool, true, false, refl, sym, ap, ◌∙◌, arith, append_assoc, append-nil}
+use Rattle.std.specs.Prelude.{codes, flat_map, map, nat_le, IfSome, Some, if◌then◌else◌, None, Option, option_to_list}
 use Rattle.std.proofs.lemmas.Bool.{false≢true}
 use Rattle.std.proofs.lemmas.Bool.Decides.{nat_tests}
 use Rattle.std.proofs.lemmas.List.Folds.{list_any-append}
@@ -32,13 +32,12 @@ use Rattle.bz_canonical.specs.private.Arguments.{alone}
 use Rattle.bz_canonical.specs.private.Fronts.{IsTokenFront}
 use Rattle.bz_token.specs.Common.{is_filled}
 use Rattle.bz_layout_laws.specs.Spelled.{spelled_segs}
-use Rattle.bz_canonical.specs.private.Rewritten.{AreArgumentsRead, AreFormed, AreOthersRead, ArePlacedRead, AreRead, HasPut, IsValueEnd, PutEnds, AreElements, ArePlaced, Element, IsArgumentRead, IsHeadRead, IsListRead, IsPlaced, Placed, args_of, element_list, element_segs, elements_as_is, placed_lines}
+use Rattle.bz_canonical.specs.private.Rewritten.{AreArgumentsRead, AreFormed, AreOthersRead, ArePlacedRead, AreRead, HasPut, IsValueEnd, PutEnds, AreElements, ArePlaced, Element, IsArgumentRead, IsHeadRead, IsListRead, Placed, args_of, element_list, element_segs, elements_as_is, placed_lines}
 use Rattle.bz_canonical.specs.private.Segments.{AreNotesFront, AreSegments, AreSegmentsFront, IsBesideFront}
 use Rattle.bz_canonical.proofs.ArgumentLines.{argument_front, lines_after, lines_append, segs_same}
 use Rattle.bz_canonical.proofs.ElementLists.{flat_append}
 use Rattle.bz_canonical.proofs.GroupSegments.{equals_text, most, no_segments}
 use Rattle.bz_canonical.proofs.OwnLayout.{own_items, own_spelled, own_stand}
-use Rattle.bz_canonical.proofs.Taken.{taken}
 
 -- elements, as a well-formed statement has them
 
@@ -207,7 +206,7 @@ value_read depth attr text value rest named h v =
     let inner : List ℕ = h.word ++ (codes " = " ++ value) in
     let ident : IsTokenFront Identifier inner (codes " = " ++ value) = record { token = h.word; is = h.is; stays = refl; front = refl } in
     let above : AreNotesFront 1 text (10 ∷ (indent 1 ++ inner)) (is_filled h.notes) = record { notes = h.notes; are = h.are; front = h.front; some_is = refl } in
-    let a = argument_front depth attr text (10 ∷ (indent 1 ++ inner)) inner (codes " = " ++ value) value v.end v.comma rest v.holds (is_filled h.notes) v.noted above refl ident refl v.nodes v.is v.side named (sym h.named_is) _ refl in
+    let a = argument_front depth attr text (10 ∷ (indent 1 ++ inner)) inner (codes " = " ++ value) value v.end v.comma rest v.holds (is_filled h.notes) v.noted above refl ident refl v.nodes v.is v.side named (sym h.named_is) in
     let are : AreSegments RuleCall depth (segs_of (a.arg ∷ [])) = a.are [] (no_segments RuleCall depth) in
     let formed : AreFormed depth (segs_of (a.arg ∷ [])) = record { texts = are.texts; kinds = are.kinds; grammar = are.grammar; depth_fits = are.depth_fits } in (
       argument_lines (a.arg ∷ []),

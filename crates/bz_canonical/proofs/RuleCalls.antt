@@ -1,30 +1,29 @@
 -- The call of a rule by what was read of it.
-use Rattle.std.proofs.Common.{◌≡◌, ℕ, ◌-◌, List, [], ◌∷◌, ◌++◌, Bool, true, false, ◌||◌, ◌&&◌, refl, sym, ap, ◌∙◌, arith, append_assoc, subst, length, take, bytes_eq, nat_eq, option_and_then, suc}
-use Rattle.std.specs.Prelude.{codes, nat_le, Option, Some, None, IfSome, if◌then◌else◌}
+use Rattle.std.proofs.Common.{◌≡◌, ℕ, ◌-◌, List, [], ◌∷◌, ◌++◌, Bool, true, false, refl, sym, ap, ◌∙◌, append_assoc, subst, length, take, nat_eq, option_and_then}
+use Rattle.std.specs.Prelude.{codes, Some, None, if◌then◌else◌}
 use Rattle.std.proofs.lemmas.Bool.{false≢true}
 use Rattle.std.specs.List.{starts_with}
 use Rattle.bz_token.proofs.Classes.{same_bytes}
 use Rattle.bz_token.specs.declared.token.Kind.TheVariants.{Identifier, String, Operator}
 use Rattle.bz_token.specs.Lexical.{is_text, keywords}
 use Rattle.bz_tree.specs.declared.stmt.GroupKind.TheVariants.{RuleCall}
-use Rattle.bz_tree.specs.Tree.{Item, leaf, group, Items, no_items, item, Segs, no_segs, seg, Segment, list_of, segments, segs_of}
+use Rattle.bz_tree.specs.Tree.{Item, leaf, group, Items, no_items, item, Segs, no_segs, seg, list_of, segments}
 use Rattle.bz_layout.specs.declared.spacing.Edge.TheVariants.{Start, Operator as EdgeOperator}
 use Rattle.bz_layout.specs.declared.spacing.Gap.{Gap}
 use Rattle.bz_layout.specs.declared.spacing.Gap.TheVariants.{Closed, Space, Line}
 use Rattle.bz_layout.specs.declared.broken.Style.TheVariants.{Broken}
-use Rattle.bz_layout.specs.Broken.{segs_hold, count, have_comments, is_broken}
+use Rattle.bz_layout.specs.Broken.{segs_hold, is_broken}
 use Rattle.bz_layout.specs.Layout.{items_pieces, item_pieces, broken_segs, flat_segs}
-use Rattle.bz_layout.specs.Pieces.{Piece, piece, bytes_of, comments, comma_if, gap_bytes, suffix_piece, indent}
+use Rattle.bz_layout.specs.Pieces.{Piece, piece, bytes_of, comments, comma_if, gap_bytes, suffix_piece}
 use Rattle.bz_layout.proofs.Pieces.{bytes_append}
-use Rattle.bz_attribute.specs.Rules.{first_named, ident_of, is_operator_item, is_text as is_text_of, name_of, string_value as value_string, value, is_named}
+use Rattle.bz_attribute.specs.Rules.{first_named, ident_of, is_operator_item, is_text as is_text_of, name_of, string_value as value_string, value}
 use Rattle.bz_canonical.specs.private.Fronts.{IsTokenFront, IsQuotedFront}
-use Rattle.bz_canonical.specs.private.Segments.{AreNotesFront, AreSegmentsFront, IsGroupFront}
-use Rattle.bz_canonical.specs.Canonical.{HasArgumentName, argument_lines}
+use Rattle.bz_canonical.specs.private.Segments.{IsGroupFront}
+use Rattle.bz_canonical.specs.Canonical.{HasArgumentName}
 use Rattle.bz_canonical.specs.private.Statements.{IsRuleCallFront}
-use Rattle.bz_canonical.proofs.GroupSegments.{begin_flat, no_beside, begin_notes, finish_notes, no_segments, second_of_more, keyword_segment}
-use Rattle.bz_canonical.proofs.Operands.{broken_group, flat_group, string_value}
+use Rattle.bz_canonical.proofs.GroupSegments.{begin_flat, no_segments, keyword_segment}
+use Rattle.bz_canonical.proofs.Operands.{flat_group, string_value}
 use Rattle.bz_canonical.proofs.Chained.{value_nodes}
-use Rattle.bz_canonical.proofs.ArgumentLines.{argument_front, lines_append}
 use Rattle.bz_canonical.proofs.Taken.{taken}
 
 name_text : is_text Identifier (codes "name") ≡ true

@@ -10,11 +10,10 @@ use Rattle.bz_tree.specs.declared.stmt.GroupKind.TheVariants.{RuleCall}
 use Rattle.bz_tree.specs.Chunk.{IsStatementIn}
 use Rattle.bz_tree.specs.Grammar.{IsStatement, IsExpr, IsTest, IsChain, IsTerm, IsPrimary, IsOperand, AreSuffixes, IsSuffix}
 use Rattle.bz_tree.specs.Tree.{Item, leaf, group, Segment, Statement, items_of, segs_of}
-use Rattle.bz_layout.specs.declared.spacing.Edge.TheVariants.{Start}
 use Rattle.bz_layout.specs.declared.spacing.Gap.TheVariants.{Closed, Line}
 use Rattle.bz_layout.specs.declared.broken.Style.TheVariants.{Broken}
-use Rattle.bz_layout.specs.Layout.{broken_segs, items_pieces, layout_text}
-use Rattle.bz_layout.specs.Pieces.{Piece, piece, bytes_of, comments, suffix_piece}
+use Rattle.bz_layout.specs.Layout.{broken_segs, layout_text}
+use Rattle.bz_layout.specs.Pieces.{Piece, piece, bytes_of}
 use Rattle.bz_layout.proofs.Pieces.{bytes_append}
 use Rattle.bz_layout_laws.specs.Legible.{are_some}
 use Rattle.bz_layout_laws.specs.Lineless.{lineless}
@@ -27,7 +26,6 @@ use Rattle.bz_canonical.specs.Canonical.{AreReadAlone, argument_lines, small_rul
 use Rattle.bz_canonical.specs.private.Rewritten.{AreFormed}
 use Rattle.bz_canonical.specs.private.Segments.{AreSegments}
 use Rattle.bz_canonical.proofs.GroupSegments.{most}
-use Rattle.bz_token.specs.Common.{is_empty}
 
 kind_text : is_text Identifier (codes "k") ≡ true
 unfolding keywords
@@ -82,17 +80,3 @@ no_bytes C P R none =
     ap length (bytes_append C (P ++ (piece Closed Operator (codes ",") ∷ R))) ∙ length-append (bytes_of C) (bytes_of (P ++ (piece Closed Operator (codes ",") ∷ R)))
     ∙ ap (λ (n : ℕ). length (bytes_of C) + n) (ap length (bytes_append P (piece Closed Operator (codes ",") ∷ R)) ∙ length-append (bytes_of P) (44 ∷ bytes_of R)) in
     omega (arith, size, ap length none)
-
--- an argument has lines
-pub no_lines : (args : List Segment) → argument_lines args ≡ [] → args ≡ []
-no_lines [] is = refl
-no_lines (x ∷ xs) is = absurd (no_bytes (comments 1 x.before) (items_pieces Broken 1 (Some RuleCall) (Line 1) Start (items_of x.nodes)) (suffix_piece x.suffix ++ broken_segs Broken 1 RuleCall true (segs_of xs)) is)
-
--- lines, where there is an argument
-pub none_alone : (args : List Segment) → is_empty (argument_lines args) ≡ is_empty args
-none_alone [] = refl
-none_alone (x ∷ xs) = by (argument_lines (x ∷ xs)) (no_lines (x ∷ xs))
-  where
-    by : (lines : List ℕ) → (lines ≡ [] → x ∷ xs ≡ []) → is_empty lines ≡ false
-    by [] none = let no : x ∷ xs ≡ [] = none refl in absurd cc
-    by (b ∷ bs) none = refl

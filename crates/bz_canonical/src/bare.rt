@@ -22,7 +22,8 @@ pub(crate) struct BareStatement<'t> {
 #[inline(always)]
 pub(crate) fn bare_statement(text: &[u8], max_depth: u8) -> Option<BareStatement<'_>>
     requires { max_depth < 254 }
-    ensures { IfSome result (λ read. IsBareFront max_depth read.class (option_map (λ name. name.now) read.name) text.now read.rest.now) }
+    ensures { IfSome result (λ read. IsBareFront max_depth read.class (option_map (λ name. name.now) read.name)
+        text.now read.rest.now) }
 {
     if max_depth == 0 {
         return None;
@@ -51,7 +52,7 @@ pub(crate) fn bare_statement(text: &[u8], max_depth: u8) -> Option<BareStatement
             Some(BareStatement {
                 class: Class::Assign,
                 name: None,
-                    rest,
+                rest,
             })
         }
         _ => {
@@ -59,7 +60,7 @@ pub(crate) fn bare_statement(text: &[u8], max_depth: u8) -> Option<BareStatement
             Some(BareStatement {
                 class: Class::Rule,
                 name: read.name,
-                    rest: read.rest,
+                rest: read.rest,
             })
         }
     }

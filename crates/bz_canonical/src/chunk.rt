@@ -36,8 +36,8 @@ pub struct ArgumentPlace<'t> {
 // Brackets may be open so deep, and no deeper: an indent's level is one byte.
 pub(crate) const DEEPEST: u8 = 253;
 
-/// The chunk that the text begins with, where it is known what would be written of it, with the place of the argument of
-/// this name. The bytes in the buffer are lost: what is written of a rule is put there, if the rule stands otherwise. None:
+/// The chunk that the text begins with, where it is known what would be written of it, with the place of the argument
+/// of this name. The bytes in the buffer are lost: what is written of a rule goes there, if it stands otherwise. None:
 /// it may be known or not.
 #[inline(always)]
 pub fn canonical<'t>(

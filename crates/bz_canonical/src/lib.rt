@@ -1,8 +1,8 @@
 //! Whether a text begins with a chunk that is in canonical form: then it need not be read.
 //!
-//! `canonical` recognizes what `bz_layout` writes, and not the whole language: rules, loads on one line, assignments and
-//! comment lines, of values with the spaces, lines and double quotes of the layout. What it accepts is read back as a
-//! statement, of which the layout writes the same text. `rewritten` recognizes rules in which lists of strings stand
+//! `canonical` recognizes what `bz_layout` writes, and not the whole language: rules, loads on one line, assignments
+//! and comment lines, of values with the spaces, lines and double quotes of the layout. What it accepts is read back as
+//! a statement, of which the layout writes the same text. In rules it also recognizes lists of strings that stand
 //! otherwise, and writes these as the layout does.
 #![tactic(auto)]
 

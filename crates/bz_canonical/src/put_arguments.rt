@@ -213,7 +213,8 @@ fn put_placed<'t>(
     requires { depth < 254 }
     ensures { IfOk result (λ told. IfSome told (λ read.
         Puts written.old.items (pending start.entry) written.new.items (pending read.at)
-        (λ begun w. ArePlacedRead depth attr.now start.entry.rest.now read.at.rest.now begun w read.one (put_ends read.place) read.named))) }
+        (λ begun w. ArePlacedRead depth attr.now start.entry.rest.now read.at.rest.now begun w read.one
+        (put_ends read.place) read.named))) }
 {
     let Some(others) = put_others(start, attr, depth, written)? else {
         return Ok(None);
@@ -246,7 +247,8 @@ fn put_placed<'t>(
 }
 
 fn place_between<'t>(from: Pending<'t>, start: usize, to: Pending<'t>, end: usize) -> PutPlace<'t>
-    ensures { put_ends result ≡ record { from = from.entry.rest.now; to = to.entry.rest.now; start = start; end = end } }
+    ensures { put_ends result
+        ≡ record { from = from.entry.rest.now; to = to.entry.rest.now; start = start; end = end } }
 {
     PutPlace {
         lines: Lines {

@@ -28,7 +28,8 @@ pub(crate) fn put_rule<'t>(
 ) -> Result<Option<PutRule<'t>>, NoMemory>
     requires deep { depth < 253 }
     requires head { IsRuleHead text.now head.name.now head.inside.now head.rest.now }
-    ensures { IfOk result (λ told. IfSome told (λ read. IsRuleRead (depth + 1) attr.now head.entry.name.now text.now read.rest.now
+    ensures { IfOk result (λ told. IfSome told (λ read. IsRuleRead (depth + 1) attr.now head.entry.name.now
+        text.now read.rest.now
         (if read.as_is then take (length text.now - length read.rest.now) text.now else written.new.items)
         (option_map put_ends read.place))) }
 {

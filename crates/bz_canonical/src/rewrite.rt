@@ -11,8 +11,8 @@ use bz_memory::NoMemory;
 use bz_token::check_utf8;
 use bz_tree::Class;
 
-/// The chunk of the rule that begins with this head, where it stands as it would be written but for arguments whose value
-/// is a list of strings. If there are such, what is written goes into the buffer, whose bytes are lost.
+/// The chunk of the rule that begins with this head, where it stands as it would be written but for arguments whose
+/// value is a list of strings. If there are such, what is written goes into the buffer, whose bytes are lost.
 pub(crate) fn rule_chunk<'t>(
     text: &'t str,
     head: RuleHead<'t>,
@@ -43,7 +43,8 @@ fn chunk_of<'t>(
     read: PutRule<'t>,
 ) -> Option<CanonicalChunk<'t>>
     ensures { IfSome result (λ found. (depth : ℕ) (attr : List ℕ) → IsRuleRead depth attr name.now text.now
-        read.entry.rest.now (if read.entry.as_is then take (length text.now - length read.entry.rest.now) text.now else buffer.now)
+        read.entry.rest.now
+        (if read.entry.as_is then take (length text.now - length read.entry.rest.now) text.now else buffer.now)
         (option_map put_ends read.entry.place) → IsCanonical depth attr found.class
         (option_map (λ name. name.now) found.name) (option_map between found.place)
         found.chunk.now found.written.now text.now) }

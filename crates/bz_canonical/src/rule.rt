@@ -20,7 +20,8 @@ pub(crate) struct RuleCall<'t> {
 #[inline(always)]
 pub(crate) fn rule_call(text: &[u8], depth: u8) -> Option<RuleCall<'_>>
     requires { depth < 253 }
-    ensures { IfSome result (λ read. IsRuleCallFront depth (option_map (λ name. name.now) read.name) text.now read.rest.now) }
+    ensures { IfSome result (λ read. IsRuleCallFront depth (option_map (λ name. name.now) read.name)
+        text.now read.rest.now) }
 {
     match after_only_name(text) {
         Some(value) => {

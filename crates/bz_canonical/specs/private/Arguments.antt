@@ -1,10 +1,7 @@
 -- The arguments of a rule at the front of a text that stands as it is laid out, for private clauses.
-use Rattle.std.specs.Prelude.{◌≡◌, ℕ, List, ◌∷◌, [], ◌++◌, Bool, false, ◌||◌, Option, IfSome, nat_le, option_to_list}
+use Rattle.std.specs.Prelude.{◌≡◌, ℕ, List, ◌∷◌, [], ◌++◌, Bool, option_to_list}
 use Rattle.bz_tree.specs.declared.stmt.GroupKind.TheVariants.{RuleCall}
 use Rattle.bz_tree.specs.Tree.{Segment, segs_of}
-use Rattle.bz_layout.specs.Broken.{count, have_comments}
-use Rattle.bz_attribute.specs.Effects.{has}
-use Rattle.bz_attribute.specs.RowPlaces.{IsLocal}
 use Rattle.bz_attribute.specs.Rules.{first_named, is_named}
 use Rattle.bz_canonical.specs.Canonical.{argument_lines}
 use Rattle.bz_canonical.specs.private.Segments.{AreSegments}
@@ -18,10 +15,9 @@ pub record Ends : Type 0 where
 abbrev pub alone : List ℕ → List Segment → List Segment
 alone attr args = option_to_list (first_named attr args)
 
--- an argument on lines of its own; `noted`: a comment stands above it or beside it
-pub record IsArgumentFront (depth : ℕ) (attr text rest : List ℕ) (named noted : Bool) : Type 0 where
+-- an argument on lines of its own
+pub record IsArgumentFront (depth : ℕ) (attr text rest : List ℕ) (named : Bool) : Type 0 where
   pub arg : Segment
   pub front : text ≡ argument_lines (arg ∷ []) ++ rest
   pub are : (more : List Segment) → AreSegments RuleCall depth (segs_of more) → AreSegments RuleCall depth (segs_of (arg ∷ more))
   pub named_is : is_named attr arg ≡ named
-  pub notes : (more : List Segment) → have_comments (segs_of (arg ∷ more)) ≡ (noted || have_comments (segs_of more))

@@ -16,7 +16,7 @@ use Rattle.bz_layout.specs.declared.broken.Style.TheVariants.{Broken}
 use Rattle.bz_layout.specs.declared.spacing.Gap.TheVariants.{Closed}
 use Rattle.bz_layout_laws.specs.FreeLayout.{Choice, own, free, Stand, item_by, broken_by, items_spelled_by, spelled_by, text_by}
 use Rattle.bz_layout_laws.specs.Legible.{AreComments, segs_depth}
-use Rattle.bz_layout_laws.specs.Parsed.{SegsHaveKinds, have_for}
+use Rattle.bz_layout_laws.specs.Parsed.{SegsHaveKinds}
 use Rattle.bz_layout_laws.specs.TextsOfKinds.{SegsHaveTexts}
 use Rattle.bz_layout_laws.specs.WellFormed.{IsWellFormed}
 use Rattle.bz_attribute.specs.Effects.{has}

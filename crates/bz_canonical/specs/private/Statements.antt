@@ -1,31 +1,27 @@
 -- The statement at the front of a text that stands as it is laid out, for private clauses.
-use Rattle.std.specs.Prelude.{◌≡◌, ◌≤◌, ◌-◌, codes, ℕ, suc, drop, length, take, List, [], ◌∷◌, ◌++◌, Bool, true, false, if◌then◌else◌, map, Option, None, Some, IfSome}
+use Rattle.std.specs.Prelude.{◌≡◌, ◌≤◌, codes, ℕ, List, [], ◌∷◌, ◌++◌, Bool, true, false, if◌then◌else◌, map, Option, None}
 use Rattle.bz_token.specs.declared.token.Kind.TheVariants.{String}
 use Rattle.bz_tree.specs.declared.kinds.Preceding.TheVariants.{Other}
 use Rattle.bz_tree.specs.declared.stmt.Class.{Class}
 use Rattle.bz_tree.specs.declared.stmt.GroupKind.TheVariants.{RuleCall, Load}
 use Rattle.bz_tree.specs.Grammar.{IsStatement}
 use Rattle.bz_tree.specs.Statement.{class_of, is_rule, rule_call}
-use Rattle.bz_tree.specs.Tree.{Item, group, Segs, Segment, Statement, items_of, segments, segs_of}
+use Rattle.bz_tree.specs.Tree.{Item, Statement, items_of, segments}
 use Rattle.bz_layout.specs.declared.broken.Style.TheVariants.{Broken}
 use Rattle.bz_layout.specs.declared.spacing.Edge.TheVariants.{Start}
 use Rattle.bz_layout.specs.declared.spacing.Gap.TheVariants.{Closed}
-use Rattle.bz_layout.specs.Layout.{is_comment, item_pieces, items_pieces, layout_text}
+use Rattle.bz_layout.specs.Layout.{is_comment, items_pieces, layout_text}
 use Rattle.bz_layout.specs.Pieces.{bytes_of}
 use Rattle.bz_layout_laws.specs.Legible.{are_some, items_depth}
 use Rattle.bz_layout_laws.specs.Parsed.{HaveKinds, plain_calls}
 use Rattle.bz_layout_laws.specs.Spelled.{spelled, spelled_statement}
 use Rattle.bz_layout_laws.specs.TextsOfKinds.{HaveTexts}
 use Rattle.bz_layout_laws.specs.WellFormed.{IsWellFormed}
-use Rattle.bz_attribute.specs.Effects.{nodes_after}
-use Rattle.bz_attribute.specs.RowPlaces.{IsLocal}
 use Rattle.bz_attribute.specs.Rules.{first_named, name_in, rule_of}
-use Rattle.bz_canonical.specs.Canonical.{AreReadAlone, Between, HasArgumentName, HasName, HasPlace, argument_lines, rule_args, rule_name}
-use Rattle.bz_canonical.specs.private.Arguments.{Ends, alone}
+use Rattle.bz_canonical.specs.Canonical.{HasArgumentName, HasName, rule_args, rule_name}
 use Rattle.bz_canonical.specs.private.Fronts.{IsTokenFront}
 use Rattle.bz_canonical.specs.private.Segments.{AreFlatFront, IsGroupFront}
 use Rattle.bz_canonical.specs.private.Values.{AreNodesFront}
-use Rattle.bz_token.specs.Common.{is_empty}
 
 -- the call of a rule of this name
 pub record IsRuleCallFront (depth : ℕ) (name : Option (List ℕ)) (text rest : List ℕ) : Type 0 where

@@ -1,4 +1,3 @@
-use Rattle.std.proofs.Common.{◌++◌}
 use Rattle.bz_canonical.proofs.Pendings.{pend_more}
 use Rattle.bz_canonical.proofs.PutArguments.{value_read}
 use Rattle.bz_canonical.proofs.put_arguments.put_argument.Goals as goal

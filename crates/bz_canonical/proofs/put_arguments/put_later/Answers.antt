@@ -1,4 +1,4 @@
-use Rattle.std.proofs.Common.{◌++◌, List, [], append-nil, sym, subst}
+use Rattle.std.proofs.Common.{◌++◌, [], append-nil, sym, subst}
 use Rattle.std.specs.Prelude.{Option, IfSome}
 use Rattle.bz_canonical.specs.private.Rewritten.{AreOthersRead, Puts, pending}
 use Rattle.bz_canonical.specs.declared.put_arguments.PutOthers.{PutOthers}

@@ -1,4 +1,4 @@
-use Rattle.std.proofs.Common.{◌≡◌, ◌++◌, ◌∙◌, ℕ, List, length, append_assoc, refl, sym, ap, subst, true, false}
+use Rattle.std.proofs.Common.{◌++◌, ◌∙◌, ℕ, List, append_assoc, refl, subst, true}
 use Rattle.std.specs.Prelude.{Bool, Option, IfSome}
 use Rattle.bz_canonical.specs.private.Rewritten.{AreOthersRead, IsArgumentRead, IsHeadRead, Puts, pending}
 use Rattle.bz_canonical.specs.declared.put_arguments.PutOthers.{PutOthers}

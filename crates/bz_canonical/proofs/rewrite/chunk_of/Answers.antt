@@ -1,4 +1,4 @@
-use Rattle.std.proofs.Common.{◌≡◌, ◌-◌, ◌∙◌, ℕ, List, Bool, true, false, length, take, refl, sym, ap, subst, Some}
+use Rattle.std.proofs.Common.{◌≡◌, ◌-◌, ◌∙◌, ℕ, List, length, take, sym, ap, subst, Some}
 use Rattle.std.specs.Prelude.{option_map, if◌then◌else◌}
 use Rattle.bz_tree.specs.declared.stmt.Class.TheVariants.{Rule as RuleClass}
 use Rattle.bz_canonical.specs.Canonical.{IsCanonical, between}
