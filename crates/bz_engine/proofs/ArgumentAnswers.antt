@@ -1,28 +1,39 @@
 -- What a command that looks at one argument alone makes of its lines, and so of the rule.
-use Rattle.std.proofs.Common.{◌≡◌, ℕ, ◌-◌, true, false, List, [], ◌∷◌, ◌++◌, length, take, drop, refl, sym, ◌∙◌, ap, subst, arith, append_assoc}
+use Rattle.std.proofs.Common.{◌≡◌, ℕ, ◌-◌, Bool, ◌&&◌, ◌||◌, not, true, false, List, [], ◌∷◌, ◌++◌, length, take, drop, refl, sym, ◌∙◌, ap, subst, arith, append_assoc}
 use Rattle.std.proofs.Math.Seq.{take-append_seam}
 use Rattle.std.proofs.lemmas.List.{length-append}
-use Rattle.std.specs.Prelude.{codes, option_to_list, Option, None, Some, Result, Ok, Err, IfOk, IfSome}
+use Rattle.std.specs.Prelude.{codes, option_map, option_to_list, Option, None, Some, Result, Ok, Err, IfOk, IfSome}
 use Rattle.bz_tree.specs.Chunk.{IsStatementIn}
 use Rattle.bz_tree.specs.Tree.{Segment, Statement}
 use Rattle.bz_layout.specs.Layout.{layout_text}
+use Rattle.bz_command.specs.declared.arguments.Attributes.TheVariants.{Named}
+use Rattle.bz_command.specs.declared.arguments.Moved.TheVariants.{Values}
 use Rattle.bz_command.specs.declared.arguments.Setting.TheVariants.{ToValues}
 use Rattle.bz_command.specs.Labels.{Package}
 use Rattle.bz_command.specs.Values.{quoted}
 use Rattle.bz_attribute.specs.declared.done.Done.{Done}
-use Rattle.bz_attribute.specs.Effects.{slot_done, with_args, done}
+use Rattle.bz_attribute.specs.Effects.{chooses, done, is_chosen, slot_done, with_args}
+use Rattle.bz_attribute.specs.Lists.{equals, parts}
+use Rattle.bz_attribute.specs.Remove.{removes}
+use Rattle.bz_attribute.specs.Replace.{is_replaced, replaces, replaces_in}
 use Rattle.bz_attribute.specs.RowPlaces.{LooksAt}
-use Rattle.bz_attribute.specs.Rules.{Rule, first_named, rule_of}
+use Rattle.bz_attribute.specs.Rules.{Rule, first_named, is_text, rule_of, string_value, value}
+use Rattle.std.specs.List.{list_any}
 use Rattle.bz_attribute_commands.specs.Argument.{new_argument}
+use Rattle.bz_canonical.specs.Added.{AddsToLines, LacksInLines}
+use Rattle.bz_canonical.specs.declared.added.Added.{Added}
+use Rattle.bz_canonical.specs.declared.added.Added.TheVariants.{Present, New}
 use Rattle.bz_canonical.specs.Canonical.{AreReadAlone, Between, HasName, HasPlace, argument_lines, first_args, rule_args, small_text}
 use Rattle.bz_canonical.proofs.SmallRules.{small_after, small_told}
-use Rattle.bz_rule.specs.declared.command.Action.TheVariants.{Add, Set, SetIfAbsent}
+use Rattle.bz_rule.specs.declared.command.Action.TheVariants.{Add, Remove, Replace, Set, SetIfAbsent}
 use Rattle.bz_rule.specs.Commands.{Command, after, args_after, args_done, done_of}
 use Rattle.bz_rule.specs.OneAttribute.{one_attribute}
 use Rattle.bz_rule.proofs.Commands.{local}
 use Rattle.bz_engine.specs.declared.argument.EditedArgument.{EditedArgument}
 use Rattle.bz_engine.specs.declared.argument.EditedArgument.TheVariants.{Unchanged, Lines}
-use Rattle.bz_engine.specs.private.ArgumentEdits.{AddsArgument, AreLinesAfter, ChangesArgs, EditsLines, EditsSmallRule, Setting, list_argument, set_by}
+use Rattle.bz_engine.specs.declared.argument.EditedList.{EditedList}
+use Rattle.bz_engine.specs.declared.argument.EditedList.TheVariants.{Unchanged as Unlisted}
+use Rattle.bz_engine.specs.private.ArgumentEdits.{AddsArgument, AreLinesAfter, ChangesArgs, EditsLines, EditsList, EditsSmallRule, Setting, list_argument, list_edit, set_by, sought_by}
 use Rattle.bz_engine.specs.private.Found.{Makes, told_line}
 use Rattle.bz_engine.proofs.OnlyPass.{named_rule}
 use Rattle.bz_engine.proofs.TextAnswers.{no_args, none_has, stays_by}
@@ -47,6 +58,59 @@ adds_argument command new lines is lines_are = λ home.
 -- what is added where none has the name
 pub adds_list : (attr value lines : List ℕ) → lines ≡ argument_lines (list_argument attr value ∷ []) → AddsArgument (Add attr (value ∷ [])) lines
 adds_list attr value lines lines_are = λ home. record { told = refl; some = refl; lines_are = lines_are }
+
+-- what is added to a list
+listed : (depth : ℕ) (home : Package) (attr value lines written : List ℕ) (added : Added) → AddsToLines depth home attr value lines written added → EditsList depth (Add attr (value ∷ [])) home lines written (list_edit added)
+listed depth home attr value lines written Present adds = λ args reads. let is = adds args reads in λ i. done (is.list i) (is.present i)
+listed depth home attr value lines written New adds = λ args reads.
+    let is = adds args reads in
+    record { told = λ i. done (is.list i) (is.new i); some = is.some; lines_are = is.lines_are }
+
+adds_listed : (depth : ℕ) (command : Command) (home : Package) (attr value lines written : List ℕ) → command ≡ Add attr (value ∷ []) → (told : Option Added) → IfSome told (AddsToLines depth home attr value lines written)
+    → IfSome (option_map list_edit told) (EditsList depth command home lines written)
+adds_listed depth command home attr value lines written is None known = tt
+adds_listed depth command home attr value lines written is (Some added) known = subst (λ c. EditsList depth c home lines written (list_edit added)) (sym is) (listed depth home attr value lines written added known)
+
+pub adds_to_list : (depth : ℕ) (command : Command) (home : Package) (attr value lines written : List ℕ) → command ≡ Add attr (value ∷ []) → (told : Option Added) → IfSome told (AddsToLines depth home attr value lines written)
+    → (edited : Option EditedList) → option_map list_edit told ≡ edited → IfSome edited (EditsList depth command home lines written)
+adds_to_list depth command home attr value lines written is told known edited edits = subst (λ o. IfSome o (EditsList depth command home lines written)) edits (adds_listed depth command home attr value lines written is told known)
+
+-- a list that lacks a value
+or_none : (a b : Bool) → (a || b) ≡ false → (a ≡ false) × (b ≡ false)
+or_none true b none = absurd cc
+or_none false b none = (refl, none)
+
+none_less : {A : Type 0} (p q : A → Bool) → ((x : A) → q x ≡ false → p x ≡ false) → (xs : List A) → list_any q xs ≡ false → list_any p xs ≡ false
+none_less p q less [] none = refl
+none_less p q less (x ∷ xs) none =
+    let one = or_none (q x) (list_any q xs) none in
+    λ i. less x one.0 i || none_less p q less xs one.1 i
+
+not_replaced : (home : Package) (old new : List ℕ) (s : Segment) → is_chosen home (Values (old ∷ [])) s ≡ false → is_replaced home old new s ≡ false
+not_replaced home old new s none = ap (λ b. b && not (is_text new (string_value s.nodes))) (or_none (equals home old s) false none).0
+
+none_replaced : (home : Package) (old new : List ℕ) (arg : Option Segment) → map_or false (chooses home (Values (old ∷ []))) arg ≡ false → map_or false (replaces_in home old new) arg ≡ false
+none_replaced home old new None none = refl
+none_replaced home old new (Some a) none =
+    none_less (list_any (is_replaced home old new)) (list_any (is_chosen home (Values (old ∷ [])))) (λ ss. none_less (is_replaced home old new) (is_chosen home (Values (old ∷ []))) (not_replaced home old new) ss) (parts (value a)) none
+
+abbrev first_word : List (List ℕ) → List ℕ
+first_word [] = []
+first_word (w ∷ ws) = w
+
+leaves_list : (command : Command) (home : Package) (attr value : List ℕ) (args : List Segment) → sought_by command ≡ Some (record { attr = attr; words = value ∷ [] }) → map_or false (chooses home (Values (value ∷ []))) (first_named attr args) ≡ false
+    → args_done command home args ≡ told_line false None
+leaves_list (Remove (Named a) (v ∷ [])) home attr value args is none =
+    let same : record { attr = a; words = v ∷ [] } ≡ record { attr = attr; words = value ∷ [] } = cc in
+    ap (λ (s : Setting). done None (removes home (Named s.attr) s.words args)) same ∙ ap (done None) none
+leaves_list (Replace (Named a) old new) home attr value args is none =
+    let same : record { attr = a; words = old ∷ [] } ≡ record { attr = attr; words = value ∷ [] } = cc in
+    ap (λ (s : Setting). done None (replaces home (Named s.attr) (first_word s.words) new args)) same ∙ ap (done None) (none_replaced home value new (first_named attr args) none)
+leaves_list _ home attr value args is none = absurd cc
+
+pub leaves_lines : (depth : ℕ) (command : Command) (home : Package) (attr value lines written : List ℕ) → sought_by command ≡ Some (record { attr = attr; words = value ∷ [] }) → LacksInLines depth home attr value lines
+    → EditsList depth command home lines written Unlisted
+leaves_lines depth command home attr value lines written is none = λ args reads. leaves_list command home attr value args is (none args reads)
 
 list_line : (attr value : List ℕ) → argument_lines (list_argument attr value ∷ []) ≡ codes "\n    " ++ (attr ++ (codes " = [" ++ (quoted value ++ codes "],")))
 list_line attr value = refl

@@ -1,16 +1,17 @@
 //! What a command makes of the lines of an argument, by a small rule that has this argument alone.
 
-ghost use Rattle.std.specs.Prelude.{◌≡◌, ◌++◌, ◌∷◌, ℕ, List, [], codes, string_bytes, IfOk, IfSome, IsTrue, OnOk, Some};
+ghost use Rattle.std.specs.Prelude.{◌≡◌, ◌++◌, ◌∷◌, ℕ, List, [], codes, option_map, string_bytes, IfOk, IfSome, IsTrue, OnOk, Some};
 ghost use Rattle.bz_canonical.specs.Canonical.{argument_lines, small_text};
 ghost use Rattle.bz_rule.specs.OneAttribute.{one_attribute};
 ghost use Rattle.bz_rule.specs.declared.command.Action.TheVariants.{Add};
-ghost use Rattle.bz_engine.specs.private.ArgumentEdits.{AddsArgument, AreLinesAfter, EditsLines, EditsSmallRule, list_argument, new_of, set_by};
+ghost use Rattle.bz_engine.specs.private.ArgumentEdits.{AddsArgument, AreLinesAfter, EditsLines, EditsList, EditsSmallRule, list_argument, list_edit, new_of, set_by, sought_by, sought_of};
 
 use crate::edit::ScriptRun;
 use crate::spare::Spare;
 use bz_attribute::Env;
 use bz_attribute_commands::argument::put_argument;
-use bz_command::{Setting, quote};
+use bz_canonical::{Added, ListValue, lacks, put_added};
+use bz_command::{Attributes, Setting, quote};
 use bz_memory::{NoMemory, extend_from_slice, push_str};
 use bz_rule::{Action, Command, Done, StatementRow, Text, execute};
 use bz_tree::read_text;
@@ -24,18 +25,19 @@ pub(crate) enum EditedArgument<'s> {
     Lines(&'s [u8]),
 }
 
+/// What a command makes of an argument that is a list.
+#[derive(Clone, Copy)]
+enum EditedList {
+    Unchanged,
+    /// Its lines are in the buffer.
+    Written,
+}
+
 /// An argument that `set` adds.
 #[derive(Clone, Copy)]
 struct NewArgument<'c> {
     attr: &'c str,
     values: &'c [Text],
-}
-
-/// A value that `add` adds.
-#[derive(Clone, Copy)]
-struct AddedValue<'c> {
-    attr: &'c str,
-    value: &'c str,
 }
 
 // The small rule before its argument and after it: the comment keeps the rule on lines.
@@ -57,6 +59,11 @@ pub(crate) fn edit_lines<'s>(
     requires { (attr : List ℕ) × (one_attribute command.now ≡ Some attr) }
     ensures { IfOk result (λ told. IfSome told (EditsLines script.entry.max_depth command.now script.entry.home.now lines.now)) }
 {
+    match edit_list(script, command, lines, &mut spare.laid)? {
+        Some(EditedList::Unchanged) => return Ok(Some(EditedArgument::Unchanged)),
+        Some(EditedList::Written) => return Ok(Some(EditedArgument::Lines(spare.laid.as_slice()))),
+        None => {}
+    }
     if lines.is_empty() && is_comment(command) {
         return Ok(None);
     }
@@ -68,6 +75,63 @@ pub(crate) fn edit_lines<'s>(
     }
     put_small_rule(lines, &mut spare.small)?;
     edit_small_rule(script, command, spare)
+}
+
+/// What the command makes of the argument that has these lines, where it looks for one value in a list of strings. None: it
+/// may be another command, or no such list, or it takes the value out.
+fn edit_list(
+    script: ScriptRun<'_>,
+    command: &Command,
+    lines: &str,
+    written: &mut Vec<u8>,
+) -> Result<Option<EditedList>, NoMemory>
+    ensures { IfOk result (λ told. IfSome told (EditsList script.entry.max_depth command.now script.entry.home.now lines.now
+        written.new.items)) }
+{
+    if let Some(new) = added_by(command) {
+        let env = Env {
+            alloc: script.alloc,
+            home: script.home,
+        };
+        let added = put_added(env, lines, new, script.max_depth, written)?;
+        return Ok(edited_by(added));
+    }
+    let Some(sought) = sought_by(command) else {
+        return Ok(None);
+    };
+    if lacks(script.home, lines, sought, script.max_depth, written)? {
+        return Ok(Some(EditedList::Unchanged));
+    }
+    Ok(None)
+}
+
+fn edited_by(added: Option<Added>) -> Option<EditedList>
+    ensures { option_map list_edit added ≡ result }
+{
+    match added? {
+        Added::Present => Some(EditedList::Unchanged),
+        Added::New => Some(EditedList::Written),
+    }
+}
+
+/// The one value without which the command leaves a list as it is.
+fn sought_by(command: &Command) -> Option<ListValue<'_>>
+    ensures { IfSome result (λ sought. sought_by command.now ≡ Some (sought_of sought)) }
+{
+    match &command.action {
+        Action::Remove(Attributes::Named(attr), values) => match values.as_slice() {
+            [value] => Some(ListValue {
+                attr: attr.as_str(),
+                value: value.as_str(),
+            }),
+            _ => None,
+        },
+        Action::Replace(Attributes::Named(attr), old, _) => Some(ListValue {
+            attr: attr.as_str(),
+            value: old.as_str(),
+        }),
+        _ => None,
+    }
 }
 
 // Where there is no argument to put a comment at, it fails, and its note is told of the rule.
@@ -99,7 +163,7 @@ fn put_set(alloc: Global, command: &Command, lines: &mut Vec<u8>) -> Result<bool
 }
 
 /// Writes an argument whose value is a list of one string.
-fn put_list(alloc: Global, new: AddedValue<'_>, out: &mut Vec<u8>) -> Result<(), NoMemory>
+fn put_list(alloc: Global, new: ListValue<'_>, out: &mut Vec<u8>) -> Result<(), NoMemory>
     ensures { OnOk result
         (out.new.items ≡ out.old.items ++ argument_lines (list_argument new.entry.attr.now new.entry.value.now ∷ [])) }
 {
@@ -113,7 +177,7 @@ fn put_list(alloc: Global, new: AddedValue<'_>, out: &mut Vec<u8>) -> Result<(),
 }
 
 /// The one value that the command adds.
-fn added_by(command: &Command) -> Option<AddedValue<'_>>
+fn added_by(command: &Command) -> Option<ListValue<'_>>
     ensures { IfSome result (λ new. command.now ≡ Add new.attr.now (new.value.now ∷ [])) }
 {
     let Action::Add(attr, values) = &command.action else {
@@ -122,7 +186,7 @@ fn added_by(command: &Command) -> Option<AddedValue<'_>>
     let [value] = values.as_slice() else {
         return None;
     };
-    Some(AddedValue {
+    Some(ListValue {
         attr: attr.as_str(),
         value: value.as_str(),
     })

@@ -4,13 +4,19 @@ use Rattle.bz_tree.specs.Tree.{Segment, Statement}
 use Rattle.bz_layout.specs.Layout.{layout_text}
 use Rattle.bz_attribute.specs.declared.done.Done.{Done}
 use Rattle.bz_attribute.specs.Effects.{argument, list_item, string}
+use Rattle.bz_command.specs.declared.arguments.Attributes.TheVariants.{Named}
 use Rattle.bz_command.specs.declared.arguments.Setting.TheVariants.{ToValues}
 use Rattle.bz_command.specs.Labels.{Package}
 use Rattle.bz_canonical.specs.Canonical.{AreReadAlone, argument_lines, small_text}
+use Rattle.bz_canonical.specs.declared.added.Added.{Added}
+use Rattle.bz_canonical.specs.declared.added.Added.TheVariants.{Present, New}
+use Rattle.bz_canonical.specs.declared.added.ListValue.{ListValue}
 use Rattle.bz_rule.specs.Commands.{Command, args_after, args_done}
-use Rattle.bz_rule.specs.declared.command.Action.TheVariants.{Set, SetIfAbsent}
+use Rattle.bz_rule.specs.declared.command.Action.TheVariants.{Remove, Replace, Set, SetIfAbsent}
 use Rattle.bz_engine.specs.declared.argument.EditedArgument.{EditedArgument}
-use Rattle.bz_engine.specs.declared.argument.EditedArgument.TheVariants.{Unchanged, Lines}
+use Rattle.bz_engine.specs.declared.argument.EditedArgument.TheVariants.{Unchanged as Stays, Lines}
+use Rattle.bz_engine.specs.declared.argument.EditedList.{EditedList}
+use Rattle.bz_engine.specs.declared.argument.EditedList.TheVariants.{Unchanged, Written}
 use Rattle.bz_engine.specs.declared.argument.NewArgument.{NewArgument}
 use Rattle.bz_engine.specs.private.Found.{told_line}
 use Rattle.bz_token.specs.Common.{is_empty}
@@ -45,15 +51,33 @@ AddsArgument command lines = (home : Package) → ChangesArgs command home [] li
 
 -- what the command makes of the arguments that are read of these lines alone
 abbrev pub EditsLines : ℕ → Command → Package → List ℕ → EditedArgument → Type 0
-EditsLines depth command home lines Unchanged = (args : List Segment) → is_empty lines ≡ is_empty args → AreReadAlone depth lines args → args_done command home args ≡ told_line false None
+EditsLines depth command home lines Stays = (args : List Segment) → is_empty lines ≡ is_empty args → AreReadAlone depth lines args → args_done command home args ≡ told_line false None
 EditsLines depth command home lines (Lines new) = (args : List Segment) → is_empty lines ≡ is_empty args → AreReadAlone depth lines args → ChangesArgs command home args new.now
 
 -- the same, of each argument of which this is the small rule
 abbrev pub EditsSmallRule : ℕ → Command → Package → List ℕ → EditedArgument → Type 0
 EditsSmallRule depth command home text edited = (lines : List ℕ) → text ≡ small_text lines → EditsLines depth command home lines edited
 
+-- the same of a list
+abbrev pub EditsList : ℕ → Command → Package → List ℕ → List ℕ → EditedList → Type 0
+EditsList depth command home lines written Unchanged = (args : List Segment) → AreReadAlone depth lines args → args_done command home args ≡ told_line false None
+EditsList depth command home lines written Written = (args : List Segment) → AreReadAlone depth lines args → ChangesArgs command home args written
+
+abbrev pub list_edit : Added → EditedList
+list_edit Present = Unchanged
+list_edit New = Written
+
+-- the attribute and the value without which a command leaves a list as it is
+abbrev pub sought_by : Command → Option Setting
+sought_by (Remove (Named attr) (value ∷ [])) = Some (record { attr = attr; words = value ∷ [] })
+sought_by (Replace (Named attr) old new) = Some (record { attr = attr; words = old ∷ [] })
+sought_by _ = None
+
+abbrev pub sought_of : ListValue → Setting
+sought_of sought = record { attr = sought.attr.now; words = sought.value.now ∷ [] }
+
 -- what stands in the small rule, where this was told
 abbrev pub AreLinesAfter : Done → Option Statement → EditedArgument → Type 0
-AreLinesAfter done slot Unchanged = done ≡ told_line false None
+AreLinesAfter done slot Stays = done ≡ told_line false None
 AreLinesAfter done slot (Lines new) = (done ≡ told_line true None) × (new.now ≡ [] → ⊥)
     × ((s : Statement) (args : List Segment) → slot ≡ Some s → layout_text s ≡ small_text (argument_lines args) → new.now ≡ argument_lines args)
