@@ -77,16 +77,16 @@ pub(crate) fn edit_lines<'s>(
     edit_small_rule(script, command, spare)
 }
 
-/// What the command makes of the argument that has these lines, where it looks for one value in a list of strings. None: it
-/// may be another command, or no such list, or it takes the value out.
+/// What the command makes of the argument that has these lines, where it adds one value to a list of strings, or looks for
+/// one that is not in it. None: it may be another command, or another argument.
 fn edit_list(
     script: ScriptRun<'_>,
     command: &Command,
     lines: &str,
     written: &mut Vec<u8>,
 ) -> Result<Option<EditedList>, NoMemory>
-    ensures { IfOk result (λ told. IfSome told (EditsList script.entry.max_depth command.now script.entry.home.now lines.now
-        written.new.items)) }
+    ensures { IfOk result (λ told. IfSome told (EditsList script.entry.max_depth command.now script.entry.home.now
+        lines.now written.new.items)) }
 {
     if let Some(new) = added_by(command) {
         let env = Env {
