@@ -40,7 +40,7 @@ absurd_of : {A : Type 0} → false ≡ true → A
 absurd_of h = absurd (false≢true h)
 
 -- what is read of the lines of an argument is the argument
-read_same : (depth : ℕ) (lines : List ℕ) (args : List Segment) (p : Placed) → IsPlaced depth p → lines ≡ placed_lines p → AreReadAlone (suc depth) lines args → args ≡ p.arg ∷ []
+pub read_same : (depth : ℕ) (lines : List ℕ) (args : List Segment) (p : Placed) → IsPlaced depth p → lines ≡ placed_lines p → AreReadAlone (suc depth) lines args → args ≡ p.arg ∷ []
 read_same depth lines args p is lines_are reads =
     let c : Choice = free true own (free true (free true (free true p.choice own) own) own) in
     let again = free_again 0 (suc depth) (small_rule (p.arg ∷ [])) c (small_formed depth (p.arg ∷ []) is.formed) (tt, ((λ no. absurd_of (sym no), (is.stand, tt)), tt)) in

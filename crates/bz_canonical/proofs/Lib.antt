@@ -19,3 +19,4 @@ pub mod AddedElements
 pub mod PutArguments
 pub mod PutRules
 pub mod AddedLines
+pub mod CommentedLines

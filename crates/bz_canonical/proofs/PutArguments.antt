@@ -124,16 +124,21 @@ list_read depth attr text value end comma next w e named deep h l is side =
     let S : List ℕ = bytes_of (suffix_piece side.note) in
     let F : List ℕ = C ++ (10 ∷ (indent 1 ++ (h.word ++ codes " = "))) in
     let begins : text ≡ F ++ value = h.front ∙ start C value in
-    let ends : end ≡ (44 ∷ S) ++ next = is ∙ ap (λ (t : List ℕ). 44 ∷ t) side.front in
-    (F, 44 ∷ S, begins, ends, record {
-      placed = list_placed h.notes h.word l.breaks es side.note;
-      is = list_is_placed depth h.notes h.word l.breaks es side.note deep h.are h.is l.are l.stands side.is;
-      front = begins ∙ ap (λ (t : List ℕ). F ++ t) (l.front ∙ ap (λ (t : List ℕ). (91 ∷ bytes_of (standing l.breaks es)) ++ t) ends)
-          ∙ whole C (91 ∷ bytes_of (standing l.breaks es)) S ∙ ap (λ (t : List ℕ). t ++ next) (sym (list_lines h.notes h.word l.breaks es side.note));
-      spells = ap (λ (t : List ℕ). F ++ (t ++ (44 ∷ S))) l.spells
-          ∙ again C (91 ∷ bytes_of (laid es)) S ∙ sym (argument_bytes (comments 1 h.notes) (laid es) (suffix_piece side.note) h.word);
-      named_is = h.named_is;
-    })
+    let ends : end ≡ (44 ∷ S) ++ next = is ∙ ap (λ (t : List ℕ). 44 ∷ t) side.front in (
+      F,
+      44 ∷ S,
+      begins,
+      ends,
+      record {
+        placed = list_placed h.notes h.word l.breaks es side.note;
+        is = list_is_placed depth h.notes h.word l.breaks es side.note deep h.are h.is l.are l.stands side.is;
+        front = begins ∙ ap (λ (t : List ℕ). F ++ t) (l.front ∙ ap (λ (t : List ℕ). (91 ∷ bytes_of (standing l.breaks es)) ++ t) ends)
+            ∙ whole C (91 ∷ bytes_of (standing l.breaks es)) S ∙ ap (λ (t : List ℕ). t ++ next) (sym (list_lines h.notes h.word l.breaks es side.note));
+        spells = ap (λ (t : List ℕ). F ++ (t ++ (44 ∷ S))) l.spells
+            ∙ again C (91 ∷ bytes_of (laid es)) S ∙ sym (argument_bytes (comments 1 h.notes) (laid es) (suffix_piece side.note) h.word);
+        named_is = h.named_is;
+      },
+    )
   where
     start : (C rest : List ℕ) → C ++ (10 ∷ (indent 1 ++ (h.word ++ (codes " = " ++ rest)))) ≡ (C ++ (10 ∷ (indent 1 ++ (h.word ++ codes " = ")))) ++ rest
     start C rest = simp append_assoc

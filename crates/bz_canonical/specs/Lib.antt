@@ -1,3 +1,4 @@
 pub mod Canonical
 pub mod Added
+pub mod Commented
 pub mod private

@@ -6,3 +6,4 @@ pub mod Chains
 pub mod Statements
 pub mod Rewritten
 pub mod Added
+pub mod Commented

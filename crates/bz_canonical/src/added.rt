@@ -35,7 +35,7 @@ pub enum Added {
 }
 
 // The argument is in two brackets, its own and the rule's.
-const BRACKETS: u8 = 2;
+pub(crate) const BRACKETS: u8 = 2;
 
 /// What `add` makes of the argument that has these lines, where its value is one list of strings. The lines that it has
 /// then go into the buffer, whose bytes are lost. None: it may be no such list.

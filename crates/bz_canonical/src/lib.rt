@@ -10,6 +10,7 @@ mod added;
 mod assignment;
 mod bare;
 mod chunk;
+mod commented;
 mod front;
 mod group;
 mod lists;
@@ -25,3 +26,4 @@ mod value;
 
 pub use added::{Added, ListValue, lacks, put_added};
 pub use chunk::{ArgumentPlace, CanonicalChunk, canonical};
+pub use commented::{NewComment, put_commented};

@@ -1,0 +1,15 @@
+-- The name of an argument below the comments above it, for private clauses.
+use Rattle.std.specs.Prelude.{◌≡◌, ℕ, List, ◌∷◌, ◌++◌, codes, true, bytes_eq}
+use Rattle.bz_token.specs.Lexical.{is_text}
+use Rattle.bz_token.specs.declared.token.Kind.TheVariants.{Identifier}
+use Rattle.bz_layout.specs.Pieces.{bytes_of, comments, indent}
+use Rattle.bz_layout_laws.specs.Legible.{AreComments}
+
+pub record IsHeadBelow (attr text line value : List ℕ) : Type 0 where
+  pub notes : List (List ℕ)
+  pub are : AreComments notes
+  pub word : List ℕ
+  pub is : is_text Identifier word ≡ true
+  pub front : text ≡ bytes_of (comments 1 notes) ++ line
+  pub line_is : line ≡ 10 ∷ (indent 1 ++ (word ++ (codes " = " ++ value)))
+  pub named : bytes_eq attr word ≡ true
