@@ -8,7 +8,7 @@ use bz_memory::{NoMemory, from_str, push_str};
 use std::alloc::Global;
 
 /// The comment line of a text.
-pub(crate) fn comment_line(alloc: Global, text: &str) -> Result<String, NoMemory>
+pub fn comment_line(alloc: Global, text: &str) -> Result<String, NoMemory>
     ensures { IfOk result (λ line. string_bytes line ≡ spec.comment_line text.now) }
 {
     let mut line = from_str(alloc, "# ")?;

@@ -4,10 +4,9 @@ use Rattle.std.proofs.lemmas.Bool.{and_parts, eqb-true, false≢true}
 use Rattle.bz_token.specs.Common.{is_empty}
 use Rattle.std.specs.Prelude.{codes, Option}
 use Rattle.bz_token.specs.Lexical.{is_comment}
-use Rattle.bz_tree.specs.Tree.{Segment}
 use Rattle.bz_layout.specs.Pieces.{bytes_of, comments, indent, suffix_piece}
 use Rattle.bz_layout_laws.specs.Legible.{AreComments}
-use Rattle.bz_canonical.specs.Canonical.{AreReadAlone, argument_lines}
+use Rattle.bz_canonical.specs.Canonical.{argument_lines}
 use Rattle.bz_canonical.specs.Commented.{CommentsLines, IsCommented, commented}
 use Rattle.bz_canonical.specs.private.Added.{list_arg}
 use Rattle.bz_canonical.specs.private.Commented.{IsHeadBelow}

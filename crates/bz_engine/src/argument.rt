@@ -3,15 +3,17 @@
 ghost use Rattle.std.specs.Prelude.{◌≡◌, ◌++◌, ◌∷◌, ℕ, List, [], codes, option_map, string_bytes, IfOk, IfSome, IsTrue, OnOk, Some};
 ghost use Rattle.bz_canonical.specs.Canonical.{argument_lines, small_text};
 ghost use Rattle.bz_rule.specs.OneAttribute.{one_attribute};
-ghost use Rattle.bz_rule.specs.declared.command.Action.TheVariants.{Add};
+ghost use Rattle.bz_command.specs.declared.arguments.Commented.TheVariants.{Attribute};
+ghost use Rattle.bz_rule.specs.declared.command.Action.TheVariants.{Add, Comment};
 ghost use Rattle.bz_engine.specs.private.ArgumentEdits.{AddsArgument, AreLinesAfter, EditsLines, EditsList, EditsSmallRule, list_argument, list_edit, new_of, set_by, sought_by, sought_of};
 
 use crate::edit::ScriptRun;
 use crate::spare::Spare;
 use bz_attribute::Env;
 use bz_attribute_commands::argument::put_argument;
-use bz_canonical::{Added, ListValue, lacks, put_added};
-use bz_command::{Attributes, Setting, quote};
+use bz_attribute_commands::comment::comment_line;
+use bz_canonical::{Added, ListValue, NewComment, lacks, put_added, put_commented};
+use bz_command::{Attributes, Commented, Setting, quote};
 use bz_memory::{NoMemory, extend_from_slice, push_str};
 use bz_rule::{Action, Command, Done, StatementRow, Text, execute};
 use bz_tree::read_text;
@@ -31,6 +33,13 @@ enum EditedList {
     Unchanged,
     /// Its lines are in the buffer.
     Written,
+}
+
+/// What `comment` puts above an attribute.
+#[derive(Clone, Copy)]
+struct AttributeComment<'c> {
+    attr: &'c str,
+    text: &'c str,
 }
 
 /// An argument that `set` adds.
@@ -96,6 +105,9 @@ fn edit_list(
         let added = put_added(env, lines, new, script.max_depth, written)?;
         return Ok(edited_by(added));
     }
+    if let Some(comment) = comment_by(command) {
+        return edit_comment(script, comment, lines, written);
+    }
     let Some(sought) = sought_by(command) else {
         return Ok(None);
     };
@@ -112,6 +124,41 @@ fn edited_by(added: Option<Added>) -> Option<EditedList>
         Added::Present => Some(EditedList::Unchanged),
         Added::New => Some(EditedList::Written),
     }
+}
+
+/// The comment that the command puts above an attribute.
+fn comment_by(command: &Command) -> Option<AttributeComment<'_>>
+    ensures { IfSome result (λ new. command.now ≡ Comment (Attribute new.attr.now) new.text.now) }
+{
+    let Action::Comment(Commented::Attribute(attr), text) = &command.action else {
+        return None;
+    };
+    Some(AttributeComment {
+        attr: attr.as_str(),
+        text: text.as_str(),
+    })
+}
+
+/// The same of a comment.
+fn edit_comment(
+    script: ScriptRun<'_>,
+    comment: AttributeComment<'_>,
+    lines: &str,
+    written: &mut Vec<u8>,
+) -> Result<Option<EditedList>, NoMemory>
+    ensures { IfOk result (λ told. IfSome told (EditsList script.entry.max_depth
+        (Comment (Attribute comment.entry.attr.now) comment.entry.text.now) script.entry.home.now lines.now
+        written.new.items)) }
+{
+    let line = comment_line(script.alloc, comment.text)?;
+    let new = NewComment {
+        attr: comment.attr,
+        line: line.as_str(),
+    };
+    if put_commented(lines, new, script.max_depth, written)? {
+        return Ok(Some(EditedList::Written));
+    }
+    Ok(None)
 }
 
 /// The one value without which the command leaves a list as it is.
