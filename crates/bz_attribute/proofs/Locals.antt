@@ -4,6 +4,7 @@ use Rattle.bz_tree.specs.Tree.{Segment}
 use Rattle.bz_attribute.specs.Rules.{first_named, is_named}
 use Rattle.bz_attribute.specs.Effects.{edit_first, has}
 use Rattle.bz_attribute.specs.RowPlaces.{IsLocal}
+use Rattle.bz_attribute.proofs.First.{edit_first_none}
 
 pub has_first : (name : List ℕ) (args : List Segment) → has name args ≡ is_some (first_named name args)
 has_first name [] = refl
@@ -12,7 +13,7 @@ has_first name (a ∷ args) = elim (is_named name a) as (λ b. (b || has name ar
 pub is_there : (name : List ℕ) (args : List Segment) (a : Segment) → first_named name args ≡ Some a → has name args ≡ true
 is_there name args a h = has_first name args ∙ ap is_some h
 
-is_first_named : (name : List ℕ) (args : List Segment) (a : Segment) → first_named name args ≡ Some a → is_named name a ≡ true
+pub is_first_named : (name : List ℕ) (args : List Segment) (a : Segment) → first_named name args ≡ Some a → is_named name a ≡ true
 is_first_named name [] a h = absurd cc
 is_first_named name (x ∷ args) a h =
     elim (is_named name x) as (λ b. is_named name x ≡ b → (if b then Some x else first_named name args) ≡ Some a → is_named name a ≡ true) [
@@ -50,3 +51,10 @@ edits_one name f new edit none one = record {
       let alone_is : f (a ∷ []) ≡ edit a = one (a ∷ []) a (first_alone name args a h) ∙ ap (λ (b : Bool). if b then edit a ++ [] else a ∷ []) (is_first_named name args a h) ∙ append-nil (edit a) in
       one args a h ∙ ap (λ (zs : List Segment). edit_first (is_named name) (λ x. zs) args) (sym alone_is);
 }
+
+-- an edit of the first of a name looks at it alone
+pub edit_local : (name : List ℕ) (edit : Segment → List Segment) → IsLocal name (edit_first (is_named name) edit)
+edit_local name edit =
+    edits_one name (edit_first (is_named name) edit) [] edit
+    (λ args h. edit_first_none (is_named name) edit args h ∙ sym (append-nil args))
+    (λ args a h. edit_same name edit (edit a) args a h refl)

@@ -1,12 +1,13 @@
 -- Which statements a target marks (buildozer README, targets).
 -- Begin with `marks`.
+-- Of later stops: 5 `Rule`, `is_text`, `kind_text`, `name_in`, `rule_of`.
 use Rattle.std.specs.Prelude.{ℕ, ◌==◌, Bool, true, false, codes, bytes_eq}
 use Rattle.bz_tree.specs.Tree.{Statement}
 use Rattle.bz_command.specs.Labels.{Target, Name, Pkg, All, Kind, Line}
 use Rattle.bz_attribute.specs.Rules.{Rule, rule_of, kind_text, name_in, is_text}
 use Rattle.bz_token.specs.Common.{map_or}
 
--- a rule that begins on a line
+-- a rule that begins on a line; `Kind` is the target of rules of a kind, as `cc_library`
 abbrev pub marks_rule : Target → ℕ → Rule → Bool
 marks_rule (Name name) start r = is_text name (name_in r.args)
 marks_rule Pkg start r = bytes_eq (kind_text r.kind) (codes "package")

@@ -1,5 +1,6 @@
 -- What `set` and `set_if_absent` do (buildozer README, edit commands; what a word stands for is this project's own rule).
 -- Begin with `set`, `set_if_absent` and `with_kind`.
+-- Of later stops: 8 `begins`.
 use Rattle.std.specs.Prelude.{ℕ, ◌==◌, List, [], ◌∷◌, ◌++◌, Bool, true, false, ◌&&◌, ◌||◌, not, if◌then◌else◌, Option, Some, None, map, codes, bytes_eq}
 use Rattle.std.specs.List.{list_any, list_all, slice_split}
 use Rattle.bz_token.specs.declared.token.Kind.TheVariants.{Identifier, Integer, Operator}

@@ -1,5 +1,6 @@
 -- How labels and rules are shown (this project's own rule).
 -- Begin with `shown_text`.
+-- Of later stops: 5 `kind_text`, `name_in`, `rule_of`.
 use Rattle.std.specs.Prelude.{ℕ, List, [], ◌∷◌, ◌++◌, codes, unwrap_or}
 use Rattle.std.specs.Fmt.{decimal}
 use Rattle.bz_tree.specs.Tree.{Statement}
@@ -11,6 +12,7 @@ use Rattle.bz_token.specs.Common.{map_or}
 abbrev pub home_text : Package → List ℕ
 home_text home = map_or (codes "-:") (λ path. 47 ∷ 47 ∷ (path ++ 58 ∷ [])) home
 
+-- `Kind` is the target of rules of a kind, as `cc_library`
 abbrev pub target_text : Target → List ℕ
 target_text (Name name) = name
 target_text Pkg = codes "__pkg__"

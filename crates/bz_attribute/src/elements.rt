@@ -1,4 +1,5 @@
 //! The list parts of a value and the elements of each, walked over among the parts of a rule: no tree and no memory.
+//! The commands on lists call these (bz_list_commands), and `set` and `comment` (bz_attribute_commands).
 
 ghost use Rattle.std.specs.Prelude.{◌≡◌, ◌≤◌, ◌<◌, ◌+◌, List, [], ◌∷◌, ◌&&◌, ◌||◌, true, false, drop, map, length, option_map, IfNone, IfSome, codes};
 ghost use Rattle.std.specs.List.{list_all};

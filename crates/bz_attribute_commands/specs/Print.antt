@@ -1,5 +1,6 @@
 -- What `print` prints of a rule (buildozer README, print; how a value is shown is this project's own rule).
 -- Begin with `prints`.
+-- Of later stops: 6 `flat_text`.
 use Rattle.std.specs.Prelude.{ℕ, ◌==◌, List, [], ◌∷◌, ◌++◌, Bool, false, true, ◌&&◌, ◌||◌, not, if◌then◌else◌, Option, Some, None, option_map, map, is_some, bytes_eq, codes, nat_le}
 use Rattle.std.specs.List.{list_any, list_all, join_with_byte}
 use Rattle.std.specs.Fmt.{decimal}

@@ -1,4 +1,5 @@
-//! `print`: a line with the texts of a rule's fields.
+//! `print`: a line with the texts of a rule's fields. bz_rule (`statement_row.rt`) calls `print`, and bz_engine
+//! (`answer.rt`) calls `print_name` for a rule that it does not read.
 
 ghost use Rattle.std.specs.Prelude.{◌≡◌, ◌++◌, ◌∷◌, [], map, option_map, is_some, IfOk, IfSome, IsTrue, OnOk, string_bytes, false, true, Some};
 ghost use Rattle.std.specs.Fmt.{decimal};

@@ -38,7 +38,7 @@ pub(crate) const DEEPEST: u8 = 253;
 
 /// The chunk that the text begins with, where it is known what would be written of it, with the place of the argument
 /// of this name. The bytes in the buffer are lost: what is written of a rule goes there, if it stands otherwise. None:
-/// it may be known or not.
+/// it may be known or not. `canonical.rt` of bz_engine asks, before it reads anything.
 #[inline(always)]
 pub fn canonical<'t>(
     text: &'t str,

@@ -1,4 +1,5 @@
-//! The arguments of a rule as they would be written, where lists of strings among them stand otherwise.
+//! The arguments of a rule as they would be written, where lists of strings among them stand otherwise. `put_rule.rt`
+//! asks for all of them; `added.rt` and `commented.rt` ask for the head of the one argument whose lines they have.
 
 ghost use Rattle.std.specs.Prelude.{◌≡◌, ◌<◌, ℕ, List, Bool, length, option_map, IfOk, IfSome, true, false};
 ghost use Rattle.bz_canonical.specs.private.Rewritten.{AreArgumentsRead, AreOthersRead, AreRead, IsArgumentRead, IsHeadRead, ArePlacedRead, IsPending, IsValueEnd, Puts, pending, put_ends};

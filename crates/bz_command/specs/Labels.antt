@@ -19,7 +19,7 @@ pub data Target : Type 0 where
   Pkg : Target
   -- every rule
   All : Target
-  -- the rules of a kind
+  -- the rules of a kind: here what stands before a rule's call, not the `Kind` of a token
   Kind : List ℕ → Target
   -- the rules that begin on a line
   Line : ℕ → Target

@@ -1,4 +1,5 @@
 -- A script over the slots of a file: passes one after another, and in a pass command by command (the order is this project's own rule).
+-- Begin with `Slot`, `Meaning` and `Pass`.
 -- It is stated for any statements S, targets T, commands C and log entries M. A log has one list of entries for lines and messages, since their order is one.
 use Rattle.std.specs.Prelude.{false, ◌||◌, Bool, if◌then◌else◌, List, [], ◌∷◌, ◌++◌, map, Option}
 use Rattle.std.specs.List.{flat_map, list_any}
@@ -31,7 +32,7 @@ with_mark mark slot = record { mark = mark; slot = slot }
 abbrev pub marked : {S T C M : Type 0} → Meaning S T C M → T → Slot S → Marked S
 marked m target slot = with_mark (m.marks target slot) slot
 
--- one command on a slot: nothing happens where the slot is not marked
+-- One command on a slot: where the slot is marked, this is an execution; where it is not, nothing happens.
 abbrev pub executed : {S T C M : Type 0} → Meaning S T C M → C → Marked S → Marked S
 executed m command x = record { mark = x.mark; slot = if x.mark then m.after command x.slot else x.slot }
 

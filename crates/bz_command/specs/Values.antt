@@ -1,5 +1,6 @@
 -- String literals (Starlark specification, lexical elements): which texts are one, what value one has, and how a value is written as one.
 -- Begin with `value_of` and `quoted`.
+-- Of later stops: 8 `grouped`, `is_quote`.
 use Rattle.std.specs.Prelude.{ℕ, ◌≡◌, ◌⊎◌, nat_eq, not, ◌==◌, List, [], ◌∷◌, ◌++◌, Bool, true, false, ◌&&◌, ◌||◌, if◌then◌else◌, Option, Some, None, option_map, is_some, codes, length, drop, bytes_eq, option_and_then}
 use Rattle.std.specs.List.{before_first, starts_with, list_any, list_all, flat_map, concat}
 use Rattle.bz_token.specs.declared.token.Kind.{Kind}

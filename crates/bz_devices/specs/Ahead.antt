@@ -1,5 +1,6 @@
 -- The bytes of an input that were read and not yet taken, and the chunk that they begin with.
 -- Begin with `IsUndecided` and `HasTooLong`.
+-- Of later stops: 8 `EndsBefore`, `chunks`, `line_at`.
 use Rattle.std.specs.Prelude.{◌≡◌, ℕ, ◌+◌, ◌*◌, ◌<◌, ◌≤◌, Bool, false, ◌||◌, IsTrue, List, [], ◌∷◌, ◌++◌, length, take, drop, ⊤}
 use Rattle.std.specs.List.{concat}
 use Rattle.bz_token.specs.Places.{line_at}

@@ -1,4 +1,6 @@
-//! The input's next chunk: where it ends, reading no further than is needed to know it.
+//! The input's next chunk: where it ends, reading no further than is needed to know it. A session of bz_engine
+//! (`session.rt`) has an `Ahead`. It calls `read_on` where the text ends too early to know the first chunk, and
+//! `next_chunk` where the chunk has to be found line by line.
 
 ghost use Rattle.std.specs.Prelude.{◌≡◌, ◌≢◌, ℕ, ◌+◌, ◌<◌, ◌≤◌, ◌⊎◌, true, false, List, [], length, take, drop, IfOk, OnOk, OnErr, IfSome, IfNone, IsErrOf, IsTrue, IsUtf8};
 ghost use Rattle.std.specs.Str.{IsCharBoundary, IsValidUpTo};
@@ -268,7 +270,9 @@ fn read_line<S: Source>(
     }
 }
 
-/// Whether the chunk ends with its block, after the first `end` bytes.
+/// Whether the chunk ends with its block, after the first `end` bytes. `ends_chunk` asks where the cutter, which has read
+/// these bytes (`after`), said of their last line that it stands in a block (`at_block`), so that what follows decides
+/// (`block`). `made`, `few` and `bound` are what `chunk_end` keeps of the bytes ahead.
 fn ends_block<S: Source>(
     cutter: &mut Cutter,
     ahead: &mut Ahead,

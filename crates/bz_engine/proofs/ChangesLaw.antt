@@ -7,7 +7,7 @@ use Rattle.bz_command.specs.Labels.{Package, Target}
 use Rattle.bz_rule.specs.Commands.{Command, is_command, after, done_of}
 use Rattle.bz_command.specs.Passes.{Slot, Meaning, Pass, Marked, with_mark, marked, executed, meets, slots_after_pass, some_of_commands, some_execution}
 use Rattle.bz_engine.specs.Changes.{CommandsChange, Changes, AreCommands}
-use Rattle.bz_engine.specs.Meaning.{meaning, changes}
+use Rattle.bz_engine.specs.Language.{meaning, changes}
 
 -- what cannot fail to be true
 by_false : (b : Bool) → (b ≡ false → ⊥) → b ≡ true

@@ -8,7 +8,7 @@ use Rattle.bz_layout.specs.Gaps.{lines_between, lines_before, gap_text}
 use Rattle.bz_command.specs.Labels.{Package}
 use Rattle.bz_command.specs.Passes.{Slot, slots_after}
 use Rattle.bz_passes.specs.Exchange.{slot_after}
-use Rattle.bz_engine.specs.Meaning.{meaning}
+use Rattle.bz_engine.specs.Language.{meaning}
 use Rattle.bz_engine.specs.Outcome.{Script, slots_of, left_in, text_of, is_query, text_after}
 use Rattle.bz_engine.specs.Progress.{last_class, text_following}
 use Rattle.bz_passes.proofs.ExchangeLaw.{map_more}

@@ -9,7 +9,7 @@ use Rattle.bz_attribute.specs.declared.done.Done.{Done}
 use Rattle.bz_attribute.specs.declared.done.Note.{Note}
 use Rattle.bz_rule.proofs.Commands.{noted_stays}
 use Rattle.bz_passes.specs.declared.entry.Entry.{Entry}
-use Rattle.bz_engine.specs.Meaning.{note_told, meaning}
+use Rattle.bz_engine.specs.Language.{note_told, meaning}
 use Rattle.bz_attribute.specs.Texts.{shown_text}
 use Rattle.bz_token.specs.Common.{map_or}
 

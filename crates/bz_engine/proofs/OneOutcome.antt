@@ -10,7 +10,7 @@ use Rattle.bz_command.specs.Labels.{Package}
 use Rattle.bz_command.specs.Passes.{Slot, slots_after}
 use Rattle.bz_engine.specs.declared.report.SyntaxFault.{SyntaxFault}
 use Rattle.bz_passes.specs.Exchange.{slot_after, some_alone}
-use Rattle.bz_engine.specs.Meaning.{meaning, fails_on}
+use Rattle.bz_engine.specs.Language.{meaning, fails_on}
 use Rattle.bz_engine.specs.File.{Follows, Give}
 use Rattle.bz_engine.specs.Progress.{last_class, text_following}
 use Rattle.bz_engine.specs.Outcome.{Script, Run, slots_of, is_query, text_after, Told, some_failure, told_of, told_of_failure, BeginsWith, IsWholeRun, EndsAtFailure, IsOutcome, IsFrontOf}

@@ -19,7 +19,7 @@ use Rattle.bz_passes.specs.Exchange.{Fits, IsPassedBy, Kept, kept_alone, kept_an
 use Rattle.bz_passes.specs.declared.entry.Entry.{Entry}
 use Rattle.bz_passes.proofs.ExchangeLaw.{left_more}
 use Rattle.bz_passes.proofs.PassedBy.{unmarked_passed}
-use Rattle.bz_engine.specs.Meaning.{meaning, changes, fails_on, note_told}
+use Rattle.bz_engine.specs.Language.{meaning, changes, fails_on, note_told}
 use Rattle.bz_engine.specs.Outcome.{Run, Script, is_query}
 use Rattle.bz_engine.specs.Progress.{Progress, last_class, text_following}
 use Rattle.bz_engine.specs.private.Edits.{IsLaidOut}

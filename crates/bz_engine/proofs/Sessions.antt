@@ -11,7 +11,7 @@ use Rattle.bz_engine.specs.declared.report.End.{End}
 use Rattle.bz_engine.specs.declared.report.End.TheVariants.{Whole, Syntax, FirstFailure}
 use Rattle.bz_devices.specs.Device.{ends, NoneEnds}
 use Rattle.bz_devices.specs.Ahead.{Ahead, IsReadOn, AreNeeded, IsNextChunk}
-use Rattle.bz_engine.specs.Meaning.{meaning}
+use Rattle.bz_engine.specs.Language.{meaning}
 use Rattle.bz_engine.specs.File.{Give, Gives}
 use Rattle.bz_engine.specs.Messages.{fault_text}
 use Rattle.bz_engine.specs.Outcome.{Run, slots_of, text_after, said, told_of}

@@ -14,7 +14,7 @@ use Rattle.bz_command.specs.Passes.{Slot}
 use Rattle.bz_engine.specs.declared.report.SyntaxFault.{SyntaxFault}
 use Rattle.bz_engine.specs.declared.report.SyntaxFault.TheVariants.{Parse}
 use Rattle.bz_passes.specs.Exchange.{some_alone}
-use Rattle.bz_engine.specs.Meaning.{meaning, fails_on}
+use Rattle.bz_engine.specs.Language.{meaning, fails_on}
 use Rattle.bz_engine.specs.File.{not_utf8, Gives, Follows, Give}
 use Rattle.bz_engine.specs.Outcome.{Run, slots_of, text_after, Told, some_failure, told_of, told_of_failure, IsOutcome}
 use Rattle.bz_passes.proofs.ExchangeLaw.{some_alone_lem}

@@ -15,7 +15,7 @@ use Rattle.bz_passes.specs.declared.entry.Entry.{Entry}
 use Rattle.bz_rule.specs.declared.command.Action.TheVariants.{Comment}
 use Rattle.bz_rule.specs.Commands.{Command, args_done, done_of}
 use Rattle.bz_rule.proofs.Commands.{lawful}
-use Rattle.bz_engine.specs.Meaning.{note_told}
+use Rattle.bz_engine.specs.Language.{note_told}
 use Rattle.bz_engine.specs.private.Found.{FailsOn, IsWithout, needed}
 use Rattle.bz_engine.proofs.OnlyPass.{named_rule}
 use Rattle.bz_engine.proofs.TextAnswers.{none_has}

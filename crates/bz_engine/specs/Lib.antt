@@ -4,7 +4,7 @@ pub mod SessionValue
 pub mod SessionSteps
 pub mod EveryFile
 pub mod File
-pub mod Meaning
+pub mod Language
 pub mod Messages
 pub mod Outcome
 pub mod NeededReads

@@ -10,7 +10,7 @@ use Rattle.bz_command.specs.Labels.{Package}
 use Rattle.bz_passes.specs.declared.entry.Entry.{Entry}
 use Rattle.bz_command.specs.Passes.{Slot, slots_after}
 use Rattle.bz_passes.specs.Exchange.{Kept, IsLeftBy, slot_after}
-use Rattle.bz_engine.specs.Meaning.{meaning, changes, fails_on}
+use Rattle.bz_engine.specs.Language.{meaning, changes, fails_on}
 use Rattle.bz_engine.specs.File.{Give}
 use Rattle.bz_engine.specs.Outcome.{Script, Run, slots_of, is_query}
 

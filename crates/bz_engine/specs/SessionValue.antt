@@ -14,7 +14,7 @@ use Rattle.bz_devices.specs.Ahead.{Ahead}
 use Rattle.bz_engine.specs.EveryFile.{ForEveryFile}
 use Rattle.bz_passes.specs.Exchange.{no_slot, told, some_not_found, Fits}
 use Rattle.bz_engine.specs.Progress.{Progress, IsKeptOf}
-use Rattle.bz_engine.specs.Meaning.{meaning}
+use Rattle.bz_engine.specs.Language.{meaning}
 use Rattle.bz_engine.specs.Messages.{fault_text}
 use Rattle.bz_engine.specs.Outcome.{Script, Run, run_with, Told, IsOutcome, text_after}
 use Rattle.bz_engine.specs.NeededReads.{AreNeededAfter}

@@ -1,4 +1,5 @@
-//! What a command makes of the lines of an argument, by a small rule that has this argument alone.
+//! What a command makes of the lines of an argument, by a small rule that has this argument alone. `canonical.rt` calls
+//! `edit_lines` for a rule of which it edits one argument.
 
 ghost use Rattle.std.specs.Prelude.{◌≡◌, ◌++◌, ◌∷◌, ℕ, List, [], codes, option_map, string_bytes, IfOk, IfSome, IsTrue, OnOk, Some};
 ghost use Rattle.bz_canonical.specs.Canonical.{argument_lines, small_text};

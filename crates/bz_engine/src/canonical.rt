@@ -10,7 +10,7 @@ ghost use Rattle.bz_canonical.specs.Canonical.{HasName, IsCanonical, between};
 ghost use Rattle.bz_passes.specs.Exchange.{Fits, IsPassedBy};
 ghost use Rattle.bz_devices.specs.Ahead.{IsFewAfter};
 ghost use Rattle.bz_rule.specs.OneAttribute.{one_attribute};
-ghost use Rattle.bz_engine.specs.Meaning.{meaning, changes, fails_on};
+ghost use Rattle.bz_engine.specs.Language.{meaning, changes, fails_on};
 ghost use Rattle.bz_engine.specs.Outcome.{is_query};
 ghost use Rattle.bz_engine.specs.Progress.{text_following};
 ghost use Rattle.bz_engine.specs.private.Edits.{DoesNothing, EditsWhole, run_of};

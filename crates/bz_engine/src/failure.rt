@@ -3,7 +3,7 @@
 ghost use Rattle.std.specs.Prelude.{◌≡◌, ◌∷◌, ◌++◌, [], ℕ, IfOk, IfSome, OnOk, Some, true};
 ghost use Rattle.bz_attribute.specs.Texts.{home_text};
 ghost use Rattle.bz_attribute.specs.declared.done.Note.TheVariants.{NoAttribute};
-ghost use Rattle.bz_engine.specs.Meaning.{note_told};
+ghost use Rattle.bz_engine.specs.Language.{note_told};
 ghost use Rattle.bz_engine.specs.private.Found.{FailsRule, needed};
 
 use crate::answer::is_without;

@@ -11,7 +11,7 @@ ghost use Rattle.bz_engine.specs.Outcome.{Script, Run, Told, IsOutcome};
 ghost use Rattle.bz_engine.specs.SessionValue.{HasDone, at_start};
 ghost use Rattle.bz_engine.specs.declared.options.Options.{Options};
 ghost use Rattle.bz_engine.specs.declared.report.SyntaxFault.{SyntaxFault};
-ghost use Rattle.bz_engine.specs.Meaning.{meaning, changes};
+ghost use Rattle.bz_engine.specs.Language.{meaning, changes};
 
 /// A run tells that it changed something exactly where some command of the script, when it ran, left some statement
 /// different from what it found.

@@ -4,7 +4,7 @@ ghost use Rattle.std.specs.Prelude.{◌≡◌, Some, IsTrue};
 ghost use Rattle.bz_tree.specs.Tree.{Statement};
 ghost use Rattle.bz_passes.specs.Exchange.{IsPassedBy};
 ghost use Rattle.bz_attribute.specs.Heads.{HasHead};
-ghost use Rattle.bz_engine.specs.Meaning.{meaning, changes, fails_on};
+ghost use Rattle.bz_engine.specs.Language.{meaning, changes, fails_on};
 ghost use Rattle.bz_engine.specs.private.Rows as spec;
 
 use crate::edit::ScriptRun;

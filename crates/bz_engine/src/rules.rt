@@ -3,7 +3,7 @@
 ghost use Rattle.std.specs.Prelude.{◌≡◌, [], ◌∷◌, ◌++◌, map, Some, Option, option_to_list, IfOk, OnOk, string_bytes};
 ghost use Rattle.bz_tree.specs.Tree.{Statement};
 ghost use Rattle.bz_attribute.specs.Effects.{fails};
-ghost use Rattle.bz_engine.specs.Meaning.{note_told};
+ghost use Rattle.bz_engine.specs.Language.{note_told};
 ghost use Rattle.bz_passes.specs.declared.entry.Entry.TheVariants.{Line};
 ghost use Rattle.bz_attribute.specs.Texts.{shown_text};
 ghost use Rattle.bz_token.specs.Common.{map_or};
@@ -32,7 +32,7 @@ impl<'a> Language for Rules<'a> {
 
     type Command = Command;
 
-    ghost use Rattle.bz_engine.specs.Meaning.{meaning, changes, fails_on};
+    ghost use Rattle.bz_engine.specs.Language.{meaning, changes, fails_on};
 
     ghost Seen = { Statement };
 

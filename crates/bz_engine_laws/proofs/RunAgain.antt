@@ -14,7 +14,7 @@ use Rattle.bz_rule_laws.specs.Again.{AreSettled, is_line, is_steady, looks_past}
 use Rattle.bz_rule_laws.proofs.CommandsAgain.{FindsNothing as SecondTime}
 use Rattle.bz_rule_laws.proofs.SpelledDone.{marks_spelled, settled_spelled}
 use Rattle.bz_engine.specs.Changes.{AreCommands}
-use Rattle.bz_engine.specs.Meaning.{meaning}
+use Rattle.bz_engine.specs.Language.{meaning}
 use Rattle.bz_engine.specs.Outcome.{Run, Script, Told, IsOutcome, is_query, slots_of, some_failure, status_of, text_after, told_by, told_of}
 use Rattle.bz_engine.specs.declared.report.Report.{Report}
 use Rattle.bz_engine.proofs.OneOutcome.{one_outcome}

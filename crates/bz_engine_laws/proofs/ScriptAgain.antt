@@ -20,7 +20,7 @@ use Rattle.bz_rule_laws.specs.Unmentioned.{arguments_of}
 use Rattle.bz_rule_laws.proofs.CommandsAgain.{FindsNothing as SecondTime, all_find_nothing, steady_leaves}
 use Rattle.bz_rule_laws.proofs.MarksStay.{marks_stay}
 use Rattle.bz_engine.specs.Changes.{AreCommands}
-use Rattle.bz_engine.specs.Meaning.{changes, fails_on, meaning}
+use Rattle.bz_engine.specs.Language.{changes, fails_on, meaning}
 use Rattle.bz_engine.specs.Outcome.{Script, left_in, slots_of, some_failure}
 use Rattle.bz_engine_laws.specs.Repeatable.{FindsNothing, HasNamesOnce, are_passes_apart, are_two_apart, each_apart, is_looked_past, is_repeatable, may_meet}
 use Rattle.bz_engine_laws.specs.Written.{left_by}

@@ -15,7 +15,7 @@ use Rattle.bz_passes.specs.Exchange.{slot_after_commands, slot_after_pass, slot_
 use Rattle.bz_engine.specs.Changes.{AreCommands}
 use Rattle.bz_engine.specs.declared.report.SyntaxFault.{SyntaxFault}
 use Rattle.bz_engine.specs.File.{IsFile}
-use Rattle.bz_engine.specs.Meaning.{meaning}
+use Rattle.bz_engine.specs.Language.{meaning}
 use Rattle.bz_engine.specs.Outcome.{Run, Script, Told, IsOutcome, is_query, left_in, slots_of}
 use Rattle.bz_engine.proofs.OneOutcome.{one_give}
 use Rattle.bz_engine_laws.specs.Comments.{script_keeps_comments}

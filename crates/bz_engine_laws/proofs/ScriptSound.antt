@@ -14,7 +14,7 @@ use Rattle.bz_rule.proofs.Commands.{formed_after, no_rule_stays}
 use Rattle.bz_rule.proofs.Utf8Commands.{commands_utf8}
 use Rattle.bz_engine.specs.Changes.{AreCommands}
 use Rattle.bz_passes.specs.Exchange.{slot_after_commands, slot_after_pass, slot_after}
-use Rattle.bz_engine.specs.Meaning.{meaning}
+use Rattle.bz_engine.specs.Language.{meaning}
 use Rattle.bz_engine.specs.Outcome.{Script, left_in, slots_of}
 use Rattle.bz_passes.proofs.ExchangeLaw.{slots_alone}
 use Rattle.bz_engine_laws.specs.Sound.{IsSound}

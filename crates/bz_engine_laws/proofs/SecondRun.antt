@@ -8,7 +8,7 @@ use Rattle.bz_tree.specs.Tree.{Statement}
 use Rattle.bz_command.specs.Labels.{Package}
 use Rattle.bz_command.specs.Passes.{Slot, Meaning, Pass, Marked, marked, executed, slots_after_commands, slots_after_pass, slots_after}
 use Rattle.bz_engine.specs.Changes.{CommandsChange, PassChanges, Changes, AreCommands}
-use Rattle.bz_engine.specs.Meaning.{meaning}
+use Rattle.bz_engine.specs.Language.{meaning}
 use Rattle.bz_engine.specs.declared.report.End.TheVariants.{Whole, FirstFailure}
 use Rattle.bz_engine.specs.Outcome.{Run, Script, Told, IsOutcome, IsWholeRun, EndsAtFailure, is_query, left_in, slots_of, text_of, some_change, told_of}
 use Rattle.bz_rule.proofs.Commands.{changed_tells}

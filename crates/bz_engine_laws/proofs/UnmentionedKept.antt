@@ -10,7 +10,7 @@ use Rattle.bz_passes.specs.Exchange.{slot_after_commands, slot_after_pass, slot_
 use Rattle.bz_rule.specs.Commands.{Command, after}
 use Rattle.bz_rule_laws.specs.Unmentioned.{arguments_of, is_delete, is_unmentioned}
 use Rattle.bz_rule_laws.proofs.KeptArguments.{deleted, narrower, nothing_left, unmentioned_stay}
-use Rattle.bz_engine.specs.Meaning.{meaning}
+use Rattle.bz_engine.specs.Language.{meaning}
 use Rattle.bz_engine.specs.Outcome.{Run, Script, Told, IsOutcome, is_query, left_in, text_of}
 use Rattle.bz_engine_laws.specs.Unmentioned.{KeepsUnmentioned, has_delete, no_command_mentions}
 use Rattle.bz_engine_laws.specs.Written.{left_by, edited}

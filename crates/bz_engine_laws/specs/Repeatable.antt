@@ -7,7 +7,7 @@ use Rattle.bz_command.specs.Passes.{Pass, some_missing}
 use Rattle.bz_rule.specs.Commands.{Command}
 use Rattle.bz_rule_laws.specs.Again.{HasOnce, are_all_apart, are_apart, is_steady, looks_past}
 use Rattle.bz_rule_laws.specs.Unmentioned.{arguments_of}
-use Rattle.bz_engine.specs.Meaning.{meaning}
+use Rattle.bz_engine.specs.Language.{meaning}
 use Rattle.bz_engine.specs.Outcome.{Script, slots_of, some_change, some_failure}
 use Rattle.bz_engine_laws.specs.Written.{left_by}
 

@@ -5,7 +5,7 @@ use Rattle.bz_command.specs.Labels.{Package}
 use Rattle.bz_command.specs.Passes.{some_missing}
 use Rattle.bz_engine.specs.Changes.{Changes}
 use Rattle.bz_engine.specs.File.{IsFile}
-use Rattle.bz_engine.specs.Meaning.{meaning}
+use Rattle.bz_engine.specs.Language.{meaning}
 use Rattle.bz_engine.specs.Outcome.{Run, Script, slots_of, some_failure, text_after}
 
 -- The file has these statements and no fault, and all were edited: no command failed on one, each target that has to mark something did, and the

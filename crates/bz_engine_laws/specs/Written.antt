@@ -10,7 +10,7 @@ use Rattle.bz_command.specs.Labels.{Package}
 use Rattle.bz_command.specs.Passes.{slots_after}
 use Rattle.bz_rule.specs.Commands.{command_passes}
 use Rattle.bz_engine.specs.File.{IsFile}
-use Rattle.bz_engine.specs.Meaning.{meaning}
+use Rattle.bz_engine.specs.Language.{meaning}
 use Rattle.bz_engine.specs.Outcome.{Run, Script, Told, IsOutcome, slots_of, left_in}
 
 -- each word of each command is UTF-8, but for those of `print`, which writes none into a file

@@ -1,4 +1,5 @@
-//! The folder of a program: the calls of std, and a count of them.
+//! The folder of a program: the calls of std, and a count of them. `main` of buildozer makes it, and `replace_file`
+//! (`replace.rt`) makes the calls, by the trait `Folder`.
 
 ghost use Rattle.std.specs.Prelude.{◌≡◌, ⊤};
 ghost use Rattle.bz_folder.specs.Tally.{no_calls, Tallies, tallies_nothing, tallies_more};

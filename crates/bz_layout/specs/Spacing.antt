@@ -1,5 +1,6 @@
 -- Where a space stands between two neighbouring nodes (this project's own rule).
 -- Begin with `gap_before`.
+-- Of later stops: 7 `is_call`.
 use Rattle.std.specs.Prelude.{codes, ℕ, List, Bool, true, false, ◌&&◌, ◌||◌, if◌then◌else◌, Option}
 use Rattle.std.specs.Prelude.Option.{Some}
 use Rattle.std.specs.Str.{bytes_eq}

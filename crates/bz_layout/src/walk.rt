@@ -1,4 +1,5 @@
-//! The walk forwards over the parts of a statement, which writes them.
+//! The walk forwards over the parts of a statement, which writes them: on lines for `row.rt`, on one line for
+//! `flat_text.rt`.
 
 ghost use Rattle.std.specs.Prelude.{◌≡◌, ◌<◌, ◌^◌, ◌+◌, ◌++◌, ℕ, List, IfOk, OnOk, map, reverse};
 ghost use Rattle.bz_tree.specs.Rows.{part_view};

@@ -10,12 +10,12 @@ use Rattle.bz_tree.specs.Rows.{RowPart, above, beside_part, closing, segment_end
 use Rattle.bz_attribute.specs.Effects.{done, edit_first, filtered}
 use Rattle.bz_attribute.specs.Lists.{is_attribute, is_joint, is_part, is_plus, parts, parts_from}
 use Rattle.bz_attribute.specs.RowEdits.{IsRowEdit}
-use Rattle.bz_attribute.specs.RowPlaces.{alone, IsLocal, IsPlaceOf, IsPlaceOfAll, IsRuleRow}
+use Rattle.bz_attribute.specs.RowPlaces.{alone, IsPlaceOf, IsPlaceOfAll, IsRuleRow}
 use Rattle.bz_attribute.specs.Rules.{Rule, elements, first_named, is_named, is_text, name_of, only_text, value}
 use Rattle.bz_attribute.specs.declared.edit.Edit.{Edit}
 use Rattle.bz_attribute.specs.declared.place.Place.{Place}
-use Rattle.bz_attribute.proofs.First.{edit_first_none}
 use Rattle.bz_attribute.proofs.LabelSets.{or_false}
+use Rattle.bz_attribute.proofs.Locals.{edit_local, is_first_named}
 use Rattle.bz_list_commands.specs.private.ArgumentEdits.{HasEditedAll, edited, is_changed}
 use Rattle.bz_list_commands.specs.private.PlaceEdits.{AreThere, IsPlaceEdit, changes_first}
 use Rattle.bz_list_commands.specs.private.StringEdits.{become_all, changes, is_meant, means_part}
@@ -51,29 +51,8 @@ every_row f t place ps new e edit at = record {
   done = λ s r h. edit.done r.args (at s r h).read;
 }
 
--- the first argument of a name
-named_first : (name : List ℕ) (args : List Segment) (a : Segment) → first_named name args ≡ Some a → is_named name a ≡ true
-named_first name [] a h = absurd cc
-named_first name (x ∷ args) a h =
-    elim (is_named name x) as (λ b. is_named name x ≡ b → (if b then Some x else first_named name args) ≡ Some a → is_named name a ≡ true)
-    [ true ↦ λ e k. let is : x ≡ a = cc in ap (is_named name) (sym is) ∙ e | false ↦ λ e k. named_first name args a k ] refl h
-
-same_edit : (name : List ℕ) (edit : Segment → List Segment) (ss args : List Segment) (a : Segment) → first_named name args ≡ Some a → edit a ≡ ss → edit_first (is_named name) edit args ≡ edit_first (is_named name) (λ x. ss) args
-same_edit name edit ss [] a h same = refl
-same_edit name edit ss (x ∷ args) a h same =
-    elim (is_named name x) as (λ b. (if b then Some x else first_named name args) ≡ Some a → (if b then edit x ++ args else x ∷ edit_first (is_named name) edit args) ≡ (if b then ss ++ args else x ∷ edit_first (is_named name) (λ z. ss) args)) [
-      | true ↦ λ k. let is : x ≡ a = cc in ap (λ (zs : List Segment). zs ++ args) (ap edit is ∙ same)
-      | false ↦ λ k. ap (λ (zs : List Segment). x ∷ zs) (same_edit name edit ss args a k same)
-    ] h
-
 edit_alone : (name : List ℕ) (edit : Segment → List Segment) (a : Segment) → is_named name a ≡ true → edit_first (is_named name) edit (a ∷ []) ≡ edit a
 edit_alone name edit a is = ap (λ (b : Bool). if b then edit a ++ [] else a ∷ []) is ∙ append-nil (edit a)
-
-edit_local : (name : List ℕ) (edit : Segment → List Segment) → IsLocal name (edit_first (is_named name) edit)
-edit_local name edit = record {
-  absent = λ args none. edit_first_none (is_named name) edit args none ∙ sym (append-nil args);
-  there = λ args a h. same_edit name edit (edit_first (is_named name) edit (a ∷ [])) args a h (sym (edit_alone name edit a (named_first name args a h)));
-}
 
 has_name : (name : List ℕ) (o : Option (List ℕ)) → is_text name o ≡ true → is_some o ≡ true
 has_name name None h = absurd cc
@@ -84,12 +63,12 @@ edited_alone : (p : Option (List ℕ) → Bool) (literal : Option (List ℕ)) (n
 edited_alone p literal name args None h = refl
 edited_alone p literal name args (Some a) h =
     let f : Segment → List Segment = filtered (become_all p literal) in
-    let is : is_named name a ≡ true = named_first name args a h in
+    let is : is_named name a ≡ true = is_first_named name args a h in
     append-nil (edited p literal a) ∙ ap (λ (b : Bool). if b then f a else a ∷ []) (has_name name (name_of a.nodes) is) ∙ sym (edit_alone name f a is)
 
 told_alone : (p : Option (List ℕ) → Bool) (name : List ℕ) (args : List Segment) (o : Option Segment) → first_named name args ≡ o → list_any (is_changed p) (option_to_list o) ≡ changes_first p o
 told_alone p name args None h = refl
-told_alone p name args (Some a) h = or_false (is_changed p a) ∙ ap (λ (b : Bool). b && changes p a) (has_name name (name_of a.nodes) (named_first name args a h))
+told_alone p name args (Some a) h = or_false (is_changed p a) ∙ ap (λ (b : Bool). b && changes p a) (has_name name (name_of a.nodes) (is_first_named name args a h))
 
 pub named_row : (p : Option (List ℕ) → Bool) (literal : Option (List ℕ)) (name : List ℕ) (place : Place) (ps new : List RowPart) (e : Edit) → IsPlaceEdit (edited p literal) (is_changed p) place ps new e
     → ((s : Statement) (r : Rule) → IsRuleRow s r ps → IsPlaceOf name s r ps place.from place.to)

@@ -1,4 +1,4 @@
--- The evidence that memory was refused, which has one value.
+-- The evidence that memory was refused, which has one value: the type's one field, `seen`, is `()`, in specs `tt`.
 use Rattle.bz_memory.specs.declared.no_memory.NoMemory.{NoMemory}
 
 abbrev pub no_memory : NoMemory

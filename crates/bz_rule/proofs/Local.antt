@@ -11,7 +11,6 @@ use Rattle.bz_attribute.specs.Set.{new_of, new_value, set, set_if_absent, set_in
 use Rattle.bz_attribute.specs.declared.done.Note.{Note}
 use Rattle.bz_attribute.specs.declared.done.Note.TheVariants.{NoAttribute}
 use Rattle.bz_attribute.proofs.EditedAt.{none_first}
-use Rattle.bz_attribute.proofs.First.{edit_first_none}
 use Rattle.bz_attribute.proofs.Locals.{edit_same, edits_one, first_alone, is_there, kept_first}
 use Rattle.bz_rule.proofs.Arguments.{has_first}
 use Rattle.std.specs.Option.{option_or}
@@ -29,12 +28,6 @@ add_local home attr values =
     (λ args h. rw h refl)
     (λ args a h. ap (λ (b : Bool). if b then edit_first (is_named attr) (λ x. with_added home values x ∷ []) args else args ++ argument attr (list_item (new_elements home [] values) ∷ []) ∷ []) (is_there attr args a h)
     ∙ edit_same attr (λ x. with_added home values x ∷ []) (with_added home values a ∷ []) args a h refl)
-
-pub edit_local : (attr : List ℕ) (edit : Segment → List Segment) → IsLocal attr (edit_first (is_named attr) edit)
-edit_local attr edit =
-    edits_one attr (edit_first (is_named attr) edit) [] edit
-    (λ args h. edit_first_none (is_named attr) edit args h ∙ sym (append-nil args))
-    (λ args a h. edit_same attr edit (edit a) args a h refl)
 
 pub set_local : (attr : List ℕ) (words : List (List ℕ)) → IsLocal attr (set attr words)
 set_local attr words =

@@ -1,4 +1,6 @@
 //! The commands on one rule: what each is, how its words are read, and what it makes of the arguments of a rule.
+//! `reader.rt` calls `read_named`, and `row_edit.rt` calls `edit_arguments`. bz_engine asks for `one_attribute` and
+//! `is_print`.
 
 ghost use Rattle.bz_memory.specs.NoMemory.{no_memory};
 ghost use Rattle.std.specs.Prelude.{◌≡◌, ◌≢◌, Err, IfOk, IfSome, Some, map, true};
@@ -6,7 +8,7 @@ ghost use Rattle.bz_tree.specs.Rows.{part_view};
 ghost use Rattle.bz_attribute.specs.RowEdits.{IsRowEdit};
 ghost use Rattle.bz_rule.specs.Commands as spec;
 ghost use Rattle.bz_rule.specs.OneAttribute.{one_attribute};
-ghost use Rattle.bz_rule.specs.declared.command.Action.TheVariants.{Set};
+ghost use Rattle.bz_rule.specs.declared.command.Action.TheVariants.{Rename, Set};
 ghost use Rattle.bz_rule.specs.declared.command.CommandFault.TheVariants.{OutOfMemory};
 ghost use Rattle.bz_rule.specs.private.RowEdits.{edits_arguments};
 
@@ -278,18 +280,33 @@ fn set_argument<'a>(
     }
 }
 
+// `rename` as its command, so that `edit_arguments` needs no answer for it.
+fn rename_argument<'a>(
+    env: Env<'_>,
+    old: &str,
+    new: &str,
+    parts: &[Part<'a>],
+    written: &mut Parts<'a>,
+) -> Result<Edit, NoMemory>
+    ensures { IfOk result (IsRowEdit (spec.args_after (Rename old.now new.now) env.entry.home.now)
+        (spec.args_done (Rename old.now new.now) env.entry.home.now)
+        (map part_view parts.now) (map part_view written.new.items)) }
+{
+    rename(env.alloc, old, new, parts, written)
+}
+
 /// What a command makes of the arguments of a rule, by its parts. The new parts go into a list.
 pub(crate) fn edit_arguments<'a>(
     env: Env<'_>,
-    command: &Command,
+    action: &Action,
     parts: &[Part<'a>],
     new: &mut Parts<'a>,
 ) -> Result<Edit, NoMemory>
-    requires { edits_arguments command.now ≡ true }
-    ensures { IfOk result (IsRowEdit (spec.args_after command.now env.entry.home.now)
-        (spec.args_done command.now env.entry.home.now) (map part_view parts.now) (map part_view new.new.items)) }
+    requires { edits_arguments action.now ≡ true }
+    ensures { IfOk result (IsRowEdit (spec.args_after action.now env.entry.home.now)
+        (spec.args_done action.now env.entry.home.now) (map part_view parts.now) (map part_view new.new.items)) }
 {
-    match &command.action {
+    match action {
         Action::Add(attr, values) => add(env, attr.as_str(), values.as_slice(), parts, new),
         Action::Remove(attributes, values) => {
             remove(env, attributes, values.as_slice(), parts, new)
@@ -309,7 +326,7 @@ pub(crate) fn edit_arguments<'a>(
             };
             move_elements(env, change, parts, new)
         }
-        Action::Rename(old, to) => rename(env.alloc, old.as_str(), to.as_str(), parts, new),
+        Action::Rename(old, to) => rename_argument(env, old.as_str(), to.as_str(), parts, new),
         Action::Set(setting) => set_argument(env, setting, parts, new),
         Action::SetIfAbsent(attr, words) => {
             set_if_absent(env.alloc, attr.as_str(), words.as_slice(), parts, new)

@@ -43,7 +43,7 @@ fn edit_parts<'a>(
         Action::Comment(Commented::Rule, text) => {
             comment_rule(env.alloc, text.as_str(), parts, new)
         }
-        _ => edit_arguments(env, command, parts, new),
+        _ => edit_arguments(env, &command.action, parts, new),
     }
 }
 

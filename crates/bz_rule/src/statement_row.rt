@@ -1,4 +1,5 @@
-//! A statement as its row, with the head of the rule that it is: commands put other parts in places of it.
+//! A statement as its row, with the head of the rule that it is: commands put other parts in places of it. bz_engine
+//! makes one of each chunk that it reads, and calls `execute` for each command. `apply` (`slot.rt`) does so for a tree.
 
 ghost use Rattle.std.specs.Prelude.{◌≡◌, ◌++◌, ℕ, List, IfOk, IsOk, OnOk, OnErr, Some, false, true, map, option_map, is_some, string_bytes};
 ghost use Rattle.bz_tree.specs.Tree.{Statement};

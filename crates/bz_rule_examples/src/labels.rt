@@ -1,4 +1,4 @@
-//! Labels, targets, the values of strings, and how rules are shown.
+//! Labels, targets, the values of strings, and how rules are shown. `commands.rt` calls `package`.
 
 use crate::checks::{check_table, statement};
 use crate::table::{cut_rows, plain};

@@ -1,4 +1,5 @@
-//! Trees, owners of comments, the grammar, blocks and faults.
+//! Trees, owners of comments, the grammar, blocks and faults. `checks.rt` and `layout.rt` call `shown`, and `rows.rt`
+//! the names of kinds and classes.
 
 use crate::checks::{check_table, read, statement};
 use crate::table::{BLOCK, cut_rows};

@@ -1,4 +1,5 @@
-//! What is wrong with the words of a call, by kind, and the text that is told of each kind.
+//! What is wrong with the words of a call, by kind, and the text that is told of each kind. `usage.rt` makes a `Mistake`
+//! of each fault of the readers, and shows it.
 
 use crate::usage::{FlagFault, Refused};
 use bz_command::{LabelFault, NO_SUCH_FIELD, is_left_out_field};

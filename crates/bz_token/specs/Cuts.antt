@@ -1,4 +1,4 @@
--- What the answers of a cutter say of the chunks of a file.
+-- Where a chunk ends; and what of it a `Cutter` answers, the code that takes a file line by line (`src/cutter.rt`).
 -- Begin with `EndsBefore`.
 use Rattle.std.specs.Prelude.{◌≡◌, ◌<◌, ◌++◌, length, ℕ, List, [], ◌∷◌, Bool, true, false, not, ◌&&◌, ◌==◌}
 use Rattle.bz_token.specs.declared.cutter.block.Opener.{Opener}

@@ -1,4 +1,5 @@
-//! The tokens of a text.
+//! The tokens of a text. `parse` of bz_tree calls `tokens` for a whole text; `first_chunk` (`chunk.rt`) and
+//! `TokenReader` (`reader.rt`) have a `Lexer` read line by line.
 
 ghost use Rattle.std.specs.Prelude.{◌≡◌, ◌≤◌, ◌<◌, ◌+◌, ◌^◌, ◌==◌, ◌⊎◌, ◌∷◌, [], List, ℕ, max, true, false, not, length, take, drop, count_by, map, IfOk, IfErr, IfSome, IfNone, IsTrue, Some, None, nat_eq};
 ghost use Rattle.std.specs.Option.{option_eq};
@@ -139,7 +140,7 @@ pub struct Lexer<'b, 'a> {
 }
 
 impl<'b, 'a> Lexer<'b, 'a> {
-    /// Nothing is read yet.
+    /// Nothing is read yet. `tokens`, `first_chunk` and `TokenReader` begin so, with room for their first tokens.
     #[inline(always)]
     pub fn new(bump: &'b Bump, capacity: usize) -> Result<Lexer<'b, 'a>, NoMemory>
         requires { capacity ≤ 4096 }

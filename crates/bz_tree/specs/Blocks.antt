@@ -1,5 +1,6 @@
 -- Blocks: a statement that begins with `def`, `for` or `if` is kept as it was written (this project's own rule).
 -- Begin with `IsBlockOf`.
+-- Of later stops: 8 `Placed`, `column_at`, `line_at`.
 use Rattle.std.specs.Prelude.{codes, ℕ, ◌+◌, ◌-◌, List, [], ◌∷◌, ◌++◌, Bool, true, false, not, if◌then◌else◌, ◌≡◌, ◌==◌, ◌&&◌, ◌||◌, nat_lt, Option, Some, None}
 use Rattle.std.specs.Str.{bytes_eq}
 use Rattle.bz_token.specs.declared.token.Kind.{Kind}

@@ -1,5 +1,6 @@
 -- The brackets of a list of tokens: a tree that loses no token, and what its brackets are as groups.
 -- Begin with `AreWell`.
+-- Of later stops: 8 `Placed`.
 use Rattle.std.specs.Prelude.{ℕ, List, [], ◌∷◌, ◌++◌, Bool, true, false, if◌then◌else◌, ◌==◌, ◌+◌, ◌≡◌, ◌&&◌, ◌||◌, length, map, count_by}
 use Rattle.bz_token.specs.Places.{Placed}
 use Rattle.bz_tree.specs.declared.stmt.GroupKind.{GroupKind}

@@ -1,5 +1,6 @@
 -- The statement of a chunk, or its fault, by the chunk's tokens.
 -- Begin with `IsStatementIn`, `IsBlank` and `IsFaultIn`.
+-- Of later stops: 8 `AreTokensOf`, `IsFault`, `Placed`.
 use Rattle.std.specs.Prelude.{ℕ, List, Bool, true, false, if◌then◌else◌, ◌≡◌, ◌==◌, Option, Some, None, IsSome, IsNone}
 use Rattle.bz_token.specs.declared.fault.LexFault.{LexFault}
 use Rattle.bz_token.specs.declared.fault.LexFault.TheVariants.{OutOfMemory as no_tokens}

@@ -1,5 +1,6 @@
 -- What a token is to the brackets, and what kind of group a bracket is (Starlark's grammar: calls, indexes, lists, dicts, comprehensions).
 -- Begin with `mark_of` and `group_kind`.
+-- Of later stops: 8 `Placed`.
 use Rattle.std.specs.Prelude.{codes, ℕ, List, Bool, true, false, if◌then◌else◌, Option, Some}
 use Rattle.std.specs.Str.{bytes_eq}
 use Rattle.bz_token.specs.declared.token.Kind.{Kind}

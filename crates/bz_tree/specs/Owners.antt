@@ -1,5 +1,6 @@
 -- The segments of one bracket, and whose each of its comments is. Only what stands in the bracket itself counts: an inner bracket is one node.
 -- Begin with `inside`.
+-- Of later stops: 8 `Placed`.
 use Rattle.std.specs.Prelude.{ℕ, List, [], ◌∷◌, ◌++◌, Bool, true, false, not, if◌then◌else◌, ◌==◌, ◌&&◌, drop}
 use Rattle.bz_token.specs.Places.{Placed}
 use Rattle.bz_tree.specs.Tree.{Item, Segment}

@@ -7,6 +7,7 @@ use Rattle.bz_tree.specs.declared.stmt.Class.{Class}
 
 mutual
   pub data Item : Type 0 where
+    -- a token: its kind, as `Identifier` (`src/token.rt` of bz_token), and its text
     leaf : Kind → List ℕ → Item
     -- its kind, its segments, whether it is `(x,)`, its end comments
     group : GroupKind → Segs → Bool → List (List ℕ) → Item

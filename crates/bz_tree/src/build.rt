@@ -1,4 +1,4 @@
-//! The walk over the tokens of a statement, with a stack of open brackets.
+//! The walk over the tokens of a statement, with a stack of open brackets. `chunk.rt` runs it to make a tree.
 
 ghost use Rattle.std.specs.Prelude.{◌≡◌, ◌+◌, true, false, map, IfOk, OnOk, Some, None, [], ◌∷◌, option_map, option_and_then, ◌≤◌, IfSome};
 ghost use Rattle.std.specs.Bool.{then_some};

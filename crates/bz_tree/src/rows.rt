@@ -1,4 +1,5 @@
-//! The row of a chunk's statement: a walk over the tokens that pushes its parts in order.
+//! The row of a chunk's statement: a walk over the tokens that pushes its parts in order. `read.rt` calls `read_row`
+//! with all tokens of a chunk; `text_row.rt` gives them to a `RowWalk` in batches.
 
 ghost use Rattle.std.specs.Prelude.{ℕ, List, [], ◌≡◌, ◌++◌, ◌&&◌, ◌≤◌, ◌+◌, length, not, false, map, IfOk, IfSome, IsTrue, option_map, ◌^◌, ◌⊎◌, IfNone, None};
 ghost use Rattle.std.specs.Bool.{then_some};

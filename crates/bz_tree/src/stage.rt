@@ -1,4 +1,5 @@
-//! The recognizer of the grammar: what may come next in a segment.
+//! The recognizer of the grammar: what may come next in a segment. `grammar.rt` asks it of trees, and `spot.rt` and
+//! `rows.rt` of rows.
 
 ghost use Rattle.std.specs.Prelude.{◌≡◌, true, false};
 ghost use Rattle.bz_tree.specs.private.Machine.{ends, may_be_empty, may_end, after_left, after_right, after_element, after_target, after_clause, at_colon, at_end, after_part, leaves, in_chain, next_wanted, next_after, next_after_number, next_begun, next_argument, next_keyword, next, begin, group_role};

@@ -10,7 +10,7 @@ use Rattle.bz_attribute.specs.declared.done.Note.{Note}
 use Rattle.bz_attribute.specs.Effects.{fails}
 use Rattle.bz_attribute.specs.Texts.{shown_text}
 use Rattle.bz_command.specs.declared.arguments.Commented.TheVariants.{Attribute, Value}
-use Rattle.bz_engine.specs.Meaning.{note_told}
+use Rattle.bz_engine.specs.Language.{note_told}
 use Rattle.bz_command.specs.declared.arguments.Attributes.TheVariants.{Named}
 use Rattle.bz_command.specs.Labels.{Package, Target}
 use Rattle.bz_rule.specs.declared.command.Action.TheVariants.{Comment, Remove, Replace}

@@ -20,7 +20,8 @@ use Rattle.bz_rule.proofs.Kept.{all_stay, all_stay_in, none_left_in, none_passes
 use Rattle.bz_rule.proofs.PartLaws.{parts_edited, parts_stay}
 use Rattle.bz_rule.proofs.Arguments.{attribute_named, first_same, is_first_named, rest_same, same_bytes, value_back, value_put}
 use Rattle.bz_rule.specs.OneAttribute.{one_attribute}
-use Rattle.bz_rule.proofs.Local.{edit_local, looks_at_one}
+use Rattle.bz_attribute.proofs.Locals.{edit_local}
+use Rattle.bz_rule.proofs.Local.{looks_at_one}
 use Rattle.bz_rule.proofs.Lawful.{Local, Lawful, on_arguments}
 use Rattle.bz_rule.proofs.NamesKept.{Leaves, edit_kept, filter_kept, first_kept, has_kept, named_kept, put_kept}
 use Rattle.bz_rule.proofs.Aside.{all_aside, leaves_all, leaves_mentioned}

@@ -15,7 +15,8 @@ use Rattle.bz_attribute.specs.Effects.{done, edit_first, string_item}
 use Rattle.bz_attribute.specs.Replace.{is_replaced, replaced, replaced_in, replace, replaces, replaces_in}
 use Rattle.bz_command.proofs.ReadBack.{quoted_value}
 use Rattle.bz_rule.proofs.Arguments.{attribute_named, first_after, is_first_named, name_put, rest_same, same_bytes, value_back, value_put}
-use Rattle.bz_rule.proofs.Local.{edit_local, looks_at_one}
+use Rattle.bz_attribute.proofs.Locals.{edit_local}
+use Rattle.bz_rule.proofs.Local.{looks_at_one}
 use Rattle.bz_rule.proofs.FirstEdits.{EditsFirst, edits_first, named_with}
 use Rattle.bz_rule.proofs.Lawful.{Lawful, on_arguments}
 use Rattle.bz_rule.proofs.PartLaws.{parts_edited, parts_stay}

@@ -1,4 +1,4 @@
-//! The walk over the bytes of a file that finds where its logical lines end.
+//! The walk over the bytes of a file that finds where its logical lines end. The `Cutter` (`cutter.rt`) walks by it.
 
 ghost use Rattle.std.specs.Prelude.{◌≡◌, ◌+◌, ◌-◌, ◌≤◌, ◌<◌, ◌^◌, ◌==◌, true, false, not, length, take, drop};
 ghost use Rattle.std.specs.List.{prefix_len};

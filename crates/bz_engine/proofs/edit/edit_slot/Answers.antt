@@ -6,7 +6,7 @@ use Rattle.std.proofs.lemmas.List.{with_items_is}
 use Rattle.bz_engine.specs.private.Edits.{run_of}
 use Rattle.bz_engine.proofs.Failing.{ends_there}
 use Rattle.bz_passes.specs.Exchange.{slot_after}
-use Rattle.bz_engine.specs.Meaning.{meaning}
+use Rattle.bz_engine.specs.Language.{meaning}
 use Rattle.bz_engine.proofs.SlotEdits.{has_run, laid_out}
 use Rattle.bz_engine.proofs.edit.edit_slot.Goals as goal
 use Rattle.bz_engine.proofs.edit.edit_slot.Goals.{else-facts-via-then-facts+else-not-script, else-facts-via-else-facts}

@@ -1,26 +1,19 @@
-use Rattle.std.proofs.Common.{sym}
 use Rattle.bz_rule.proofs.command.edit_arguments.Goals as goal
 
 pub returns-in-Add : goal.returns-in-Add
-returns-in-Add c = rw (sym c.command.view_is, c.in-Add.is) (rw (c.as_str.ensures, c.as_slice.ensures) at c.add.ensures)
+returns-in-Add c = rw c.in-Add.is (rw (c.as_str.ensures, c.as_slice.ensures) at c.add.ensures)
 
 pub returns-in-Remove : goal.returns-in-Remove
-returns-in-Remove c = rw (sym c.command.view_is, c.in-Remove.is) (rw (c.as_slice-in-Remove.ensures) at c.remove.ensures)
+returns-in-Remove c = rw c.in-Remove.is (rw (c.as_slice-in-Remove.ensures) at c.remove.ensures)
 
 pub returns-in-Replace : goal.returns-in-Replace
-returns-in-Replace c = rw (sym c.command.view_is, c.in-Replace.is) (rw (c.as_str-in-Replace.ensures, c.as_str-in-Replace-2.ensures) at c.replace.ensures)
+returns-in-Replace c = rw c.in-Replace.is (rw (c.as_str-in-Replace.ensures, c.as_str-in-Replace-2.ensures) at c.replace.ensures)
 
 pub returns-in-Move : goal.returns-in-Move
-returns-in-Move c = rw (sym c.command.view_is, c.in-Move.is) (rw (c.as_str-in-Move.ensures, c.as_str-in-Move-2.ensures) at c.move_elements.ensures)
-
-pub returns-in-Set : goal.returns-in-Set
-returns-in-Set c = rw (sym c.command.view_is, c.in-Set.is) c.set_argument.ensures
+returns-in-Move c = rw c.in-Move.is (rw (c.as_str-in-Move.ensures, c.as_str-in-Move-2.ensures) at c.move_elements.ensures)
 
 pub returns-in-SetIfAbsent : goal.returns-in-SetIfAbsent
-returns-in-SetIfAbsent c = rw (sym c.command.view_is, c.in-SetIfAbsent.is) (rw (c.as_str-in-SetIfAbsent.ensures, c.as_slice-in-SetIfAbsent.ensures) at c.set_if_absent.ensures)
+returns-in-SetIfAbsent c = rw c.in-SetIfAbsent.is (rw (c.as_str-in-SetIfAbsent.ensures, c.as_slice-in-SetIfAbsent.ensures) at c.set_if_absent.ensures)
 
 pub returns-in-Comment : goal.returns-in-Comment
-returns-in-Comment c = rw (sym c.command.view_is, c.in-Comment.is) (rw (c.as_str-in-Comment.ensures) at c.comment.ensures)
-
-pub returns-in-Rename : goal.returns-in-Rename
-returns-in-Rename c = rw (sym c.command.view_is, c.in-Rename.is) (rw (c.as_str-in-Rename.ensures, c.as_str-in-Rename-2.ensures) at c.rename.ensures)
+returns-in-Comment c = rw c.in-Comment.is (rw (c.as_str-in-Comment.ensures) at c.comment.ensures)

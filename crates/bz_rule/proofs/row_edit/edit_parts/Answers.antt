@@ -14,4 +14,4 @@ returns-in_default c =
       | in_default-via-in_default w ↦ search rules
     ] in
     IfOk-weaker c.edit_arguments.result _ _
-    (λ e h. arguments_edited c.args.command.now c.args.env.home.now c.args.kind.now (map part_view c.args.parts.now) (map part_view c.edit_arguments.new.new.items) e edits h) c.edit_arguments.ensures
+    (λ e h. arguments_edited c.args.command.now c.args.env.home.now c.args.kind.now (map part_view c.args.parts.now) (map part_view c.edit_arguments.new.new.items) e edits h) (rw c.command.view_is at c.edit_arguments.ensures)

@@ -1,5 +1,6 @@
 -- What targets mark and what commands do to the statement in a slot, and what is told of it: the language of passes over BUILD files.
 -- Begin with `meaning`, `changes` and `fails_on`.
+-- Of later stops: 5 `Command`, `after`, `done_of`, `fails`.
 use Rattle.std.specs.Prelude.{ℕ, Bool, false, List, [], ◌∷◌, ◌++◌, Option, None, Some, map, option_to_list}
 use Rattle.bz_token.specs.Common.{map_or}
 use Rattle.bz_tree.specs.Tree.{Statement}
