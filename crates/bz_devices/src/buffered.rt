@@ -63,22 +63,6 @@ impl<W: Sink> Buffered<W> {
         self.hand_on(bytes);
     }
 
-    /// Takes all of the bytes, and tells whether the sink failed, now or earlier.
-    fn put_told(&mut self, bytes: &[u8]) -> Result<(), Failed>
-        ensures took { Took W.took self.old bytes.now self.new }
-        ensures ok { OnOk result (self.new.failed ≡ false) }
-        ensures err { OnErr result (self.new.failed ≡ true) }
-        ensures steady { OnOk result (self.new.failures ≡ self.old.failures) }
-        ensures counted { OnErr result (Rises self.old.failures self.new.failures) }
-    {
-        self.put(bytes);
-        if self.failed {
-            self.failures = self.failures.saturating_add(1);
-            return Err(Failed);
-        }
-        Ok(())
-    }
-
     /// Sees that the buffer is not full.
     fn make_room(&mut self)
         ensures took { Took W.took self.old [] self.new }
@@ -148,7 +132,7 @@ fn hand_over<W: Sink>(sink: &mut W, failed: bool, bytes: &[u8]) -> bool
 
 impl<W: Sink> Sink for Buffered<W> {
     // Unless the sink failed: what it took and what is kept back, together.
-    ghost took = { λ old bytes new. Took W.took old bytes new };
+    ghost took = { Took W.took };
 
     ghost failures = { λ s. s.failures };
 
@@ -157,7 +141,11 @@ impl<W: Sink> Sink for Buffered<W> {
     ghost took_more = { λ a b c xs ys p q. took_more_lem W.took W.took_more a b c xs ys p q };
 
     fn write(&mut self, bytes: &[u8]) -> Result<usize, Failed> {
-        self.put_told(bytes)?;
+        self.put(bytes);
+        if self.failed {
+            self.failures = self.failures.saturating_add(1);
+            return Err(Failed);
+        }
         Ok(bytes.len())
     }
 

@@ -10,15 +10,10 @@ pub(crate) fn not_utf8(first_line: u64, valid: &[u8]) -> SyntaxFault
     requires { first_line + length valid.now < 2 ^ 64 }
     ensures { result ≡ SyntaxFault.NotUtf8 (line_at first_line valid.now) (column_at valid.now) }
 {
-    let mut line = first_line;
+    let line = first_line + newlines(valid);
     let mut col = 1u64;
     for byte in valid {
-        if *byte == b'\n' {
-            line += 1;
-            col = 1;
-        } else {
-            col += 1;
-        }
+        col = if *byte == b'\n' { 1 } else { col + 1 };
     }
     SyntaxFault::NotUtf8 { line, col }
 }

@@ -15,7 +15,7 @@ use Rattle.bz_layout.specs.declared.spacing.Gap.TheVariants.{Closed}
 use Rattle.bz_layout.specs.declared.broken.Style.TheVariants.{Flat, Broken}
 use Rattle.bz_layout.specs.Pieces.{Piece, piece, bytes_of, comment_lines, suffix_piece}
 use Rattle.bz_layout.specs.Layout.{items_pieces, statement_line, is_comment, layout_text, flat_text}
-use Rattle.bz_layout.specs.private.RowLayout.{leading, Laid, Scan, line_text, row_text, run, scan, start, top}
+use Rattle.bz_layout.specs.private.RowLayout.{leading, Laid, Scan, line_text, lines_text, row_text, run, scan, start, top}
 use Rattle.bz_layout.proofs.Pieces.{bytes_append}
 use Rattle.bz_layout.proofs.Scans.{items_marks, scan_above, scan_items}
 use Rattle.bz_layout.proofs.Runs.{at, last_edge, run_items}
@@ -71,8 +71,15 @@ parts_laid t s =
           rw (miss, bytes_append (comment_lines s.before) (statement_line s)) (line_is (t ++ above) s ∙ append_assoc t above (bytes_of (statement_line s)))
     ])
 
-pub is_layout : (t : List ℕ) (s : Statement) (ps : List RowPart) (class : Class) → ps ≡ parts_of s → class ≡ s.class → row_text t ps class ≡ t ++ layout_text s
-is_layout t s ps class parts is = rw (parts, is) (parts_laid t s)
+row_laid : (t : List ℕ) (s : Statement) (ps : List RowPart) (class : Class) → ps ≡ parts_of s → class ≡ s.class → row_text t ps class ≡ t ++ layout_text s
+row_laid t s ps class parts is = rw (parts, is) (parts_laid t s)
+
+-- what was written of parts is the text of their statement: of a comment the comments above it, else also its line
+pub comments_laid : (t now : List ℕ) (s : Statement) (ps : List RowPart) (class : Class) → is_comment class ≡ true → now ≡ t ++ bytes_of (comment_lines (leading ps)) → ps ≡ parts_of s → class ≡ s.class → now ≡ t ++ layout_text s
+comments_laid t now s ps class is text parts same = text ∙ sym (rw is refl) ∙ row_laid t s ps class parts same
+
+pub lines_laid : (t now : List ℕ) (s : Statement) (ps : List RowPart) (class : Class) → is_comment class ≡ false → now ≡ lines_text t ps → ps ≡ parts_of s → class ≡ s.class → now ≡ t ++ layout_text s
+lines_laid t now s ps class is text parts same = text ∙ sym (rw is refl) ∙ row_laid t s ps class parts same
 
 -- the comments that are still to be written: one less after a part above, none after any other
 pub comment_put : (before one two : List ℕ) (parts : List Part) (k : ℕ) (d : Part) (comment : Bor (List ℕ)) → k < length parts → get_or parts k d ≡ Part.Above comment → one ≡ before ++ comment.now → two ≡ one ++ codes "\n" → two ++ bytes_of (comment_lines (leading (map part_view (drop (k + 1) parts)))) ≡ before ++ bytes_of (comment_lines (leading (map part_view (drop k parts))))
@@ -93,14 +100,11 @@ comments_end out all parts k d h other is =
     let none : leading (map part_view (drop k parts)) ≡ [] = rw (drop-cons parts k d) (leads_none (get_or parts k d) (map part_view (drop (suc k) parts)) other) in
     sym (append-nil out) ∙ rw none at is
 
--- what was written is the text of the row: the comments above it, and of all but a comment a line
-pub comment_row : (before now : List ℕ) (ps : List RowPart) (class : Class) → is_comment class ≡ true → now ≡ before ++ bytes_of (comment_lines (leading ps)) → now ≡ row_text before ps class
-comment_row before now ps class is text = rw is text
-
-pub line_row : (before text now : List ℕ) (ps : List RowPart) (class : Class) (ms : List BracketForm) (first last : Laid) → is_comment class ≡ false → text ≡ before ++ bytes_of (comment_lines (leading ps)) → ms ≡ (scan ps).marks → first ≡ start text ms None → last ≡ run ps first → now ≡ last.text ++ codes "\n" → now ≡ row_text before ps class
-line_row before text now ps class ms first last is leads marks begun laid put =
+-- what was written is the line, below the comments above it
+pub line_row : (before text now : List ℕ) (ps : List RowPart) (ms : List BracketForm) (first last : Laid) → text ≡ before ++ bytes_of (comment_lines (leading ps)) → ms ≡ (scan ps).marks → first ≡ start text ms None → last ≡ run ps first → now ≡ last.text ++ codes "\n" → now ≡ lines_text before ps
+line_row before text now ps ms first last leads marks begun laid put =
     let started = begun ∙ ap (λ (t : List ℕ). start t ms None) leads ∙ ap (λ (m : List BracketForm). start (before ++ bytes_of (comment_lines (leading ps))) m None) marks in
-    rw is (put ∙ ap (λ (l : Laid). l.text ++ codes "\n") (laid ∙ ap (run ps) started))
+    put ∙ ap (λ (l : Laid). l.text ++ codes "\n") (laid ∙ ap (run ps) started)
 
 -- with no marks all brackets stand in place
 pub flat_laid : (within : Option GroupKind) (xs : List Item) → (run (items_parts (items_of xs)) (start [] [] within)).text ≡ flat_text within xs

@@ -7,7 +7,7 @@ ghost use Rattle.bz_tree.specs.Rows.{IsRowOf, part_view, parts_of};
 ghost use Rattle.bz_layout.specs.Pieces.{bytes_of, comment_lines};
 ghost use Rattle.bz_layout.specs.Layout.{is_comment, layout_text};
 ghost use Rattle.bz_layout.specs.private.Kept.{IsBegunBy};
-ghost use Rattle.bz_layout.specs.private.RowLayout.{leading, row_text};
+ghost use Rattle.bz_layout.specs.private.RowLayout.{leading, lines_text};
 
 use crate::append::Append;
 use crate::marks::marks_of;
@@ -42,20 +42,12 @@ fn is_comment(class: Class) -> bool
     matches!(class, Class::Comment)
 }
 
-// After a refusal some of the text may stand in `out`.
-fn put_text(
-    alloc: Global,
-    parts: &[Part<'_>],
-    class: Class,
-    out: &mut Vec<u8>,
-) -> Result<(), NoMemory>
-    ensures text { OnOk result (out.new.items ≡ row_text out.old.items (map part_view parts.now) class) }
+// The comments above the statement, and its line. After a refusal some of it may stand in `out`.
+fn put_lines(alloc: Global, parts: &[Part<'_>], out: &mut Vec<u8>) -> Result<(), NoMemory>
+    ensures text { OnOk result (out.new.items ≡ lines_text out.old.items (map part_view parts.now)) }
     ensures begun { IsBegunBy out.old.items out.new.items }
 {
     put_leading(parts, out)?;
-    if is_comment(class) {
-        return Ok(());
-    }
     let marks = marks_of(alloc, parts)?;
     let mut walk = RowWriter::new(alloc, marks, None)?;
     walk.run(parts, out)?;
@@ -63,7 +55,6 @@ fn put_text(
 }
 
 // After a refusal nothing of the text stands there.
-#[tactic(auto, using(crate::proofs::Texts::is_layout))]
 fn put_parts(
     alloc: Global,
     parts: &[Part<'_>],
@@ -76,7 +67,11 @@ fn put_parts(
     ensures unchanged { OnErr result (out.new.items ≡ out.old.items) }
 {
     let len = out.len();
-    let put = put_text(alloc, parts, class, out);
+    let put = if is_comment(class) {
+        put_leading(parts, out)
+    } else {
+        put_lines(alloc, parts, out)
+    };
     if put.is_err() {
         out.truncate(len);
     }

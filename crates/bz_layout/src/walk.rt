@@ -12,7 +12,7 @@ use crate::append::NewLine;
 use crate::marks::BracketForm;
 use crate::respell::put_written;
 use crate::spacing::{Edge, Gap, hugs, is_byte, token_closes_up, token_edge};
-use crate::write::{closing, opening, put};
+use crate::write::{brackets, put};
 use bz_memory::{NoMemory, push, with_capacity};
 use bz_token::Kind;
 use bz_tree::{GroupKind, Part};
@@ -164,7 +164,7 @@ impl RowWriter {
         ensures begun { IsBegunBy (T.bytes out.old) (T.bytes out.new) }
     {
         self.put_gap(hugs(kind), out)?;
-        out.put_short(opening(kind))?;
+        out.put_short(brackets(kind).0)?;
         push(&mut self.outer, self.here)?;
         let mark = match self.marks.pop() {
             Some(mark) => mark,
@@ -194,7 +194,7 @@ impl RowWriter {
             out.put_short(",")?;
         }
         if let Some(kind) = self.here.within {
-            out.put_short(closing(kind))?;
+            out.put_short(brackets(kind).1)?;
         }
         self.here = match self.outer.pop() {
             Some(below) => below,

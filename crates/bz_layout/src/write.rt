@@ -11,25 +11,16 @@ use crate::spacing::Gap;
 use bz_memory::NoMemory;
 use bz_tree::GroupKind;
 
+// What a bracket opens with, and what it closes with.
 #[inline(always)]
-pub(crate) fn opening(kind: GroupKind) -> &'static str
-    ensures { result.now ≡ opening kind }
+pub(crate) fn brackets(kind: GroupKind) -> (&'static str, &'static str)
+    ensures opening { result.0.now ≡ opening kind }
+    ensures closing { result.1.now ≡ closing kind }
 {
     match kind {
-        GroupKind::Call | GroupKind::RuleCall | GroupKind::Load | GroupKind::Paren => "(",
-        GroupKind::List | GroupKind::Index | GroupKind::ListComp => "[",
-        GroupKind::Dict | GroupKind::DictComp => "{",
-    }
-}
-
-#[inline(always)]
-pub(crate) fn closing(kind: GroupKind) -> &'static str
-    ensures { result.now ≡ closing kind }
-{
-    match kind {
-        GroupKind::Call | GroupKind::RuleCall | GroupKind::Load | GroupKind::Paren => ")",
-        GroupKind::List | GroupKind::Index | GroupKind::ListComp => "]",
-        GroupKind::Dict | GroupKind::DictComp => "}",
+        GroupKind::Call | GroupKind::RuleCall | GroupKind::Load | GroupKind::Paren => ("(", ")"),
+        GroupKind::List | GroupKind::Index | GroupKind::ListComp => ("[", "]"),
+        GroupKind::Dict | GroupKind::DictComp => ("{", "}"),
     }
 }
 

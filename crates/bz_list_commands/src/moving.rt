@@ -12,10 +12,11 @@ ghost use Rattle.bz_attribute.specs.Move as spec;
 ghost use Rattle.bz_list_commands.specs.private.MoveSteps.{AreFound, AreWithin, HasPut, parts_at};
 ghost use Rattle.bz_list_commands.specs.private.StringEdits.{is_meant, literal_of, means};
 
+use crate::argument_edits::ArgumentEdit;
 use crate::arrivals::{Lists, arrivals};
 use crate::list_place::{ListPlace, list_place};
 use crate::new_attribute::{close_attribute, open_attribute};
-use crate::place_edits::edit_named;
+use crate::place_edits::edit_in;
 use crate::string_edit::{Meant, StringEdit};
 use bz_attribute::{Done, Edit, Env, Parts, Place, WordSet, elements_end, place_of};
 use bz_command::Moved;
@@ -104,7 +105,8 @@ fn move_meant<'a>(
         (λ args. done Nothing (spec.moves edit.entry.env.home.now change.entry.old.now moved args))
         (map part_view parts.now) (map part_view written.new.items) e) }
 {
-    let gone = edit_named(edit, change.old, parts, written)?;
+    let old = place_of(parts, change.old);
+    let gone = edit_in(ArgumentEdit::Strings(edit), parts, old, written)?;
     if !gone.done.changed {
         return Ok(Edit::none(Done::quiet(false)));
     }

@@ -2,14 +2,12 @@
 
 ghost use Rattle.std.specs.Prelude.{◌≡◌, ◌≤◌, List, None as Nothing, false, map, length, IfOk};
 ghost use Rattle.std.specs.List.{flat_map, list_any};
-ghost use Rattle.bz_tree.specs.Tree.{Segment, Statement, segs_of};
+ghost use Rattle.bz_tree.specs.Tree.{Segment, segs_of};
 ghost use Rattle.bz_tree.specs.Rows.{part_view, segs_parts};
-ghost use Rattle.bz_attribute.specs.Effects.{done, edit_first, filtered};
+ghost use Rattle.bz_attribute.specs.Effects.{done};
 ghost use Rattle.bz_attribute.specs.RowEdits.{IsRowEdit};
-ghost use Rattle.bz_attribute.specs.RowPlaces.{IsRuleRow};
-ghost use Rattle.bz_attribute.specs.Rules.{Rule, first_named, is_named};
 ghost use Rattle.bz_list_commands.specs.private.ArgumentEdits.{changes_by, edit_by, goes_by, kept};
-ghost use Rattle.bz_list_commands.specs.private.StringEdits.{become_all, literal_of, means};
+ghost use Rattle.bz_list_commands.specs.private.StringEdits.{literal_of, means};
 ghost use Rattle.bz_list_commands.specs.private.PlaceEdits as spec;
 
 use crate::argument_edits::{ArgumentEdit, edit_arguments};
@@ -30,8 +28,8 @@ fn may_change(edit: ArgumentEdit<'_, '_, '_>, parts: &[Part<'_>]) -> bool
     }
 }
 
-// The arguments in a place of a rule are edited.
-fn edit_in<'a>(
+/// The arguments in a place of a rule are edited.
+pub(crate) fn edit_in<'a>(
     edit: ArgumentEdit<'_, '_, '_>,
     parts: &[Part<'a>],
     place: Place,
@@ -73,23 +71,7 @@ pub fn drop_arguments<'a>(
     )
 }
 
-/// Elements of the first argument of a name go or become another.
-pub fn edit_named<'a>(
-    edit: StringEdit<'_, '_, '_>,
-    attr: &str,
-    parts: &[Part<'a>],
-    new: &mut Parts<'a>,
-) -> Result<Edit, NoMemory>
-    ensures { IfOk result (IsRowEdit
-        (edit_first (is_named attr.now) (filtered (become_all (means edit.entry) (literal_of edit.entry))))
-        (λ args. done Nothing (spec.changes_first (means edit.entry) (first_named attr.now args)))
-        (map part_view parts.now) (map part_view new.new.items)) }
-{
-    let place = place_of(parts, attr);
-    edit_in(ArgumentEdit::Strings(edit), parts, place, new)
-}
-
-/// The same of the elements of the first argument of a name, or of all.
+/// Elements of the first argument of a name go or become another, or elements of all arguments.
 pub fn edit_strings<'a>(
     edit: StringEdit<'_, '_, '_>,
     attributes: &Attributes,
@@ -100,15 +82,9 @@ pub fn edit_strings<'a>(
         (λ args. done Nothing (spec.changes_in (means edit.entry) attributes.now args))
         (map part_view parts.now) (map part_view new.new.items)) }
 {
+    let edit = ArgumentEdit::Strings(edit);
     match attributes {
-        Attributes::Every => {
-            edit_in(
-                ArgumentEdit::Strings(edit),
-                parts,
-                all_arguments(parts),
-                new,
-            )
-        }
-        Attributes::Named(attr) => edit_named(edit, attr.as_str(), parts, new),
+        Attributes::Every => edit_in(edit, parts, all_arguments(parts), new),
+        Attributes::Named(attr) => edit_in(edit, parts, place_of(parts, attr.as_str()), new),
     }
 }

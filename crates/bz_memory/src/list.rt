@@ -14,10 +14,7 @@ pub fn push<T: Drop, A: Allocator>(list: &mut Vec<T, A>, value: T) -> Result<(),
     ensures items { list.new.items ≡ (if is_ok result then list.old.items ++ value ∷ [] else list.old.items) }
     ensures full { OnErr result (vec_capacity list.old ≤ vec_len list.old) }
 {
-    match list.push(value) {
-        Ok(()) => Ok(()),
-        Err(_) => Err(refused()),
-    }
+    list.push(value).map_err(|_| refused())
 }
 
 /// Puts copies of some values at the end of a list.
@@ -29,10 +26,7 @@ pub fn extend_from_slice<T: Copy, A: Allocator>(
     ensures items { list.new.items ≡ (if is_ok result then list.old.items ++ values.now else list.old.items) }
     ensures full { OnErr result (vec_capacity list.old < vec_len list.old + length values.now) }
 {
-    match list.extend_from_slice(values) {
-        Ok(()) => Ok(()),
-        Err(_) => Err(refused()),
-    }
+    list.extend_from_slice(values).map_err(|_| refused())
 }
 
 /// Puts the values of another list at the end of a list.
@@ -42,10 +36,7 @@ pub fn append<T, A: Allocator>(list: &mut Vec<T, A>, other: &mut Vec<T, A>) -> R
     ensures other_items { other.new.items ≡ (if is_ok result then [] else other.old.items) }
     ensures full { OnErr result (vec_capacity list.old < vec_len list.old + vec_len other.old) }
 {
-    match list.append(other) {
-        Ok(()) => Ok(()),
-        Err(_) => Err(refused()),
-    }
+    list.append(other).map_err(|_| refused())
 }
 
 /// Makes room for a few values more.
@@ -56,10 +47,7 @@ pub fn reserve<T, A: Allocator>(list: &mut Vec<T, A>, few: usize) -> Result<(), 
     ensures ok { OnOk result (vec_len list.new + few ≤ vec_capacity list.new) }
     ensures full { OnErr result (vec_capacity list.old < vec_len list.old + few) }
 {
-    match list.reserve(few) {
-        Ok(()) => Ok(()),
-        Err(_) => Err(refused()),
-    }
+    list.reserve(few).map_err(|_| refused())
 }
 
 /// Makes room for as many values more as another list has.
@@ -69,10 +57,7 @@ pub fn reserve_for<T, A: Allocator>(list: &mut Vec<T, A>, like: &[T]) -> Result<
     ensures ok { OnOk result (vec_len list.new + length like.now ≤ vec_capacity list.new) }
     ensures full { OnErr result (vec_capacity list.old < vec_len list.old + length like.now) }
 {
-    match list.reserve(like.len()) {
-        Ok(()) => Ok(()),
-        Err(_) => Err(refused()),
-    }
+    list.reserve(like.len()).map_err(|_| refused())
 }
 
 /// Makes room for a few values more, and takes no more memory than that.
@@ -83,10 +68,7 @@ pub fn reserve_exact<T, A: Allocator>(list: &mut Vec<T, A>, few: usize) -> Resul
     ensures ok { OnOk result (vec_len list.new + few ≤ vec_capacity list.new) }
     ensures full { OnErr result (vec_capacity list.old < vec_len list.old + few) }
 {
-    match list.reserve_exact(few) {
-        Ok(()) => Ok(()),
-        Err(_) => Err(refused()),
-    }
+    list.reserve_exact(few).map_err(|_| refused())
 }
 
 /// An empty list with room for a few values.
@@ -96,10 +78,7 @@ pub fn with_capacity<T, A: Allocator>(alloc: A, few: usize) -> Result<Vec<T, A>,
     ensures items { IfOk result (λ v. v.items ≡ []) }
     ensures capacity { IfOk result (λ v. few ≤ vec_capacity v) }
 {
-    match Vec::with_capacity(alloc, few) {
-        Ok(list) => Ok(list),
-        Err(_) => Err(refused()),
-    }
+    Vec::with_capacity(alloc, few).map_err(|_| refused())
 }
 
 /// An empty list with room for as many values as another list has, and a few.
@@ -155,10 +134,7 @@ fn held<U>(list: &[U]) -> usize {
 fn with_capacity_of<T, A: Allocator>(alloc: A, room: usize) -> Result<Vec<T, A>, NoMemory>
     ensures { IfOk result (λ v. v.items ≡ []) }
 {
-    match Vec::with_capacity(alloc, room) {
-        Ok(list) => Ok(list),
-        Err(_) => Err(refused()),
-    }
+    Vec::with_capacity(alloc, room).map_err(|_| refused())
 }
 
 /// A list of the values of an array.
@@ -169,10 +145,7 @@ pub fn from_array<T: Drop, A: Allocator, const N: usize>(
 ) -> Result<Vec<T, A>, NoMemory>
     ensures items { IfOk result (λ v. v.items ≡ values) }
 {
-    match Vec::from_array(alloc, values) {
-        Ok(list) => Ok(list),
-        Err(_) => Err(refused()),
-    }
+    Vec::from_array(alloc, values).map_err(|_| refused())
 }
 
 /// Makes bytes longer by so many zeros; at most a piece of an input.
@@ -184,10 +157,7 @@ pub fn lengthen<A: Allocator>(bytes: &mut Vec<u8, A>, more: usize) -> Result<(),
     ensures same { OnErr result (bytes.new.items ≡ bytes.old.items) }
 {
     let start = bytes.len();
-    match bytes.resize(start + more, 0) {
-        Ok(()) => Ok(()),
-        Err(_) => Err(refused()),
-    }
+    bytes.resize(start + more, 0).map_err(|_| refused())
 }
 
 /// The items of an iterator.
@@ -199,8 +169,5 @@ pub fn collect<T: Drop, I: Iterator<Item = T> + Drop>(
     requires finite { IsFinite (I.remaining items) }
     ensures ran { IfOk result (λ v. (xs : List T) × DrainsIf I.next_gives ⊤ items xs × ((v.items ≡ xs) × (vec_len v ≡ length xs))) }
 {
-    match items.collect(alloc) {
-        Ok(list) => Ok(list),
-        Err(_) => Err(refused()),
-    }
+    items.collect(alloc).map_err(|_| refused())
 }

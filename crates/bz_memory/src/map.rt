@@ -22,10 +22,7 @@ pub fn insert<K: Ord + Drop, A: Allocator + Clone>(
     ensures updates { OnOk result (Updates K.cmp set.old set.new key true) }
     ensures err { OnErr result (IsUnchanged set.old set.new) }
 {
-    match set.insert(key) {
-        Ok(added) => Ok(added),
-        Err(_) => Err(refused()),
-    }
+    set.insert(key).map_err(|_| refused())
 }
 
 /// The place of a key in a map, where a value can be put.
@@ -39,10 +36,7 @@ pub fn entry<'m, K: Ord + Drop, V>(
     ensures unchanged { IfOk result (λ e. btree.IsUnchanged map.old (entry_map_ref e).now) }
     ensures update { IfOk result (IsEntryFor K.cmp map.old key) }
 {
-    match map.entry(key) {
-        Ok(entry) => Ok(entry),
-        Err(_) => Err(refused()),
-    }
+    map.entry(key).map_err(|_| refused())
 }
 
 /// Puts a value at a key. A new key goes last.

@@ -12,10 +12,7 @@ use std::fmt::Write;
 pub fn from_str(alloc: Global, text: &str) -> Result<String, NoMemory>
     ensures ok { IfOk result (λ s. string_bytes s ≡ text.now) }
 {
-    match String::from_str(alloc, text) {
-        Ok(string) => Ok(string),
-        Err(_) => Err(refused()),
-    }
+    String::from_str(alloc, text).map_err(|_| refused())
 }
 
 /// An empty string with room for as many bytes as a text has.
@@ -23,10 +20,7 @@ pub fn from_str(alloc: Global, text: &str) -> Result<String, NoMemory>
 pub fn with_length_of(alloc: Global, text: &str) -> Result<String, NoMemory>
     ensures bytes { IfOk result (λ s. string_bytes s ≡ []) }
 {
-    match String::with_capacity(alloc, text.len()) {
-        Ok(string) => Ok(string),
-        Err(_) => Err(refused()),
-    }
+    String::with_capacity(alloc, text.len()).map_err(|_| refused())
 }
 
 /// Puts a text at the end of a string.
@@ -35,10 +29,7 @@ pub fn push_str(string: &mut String, text: &str) -> Result<(), NoMemory>
     ensures bytes { string_bytes string.new
         ≡ (if is_ok result then string_bytes string.old ++ text.now else string_bytes string.old) }
 {
-    match string.push_str(text) {
-        Ok(()) => Ok(()),
-        Err(_) => Err(refused()),
-    }
+    string.push_str(text).map_err(|_| refused())
 }
 
 /// Puts a character at the end of a string.
@@ -48,18 +39,12 @@ pub fn push_char(string: &mut String, character: char) -> Result<(), NoMemory>
         ≡ (if is_ok result then string_bytes string.old ++ encode_utf8 character else string_bytes string.old) }
     ensures ascii { character < 128 → encode_utf8 character ≡ character ∷ [] }
 {
-    match string.push(character) {
-        Ok(()) => Ok(()),
-        Err(_) => Err(refused()),
-    }
+    string.push(character).map_err(|_| refused())
 }
 
 /// Puts a number in decimal digits at the end of a string.
 pub fn push_number(string: &mut String, number: u64) -> Result<(), NoMemory>
     ensures { OnOk result (string_bytes string.new ≡ string_bytes string.old ++ decimal number) }
 {
-    match write!(string, "{number}") {
-        Ok(()) => Ok(()),
-        Err(_) => Err(refused()),
-    }
+    write!(string, "{number}").map_err(|_| refused())
 }

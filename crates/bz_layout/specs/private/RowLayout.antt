@@ -219,8 +219,10 @@ leading _ = []
 abbrev pub line_text : List ℕ → List RowPart → List ℕ
 line_text text ps = (run ps (start text (scan ps).marks None)).text ++ codes "\n"
 
+-- the comments above the statement and its line, after what stands before them
+abbrev pub lines_text : List ℕ → List RowPart → List ℕ
+lines_text before ps = line_text (before ++ bytes_of (comment_lines (leading ps))) ps
+
 -- the text of a row after what stands before it
 abbrev pub row_text : List ℕ → List RowPart → Class → List ℕ
-row_text before ps class =
-    let text = before ++ bytes_of (comment_lines (leading ps)) in
-    if is_comment class then text else line_text text ps
+row_text before ps class = if is_comment class then before ++ bytes_of (comment_lines (leading ps)) else lines_text before ps

@@ -8,8 +8,9 @@ use Rattle.bz_attribute.specs.Rules.{is_named}
 use Rattle.bz_attribute.specs.declared.done.Done.{Done}
 use Rattle.bz_attribute.specs.declared.place.Place.{Place}
 use Rattle.bz_list_commands.specs.private.MoveSteps.{HaveArrivals}
-use Rattle.bz_list_commands.specs.private.StringEdits.{become_all, means}
+use Rattle.bz_list_commands.specs.private.StringEdits.{become_all, literal_of, means}
 use Rattle.bz_list_commands.proofs.MovedRules.{gone_from, has_moved, not_moved, told_gone}
+use Rattle.bz_list_commands.proofs.PlaceEdits.{named_row}
 use Rattle.bz_list_commands.proofs.moving.move_meant.Goals as goal
 
 pub returns-then-not-gone : goal.returns-then-not-gone
@@ -17,9 +18,10 @@ returns-then-not-gone c moved plain same =
     let home = c.args.edit.env.home.now in
     let p = means c.args.edit in
     let ps : List RowPart = map part_view c.args.parts.now in
-    let one : List RowPart = map part_view c.edit_named.new.new.items in
-    let gone : IsRowEdit (gone_from c.args.change.old.now (means c.args.edit)) (told_gone c.args.change.old.now (means c.args.edit)) (map part_view c.args.parts.now) (map part_view c.edit_named.new.new.items) c.in_ok-gone.gone =
-    subst (λ (literal : Option (List ℕ)). IsRowEdit (edit_first (is_named c.args.change.old.now) (filtered (become_all p literal))) (told_gone c.args.change.old.now p) ps one c.in_ok-gone.gone) plain c.in_ok-gone.ensures in
+    let one : List RowPart = map part_view c.edit_in.new.new.items in
+    let named = named_row p (literal_of c.args.edit) c.args.change.old.now c.place_of-old.result ps one c.in_ok-gone.gone c.in_ok-gone.ensures c.place_of-old.ensures.place in
+    let gone : IsRowEdit (gone_from c.args.change.old.now (means c.args.edit)) (told_gone c.args.change.old.now (means c.args.edit)) (map part_view c.args.parts.now) (map part_view c.edit_in.new.new.items) c.in_ok-gone.gone =
+    subst (λ (literal : Option (List ℕ)). IsRowEdit (edit_first (is_named c.args.change.old.now) (filtered (become_all p literal))) (told_gone c.args.change.old.now p) ps one c.in_ok-gone.gone) plain named in
     not_moved home c.args.change.old.now c.args.change.new.now moved p ps one c.in_ok-gone.gone _ same gone (not-true c.in_ok-gone.gone.done.changed c.if-not-gone.true)
     (c.none.ensures ∙ ap (λ (d : Done). record { done = d; place = record { from = 0; to = 0 } }) c.quiet.ensures)
 
@@ -28,9 +30,10 @@ returns c moved plain same =
     let home = c.args.edit.env.home.now in
     let p = means c.args.edit in
     let ps : List RowPart = map part_view c.args.parts.now in
-    let one : List RowPart = map part_view c.edit_named.new.new.items in
-    let gone : IsRowEdit (gone_from c.args.change.old.now (means c.args.edit)) (told_gone c.args.change.old.now (means c.args.edit)) (map part_view c.args.parts.now) (map part_view c.edit_named.new.new.items) c.in_ok-gone.gone =
-    subst (λ (literal : Option (List ℕ)). IsRowEdit (edit_first (is_named c.args.change.old.now) (filtered (become_all p literal))) (told_gone c.args.change.old.now p) ps one c.in_ok-gone.gone) plain c.in_ok-gone.ensures in
+    let one : List RowPart = map part_view c.edit_in.new.new.items in
+    let named = named_row p (literal_of c.args.edit) c.args.change.old.now c.place_of-old.result ps one c.in_ok-gone.gone c.in_ok-gone.ensures c.place_of-old.ensures.place in
+    let gone : IsRowEdit (gone_from c.args.change.old.now (means c.args.edit)) (told_gone c.args.change.old.now (means c.args.edit)) (map part_view c.args.parts.now) (map part_view c.edit_in.new.new.items) c.in_ok-gone.gone =
+    subst (λ (literal : Option (List ℕ)). IsRowEdit (edit_first (is_named c.args.change.old.now) (filtered (become_all p literal))) (told_gone c.args.change.old.now p) ps one c.in_ok-gone.gone) plain named in
     has_moved home c.args.change.old.now c.args.change.new.now moved p c.args.lists ps one (map part_view c.deref-3.result.now) (map part_view c.write_with.new.written.items) c.deref-2.result.now c.in_ok-gone.gone c.at.result same gone
     (not-false c.in_ok-gone.gone.done.changed c.if-not-gone.false)
     (ap (map part_view) c.deref-3.ensures.value ∙ c.in_ok-left.ensures ∙ (λ i. replaced_at c.in_ok-gone.gone.place (map part_view (c.deref.ensures.value i)) ps))

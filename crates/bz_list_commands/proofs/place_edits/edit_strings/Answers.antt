@@ -2,7 +2,7 @@ use Rattle.std.proofs.Common.{map}
 use Rattle.bz_tree.specs.Rows.{part_view}
 use Rattle.bz_list_commands.specs.private.ArgumentEdits.{edited, is_changed}
 use Rattle.bz_list_commands.specs.private.StringEdits.{literal_of, means}
-use Rattle.bz_list_commands.proofs.PlaceEdits.{every_row}
+use Rattle.bz_list_commands.proofs.PlaceEdits.{every_row, named_row}
 use Rattle.bz_list_commands.proofs.WrittenParts.{ok_as}
 use Rattle.bz_list_commands.proofs.place_edits.edit_strings.Goals as goal
 
@@ -13,4 +13,5 @@ returns-in-Every c =
 
 pub returns-in-Named : goal.returns-in-Named
 returns-in-Named c =
-    rw c.in-Named.is (rw c.as_str.ensures at c.edit_named.ensures)
+    rw c.in-Named.is
+    (ok_as (λ e h. named_row (means c.args.edit) (literal_of c.args.edit) _ c.place_of.result (map part_view c.args.parts.now) (map part_view c.edit_in-in-Named.new.new.items) e h (rw c.as_str.ensures at c.place_of.ensures.place)) c.edit_in-in-Named.result c.edit_in-in-Named.ensures)

@@ -1,19 +1,13 @@
-use Rattle.std.proofs.Common.{map, sym, ◌∙◌}
+use Rattle.std.proofs.Common.{map}
 use Rattle.std.proofs.lemmas.Result.{on_ok_weaker}
 use Rattle.bz_tree.specs.Rows.{part_view}
 use Rattle.bz_layout.specs.private.RowLayout.{laid}
 use Rattle.bz_layout.proofs.Kept.{begun_further}
-use Rattle.bz_layout.proofs.Texts.{comment_row, line_row}
-use Rattle.bz_layout.proofs.row.put_text.Goals as goal
+use Rattle.bz_layout.proofs.Texts.{line_row}
+use Rattle.bz_layout.proofs.row.put_lines.Goals as goal
 
 pub returns-in_err-put_leading-clause-begun : goal.returns-in_err-put_leading-clause-begun
 returns-in_err-put_leading-clause-begun c = c.put_leading.ensures.begun
-
-pub returns-then-is_comment-clause-text : goal.returns-then-is_comment-clause-text
-returns-then-is_comment-clause-text c = comment_row _ _ _ c.args.class (sym c.is_comment.ensures ∙ c.if-is_comment.true) c.in_ok-put_leading.ensures.text
-
-pub returns-then-is_comment-clause-begun : goal.returns-then-is_comment-clause-begun
-returns-then-is_comment-clause-begun c = c.put_leading.ensures.begun
 
 pub returns-in_err-marks-clause-begun : goal.returns-in_err-marks-clause-begun
 returns-in_err-marks-clause-begun c = c.put_leading.ensures.begun
@@ -27,7 +21,7 @@ returns-in_err-run-clause-begun c = begun_further _ _ _ c.put_leading.ensures.be
 pub returns-clause-text : goal.returns-clause-text
 returns-clause-text c =
     on_ok_weaker c.put.result
-    (line_row _ _ _ (map part_view c.args.parts.now) c.args.class _ _ (laid c.run.new.self c.run.new.out.items) (sym c.is_comment.ensures ∙ c.if-is_comment.false) c.in_ok-put_leading.ensures.text c.in_ok-marks.ensures
+    (line_row _ _ _ (map part_view c.args.parts.now) _ _ (laid c.run.new.self c.run.new.out.items) c.in_ok-put_leading.ensures.text c.in_ok-marks.ensures
     (c.in_ok-walk.ensures.laid c.put_leading.new.out.items) c.in_ok-run.ensures.laid)
     c.put.ensures.put
 
