@@ -5,3 +5,6 @@ pub returns-in-Some : goal.returns-in-Some
 returns-in-Some c =
     adds_to_list c.args.script.max_depth c.args.command.now c.args.script.home.now c.in-Some.new.attr.now c.in-Some.new.value.now c.args.lines.now c.put_added.new.written.items c.in-Some.ensures c.in_ok-added.added c.in_ok-added.ensures
     c.edited_by.result c.edited_by.ensures
+
+pub returns-then-is_lacking : goal.returns-then-is_lacking
+returns-then-is_lacking c = c.is_lacking.ensures c.if-is_lacking.true c.args.written.now.items
