@@ -1,5 +1,5 @@
 -- What `add` of one value makes of an argument whose value is one list of strings.
-use Rattle.std.proofs.Common.{◌≡◌, ◌<◌, ◌-◌, ℕ, suc, ◌+◌, take, length, List, [], ◌∷◌, ◌++◌, Bool, true, false, ◌||◌, refl, sym, ap, ◌∙◌, arith, append_assoc, append-nil, subst, bytes_eq, map}
+use Rattle.std.proofs.Common.{◌≡◌, ◌<◌, ◌-◌, ℕ, suc, ◌+◌, take, length, List, [], ◌∷◌, ◌++◌, Bool, true, false, ◌||◌, refl, sym, ap, ◌∙◌, arith, append_assoc, subst, bytes_eq, map}
 use Rattle.std.proofs.lemmas.Bool.{false≢true}
 use Rattle.std.proofs.lemmas.Bool.Decides.{nat_tests}
 use Rattle.std.specs.Prelude.{codes, nat_le, not, Option, Some, None, if◌then◌else◌}
@@ -27,9 +27,9 @@ use Rattle.bz_attribute.specs.Rules.{first_named, rule_of}
 use Rattle.bz_attribute.proofs.Views.{segments_of}
 use Rattle.bz_canonical.specs.Added.{IsNew, IsPresent, LacksInLines}
 use Rattle.bz_canonical.specs.Canonical.{AreReadAlone, argument_lines, rule_args, small_rule, small_text}
-use Rattle.bz_canonical.specs.private.Added.{AreElementsTold, IsListTold, have_word, is_word, last_line, list_arg}
-use Rattle.bz_canonical.specs.private.Rewritten.{Element, IsHeadRead, IsPlaced, Placed, element_line, element_lines, element_list, element_segs, is_noted, placed_lines}
-use Rattle.bz_canonical.specs.private.Segments.{IsBesideFront}
+use Rattle.bz_canonical.specs.declared.added.FoundList.{FoundList}
+use Rattle.bz_canonical.specs.private.Added.{IsListFound, IsListTold, have_word, is_word, last_line, list_arg}
+use Rattle.bz_canonical.specs.private.Rewritten.{AreElementsRead, Element, IsHeadRead, IsLast, IsPlaced, Placed, element_line, element_lines, element_list, element_segs, is_noted, placed_lines}
 use Rattle.bz_canonical.proofs.ElementLists.{closed, flat_one, longer, or_yes, written_broken}
 use Rattle.bz_canonical.proofs.GroupSegments.{or_no}
 use Rattle.bz_canonical.proofs.PutArguments.{argument_bytes, laid, list_is_placed, list_lines, list_placed, standing}
@@ -104,46 +104,82 @@ list_written one value (e ∷ es) is =
 
 -- the argument of these lines
 
-pub list_told : (depth : ℕ) (home : Package) (attr value text inside end comma front w written : List ℕ) (e one equal : Bool) → 0 < depth → IsHeadRead attr text (91 ∷ inside) true → AreElementsTold home value inside end w one equal
-    → end ≡ 44 ∷ comma → IsBesideFront comma [] e → front ≡ take (length text - length inside) text → written ≡ front ++ w → IsListTold (suc depth) home attr value text end written one equal
-list_told depth home attr value text inside end comma front w written e one equal deep h t is side front_is written_is =
-    let p : Placed = list_placed h.notes h.word t.breaks t.elements side.note in
-    let C : List ℕ = bytes_of (comments 1 h.notes) in
-    let F : List ℕ = C ++ (10 ∷ (indent 1 ++ (h.word ++ codes " = ["))) in
-    let back : end ≡ 44 ∷ bytes_of (suffix_piece side.note) = is ∙ ap (λ (t : List ℕ). 44 ∷ t) (side.front ∙ append-nil (bytes_of (suffix_piece side.note))) in
-    let lines : text ≡ placed_lines p = h.front ∙ ap (λ (x : List ℕ). C ++ (10 ∷ (indent 1 ++ (h.word ++ (codes " = " ++ x))))) (t.front ∙ ap (λ (x : List ℕ). (91 ∷ bytes_of (standing t.breaks t.elements)) ++ x) back)
-    ∙ sym (list_lines h.notes h.word t.breaks t.elements side.note) in
-    record {
-      notes = h.notes;
-      name = h.word;
-      elements = t.elements;
-      suffix = side.note;
-      named = h.named_is;
-      spells = written_is ∙ (λ i. (front_is ∙ taken text F inside (h.front ∙ start C)) i ++ t.spells i);
-      one_is = t.one_is;
-      equal_is = t.equal_is;
-      back = back;
-      same = λ args reads. read_same depth text args p (list_is_placed depth h.notes h.word t.breaks t.elements side.note deep h.are h.is t.are t.stands side.is) lines reads;
-    }
+head_front : (attr text inside : List ℕ) → (h : IsHeadRead attr text (91 ∷ inside) true) → text ≡ (bytes_of (comments 1 h.notes) ++ (10 ∷ (indent 1 ++ (h.word ++ codes " = [")))) ++ inside
+head_front attr text inside h = h.front ∙ start (bytes_of (comments 1 h.notes))
   where
     start : (C : List ℕ) → C ++ (10 ∷ (indent 1 ++ (h.word ++ (codes " = " ++ (91 ∷ inside))))) ≡ (C ++ (10 ∷ (indent 1 ++ (h.word ++ codes " = [")))) ++ inside
     start C = simp append_assoc
 
+abbrev list_told : (depth : ℕ) (attr text inside end w written : List ℕ) (one b : Bool) → 1 < depth → IsHeadRead attr text (91 ∷ inside) true → AreElementsRead inside end w one b → IsLast end → written ≡ take (length text - length inside) text ++ w
+    → IsListTold depth attr text end written one
+list_told depth attr text inside end w written one b deep h t last written_is =
+    let d : ℕ = depth - 1 in
+    let deeper : suc d ≡ depth = omega (arith, deep) in
+    let less : 0 < d = omega (arith, deep) in
+    let p : Placed = list_placed h.notes h.word t.breaks t.elements last.suffix in
+    let C : List ℕ = bytes_of (comments 1 h.notes) in
+    let F : List ℕ = C ++ (10 ∷ (indent 1 ++ (h.word ++ codes " = ["))) in
+    let lines : text ≡ placed_lines p = h.front ∙ ap (λ (x : List ℕ). C ++ (10 ∷ (indent 1 ++ (h.word ++ (codes " = " ++ x))))) (t.front ∙ ap (λ (x : List ℕ). (91 ∷ bytes_of (standing t.breaks t.elements)) ++ x) last.front)
+    ∙ sym (list_lines h.notes h.word t.breaks t.elements last.suffix) in
+    record {
+      notes = h.notes;
+      name = h.word;
+      elements = t.elements;
+      suffix = last.suffix;
+      named = h.named_is;
+      spells = written_is ∙ (λ i. taken text F inside (head_front attr text inside h) i ++ t.spells i);
+      one_is = t.one_is;
+      back = last.front;
+      same = λ args reads. read_same d text args p (list_is_placed d h.notes h.word t.breaks t.elements last.suffix less h.are h.is t.are t.stands last.is) lines (subst (λ n. AreReadAlone n text args) (sym deeper) reads);
+    }
+
+pub otherwise_told : (depth : ℕ) (home : Package) (attr value text end w written : List ℕ) (one b : Bool) (list : FoundList) → IsListFound depth home attr value text list → AreElementsRead list.inside.now end w one b → IsLast end
+    → written ≡ take (length text - length list.inside.now) text ++ w → IsListTold depth attr text end written one
+otherwise_told depth home attr value text end w written one b list f read last written_is = list_told depth attr text list.inside.now end w written one b f.deep f.head read last written_is
+
+pub plain_told : (depth : ℕ) (home : Package) (attr value text written : List ℕ) (list : FoundList) → IsListFound depth home attr value text list → list.otherwise ≡ false → written ≡ take (length text - length list.bracket.now) text
+    → IsListTold depth attr text list.end.now written list.one
+plain_told depth home attr value text written list f plain written_is =
+    let inside : List ℕ = list.inside.now in
+    let w : List ℕ = f.found.written in
+    let F : List ℕ = bytes_of (comments 1 f.head.notes) ++ (10 ∷ (indent 1 ++ (f.head.word ++ codes " = ["))) in
+    let front : text ≡ F ++ inside = head_front attr text inside f.head in
+    let all : text ≡ (F ++ w) ++ list.bracket.now = front ∙ ap (λ (t : List ℕ). F ++ t) (f.found.same plain) ∙ sym (append_assoc F w list.bracket.now) in
+    list_told depth attr text inside list.end.now w written list.one f.found.broken f.deep f.head f.found.read f.last
+    (written_is ∙ taken text (F ++ w) list.bracket.now all ∙ ap (λ (t : List ℕ). t ++ w) (sym (taken text F inside front)))
+
+found_told : (depth : ℕ) (home : Package) (attr value text : List ℕ) (list : FoundList) → (f : IsListFound depth home attr value text list)
+    → (args : List Segment) → AreReadAlone depth text args → args ≡ list_arg f.head.notes f.head.word f.found.read.elements f.last.suffix ∷ []
+found_told depth home attr value text list f = (list_told depth attr text list.inside.now list.end.now f.found.written _ list.one f.found.broken f.deep f.head f.found.read f.last refl).same
+
 -- what `add` makes of it
 
-pub value_present : (depth : ℕ) (home : Package) (attr value text end written : List ℕ) (one equal : Bool) → IsListTold depth home attr value text end written one equal → equal ≡ true → (args : List Segment) → AreReadAlone depth text args → IsPresent home attr value args
-value_present depth home attr value text end written one equal a there args reads =
-    let first = first_is attr a.name a.notes a.elements a.suffix a.named in
-    subst (IsPresent home attr value) (sym (a.same args reads)) (record {
+pub value_present : (depth : ℕ) (home : Package) (attr value text : List ℕ) (list : FoundList) → IsListFound depth home attr value text list → list.equal ≡ true → (args : List Segment) → AreReadAlone depth text args → IsPresent home attr value args
+value_present depth home attr value text list f there args reads =
+    let first = first_is attr f.head.word f.head.notes f.found.read.elements f.last.suffix f.head.named_is in
+    subst (IsPresent home attr value) (sym (found_told depth home attr value text list f args reads)) (record {
       list = ap (not_a_list attr) first;
-      present = ap (adds home (value ∷ [])) first ∙ ap (λ (ss : List Segment). not (is_empty ss)) (new_is home value a.elements true (sym there ∙ a.equal_is));
+      present = ap (adds home (value ∷ [])) first ∙ ap (λ (ss : List Segment). not (is_empty ss)) (new_is home value f.found.read.elements true (sym there ∙ f.found.equal_is));
     })
 
-pub value_new : (depth : ℕ) (home : Package) (attr value text end written put new : List ℕ) (one equal : Bool) → IsListTold depth home attr value text end written one equal → equal ≡ false → put ≡ written ++ last_line one value → new ≡ put ++ end
+chooses_is : (home : Package) (attr value word : List ℕ) (notes : List (List ℕ)) (es : List Element) (suffix : Option (List ℕ)) → bytes_eq attr word ≡ true
+    → map_or false (chooses home (Values (value ∷ []))) (first_named attr (list_arg notes word es suffix ∷ [])) ≡ have_word home value es
+chooses_is home attr value word notes es suffix named =
+    ap (map_or false (chooses home (Values (value ∷ [])))) (first_is attr word notes es suffix named)
+    ∙ or_no (list_any (is_chosen home (Values (value ∷ []))) (segments (element_segs es))) ∙ chosen home value es
+
+-- it has no such element
+pub value_lacks : (depth : ℕ) (home : Package) (attr value text : List ℕ) (list : FoundList) → IsListFound depth home attr value text list → list.equal ≡ false → LacksInLines depth home attr value text
+value_lacks depth home attr value text list f none = λ args reads.
+    subst (λ xs. map_or false (chooses home (Values (value ∷ []))) (first_named attr xs) ≡ false) (sym (found_told depth home attr value text list f args reads))
+    (chooses_is home attr value f.head.word f.head.notes f.found.read.elements f.last.suffix f.head.named_is ∙ sym f.found.equal_is ∙ none)
+
+pub value_new : (depth : ℕ) (home : Package) (attr value text end written put new : List ℕ) (one : Bool) → IsListTold depth attr text end written one → LacksInLines depth home attr value text → put ≡ written ++ last_line one value → new ≡ put ++ end
     → (args : List Segment) → AreReadAlone depth text args → IsNew home attr value args new
-value_new depth home attr value text end written put new one equal a none put_is all_is args reads =
+value_new depth home attr value text end written put new one a none put_is all_is args reads =
     let first = first_is attr a.name a.notes a.elements a.suffix a.named in
-    let other : false ≡ have_word home value a.elements = sym none ∙ a.equal_is in
+    let lacking = subst (λ xs. map_or false (chooses home (Values (value ∷ []))) (first_named attr xs) ≡ false) (a.same args reads) (none args reads) in
+    let other : false ≡ have_word home value a.elements = sym lacking ∙ chooses_is home attr value a.name a.notes a.elements a.suffix a.named in
     let added = add_is home attr value a.name a.notes a.elements a.suffix a.named other in
     let C : List ℕ = bytes_of (comments 1 a.notes) in
     let S : List ℕ = bytes_of (suffix_piece a.suffix) in
@@ -159,16 +195,3 @@ value_new depth home attr value text end written put new one equal a none put_is
   where
     whole : (C word E L S : List ℕ) → C ++ (10 ∷ (indent 1 ++ (word ++ (codes " = " ++ ((91 ∷ (E ++ L)) ++ (44 ∷ S)))))) ≡ (((C ++ (10 ∷ (indent 1 ++ (word ++ codes " = [")))) ++ E) ++ L) ++ (44 ∷ S)
     whole C word E L S = simp append_assoc
-
--- it has no such element
-pub value_lacks : (depth : ℕ) (home : Package) (attr value text end written : List ℕ) (one equal : Bool) → IsListTold depth home attr value text end written one equal → equal ≡ false → LacksInLines depth home attr value text
-value_lacks depth home attr value text end written one equal a none = λ args reads.
-    subst (λ xs. map_or false (chooses home (Values (value ∷ []))) (first_named attr xs) ≡ false) (sym (a.same args reads))
-    (ap (map_or false (chooses home (Values (value ∷ [])))) (first_is attr a.name a.notes a.elements a.suffix a.named)
-    ∙ or_no (list_any (is_chosen home (Values (value ∷ []))) (segments (element_segs a.elements))) ∙ chosen home value a.elements ∙ sym a.equal_is ∙ none)
-
--- of the function
-
-pub none_left : (xs : List ℕ) → length xs ≡ 0 → xs ≡ []
-none_left [] is = refl
-none_left (x ∷ xs) is = absurd (omega (arith, is))

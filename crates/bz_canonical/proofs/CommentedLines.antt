@@ -10,8 +10,8 @@ use Rattle.bz_canonical.specs.Canonical.{argument_lines}
 use Rattle.bz_canonical.specs.Commented.{CommentsLines, IsCommented, commented}
 use Rattle.bz_canonical.specs.private.Added.{list_arg}
 use Rattle.bz_canonical.specs.private.Commented.{IsHeadBelow}
-use Rattle.bz_canonical.specs.private.Rewritten.{Element, IsHeadRead, IsListRead, Placed, placed_lines}
-use Rattle.bz_canonical.specs.private.Segments.{AreNotesFront, IsBesideFront}
+use Rattle.bz_canonical.specs.private.Rewritten.{Element, IsHeadRead, IsLast, IsListRead, Placed, placed_lines}
+use Rattle.bz_canonical.specs.private.Segments.{AreNotesFront}
 use Rattle.bz_canonical.proofs.AddedLines.{read_same}
 use Rattle.bz_canonical.proofs.PutArguments.{argument_bytes, laid, list_is_placed, list_lines, list_placed, standing}
 use Rattle.bz_canonical.proofs.Taken.{taken}
@@ -50,21 +50,21 @@ commented_is : (attr line word : List ℕ) (notes : List (List ℕ)) (es : List 
     → commented attr line (list_arg notes word es suffix ∷ []) ≡ list_arg (notes ++ line ∷ []) word es suffix ∷ []
 commented_is attr line word notes es suffix named = rw named refl
 
-pub lines_commented : (depth : ℕ) (attr line text at value end comma w above front a b c d written : List ℕ) (e : Bool) → 0 < depth → IsHeadBelow attr text at value → IsListRead value end w → end ≡ 44 ∷ comma → IsBesideFront comma [] e
+pub lines_commented : (depth : ℕ) (attr line text at value end w above front a b c d written : List ℕ) → 0 < depth → IsHeadBelow attr text at value → IsListRead value end w → IsLast end
     → above ≡ take (length text - length at) text → front ≡ take (length at - length value) at
     → a ≡ above ++ codes "\n    " → b ≡ a ++ line → c ≡ b ++ front → d ≡ c ++ w → written ≡ d ++ end → CommentsLines (suc depth) attr line text written
-lines_commented depth attr line text at value end comma w above front a b c d written e deep h l is side above_is front_is ha hb hc hd hw args reads =
+lines_commented depth attr line text at value end w above front a b c d written deep h l last above_is front_is ha hb hc hd hw args reads =
     let es : List Element = l.elements in
-    let p : Placed = list_placed h.notes h.word l.breaks es side.note in
+    let p : Placed = list_placed h.notes h.word l.breaks es last.suffix in
     let C : List ℕ = bytes_of (comments 1 h.notes) in
     let F : List ℕ = 10 ∷ (indent 1 ++ (h.word ++ codes " = ")) in
-    let S : List ℕ = bytes_of (suffix_piece side.note) in
-    let back : end ≡ 44 ∷ S = is ∙ ap (λ (t : List ℕ). 44 ∷ t) (side.front ∙ append-nil S) in
+    let S : List ℕ = bytes_of (suffix_piece last.suffix) in
+    let back : end ≡ 44 ∷ S = last.front in
     let below : at ≡ F ++ value = h.line_is ∙ start h.word value in
     let lines : text ≡ placed_lines p = h.front ∙ ap (λ (x : List ℕ). C ++ x) h.line_is ∙ ap (λ (x : List ℕ). C ++ (10 ∷ (indent 1 ++ (h.word ++ (codes " = " ++ x))))) (l.front ∙ ap (λ (x : List ℕ). (91 ∷ bytes_of (standing l.breaks es)) ++ x) back)
-    ∙ sym (list_lines h.notes h.word l.breaks es side.note) in
-    let same : args ≡ p.arg ∷ [] = read_same depth text args p (list_is_placed depth h.notes h.word l.breaks es side.note deep h.are h.is l.are l.stands side.is) lines reads in
-    let made = commented_is attr line h.word h.notes es side.note h.named in
+    ∙ sym (list_lines h.notes h.word l.breaks es last.suffix) in
+    let same : args ≡ p.arg ∷ [] = read_same depth text args p (list_is_placed depth h.notes h.word l.breaks es last.suffix deep h.are h.is l.are l.stands last.is) lines reads in
+    let made = commented_is attr line h.word h.notes es last.suffix h.named in
     let put : written ≡ ((((C ++ codes "\n    ") ++ line) ++ F) ++ (91 ∷ bytes_of (laid es))) ++ (44 ∷ S) =
     hw ∙ (λ i. (hd ∙ ap (λ (x : List ℕ). x ++ w) (hc ∙ ap (λ (x : List ℕ). x ++ front) (hb ∙ ap (λ (x : List ℕ). x ++ line) (ha ∙ ap (λ (x : List ℕ). x ++ codes "\n    ") (above_is ∙ taken text C at h.front)))
     ∙ ap (λ (x : List ℕ). ((C ++ codes "\n    ") ++ line) ++ x) (front_is ∙ taken at F value below)) ∙ ap (λ (x : List ℕ). (((C ++ codes "\n    ") ++ line) ++ F) ++ x) l.spells) i ++ back i) in
@@ -72,7 +72,7 @@ lines_commented depth attr line text at value end comma w above front a b c d wr
       there = rw h.named refl;
       some = ap is_empty made;
       lines_are = put ∙ whole C (91 ∷ bytes_of (laid es)) S ∙ ap (λ (x : List ℕ). x ++ (10 ∷ (indent 1 ++ (h.word ++ (codes " = " ++ ((91 ∷ bytes_of (laid es)) ++ (44 ∷ S))))))) (sym (comments_more h.notes line))
-          ∙ sym (argument_bytes (comments 1 (h.notes ++ line ∷ [])) (laid es) (suffix_piece side.note) h.word) ∙ ap argument_lines (sym made);
+          ∙ sym (argument_bytes (comments 1 (h.notes ++ line ∷ [])) (laid es) (suffix_piece last.suffix) h.word) ∙ ap argument_lines (sym made);
     })
   where
     start : (word value : List ℕ) → 10 ∷ (indent 1 ++ (word ++ (codes " = " ++ value))) ≡ (10 ∷ (indent 1 ++ (word ++ codes " = "))) ++ value

@@ -1,6 +1,7 @@
 -- Lists of strings by what was read of them.
-use Rattle.std.proofs.Common.{◌≡◌, ℕ, suc, ◌+◌, ◌-◌, take, List, [], ◌∷◌, ◌++◌, length, Bool, true, false, ◌||◌, ◌&&◌, refl, sym, ap, ◌∙◌, arith, append_assoc, append-nil}
-use Rattle.std.specs.Prelude.{codes, flat_map, nat_le, None, if◌then◌else◌}
+use Rattle.std.proofs.Common.{◌≡◌, ℕ, suc, ◌+◌, ◌-◌, take, List, [], ◌∷◌, ◌++◌, length, Bool, true, false, ◌||◌, ◌&&◌, refl, sym, ap, ◌∙◌, arith, append_assoc, append-nil, subst}
+use Rattle.std.specs.Prelude.{codes, flat_map, nat_le, Option, None, Some, if◌then◌else◌}
+use Rattle.bz_token.specs.Lexical.{is_text}
 use Rattle.std.specs.List.{list_any}
 use Rattle.std.proofs.lemmas.Bool.{false≢true}
 use Rattle.std.proofs.lemmas.Bool.Decides.{nat_tests}
@@ -16,9 +17,11 @@ use Rattle.bz_layout.specs.declared.broken.Style.TheVariants.{Broken}
 use Rattle.bz_layout.specs.declared.spacing.Gap.TheVariants.{Closed, Line}
 use Rattle.bz_layout.proofs.Pieces.{bytes_append}
 use Rattle.bz_layout_laws.specs.FreeLayout.{broken_by, flat_by, free, item_by, own}
-use Rattle.bz_canonical.specs.private.Rewritten.{AreElements, AreInPlaceRead, AreLinesRead, Element, IsElementRead, IsListRead, IsStringRead, as_is, element_line, element_lines, element_list, element_segs, elements_as_is, is_noted, others_in_place}
+use Rattle.bz_canonical.specs.declared.lists.ReadElement.{ReadElement}
+use Rattle.bz_canonical.specs.declared.lists.ReadString.{ReadString}
+use Rattle.bz_canonical.specs.private.Rewritten.{AreElements, AreElementsRead, ArePassed, Element, IsElementRead, IsListRead, IsSingleFront, IsStringRead, as_is, between, closing, element_line, element_lines, element_list, element_segs, element_stands, element_written, elements_as_is, elements_stand, is_noted, others_in_place, spelling}
 use Rattle.bz_canonical.specs.private.Segments.{AreNotesFront, IsBesideFront}
-use Rattle.bz_canonical.proofs.GroupSegments.{or_no, second_of_more}
+use Rattle.bz_canonical.proofs.GroupSegments.{second_of_more}
 use Rattle.bz_canonical.proofs.Taken.{taken}
 
 -- their texts
@@ -93,22 +96,42 @@ longer (x ∷ xs) y = ap suc (longer xs y) ∙ omega arith
 pub one_at_least : (n : ℕ) → true ≡ nat_le 1 (n + 1)
 one_at_least n = grind (arith, nat_tests)
 
-one_of_two : (n : ℕ) → nat_le 2 n ≡ true → nat_le 1 n ≡ true
+pub or_yes : (b t : Bool) → t ≡ true → (b || t) ≡ true
+or_yes true t is = refl
+or_yes false t is = is
+
+pub one_of_two : (n : ℕ) → nat_le 2 n ≡ true → nat_le 1 n ≡ true
 one_of_two n h = grind (arith, nat_tests, h)
 
-pub lines_begin : (text : List ℕ) → AreLinesRead text text [] false false
-lines_begin text = record { elements = []; are = tt; front = refl; spells = refl; one_is = refl; broken_is = refl }
+pub none_stand : (lines : Bool) (text : List ℕ) → text ≡ elements_stand lines [] ++ text
+none_stand true text = refl
+none_stand false text = refl
 
-pub lines_more : (text rest next w v : List ℕ) (one b d : Bool) → AreLinesRead text rest w one b → IsElementRead rest next v d → AreLinesRead text next (w ++ v) true (b || (one || d))
-lines_more text rest next w v one b d l e = record {
+abbrev pub passed_none : (lines : Bool) (text : List ℕ) → ArePassed lines text text [] false false
+passed_none lines text = record { elements = []; are = tt; bare = λ no. refl; front = none_stand lines text; spells = refl; one_is = refl; broken_is = refl }
+
+pub stand_one : (lines one : Bool) (es : List Element) (e : Element) → one ≡ nat_le 1 (length es) → elements_stand lines es ++ element_stands lines one e ≡ elements_stand lines (es ++ e ∷ [])
+stand_one true one es e is = sym (flat_one (element_line as_is) es e)
+stand_one false one [] e is = rw is (sym (append-nil e.token))
+stand_one false one (x ∷ xs) e is =
+    ap (λ b. (x.token ++ others_in_place xs) ++ (between b ++ e.token)) (is ∙ one_first (length xs))
+    ∙ append_assoc x.token (others_in_place xs) (44 ∷ 32 ∷ e.token) ∙ ap (λ (t : List ℕ). x.token ++ t) (sym (flat_one (λ e. 44 ∷ 32 ∷ e.token) xs e))
+  where
+    one_first : (n : ℕ) → nat_le 1 (suc n) ≡ true
+    one_first n = grind (arith, nat_tests)
+
+abbrev pub passed_more : (lines one b : Bool) (text rest w : List ℕ) (read : ReadElement) → ArePassed lines text rest w one b → IsElementRead lines one rest read
+    → ArePassed lines text read.rest.now (w ++ element_written read) true (b || (one || read.noted))
+passed_more lines one b text rest w read l e = record {
   elements = l.elements ++ e.element ∷ [];
   are = elements_append l.elements (e.element ∷ []) l.are e.are;
-  front = l.front ∙ ap (λ (t : List ℕ). element_lines as_is l.elements ++ t) e.front ∙ sym (append_assoc (element_lines as_is l.elements) (element_line as_is e.element) next)
-      ∙ ap (λ (t : List ℕ). t ++ next) (sym (flat_one (element_line as_is) l.elements e.element));
+  bare = λ no. list_any-append is_noted l.elements (e.element ∷ []) ∙ (λ i. l.bare no i || (e.bare no i || false));
+  front = l.front ∙ ap (λ (t : List ℕ). elements_stand lines l.elements ++ t) e.front ∙ sym (append_assoc (elements_stand lines l.elements) (element_stands lines one e.element) read.rest.now)
+      ∙ ap (λ (t : List ℕ). t ++ read.rest.now) (stand_one lines one l.elements e.element l.one_is);
   spells = (λ i. l.spells i ++ e.spells i) ∙ sym (flat_one (element_line (respell String)) l.elements e.element);
   one_is = one_at_least (length l.elements) ∙ ap (nat_le 1) (sym (longer l.elements e.element));
   broken_is = rw (l.broken_is, l.one_is, list_any-append is_noted l.elements (e.element ∷ []), e.noted_is, longer l.elements e.element, sym (second_of_more (length l.elements)))
-      (by (list_any is_noted l.elements) (nat_le 2 (length l.elements)) (nat_le 1 (length l.elements)) (one_of_two (length l.elements)) d);
+      (by (list_any is_noted l.elements) (nat_le 2 (length l.elements)) (nat_le 1 (length l.elements)) (one_of_two (length l.elements)) read.noted);
 }
   where
     by : (c t o : Bool) → (t ≡ true → o ≡ true) → (d : Bool) → ((c || t) || (o || d)) ≡ ((c || (d || false)) || o)
@@ -124,39 +147,12 @@ lines_more text rest next w v one b d l e = record {
     by false false false less true = refl
     by false false false less false = refl
 
-abbrev bare_element : (text rest w : List ℕ) → IsStringRead text rest w → Element
-bare_element text rest w s = record { before = []; token = s.token; suffix = None }
+abbrev pub passed_first : (lines : Bool) (text : List ℕ) (read : ReadElement) → IsElementRead lines false text read → ArePassed lines text read.rest.now (element_written read) true read.noted
+passed_first lines text read e = passed_more lines false false text text [] read (passed_none lines text) e
 
-pub place_begin : (text rest w : List ℕ) → IsStringRead text rest w → AreInPlaceRead text rest (10 ∷ (indent 2 ++ (w ++ 44 ∷ []))) false
-place_begin text rest w s = record {
-  first = bare_element text rest w s;
-  others = [];
-  are = (refl, s.is, refl, tt);
-  bare = refl;
-  front = s.front;
-  spells = ap (λ (t : List ℕ). 10 ∷ (indent 2 ++ (t ++ 44 ∷ []))) s.spells ∙ sym (append-nil (10 ∷ (indent 2 ++ (respell String s.token ++ 44 ∷ []))));
-  two_is = refl;
-}
-
-two_at_least : (n : ℕ) → true ≡ nat_le 2 (suc (n + 1))
-two_at_least n = grind (arith, nat_tests)
-
-pub place_more : (text rest next end w v : List ℕ) (two : Bool) → AreInPlaceRead text rest w two → rest ≡ codes ", " ++ next → IsStringRead next end v
-    → AreInPlaceRead text end (w ++ (10 ∷ (indent 2 ++ (v ++ 44 ∷ [])))) true
-place_more text rest next end w v two l comma s =
-    let e : Element = bare_element next end v s in
-    record {
-      first = l.first;
-      others = l.others ++ e ∷ [];
-      are = (l.are.0, l.are.1, l.are.2, elements_append l.others (e ∷ []) l.are.3 (refl, s.is, refl, tt));
-      bare = ap (λ b. is_noted l.first || b) (list_any-append is_noted l.others (e ∷ []) ∙ or_no (list_any is_noted l.others)) ∙ l.bare;
-      front = l.front ∙ ap (λ (t : List ℕ). l.first.token ++ (others_in_place l.others ++ t)) (comma ∙ ap (λ (t : List ℕ). 44 ∷ 32 ∷ t) s.front)
-          ∙ ap (λ (t : List ℕ). l.first.token ++ t) (sym (append_assoc (others_in_place l.others) (44 ∷ 32 ∷ s.token) end) ∙ ap (λ (t : List ℕ). t ++ end) (sym (flat_one (λ e. 44 ∷ 32 ∷ e.token) l.others e)));
-      spells = (λ i. l.spells i ++ (10 ∷ (indent 2 ++ (s.spells i ++ 44 ∷ [])))) ∙ sym (flat_one (element_line (respell String)) (l.first ∷ l.others) e);
-      two_is = two_at_least (length l.others) ∙ ap (λ n. nat_le 2 (suc n)) (sym (longer l.others e));
-    }
-
--- an element with its comments
+pub passed_others : (lines b : Bool) (text rest w : List ℕ) (read : ReadElement) → ArePassed lines text rest w true b → IsElementRead lines true rest read
+    → ArePassed lines text read.rest.now (w ++ element_written read) true true
+passed_others lines b text rest w read l e = subst (ArePassed lines text read.rest.now (w ++ element_written read) true) (or_yes b true refl) (passed_more lines true b text rest w read l e)
 
 -- the list
 
@@ -175,57 +171,52 @@ place_stands first others rest = by (flat_by (elements_as_is others) 1 ListKind 
         → 91 ∷ (first.token ++ (others_in_place others ++ (93 ∷ rest))) ≡ bytes_of (piece Closed Operator (codes "[") ∷ ((piece Closed String first.token ∷ P) ++ (piece Closed Operator (codes "]") ∷ []))) ++ rest
     by P is = rw (bytes_append P (piece Closed Operator (codes "]") ∷ []), is) (last first.token (others_in_place others))
 
-pub lines_list : (text middle rest w : List ℕ) (one b : Bool) → AreLinesRead text middle w one b → b ≡ true → middle ≡ 10 ∷ (indent 1 ++ 93 ∷ rest) → IsListRead (91 ∷ text) rest (91 ∷ (w ++ codes "\n    ]"))
-lines_list text middle rest w one b l some ends = record {
+pub stand_list : (lines : Bool) (es : List Element) (rest : List ℕ)
+    → 91 ∷ (elements_stand lines es ++ (closing lines ++ rest)) ≡ bytes_of (item_by (free lines (elements_as_is es) own) 1 Closed (element_list es)) ++ rest
+stand_list true es rest = lines_stand es rest
+stand_list false [] rest = refl
+stand_list false (e ∷ es) rest = ap (λ (t : List ℕ). 91 ∷ t) (append_assoc e.token (others_in_place es) (93 ∷ rest)) ∙ place_stands e es rest
+
+abbrev pub elements_read : (lines one b : Bool) (text rest end w : List ℕ) → ArePassed lines text rest w one b → rest ≡ closing lines ++ end → AreElementsRead text end w one b
+elements_read lines one b text rest end w l ends = record {
   elements = l.elements;
   are = l.are;
-  breaks = true;
-  stands = λ no. absurd (false≢true (sym no));
-  front = ap (λ (t : List ℕ). 91 ∷ t) (l.front ∙ ap (λ (t : List ℕ). element_lines as_is l.elements ++ t) ends) ∙ lines_stand l.elements rest;
-  spells = ap (λ (t : List ℕ). 91 ∷ (t ++ closed)) l.spells ∙ sym (written_broken l.elements (sym l.broken_is ∙ some));
+  breaks = lines;
+  stands = λ no. noted l.elements ∙ l.bare no;
+  front = ap (λ (t : List ℕ). 91 ∷ t) (l.front ∙ ap (λ (t : List ℕ). elements_stand lines l.elements ++ t) ends) ∙ stand_list lines l.elements end;
+  spells = l.spells;
+  one_is = l.one_is;
+  broken_is = l.broken_is;
 }
 
-pub or_yes : (b t : Bool) → t ≡ true → (b || t) ≡ true
-or_yes true t is = refl
-or_yes false t is = is
+pub list_broken : (one b : Bool) (text end w : List ℕ) → AreElementsRead text end w one b → b ≡ true → IsListRead (91 ∷ text) end (91 ∷ (w ++ codes "\n    ]"))
+list_broken one b text end w r some = record {
+  elements = r.elements;
+  are = r.are;
+  breaks = r.breaks;
+  stands = r.stands;
+  front = r.front;
+  spells = ap (λ (t : List ℕ). 91 ∷ (t ++ closed)) r.spells ∙ sym (written_broken r.elements (sym r.broken_is ∙ some));
+}
 
-pub place_list : (text middle rest w : List ℕ) (two : Bool) → AreInPlaceRead text middle w two → two ≡ true → middle ≡ 93 ∷ rest → IsListRead (91 ∷ text) rest (91 ∷ (w ++ codes "\n    ]"))
-place_list text middle rest w two l some ends =
-    let all : List Element = l.first ∷ l.others in
+alone_written : (before : List (List ℕ)) (token : List ℕ) (suffix : Option (List ℕ)) → is_noted (record { before = before; token = token; suffix = suffix }) ≡ false
+    → 91 ∷ (respell String token ++ 93 ∷ []) ≡ bytes_of (item_pieces Broken 1 Closed (element_list (record { before = before; token = token; suffix = suffix } ∷ [])))
+alone_written [] token None bare = refl
+alone_written [] token (Some s) bare = absurd (false≢true (sym bare))
+alone_written (x ∷ xs) token suffix bare = absurd (false≢true (sym bare))
+
+pub list_of_one : (lines : Bool) (text end : List ℕ) (read : ReadElement) → IsElementRead lines false text read → read.noted ≡ false → read.rest.now ≡ closing lines ++ end
+    → IsListRead (91 ∷ text) end (91 ∷ (spelling read.string ++ 93 ∷ []))
+list_of_one lines text end read e bare ends =
+    let r = elements_read lines true read.noted text read.rest.now end (element_written read) (passed_first lines text read e) ends in
     record {
-      elements = all;
-      are = l.are;
-      breaks = false;
-      stands = λ no. noted all ∙ l.bare;
-      front = ap (λ (t : List ℕ). 91 ∷ t) (l.front ∙ ap (λ (t : List ℕ). l.first.token ++ (others_in_place l.others ++ t)) ends) ∙ place_stands l.first l.others rest;
-      spells = ap (λ (t : List ℕ). 91 ∷ (t ++ closed)) l.spells ∙ sym (written_broken all (or_yes (list_any is_noted all) (nat_le 2 (length all)) (sym l.two_is ∙ some)));
+      elements = r.elements;
+      are = r.are;
+      breaks = r.breaks;
+      stands = r.stands;
+      front = r.front;
+      spells = ap (λ (t : List ℕ). 91 ∷ (t ++ 93 ∷ [])) e.string_is ∙ alone_written e.element.before e.element.token e.element.suffix (e.noted_is ∙ bare);
     }
-
-pub one_in_place : (text middle rest w : List ℕ) → IsStringRead text middle w → middle ≡ 93 ∷ rest → IsListRead (91 ∷ text) rest (91 ∷ (w ++ 93 ∷ []))
-one_in_place text middle rest w s ends = record {
-  elements = bare_element text middle w s ∷ [];
-  are = (refl, s.is, refl, tt);
-  breaks = false;
-  stands = λ no. refl;
-  front = ap (λ (t : List ℕ). 91 ∷ t) (s.front ∙ ap (λ (t : List ℕ). s.token ++ t) ends) ∙ by;
-  spells = ap (λ (t : List ℕ). 91 ∷ (t ++ 93 ∷ [])) s.spells;
-}
-  where
-    by : 91 ∷ (s.token ++ (93 ∷ rest)) ≡ (91 ∷ (s.token ++ 93 ∷ [])) ++ rest
-    by = simp append_assoc
-
-pub one_on_line : (text end back rest w : List ℕ) → text ≡ 10 ∷ (indent 2 ++ end) → IsStringRead end back w → back ≡ 44 ∷ 10 ∷ (indent 1 ++ 93 ∷ rest) → IsListRead (91 ∷ text) rest (91 ∷ (w ++ 93 ∷ []))
-one_on_line text end back rest w line s ends = record {
-  elements = bare_element end back w s ∷ [];
-  are = (refl, s.is, refl, tt);
-  breaks = true;
-  stands = λ no. absurd (false≢true (sym no));
-  front = ap (λ (t : List ℕ). 91 ∷ t) (line ∙ ap (λ (t : List ℕ). 10 ∷ (indent 2 ++ t)) (s.front ∙ ap (λ (t : List ℕ). s.token ++ t) ends)) ∙ by;
-  spells = ap (λ (t : List ℕ). 91 ∷ (t ++ 93 ∷ [])) s.spells;
-}
-  where
-    by : 91 ∷ (10 ∷ (indent 2 ++ (s.token ++ (44 ∷ 10 ∷ (indent 1 ++ 93 ∷ rest))))) ≡ (91 ∷ (10 ∷ (indent 2 ++ (s.token ++ (44 ∷ 10 ∷ (indent 1 ++ 93 ∷ [])))))) ++ rest
-    by = simp append_assoc
 
 -- what is put after a text, and then after that
 pub put_two : (a b c x y : List ℕ) → b ≡ a ++ x → c ≡ b ++ y → c ≡ a ++ (x ++ y)
@@ -234,21 +225,63 @@ put_two a b c x y first second = second ∙ ap (λ (t : List ℕ). t ++ y) first
 pub put_three : (a b c d x y z : List ℕ) → b ≡ a ++ x → c ≡ b ++ y → d ≡ c ++ z → d ≡ a ++ (x ++ (y ++ z))
 put_three a b c d x y z first second third = put_two a c d (x ++ y) z (put_two a b c x y first second) third ∙ ap (λ (t : List ℕ). a ++ t) (append_assoc x y z)
 
+-- strings
+
+single : (read : ReadString) → read.single ≡ true → spelling read ≡ 34 ∷ (read.body.now ++ 34 ∷ [])
+single read once = rw once refl
+
+pub single_read : (text inner : List ℕ) (read : ReadString) → IsSingleFront text inner read.rest.now → read.token.now ≡ take (length text - length read.rest.now) text → read.body.now ≡ inner → read.single ≡ true
+    → IsStringRead text read
+single_read text inner read t token body once =
+    let is : read.token.now ≡ 39 ∷ (inner ++ 39 ∷ []) = token ∙ taken text (39 ∷ (inner ++ 39 ∷ [])) read.rest.now t.front in
+    record {
+      is = ap (is_text String) is ∙ t.is;
+      front = t.front ∙ ap (λ (x : List ℕ). x ++ read.rest.now) (sym is);
+      spells = single read once ∙ ap (λ (x : List ℕ). 34 ∷ (x ++ 34 ∷ [])) body ∙ sym t.spells ∙ ap (respell String) (sym is);
+      same = λ no. absurd (false≢true (sym no ∙ once));
+    }
+
 -- an element with its comments
-pub element_read : (text below inner end comma next front back w : List ℕ) (d e k : Bool) → AreNotesFront 2 text below d → below ≡ 10 ∷ (indent 2 ++ inner) → front ≡ take (length text - length inner) text
-    → IsStringRead inner end w → end ≡ 44 ∷ comma → IsBesideFront comma next e → back ≡ take (length end - length next) end → k ≡ (d || e) → IsElementRead text next (front ++ (w ++ back)) k
-element_read text below inner end comma next front back w d e k above line front_is s is side back_is noted_is =
+pub element_read : (text below inner comma : List ℕ) (d e : Bool) (read : ReadElement) → AreNotesFront 2 text below d → below ≡ 10 ∷ (indent 2 ++ inner) → read.front.now ≡ take (length text - length inner) text
+    → IsStringRead inner read.string → read.string.rest.now ≡ 44 ∷ comma → IsBesideFront comma read.rest.now e → read.back.now ≡ take (length read.string.rest.now - length read.rest.now) read.string.rest.now
+    → read.noted ≡ (d || e) → read.otherwise ≡ read.string.single → (one : Bool) → IsElementRead true one text read
+element_read text below inner comma d e read above line front_is s is side back_is noted_is otherwise_is = λ one.
     let C : List ℕ = bytes_of (comments 2 above.notes) in
     let S : List ℕ = bytes_of (suffix_piece side.note) in
+    let T : List ℕ = read.string.token.now in
+    let next : List ℕ = read.rest.now in
     let begins : text ≡ (C ++ (10 ∷ indent 2)) ++ inner = above.front ∙ ap (λ (t : List ℕ). C ++ t) line ∙ sym (append_assoc C (10 ∷ indent 2) inner) in
-    let ends : end ≡ (44 ∷ S) ++ next = is ∙ ap (λ (t : List ℕ). 44 ∷ t) side.front in
+    let ends : read.string.rest.now ≡ (44 ∷ S) ++ next = is ∙ ap (λ (t : List ℕ). 44 ∷ t) side.front in
+    let stands : text ≡ (C ++ (10 ∷ (indent 2 ++ (T ++ (44 ∷ S))))) ++ next = begins ∙ ap (λ (t : List ℕ). (C ++ (10 ∷ indent 2)) ++ t) (s.front ∙ ap (λ (t : List ℕ). T ++ t) ends) ∙ whole C S T next in
+    let puts : element_written read ≡ C ++ (10 ∷ (indent 2 ++ (spelling read.string ++ (44 ∷ S)))) =
+    (λ i. (front_is ∙ taken text (C ++ (10 ∷ indent 2)) inner begins) i ++ (spelling read.string ++ (back_is ∙ taken read.string.rest.now (44 ∷ S) next ends) i)) ∙ append_assoc C (10 ∷ indent 2) (spelling read.string ++ (44 ∷ S)) in
     record {
-      element = record { before = above.notes; token = s.token; suffix = side.note };
+      element = record { before = above.notes; token = T; suffix = side.note };
       are = (above.are, s.is, side.is, tt);
-      front = begins ∙ ap (λ (t : List ℕ). (C ++ (10 ∷ indent 2)) ++ t) (s.front ∙ ap (λ (t : List ℕ). s.token ++ t) ends) ∙ whole C S;
-      spells = (λ i. (front_is ∙ taken text (C ++ (10 ∷ indent 2)) inner begins) i ++ (s.spells i ++ (back_is ∙ taken end (44 ∷ S) next ends) i)) ∙ append_assoc C (10 ∷ indent 2) (respell String s.token ++ (44 ∷ S));
+      token_is = refl;
+      string_is = s.spells;
+      front = stands;
+      spells = puts ∙ ap (λ (t : List ℕ). C ++ (10 ∷ (indent 2 ++ (t ++ (44 ∷ S))))) s.spells;
       noted_is = (λ i. above.some_is i || side.some_is i) ∙ sym noted_is;
+      bare = λ no. absurd (false≢true (sym no));
+      same = λ no. stands ∙ ap (λ (t : List ℕ). (C ++ (10 ∷ (indent 2 ++ (t ++ (44 ∷ S))))) ++ next) (sym (s.same (sym otherwise_is ∙ no))) ∙ ap (λ (t : List ℕ). t ++ next) (sym puts);
     }
   where
-    whole : (C S : List ℕ) → (C ++ (10 ∷ indent 2)) ++ (s.token ++ ((44 ∷ S) ++ next)) ≡ (C ++ (10 ∷ (indent 2 ++ (s.token ++ (44 ∷ S))))) ++ next
-    whole C S = simp append_assoc
+    whole : (C S T next : List ℕ) → (C ++ (10 ∷ indent 2)) ++ (T ++ ((44 ∷ S) ++ next)) ≡ (C ++ (10 ∷ (indent 2 ++ (T ++ (44 ∷ S))))) ++ next
+    whole C S T next = simp append_assoc
+
+pub place_read : (one : Bool) (text inner : List ℕ) (read : ReadElement) → text ≡ between one ++ inner → IsStringRead inner read.string → read.rest.now ≡ read.string.rest.now → read.front.now ≡ codes "\n        "
+    → read.back.now ≡ codes "," → read.noted ≡ false → read.otherwise ≡ true → IsElementRead false one text read
+place_read one text inner read is s rest_is front_is back_is noted_is otherwise_is =
+    let T : List ℕ = read.string.token.now in
+    record {
+      element = record { before = []; token = T; suffix = None };
+      are = (refl, s.is, refl, tt);
+      token_is = refl;
+      string_is = s.spells;
+      front = is ∙ ap (λ (t : List ℕ). between one ++ t) (s.front ∙ ap (λ (t : List ℕ). T ++ t) (sym rest_is)) ∙ sym (append_assoc (between one) T read.rest.now);
+      spells = λ i. front_is i ++ (s.spells i ++ back_is i);
+      noted_is = sym noted_is;
+      bare = λ no. refl;
+      same = λ no. absurd (false≢true (sym no ∙ otherwise_is));
+    }

@@ -3,12 +3,11 @@
 
 ghost use Rattle.std.specs.Prelude.{◌≡◌, ◌∷◌, ◌++◌, ℕ, List, IfOk, IfSome, IsTrue, OnOk, true};
 ghost use Rattle.bz_canonical.specs.Added.{AddsToLines, LacksInLines};
-ghost use Rattle.bz_canonical.specs.private.Added.{AreElementsTold, IsElementTold, IsListTold, IsStringTold, is_word, last_line};
+ghost use Rattle.bz_canonical.specs.private.Added.{IsListFound, IsListTold, AreElementsFound, is_word, last_line};
 ghost use Rattle.bz_canonical.specs.private.Rewritten.{IsHeadRead};
 
-use crate::front::{after, after_comma, before, line};
-use crate::lists::{ReadString, after_last, after_value, put_string, read_string};
-use crate::notes::notes;
+use crate::front::{after, before};
+use crate::lists::{after_elements, is_last, is_on_lines, put_elements, read_element};
 use crate::put_arguments::argument_head;
 use crate::value::either;
 use bz_attribute::equals::text_equals;
@@ -37,8 +36,9 @@ pub enum Added {
 // The argument is in two brackets, its own and the rule's.
 pub(crate) const BRACKETS: u8 = 2;
 
-/// What `add` makes of the argument that has these lines, where its value is one list of strings. The lines that it has
-/// then go into the buffer, whose bytes are lost. None: it may be no such list.
+/// What `add` makes of the argument that has these lines, where its value is one list of strings (`edit_list` of
+/// bz_engine asks). `New`: the lines that it has then are in the buffer. None: it may be no such list. Without `New` the
+/// buffer's bytes may be lost. Err: memory is wanting.
 pub fn put_added(
     env: Env<'_>,
     lines: &str,
@@ -49,69 +49,66 @@ pub fn put_added(
     ensures { IfOk result (λ told. IfSome told (AddsToLines max_depth env.entry.home.now new.entry.attr.now
         new.entry.value.now lines.now written.new.items)) }
 {
-    let Some(list) = put_list(env.home, lines, new, max_depth, written)? else {
+    let Some(list) = find_list(env.home, lines, new, max_depth) else {
         return Ok(None);
     };
     if list.equal {
         return Ok(Some(Added::Present));
     }
-    put_last(env.alloc, new.value, list.one, written)?;
-    extend_from_slice(written, list.rest)?;
+    let Some(put) = put_list(lines, list, written)? else {
+        return Ok(None);
+    };
+    put_last(env.alloc, new.value, put.one, written)?;
+    extend_from_slice(written, put.rest)?;
     Ok(Some(Added::New))
 }
 
-/// The value of the argument that has these lines is one list of strings, none of which equals the value. False: it may
-/// be so or not. The buffer's bytes are lost.
-pub fn lacks(
-    home: &Package,
-    lines: &str,
-    sought: ListValue<'_>,
-    max_depth: u8,
-    written: &mut Vec<u8>,
-) -> Result<bool, NoMemory>
-    ensures { IfOk result (λ lacks. IsTrue lacks → LacksInLines max_depth home.now sought.entry.attr.now
-        sought.entry.value.now lines.now) }
+/// The value of the argument that has these lines is one list of strings, none of which equals the value (`edit_list` of
+/// bz_engine asks, for `remove` and `replace`). False: it may be so or not.
+pub fn lacks(home: &Package, lines: &str, sought: ListValue<'_>, max_depth: u8) -> bool
+    ensures { IsTrue result → LacksInLines max_depth home.now sought.entry.attr.now sought.entry.value.now lines.now }
 {
-    match put_list(home, lines, sought, max_depth, written)? {
-        None => Ok(false),
-        Some(list) => Ok(!list.equal),
+    match find_list(home, lines, sought, max_depth) {
+        Some(list) => !list.equal,
+        None => false,
     }
 }
 
-/// Writes the argument that has these lines up to the bracket after its elements, each on lines, where its value is one
-/// list of strings.
-fn put_list<'t>(
+/// A list of strings in which a value was looked for.
+#[derive(Clone, Copy)]
+struct FoundList<'t> {
+    /// What follows its first bracket.
+    inside: &'t [u8],
+    /// The bracket after its elements, and what follows it.
+    bracket: &'t [u8],
+    /// What follows that bracket.
+    end: &'t [u8],
+    /// There is one element at least.
+    one: bool,
+    /// One equals the value.
+    equal: bool,
+    /// One stands otherwise than it is written on lines.
+    otherwise: bool,
+}
+
+/// The list of strings that is the value of the argument of these lines.
+fn find_list<'t>(
     home: &Package,
     lines: &'t str,
     sought: ListValue<'_>,
     max_depth: u8,
-    written: &mut Vec<u8>,
-) -> Result<Option<PutElements<'t>>, NoMemory>
-    ensures { IfOk result (λ told. IfSome told (λ list. IsListTold max_depth home.now sought.entry.attr.now
-        sought.entry.value.now lines.now list.rest.now written.new.items list.one list.equal)) }
+) -> Option<FoundList<'t>>
+    ensures { IfSome result (IsListFound max_depth home.now sought.entry.attr.now sought.entry.value.now lines.now) }
 {
     if max_depth < BRACKETS {
-        return Ok(None);
+        return None;
     }
-    let text = lines.as_bytes();
-    let Some(inside) = list_of(text, sought.attr.as_bytes()) else {
-        return Ok(None);
-    };
-    let Some(front) = before(text, inside.len()) else {
-        return Ok(None);
-    };
-    written.clear();
-    extend_from_slice(written, front)?;
-    let Some(list) = put_elements(home, inside, sought.value, written)? else {
-        return Ok(None);
-    };
-    let Some(side) = after_value(list.rest) else {
-        return Ok(None);
-    };
-    if !side.rest.is_empty() {
-        return Ok(None);
+    let inside = list_of(lines.as_bytes(), sought.attr.as_bytes())?;
+    let list = find_elements(home, inside, sought.value)?;
+    if !is_last(list.end) {
+        return None;
     }
-    Ok(Some(list))
+    Some(list)
 }
 
 /// What follows the bracket of the list that is the value of the argument here.
@@ -126,125 +123,40 @@ fn list_of<'t>(text: &'t [u8], attr: &[u8]) -> Option<&'t [u8]>
     Some(inside)
 }
 
-/// Elements of a list.
-#[derive(Clone, Copy)]
-struct PutElements<'t> {
-    /// What follows the bracket after them.
-    rest: &'t [u8],
-    /// There is one at least.
-    one: bool,
-    /// One equals the value.
-    equal: bool,
-}
-
-/// The elements here, each of which is written on lines, and the bracket after them.
-fn put_elements<'t>(
-    home: &Package,
-    inside: &'t [u8],
-    value: &str,
-    written: &mut Vec<u8>,
-) -> Result<Option<PutElements<'t>>, NoMemory>
-    ensures { IfOk result (λ told. IfSome told (λ list. (w : List ℕ) × (written.new.items ≡ written.old.items ++ w)
-        × AreElementsTold home.now value.now inside.now list.rest.now w list.one list.equal)) }
+/// The elements here, and the bracket after them.
+fn find_elements<'t>(home: &Package, inside: &'t [u8], value: &str) -> Option<FoundList<'t>>
+    ensures { IfSome result (AreElementsFound home.now value.now inside.now) }
 {
-    match inside {
-        [b'\n', ..] => put_lines(home, inside, value, written),
-        _ => match after(inside, b']') {
-            Some(rest) => Ok(Some(PutElements {
-                rest,
-                one: false,
-                equal: false,
-            })),
-            None => put_in_place(home, inside, value, written),
-        },
-    }
-}
-
-/// The same where they stand on lines.
-fn put_lines<'t>(
-    home: &Package,
-    text: &'t [u8],
-    value: &str,
-    written: &mut Vec<u8>,
-) -> Result<Option<PutElements<'t>>, NoMemory>
-    ensures { IfOk result (λ told. IfSome told (λ list. (w : List ℕ) × (written.new.items ≡ written.old.items ++ w)
-        × AreElementsTold home.now value.now text.now list.rest.now w list.one list.equal)) }
-{
-    let mut rest = text;
+    let lines = is_on_lines(inside);
+    let mut rest = inside;
     let mut one = false;
     let mut equal = false;
-    for _ in 0..text.len() {
-        if let Some(end) = after_last(rest) {
-            return Ok(Some(PutElements {
-                rest: end,
+    let mut otherwise = false;
+    for _ in 0..inside.len() {
+        if let Some(end) = after_elements(rest, lines) {
+            return Some(FoundList {
+                inside,
+                bracket: rest,
+                end,
                 one,
                 equal,
-            }));
+                otherwise,
+            });
         }
-        let Some(next) = put_element(home, rest, value, written)? else {
-            return Ok(None);
-        };
+        let next = read_element(rest, lines, one)?;
+        equal = either(equal, is_value(home, next.string.token, value)?);
+        otherwise = either(otherwise, next.otherwise);
         rest = next.rest;
         one = true;
-        equal = either(equal, next.equal);
     }
-    Ok(None)
+    None
 }
 
-/// What follows an element.
-#[derive(Clone, Copy)]
-struct PutElement<'t> {
-    rest: &'t [u8],
-    /// It equals the value.
-    equal: bool,
-}
-
-/// The element on lines here, with its comments.
+/// The string equals the value. None: it is not known.
 #[inline(always)]
-fn put_element<'t>(
-    home: &Package,
-    text: &'t [u8],
-    value: &str,
-    written: &mut Vec<u8>,
-) -> Result<Option<PutElement<'t>>, NoMemory>
-    ensures { IfOk result (λ told. IfSome told (λ read. (w : List ℕ) × (written.new.items ≡ written.old.items ++ w)
-        × IsElementTold home.now value.now text.now read.rest.now w read.equal)) }
+fn is_value(home: &Package, token: &[u8], value: &str) -> Option<bool>
+    ensures { IfSome result (λ equal. equal ≡ is_word home.now value.now token.now) }
 {
-    let above = notes(text, 2);
-    let Some(inner) = line(above.rest, 2) else {
-        return Ok(None);
-    };
-    let Some(front) = before(text, inner.len()) else {
-        return Ok(None);
-    };
-    let Some(string) = read_string(inner) else {
-        return Ok(None);
-    };
-    let Some(equal) = is_value(home, inner, string, value) else {
-        return Ok(None);
-    };
-    let Some(side) = after_value(string.rest) else {
-        return Ok(None);
-    };
-    let Some(back) = before(string.rest, side.rest.len()) else {
-        return Ok(None);
-    };
-    extend_from_slice(written, front)?;
-    put_string(string, written)?;
-    extend_from_slice(written, back)?;
-    Ok(Some(PutElement {
-        rest: side.rest,
-        equal,
-    }))
-}
-
-/// The string here equals the value. None: it is not known.
-#[inline(always)]
-fn is_value(home: &Package, text: &[u8], string: ReadString<'_>, value: &str) -> Option<bool>
-    ensures { IfSome result (λ equal. (token : List ℕ) → text.now ≡ token ++ string.entry.rest.now
-        → equal ≡ is_word home.now value.now token) }
-{
-    let token = before(text, string.rest.len())?;
     if literal_apart(token, value.as_bytes()) {
         return Some(false);
     }
@@ -254,64 +166,54 @@ fn is_value(home: &Package, text: &[u8], string: ReadString<'_>, value: &str) ->
     Some(text_equals(home, literal, value))
 }
 
-/// The same of elements where they stand in place.
-fn put_in_place<'t>(
-    home: &Package,
-    text: &'t [u8],
-    value: &str,
-    written: &mut Vec<u8>,
-) -> Result<Option<PutElements<'t>>, NoMemory>
-    ensures { IfOk result (λ told. IfSome told (λ list. (w : List ℕ) × (written.new.items ≡ written.old.items ++ w)
-        × AreElementsTold home.now value.now text.now list.rest.now w list.one list.equal)) }
-{
-    let Some(first) = put_on_line(home, text, value, written)? else {
-        return Ok(None);
-    };
-    let mut rest = first.rest;
-    let mut equal = first.equal;
-    for _ in 0..first.rest.len() {
-        let Some(next) = after_comma(rest) else {
-            break;
-        };
-        let Some(read) = put_on_line(home, next, value, written)? else {
-            return Ok(None);
-        };
-        rest = read.rest;
-        equal = either(equal, read.equal);
-    }
-    let Some(end) = after(rest, b']') else {
-        return Ok(None);
-    };
-    Ok(Some(PutElements {
-        rest: end,
-        one: true,
-        equal,
-    }))
+/// What is left of an argument that is written up to the bracket after the elements of its list.
+#[derive(Clone, Copy)]
+struct ListEnd<'t> {
+    /// What follows that bracket.
+    rest: &'t [u8],
+    /// There is one element at least.
+    one: bool,
 }
 
-/// The string here, on a line of its own.
-#[inline(always)]
-fn put_on_line<'t>(
-    home: &Package,
-    text: &'t [u8],
-    value: &str,
+/// Writes the argument up to the bracket after the elements of its list, each on lines of its own.
+fn put_list<'t>(
+    lines: &'t str,
+    list: FoundList<'t>,
     written: &mut Vec<u8>,
-) -> Result<Option<PutElement<'t>>, NoMemory>
-    ensures { IfOk result (λ told. IfSome told (λ read. (w : List ℕ) × (written.new.items ≡ written.old.items ++ w)
-        × IsStringTold home.now value.now text.now read.rest.now w read.equal)) }
+) -> Result<Option<ListEnd<'t>>, NoMemory>
+    ensures { IfOk result (λ told. IfSome told (λ end. (depth : ℕ) (home : Package) (attr value : List ℕ)
+        → IsListFound depth home attr value lines.now list.entry
+        → IsListTold depth attr lines.now end.rest.now written.new.items end.one)) }
 {
-    let Some(string) = read_string(text) else {
+    let text = lines.as_bytes();
+    written.clear();
+    if !list.otherwise {
+        let Some(plain) = before(text, list.bracket.len()) else {
+            return Ok(None);
+        };
+        extend_from_slice(written, plain)?;
+        return Ok(Some(ListEnd {
+            rest: list.end,
+            one: list.one,
+        }));
+    }
+    let Some(front) = before(text, list.inside.len()) else {
         return Ok(None);
     };
-    let Some(equal) = is_value(home, text, string, value) else {
+    extend_from_slice(written, front)?;
+    let on_lines = is_on_lines(list.inside);
+    let Some(first) = read_element(list.inside, on_lines, false) else {
         return Ok(None);
     };
-    extend_from_slice(written, b"\n        ".as_slice())?;
-    put_string(string, written)?;
-    push(written, b',')?;
-    Ok(Some(PutElement {
-        rest: string.rest,
-        equal,
+    let Some(put) = put_elements(list.inside, first, on_lines, written)? else {
+        return Ok(None);
+    };
+    if !is_last(put.rest) {
+        return Ok(None);
+    }
+    Ok(Some(ListEnd {
+        rest: put.rest,
+        one: true,
     }))
 }
 

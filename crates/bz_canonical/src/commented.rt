@@ -7,7 +7,7 @@ ghost use Rattle.bz_canonical.specs.private.Commented.{IsHeadBelow};
 
 use crate::added::BRACKETS;
 use crate::front::before;
-use crate::lists::{after_value, put_list};
+use crate::lists::{is_last, put_list};
 use crate::notes::notes;
 use crate::put_arguments::argument_head;
 use bz_memory::{NoMemory, extend_from_slice};
@@ -20,7 +20,8 @@ pub struct NewComment<'c> {
 }
 
 /// The argument that has these lines, with the comment line as the last above it, where its value is one list of
-/// strings: its lines go into the buffer, whose bytes are lost. False: it may be no such list.
+/// strings (`edit_comment` of bz_engine asks): its lines go into the buffer, whose bytes are lost. False: it may be no
+/// such list. Err: memory is wanting.
 pub fn put_commented(
     lines: &str,
     new: NewComment<'_>,
@@ -51,10 +52,7 @@ pub fn put_commented(
     let Some(end) = put_list(head.value, written)? else {
         return Ok(false);
     };
-    let Some(side) = after_value(end) else {
-        return Ok(false);
-    };
-    if !side.rest.is_empty() {
+    if !is_last(end) {
         return Ok(false);
     }
     extend_from_slice(written, end)?;

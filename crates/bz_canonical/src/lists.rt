@@ -1,9 +1,9 @@
 //! Lists of strings as they would be written, where they stand otherwise.
 
-ghost use Rattle.std.specs.Prelude.{◌≡◌, ◌∷◌, ◌++◌, [], ℕ, List, IfOk, IfSome, OnOk};
+ghost use Rattle.std.specs.Prelude.{◌≡◌, ◌∷◌, ◌++◌, [], ℕ, Bool, List, IfOk, IfSome, IsTrue, OnOk, true, false};
 ghost use Rattle.bz_layout.specs.Pieces.{indent};
 ghost use Rattle.bz_canonical.specs.private.Segments.{IsBesideFront};
-ghost use Rattle.bz_canonical.specs.private.Rewritten.{AreInPlaceRead, AreLinesRead, IsElementRead, IsListRead, IsStringRead, spelling};
+ghost use Rattle.bz_canonical.specs.private.Rewritten.{AreElementsRead, IsElementRead, IsLast, IsListRead, IsStringRead, between, closing, element_written, spelling};
 
 use crate::front::{after, after_comma, before, line, single_string, string};
 use crate::notes::{AfterNotes, beside, notes};
@@ -13,6 +13,7 @@ use bz_memory::{NoMemory, extend_from_slice, push};
 /// A string and what follows it.
 #[derive(Clone, Copy)]
 pub(crate) struct ReadString<'t> {
+    pub(crate) token: &'t [u8],
     /// In single quotes: what stands between them. Else: all of it.
     pub(crate) body: &'t [u8],
     pub(crate) single: bool,
@@ -21,22 +22,25 @@ pub(crate) struct ReadString<'t> {
 
 /// The string here.
 #[inline(always)]
-pub(crate) fn read_string(text: &[u8]) -> Option<ReadString<'_>>
-    ensures { IfSome result (λ read. IsStringRead text.now read.rest.now (spelling read.single read.body.now)) }
+fn read_string(text: &[u8]) -> Option<ReadString<'_>>
+    ensures { IfSome result (IsStringRead text.now) }
 {
     match text {
         [b'"', ..] => {
             let rest = string(text)?;
-            let body = before(text, rest.len())?;
+            let token = before(text, rest.len())?;
             Some(ReadString {
-                body,
+                token,
+                body: token,
                 single: false,
                 rest,
             })
         }
         _ => {
             let read = single_string(text)?;
+            let token = before(text, read.rest.len())?;
             Some(ReadString {
+                token,
                 body: read.inner,
                 single: true,
                 rest: read.rest,
@@ -47,8 +51,8 @@ pub(crate) fn read_string(text: &[u8]) -> Option<ReadString<'_>>
 
 /// Writes a string.
 #[inline(always)]
-pub(crate) fn put_string(read: ReadString<'_>, written: &mut Vec<u8>) -> Result<(), NoMemory>
-    ensures { OnOk result (written.new.items ≡ written.old.items ++ spelling read.entry.single read.entry.body.now) }
+fn put_string(read: ReadString<'_>, written: &mut Vec<u8>) -> Result<(), NoMemory>
+    ensures { OnOk result (written.new.items ≡ written.old.items ++ spelling read.entry) }
 {
     if read.single {
         push(written, b'"')?;
@@ -69,124 +73,185 @@ pub(crate) fn put_list<'t>(
     let Some(inside) = after(text, b'[') else {
         return Ok(None);
     };
+    let lines = is_on_lines(inside);
+    let Some(first) = read_element(inside, lines, false) else {
+        return Ok(None);
+    };
     push(written, b'[')?;
-    match inside {
-        [b'\n', ..] => put_on_lines(inside, written),
-        _ => put_in_place(inside, written),
+    if let Some(rest) = after_only(first, lines) {
+        put_string(first.string, written)?;
+        push(written, b']')?;
+        return Ok(Some(rest));
     }
+    let Some(elements) = put_elements(inside, first, lines, written)? else {
+        return Ok(None);
+    };
+    if !elements.broken {
+        return Ok(None);
+    }
+    extend_from_slice(written, b"\n    ]".as_slice())?;
+    Ok(Some(elements.rest))
 }
 
-/// The only string of a list on lines, and what follows the list.
+/// What follows the list of this element alone, where it has no comments.
+#[inline(always)]
+fn after_only<'t>(only: ReadElement<'t>, lines: bool) -> Option<&'t [u8]>
+    ensures { IfSome result (λ rest. (only.entry.noted ≡ false) × (only.entry.rest.now ≡ closing lines ++ rest.now)) }
+{
+    if only.noted {
+        return None;
+    }
+    after_elements(only.rest, lines)
+}
+
+/// Elements of a list: one at least.
 #[derive(Clone, Copy)]
-struct OnlyString<'t> {
-    string: ReadString<'t>,
-    rest: &'t [u8],
+pub(crate) struct PutElements<'t> {
+    /// What follows the bracket after them.
+    pub(crate) rest: &'t [u8],
+    /// The list is written on lines: they are two, or one has a comment.
+    pub(crate) broken: bool,
 }
 
-/// What follows the list on lines here, its first bracket left out.
-fn put_on_lines<'t>(inside: &'t [u8], written: &mut Vec<u8>) -> Result<Option<&'t [u8]>, NoMemory>
-    ensures { IfOk result (λ told. IfSome told (λ rest. (w : List ℕ)
-        × (written.new.items ≡ written.old.items ++ w) × IsListRead (91 ∷ inside.now) rest.now (91 ∷ w))) }
+/// Writes the elements here, after the first of them, each on lines of its own, but not the bracket after them.
+pub(crate) fn put_elements<'t>(
+    inside: &[u8],
+    first: ReadElement<'t>,
+    lines: bool,
+    written: &mut Vec<u8>,
+) -> Result<Option<PutElements<'t>>, NoMemory>
+    requires { IsElementRead lines false inside.now first }
+    ensures { IfOk result (λ told. IfSome told (λ put. (w : List ℕ)
+        × (written.new.items ≡ written.old.items ++ w) × AreElementsRead inside.now put.rest.now w true put.broken)) }
 {
-    match only_string(inside) {
-        Some(only) => {
-            put_string(only.string, written)?;
-            push(written, b']')?;
-            Ok(Some(only.rest))
+    put_element(first, written)?;
+    let mut rest = first.rest;
+    let mut broken = first.noted;
+    for _ in 0..first.rest.len() {
+        if let Some(end) = after_elements(rest, lines) {
+            return Ok(Some(PutElements { rest: end, broken }));
         }
-        None => put_lines(inside, written),
+        let Some(next) = read_element(rest, lines, true) else {
+            return Ok(None);
+        };
+        put_element(next, written)?;
+        rest = next.rest;
+        broken = true;
     }
+    Ok(None)
 }
 
-fn only_string(inside: &[u8]) -> Option<OnlyString<'_>>
-    ensures { IfSome result (λ only. (end : List ℕ) × (inside.now ≡ 10 ∷ (indent 2 ++ end))
-        × (back : List ℕ) × IsStringRead end back (spelling only.string.single only.string.body.now)
-        × (back ≡ 44 ∷ 10 ∷ (indent 1 ++ 93 ∷ only.rest.now))) }
+/// The elements of the list here stand on lines.
+#[inline(always)]
+pub(crate) fn is_on_lines(inside: &[u8]) -> bool {
+    matches!(inside, [b'\n', ..])
+}
+
+/// An element of a list.
+#[derive(Clone, Copy)]
+pub(crate) struct ReadElement<'t> {
+    /// What is written before its string: the comments above it, and the indent.
+    front: &'t [u8],
+    pub(crate) string: ReadString<'t>,
+    /// What is written after it: the comma, and the comment beside it.
+    back: &'t [u8],
+    /// What follows it.
+    pub(crate) rest: &'t [u8],
+    /// A comment stands above it or beside it.
+    noted: bool,
+    /// It stands otherwise than it is written on lines.
+    pub(crate) otherwise: bool,
+}
+
+/// Writes an element on lines of its own.
+#[inline(always)]
+fn put_element(read: ReadElement<'_>, written: &mut Vec<u8>) -> Result<(), NoMemory>
+    ensures { OnOk result (written.new.items ≡ written.old.items ++ element_written read.entry) }
 {
-    let inner = line(inside, 2)?;
+    extend_from_slice(written, read.front)?;
+    put_string(read.string, written)?;
+    extend_from_slice(written, read.back)
+}
+
+/// The element here, on lines or in place. `one`: there are others before it.
+#[inline(always)]
+pub(crate) fn read_element(text: &[u8], lines: bool, one: bool) -> Option<ReadElement<'_>>
+    ensures { IfSome result (IsElementRead lines one text.now) }
+{
+    if lines {
+        return element_on_lines(text);
+    }
+    element_in_place(text, one)
+}
+
+/// The element on lines here, with its comments.
+#[inline(always)]
+fn element_on_lines(text: &[u8]) -> Option<ReadElement<'_>>
+    ensures { IfSome result (λ read. (one : Bool) → IsElementRead true one text.now read) }
+{
+    let above = notes(text, 2);
+    let inner = line(above.rest, 2)?;
+    let front = before(text, inner.len())?;
     let string = read_string(inner)?;
-    let comma = after(string.rest, b',')?;
-    let rest = after_last(comma)?;
-    Some(OnlyString { string, rest })
+    let side = after_value(string.rest)?;
+    let back = before(string.rest, side.rest.len())?;
+    Some(ReadElement {
+        front,
+        string,
+        back,
+        rest: side.rest,
+        noted: either(above.some, side.some),
+        otherwise: string.single,
+    })
+}
+
+/// The string in place here.
+#[inline(always)]
+fn element_in_place(text: &[u8], one: bool) -> Option<ReadElement<'_>>
+    ensures { IfSome result (IsElementRead false one text.now) }
+{
+    let inner = after_others(text, one)?;
+    let string = read_string(inner)?;
+    Some(ReadElement {
+        front: b"\n        ".as_slice(),
+        string,
+        back: b",".as_slice(),
+        rest: string.rest,
+        noted: false,
+        otherwise: true,
+    })
+}
+
+/// What follows the comma between elements in place, where there are others.
+#[inline(always)]
+fn after_others(text: &[u8], one: bool) -> Option<&[u8]>
+    ensures { IfSome result (λ rest. text.now ≡ between one ++ rest.now) }
+{
+    if one {
+        return after_comma(text);
+    }
+    Some(text)
+}
+
+/// What follows the bracket that closes a list, whose elements stand on lines or in place.
+#[inline(always)]
+pub(crate) fn after_elements(text: &[u8], lines: bool) -> Option<&[u8]>
+    ensures { IfSome result (λ rest. text.now ≡ closing lines ++ rest.now) }
+{
+    if lines {
+        return after_last(text);
+    }
+    after(text, b']')
 }
 
 /// What follows the bracket that closes a list on lines.
 #[inline(always)]
-pub(crate) fn after_last(text: &[u8]) -> Option<&[u8]>
+fn after_last(text: &[u8]) -> Option<&[u8]>
     ensures { IfSome result (λ rest. text.now ≡ 10 ∷ (indent 1 ++ 93 ∷ rest.now)) }
 {
     let end = line(text, 1)?;
     let rest = after(end, b']')?;
     Some(rest)
-}
-
-/// What follows the elements on lines here, two at least or with comments, and the bracket.
-fn put_lines<'t>(text: &'t [u8], written: &mut Vec<u8>) -> Result<Option<&'t [u8]>, NoMemory>
-    ensures { IfOk result (λ told. IfSome told (λ rest. (w : List ℕ)
-        × (written.new.items ≡ written.old.items ++ w) × IsListRead (91 ∷ text.now) rest.now (91 ∷ w))) }
-{
-    let mut rest = text;
-    let mut one = false;
-    let mut broken = false;
-    for _ in 0..text.len() {
-        if let Some(end) = after_last(rest) {
-            if !broken {
-                return Ok(None);
-            }
-            extend_from_slice(written, b"\n    ]".as_slice())?;
-            return Ok(Some(end));
-        }
-        let Some(next) = put_element(rest, written)? else {
-            return Ok(None);
-        };
-        rest = next.rest;
-        let more = either(one, next.noted);
-        broken = either(broken, more);
-        one = true;
-    }
-    Ok(None)
-}
-
-/// What follows an element.
-#[derive(Clone, Copy)]
-struct AfterElement<'t> {
-    rest: &'t [u8],
-    /// A comment stands above it or beside it.
-    noted: bool,
-}
-
-/// What follows the element on lines here, with its comments.
-#[inline(always)]
-fn put_element<'t>(
-    text: &'t [u8],
-    written: &mut Vec<u8>,
-) -> Result<Option<AfterElement<'t>>, NoMemory>
-    ensures { IfOk result (λ told. IfSome told (λ read. (w : List ℕ)
-        × (written.new.items ≡ written.old.items ++ w) × IsElementRead text.now read.rest.now w read.noted)) }
-{
-    let above = notes(text, 2);
-    let Some(inner) = line(above.rest, 2) else {
-        return Ok(None);
-    };
-    let Some(front) = before(text, inner.len()) else {
-        return Ok(None);
-    };
-    let Some(string) = read_string(inner) else {
-        return Ok(None);
-    };
-    let Some(side) = after_value(string.rest) else {
-        return Ok(None);
-    };
-    let Some(back) = before(string.rest, side.rest.len()) else {
-        return Ok(None);
-    };
-    extend_from_slice(written, front)?;
-    put_string(string, written)?;
-    extend_from_slice(written, back)?;
-    Ok(Some(AfterElement {
-        rest: side.rest,
-        noted: either(above.some, side.some),
-    }))
 }
 
 /// What follows a comma and the comment beside it.
@@ -200,65 +265,12 @@ pub(crate) fn after_value(text: &[u8]) -> Option<AfterNotes<'_>>
     Some(side)
 }
 
-/// What follows the list in place here, its first bracket left out.
-fn put_in_place<'t>(inside: &'t [u8], written: &mut Vec<u8>) -> Result<Option<&'t [u8]>, NoMemory>
-    ensures { IfOk result (λ told. IfSome told (λ rest. (w : List ℕ)
-        × (written.new.items ≡ written.old.items ++ w) × IsListRead (91 ∷ inside.now) rest.now (91 ∷ w))) }
+/// Nothing follows a comma here and the comment beside it.
+pub(crate) fn is_last(text: &[u8]) -> bool
+    ensures { IsTrue result → IsLast text.now }
 {
-    let Some(first) = read_string(inside) else {
-        return Ok(None);
-    };
-    match after(first.rest, b']') {
-        Some(rest) => {
-            put_string(first, written)?;
-            push(written, b']')?;
-            Ok(Some(rest))
-        }
-        None => put_several(inside, first, written),
+    match after_value(text) {
+        Some(side) => side.rest.is_empty(),
+        None => false,
     }
-}
-
-/// What follows the elements in place here, two at least, after the first of them, and the bracket.
-fn put_several<'t>(
-    text: &[u8],
-    first: ReadString<'t>,
-    written: &mut Vec<u8>,
-) -> Result<Option<&'t [u8]>, NoMemory>
-    requires { IsStringRead text.now first.rest.now (spelling first.single first.body.now) }
-    ensures { IfOk result (λ told. IfSome told (λ rest. (w : List ℕ)
-        × (written.new.items ≡ written.old.items ++ w) × IsListRead (91 ∷ text.now) rest.now (91 ∷ w))) }
-{
-    put_on_line(first, written)?;
-    let mut rest = first.rest;
-    let mut two = false;
-    for _ in 0..first.rest.len() {
-        let Some(next) = after_comma(rest) else {
-            break;
-        };
-        let Some(read) = read_string(next) else {
-            return Ok(None);
-        };
-        put_on_line(read, written)?;
-        rest = read.rest;
-        two = true;
-    }
-    if !two {
-        return Ok(None);
-    }
-    let Some(end) = after(rest, b']') else {
-        return Ok(None);
-    };
-    extend_from_slice(written, b"\n    ]".as_slice())?;
-    Ok(Some(end))
-}
-
-/// Writes a string on a line of its own.
-#[inline(always)]
-fn put_on_line(read: ReadString<'_>, written: &mut Vec<u8>) -> Result<(), NoMemory>
-    ensures { OnOk result (written.new.items ≡ written.old.items
-        ++ (10 ∷ (indent 2 ++ (spelling read.entry.single read.entry.body.now ++ 44 ∷ [])))) }
-{
-    extend_from_slice(written, b"\n        ".as_slice())?;
-    put_string(read, written)?;
-    push(written, b',')
 }

@@ -6,6 +6,7 @@ ghost use Rattle.bz_canonical.specs.Canonical.{argument_lines, small_text};
 ghost use Rattle.bz_rule.specs.OneAttribute.{one_attribute};
 ghost use Rattle.bz_command.specs.declared.arguments.Commented.TheVariants.{Attribute};
 ghost use Rattle.bz_rule.specs.declared.command.Action.TheVariants.{Add, Comment};
+ghost use Rattle.bz_engine.specs.declared.argument.EditedList.TheVariants.{Unchanged};
 ghost use Rattle.bz_engine.specs.private.ArgumentEdits.{AddsArgument, AreLinesAfter, EditsLines, EditsList, EditsSmallRule, list_argument, list_edit, new_of, set_by, sought_by, sought_of};
 
 use crate::edit::ScriptRun;
@@ -109,13 +110,25 @@ fn edit_list(
     if let Some(comment) = comment_by(command) {
         return edit_comment(script, comment, lines, written);
     }
-    let Some(sought) = sought_by(command) else {
-        return Ok(None);
-    };
-    if lacks(script.home, lines, sought, script.max_depth, written)? {
+    if is_lacking(script, command, lines) {
         return Ok(Some(EditedList::Unchanged));
     }
     Ok(None)
+}
+
+/// The command removes or replaces a value that is not in this list.
+fn is_lacking(script: ScriptRun<'_>, command: &Command, lines: &str) -> bool
+    ensures { IsTrue result → (written : List ℕ)
+        → EditsList script.entry.max_depth command.now script.entry.home.now lines.now written Unchanged }
+{
+    // A value that is there would be looked for in vain, in all of the list.
+    if lines.len() > LONGEST {
+        return false;
+    }
+    match sought_by(command) {
+        Some(sought) => lacks(script.home, lines, sought, script.max_depth),
+        None => false,
+    }
 }
 
 fn edited_by(added: Option<Added>) -> Option<EditedList>

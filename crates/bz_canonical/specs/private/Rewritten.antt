@@ -23,6 +23,8 @@ use Rattle.bz_attribute.specs.Effects.{has}
 use Rattle.bz_attribute.specs.RowPlaces.{IsLocal}
 use Rattle.bz_attribute.specs.Rules.{first_named, is_named, rule_of}
 use Rattle.bz_canonical.specs.Canonical.{Between, HasArgumentName, HasName, HasPlace, argument_lines, rule_args}
+use Rattle.bz_canonical.specs.declared.lists.ReadElement.{ReadElement}
+use Rattle.bz_canonical.specs.declared.lists.ReadString.{ReadString}
 use Rattle.bz_canonical.specs.declared.put_arguments.Pending.{Pending}
 use Rattle.bz_canonical.specs.declared.put_arguments.PutPlace.{PutPlace}
 use Rattle.bz_canonical.specs.private.Arguments.{Ends, alone}
@@ -40,16 +42,16 @@ pub record IsSingleFront (text inner rest : List ℕ) : Type 0 where
   pub is : is_text String (39 ∷ (inner ++ 39 ∷ [])) ≡ true
   pub spells : respell String (39 ∷ (inner ++ 39 ∷ [])) ≡ 34 ∷ (inner ++ 34 ∷ [])
 
--- a string, and what is written of it
-pub record IsStringRead (text rest written : List ℕ) : Type 0 where
-  pub token : List ℕ
-  pub is : is_text String token ≡ true
-  pub front : text ≡ token ++ rest
-  pub spells : written ≡ respell String token
+-- a string in double quotes, where it stands in single quotes
+abbrev pub spelling : ReadString → List ℕ
+spelling read = if read.single then 34 ∷ (read.body.now ++ 34 ∷ []) else read.body.now
 
--- in double quotes, where it stands in single quotes
-abbrev pub spelling : Bool → List ℕ → List ℕ
-spelling single body = if single then 34 ∷ (body ++ 34 ∷ []) else body
+-- a string, and what is written of it
+pub record IsStringRead (text : List ℕ) (read : ReadString) : Type 0 where
+  pub is : is_text String read.token.now ≡ true
+  pub front : text ≡ read.token.now ++ read.rest.now
+  pub spells : spelling read ≡ respell String read.token.now
+  pub same : read.single ≡ false → spelling read ≡ read.token.now
 
 -- an element: a string, with the comments above it and beside it
 pub record Element : Type 0 where
@@ -78,31 +80,46 @@ as_is text = text
 abbrev pub others_in_place : List Element → List ℕ
 others_in_place es = flat_map (λ e. 44 ∷ 32 ∷ e.token) es
 
-pub record IsElementRead (text rest written : List ℕ) (noted : Bool) : Type 0 where
+-- between elements in place, where there are others
+abbrev pub between : Bool → List ℕ
+between one = if one then codes ", " else []
+
+-- an element, and all of them, on lines or in place
+abbrev pub element_stands : Bool → Bool → Element → List ℕ
+element_stands lines one e = if lines then element_line as_is e else between one ++ e.token
+
+abbrev pub elements_stand : Bool → List Element → List ℕ
+elements_stand true es = element_lines as_is es
+elements_stand false [] = []
+elements_stand false (e ∷ es) = e.token ++ others_in_place es
+
+-- the bracket after them
+abbrev pub closing : Bool → List ℕ
+closing lines = if lines then 10 ∷ (indent 1 ++ 93 ∷ []) else 93 ∷ []
+
+abbrev pub element_written : ReadElement → List ℕ
+element_written read = read.front.now ++ (spelling read.string ++ read.back.now)
+
+pub record IsElementRead (lines one : Bool) (text : List ℕ) (read : ReadElement) : Type 0 where
   pub element : Element
   pub are : AreElements (element ∷ [])
-  pub front : text ≡ element_line as_is element ++ rest
-  pub spells : written ≡ element_line (respell String) element
-  pub noted_is : is_noted element ≡ noted
+  pub token_is : element.token ≡ read.string.token.now
+  pub string_is : spelling read.string ≡ respell String element.token
+  pub front : text ≡ element_stands lines one element ++ read.rest.now
+  pub spells : element_written read ≡ element_line (respell String) element
+  pub noted_is : is_noted element ≡ read.noted
+  pub bare : lines ≡ false → is_noted element ≡ false
+  pub same : read.otherwise ≡ false → text ≡ element_written read ++ read.rest.now
 
--- some elements on lines; `broken`: the list that has no others stands on lines
-pub record AreLinesRead (text rest written : List ℕ) (one broken : Bool) : Type 0 where
+-- some elements; `broken`: the list that has no others is written on lines
+pub record ArePassed (lines : Bool) (text rest written : List ℕ) (one broken : Bool) : Type 0 where
   pub elements : List Element
   pub are : AreElements elements
-  pub front : text ≡ element_lines as_is elements ++ rest
+  pub bare : lines ≡ false → list_any is_noted elements ≡ false
+  pub front : text ≡ elements_stand lines elements ++ rest
   pub spells : written ≡ element_lines (respell String) elements
   pub one_is : one ≡ nat_le 1 (length elements)
   pub broken_is : broken ≡ (list_any is_noted elements || nat_le 2 (length elements))
-
--- some elements in place, none of which has a comment
-pub record AreInPlaceRead (text rest written : List ℕ) (two : Bool) : Type 0 where
-  pub first : Element
-  pub others : List Element
-  pub are : AreElements (first ∷ others)
-  pub bare : list_any is_noted (first ∷ others) ≡ false
-  pub front : text ≡ first.token ++ (others_in_place others ++ rest)
-  pub spells : written ≡ element_lines (respell String) (first ∷ others)
-  pub two_is : two ≡ nat_le 2 (length (first ∷ others))
 
 -- the list of these elements
 abbrev pub element_segs : List Element → Segs
@@ -116,6 +133,23 @@ element_list es = group ListKind (element_segs es) false []
 abbrev pub elements_as_is : List Element → Choice
 elements_as_is [] = own
 elements_as_is (e ∷ es) = free true (free true (free true own own) own) (elements_as_is es)
+
+-- all elements after the bracket of a list, and the bracket after them; what is written of the elements
+pub record AreElementsRead (text rest written : List ℕ) (one broken : Bool) : Type 0 where
+  pub elements : List Element
+  pub are : AreElements elements
+  pub breaks : Bool
+  pub stands : breaks ≡ false → have_comments (element_segs elements) ≡ false
+  pub front : 91 ∷ text ≡ bytes_of (item_by (free breaks (elements_as_is elements) own) 1 Closed (element_list elements)) ++ rest
+  pub spells : written ≡ element_lines (respell String) elements
+  pub one_is : one ≡ nat_le 1 (length elements)
+  pub broken_is : broken ≡ (list_any is_noted elements || nat_le 2 (length elements))
+
+-- a comma, the comment beside it, and no more
+pub record IsLast (text : List ℕ) : Type 0 where
+  pub suffix : Option (List ℕ)
+  pub is : AreComments (beside suffix)
+  pub front : text ≡ 44 ∷ bytes_of (suffix_piece suffix)
 
 -- a list, and what is written of it
 pub record IsListRead (text rest written : List ℕ) : Type 0 where

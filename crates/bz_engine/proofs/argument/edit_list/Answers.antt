@@ -1,4 +1,4 @@
-use Rattle.bz_engine.proofs.ArgumentAnswers.{adds_to_list, leaves_lines}
+use Rattle.bz_engine.proofs.ArgumentAnswers.{adds_to_list}
 use Rattle.bz_engine.proofs.argument.edit_list.Goals as goal
 
 pub returns-in-Some : goal.returns-in-Some
@@ -6,6 +6,5 @@ returns-in-Some c =
     adds_to_list c.args.script.max_depth c.args.command.now c.args.script.home.now c.in-Some.new.attr.now c.in-Some.new.value.now c.args.lines.now c.put_added.new.written.items c.in-Some.ensures c.in_ok-added.added c.in_ok-added.ensures
     c.edited_by.result c.edited_by.ensures
 
-pub returns-then-branch : goal.returns-then-branch
-returns-then-branch c =
-    leaves_lines c.args.script.max_depth c.args.command.now c.args.script.home.now c.in-Some-sought_by.sought.attr.now c.in-Some-sought_by.sought.value.now c.args.lines.now c.lacks.new.written.items c.in-Some-sought_by.ensures (c.in_ok-lacks.ensures c.if-branch.true)
+pub returns-then-is_lacking : goal.returns-then-is_lacking
+returns-then-is_lacking c = c.is_lacking.ensures c.if-is_lacking.true c.args.written.now.items

@@ -1,0 +1,30 @@
+use Rattle.std.proofs.Common.{◌≡◌, ◌++◌, ◌∷◌, [], ◌∙◌, ℕ, List, ap, subst, sym, true}
+use Rattle.std.specs.Prelude.{codes, IfSome}
+use Rattle.bz_canonical.specs.private.Rewritten.{AreElementsRead, IsListRead, spelling}
+use Rattle.bz_canonical.proofs.ElementLists.{list_broken, list_of_one, put_three}
+use Rattle.bz_canonical.proofs.lists.put_list.Goals as goal
+
+pub returns-in-Some-after_only : goal.returns-in-Some-after_only
+returns-in-Some-after_only c =
+    let first = c.in-Some-read_element.first in
+    let rest = c.in-Some-after_only.rest.now in
+    let only = c.in-Some-after_only.ensures in
+    let w = 91 ∷ (spelling first.string ++ 93 ∷ []) in (
+      w,
+      put_three c.args.written.now.items c.push.new.list.items c.put_string.new.written.items c.push-in-Some-after_only.new.list.items (91 ∷ []) (spelling first.string) (93 ∷ []) c.in_ok-push.ensures.items c.in_ok-put_string.ensures
+          c.in_ok-push-2.ensures.items,
+      subst (λ t. IsListRead t rest w) (sym c.in-Some.ensures) (list_of_one c.is_on_lines-lines.result c.in-Some.inside.now rest first c.in-Some-read_element.ensures only.0 only.1),
+    )
+
+pub returns : goal.returns
+returns c =
+    let inside = c.in-Some.inside.now in
+    let elements = c.in-Some-2.elements in
+    let end = elements.rest.now in
+    let got = subst (λ o. IfSome o (λ put. (w : List ℕ) × (c.put_elements.new.written.items ≡ c.push.new.list.items ++ w) × AreElementsRead inside put.rest.now w true put.broken)) c.in-Some-2.is c.in_ok-elements.ensures in
+    let w = 91 ∷ (got.0 ++ codes "\n    ]") in (
+      w,
+      put_three c.args.written.now.items c.push.new.list.items c.put_elements.new.written.items c.extend_from_slice.new.list.items (91 ∷ []) got.0 (codes "\n    ]") c.in_ok-push.ensures.items got.1
+          (c.in_ok-extend_from_slice.ensures.items ∙ ap (λ (t : List ℕ). c.put_elements.new.written.items ++ t) c.as_slice.ensures),
+      subst (λ t. IsListRead t end w) (sym c.in-Some.ensures) (list_broken true elements.broken inside end got.0 got.2 c.if-not-elements.false),
+    )
