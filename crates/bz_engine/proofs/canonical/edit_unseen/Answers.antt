@@ -31,5 +31,5 @@ returns-in_ok-put_canonical-in-Some-2-clause-edited c = λ s is.
     let leaves = subst (λ o. IfSome o (LeavesRule only.command.now home c.args.found)) c.in-Some-2.is c.in_ok-unchanged_by_text.ensures in
     let makes = leaves c.args.script.max_depth s is in
     stays_laid (run_of c.args.script) only.target.now only.command.now _ c.args.found.chunk.class s c.args.progress.now c.keep_line.new.self c.put_canonical-in-Some-2.new.progress
-    c.args.text.now.items c.put_canonical-in-Some-2.new.text.items c.in-Some.ensures.only (c.in-Some.ensures.marked.met s is) makes.after_is makes.done is.class_is
+    c.args.text.now.items c.put_canonical-in-Some-2.new.text.items c.in-Some.ensures.only (c.in-Some.ensures.marked s is) makes.after_is makes.done is.class_is
     c.in_ok-keep_line-in-Some-2.ensures put.last (put.text s is.class_is is.written)
