@@ -97,7 +97,7 @@ pub(crate) fn is_without(found: Found<'_>, attr: &str) -> bool
 
 /// The target marks the statement of the chunk, whatever else is in it.
 pub(crate) fn marks_found(target: &Target, found: Found<'_>) -> bool
-    ensures { IsTrue result → (depth : ℕ) → IsMarked depth target.now found }
+    ensures { IsTrue result → (depth : ℕ) → IsMarked depth target.now found.entry }
 {
     if let Some(name) = found.chunk.name {
         return marks_name(target, name);

@@ -7,7 +7,7 @@ use Rattle.bz_engine.proofs.answer.marks_found.Goals as goal
 pub returns-in-Some : goal.returns-in-Some
 returns-in-Some c = λ marked depth s is. c.marks_name.ensures marked s (subst (λ (o : Option (Bor (List ℕ))). HasName (option_map (λ name. name.now) o) s) c.in-Some.is is.named)
 
-pub returns-in-Some-2 : goal.returns-in-Some-2
-returns-in-Some-2 c = λ marked depth s is.
-    let has = subst (λ (o : Option ArgumentPlace). IfSome (option_map between o) (HasPlace depth c.args.found.attr.now s)) c.in-Some-2.is is.has in
+pub returns-in-Some-place : goal.returns-in-Some-place
+returns-in-Some-place c = λ marked depth s is.
+    let has = subst (λ (o : Option ArgumentPlace). IfSome (option_map between o) (HasPlace depth c.args.found.attr.now s)) c.in-Some-place.is is.has in
     c.marks_rules.ensures marked s has.rule has.rule_is

@@ -1,4 +1,4 @@
-use Rattle.std.proofs.Common.{ℕ, List, ◌∙◌, sym, ap, subst}
+use Rattle.std.proofs.Common.{ℕ, List, true, ◌∙◌, sym, ap, subst}
 use Rattle.std.specs.Prelude.{Option, None, Some, IfSome, option_map}
 use Rattle.bz_attribute.specs.Effects.{with_args}
 use Rattle.bz_canonical.specs.Canonical.{HasPlace, between}
