@@ -3,15 +3,15 @@ use Rattle.std.proofs.Common.{◌≡◌, ℕ, suc, ◌-◌, length, take, drop, 
 use Rattle.std.proofs.Math.Seq.{take-append_seam, drop-append_seam}
 use Rattle.std.specs.Prelude.{codes, if◌then◌else◌, IfSome, Option, None, Some, option_map, option_to_list}
 use Rattle.std.proofs.lemmas.Bool.{false≢true}
-use Rattle.bz_token.specs.declared.token.Kind.TheVariants.{Identifier, Newline, Operator}
+use Rattle.bz_token.specs.declared.token.Kind.TheVariants.{Identifier, Operator}
 use Rattle.bz_token.specs.Common.{is_empty}
 use Rattle.bz_tree.specs.declared.stmt.Class.TheVariants.{Rule as RuleClass}
 use Rattle.bz_tree.specs.declared.stmt.GroupKind.{GroupKind}
 use Rattle.bz_tree.specs.declared.stmt.GroupKind.TheVariants.{RuleCall}
-use Rattle.bz_tree.specs.Tree.{Item, leaf, group, Items, no_items, item, Segs, no_segs, seg, Segment, Statement, items_of, list_of, segments, segs_of}
+use Rattle.bz_tree.specs.Tree.{Item, leaf, group, Items, no_items, item, Segs, no_segs, seg, Segment, Statement, list_of, segments, segs_of}
 use Rattle.bz_layout.specs.Broken.{holds_broken, is_broken, items_hold, segs_hold}
 use Rattle.bz_layout.specs.Layout.{closing, flat_segs, item_pieces, items_pieces, opening}
-use Rattle.bz_layout.specs.Pieces.{Piece, piece, bytes_of, comma_if, comment_lines, gap_bytes, indent, suffix_piece}
+use Rattle.bz_layout.specs.Pieces.{Piece, piece, bytes_of, comma_if, comment_lines, gap_bytes, suffix_piece}
 use Rattle.bz_layout.specs.Spacing.{edge_after, gap_before}
 use Rattle.bz_layout.specs.declared.broken.Style.TheVariants.{Broken}
 use Rattle.bz_layout.specs.declared.spacing.Edge.{Edge}
@@ -20,14 +20,12 @@ use Rattle.bz_layout.specs.declared.spacing.Gap.{Gap}
 use Rattle.bz_layout.specs.declared.spacing.Gap.TheVariants.{Closed, Line, Space}
 use Rattle.bz_layout.proofs.Pieces.{bytes_append}
 use Rattle.bz_layout_laws.proofs.SameInside.{items_same}
-use Rattle.bz_attribute.specs.RowPlaces.{IsLocal}
 use Rattle.bz_attribute.specs.Rules.{first_named, is_named}
 use Rattle.bz_attribute.proofs.Views.{segments_of}
 use Rattle.bz_canonical.specs.Canonical.{AreReadAlone, Between, HasArgumentName, HasPlace, IsCanonical, argument_lines, between, first_args}
 use Rattle.bz_canonical.specs.declared.chunk.CanonicalChunk.{CanonicalChunk}
 use Rattle.bz_canonical.specs.private.Fronts.{IsTokenFront}
 use Rattle.bz_canonical.specs.private.Segments.{AreLinesFront, IsGroupFront, IsSegmentFront}
-use Rattle.bz_canonical.specs.private.Statements.{IsRuleCallFront, IsStatementFront}
 use Rattle.bz_canonical.specs.private.Unnamed.{IsStatementEnd, IsUnnamedRule}
 use Rattle.bz_canonical.proofs.CanonicalChunks.{canonical_chunk}
 use Rattle.bz_canonical.proofs.BareStatements.{rule_bare}
