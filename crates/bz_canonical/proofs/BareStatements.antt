@@ -41,7 +41,7 @@ use Rattle.bz_canonical.proofs.Operands.{flat_group, string_value}
 use Rattle.bz_canonical.proofs.Chained.{value_nodes}
 use Rattle.bz_canonical.proofs.RuleCalls.{after_it, no_argument_name}
 
-absurd_of : {A : Type 0} → false ≡ true → A
+pub absurd_of : {A : Type 0} → false ≡ true → A
 absurd_of h = absurd (false≢true h)
 
 and_no : (b : Bool) → (b && false) ≡ false
@@ -62,7 +62,7 @@ assign_text true = refl
 assign_text false = refl
 
 -- a rule of one word
-pub rule_bare : (depth : ℕ) (name : Option (List ℕ)) (text bracket rest : List ℕ) → IsTokenFront Identifier text bracket → IsRuleCallFront depth name bracket rest
+abbrev pub rule_bare : (depth : ℕ) (name : Option (List ℕ)) (text bracket rest : List ℕ) → IsTokenFront Identifier text bracket → IsRuleCallFront depth name bracket rest
     → IsBareFront (suc depth) Rule name text rest
 rule_bare depth name text bracket rest f c = record {
   nodes = leaf Identifier f.token ∷ group RuleCall c.group.segs false c.group.end ∷ [];

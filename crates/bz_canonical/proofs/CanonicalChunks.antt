@@ -1,6 +1,6 @@
 -- What is written of a well-formed statement is a canonical chunk.
 use Rattle.std.proofs.Common.{◌≡◌, ℕ, ◌-◌, ◌<◌, List, [], ◌∷◌, ◌++◌, Bool, true, false, length, take, refl, sym, ◌∙◌, ap, subst, arith, append-nil, append_assoc}
-use Rattle.std.specs.Prelude.{codes, if◌then◌else◌, Option, None}
+use Rattle.std.specs.Prelude.{codes, if◌then◌else◌, IfSome, Option, None, Some}
 use Rattle.bz_token.specs.Chunks.{chunks}
 use Rattle.bz_token.specs.Cuts.{IsChunk}
 use Rattle.bz_tree.specs.declared.stmt.Class.{Class}
@@ -42,15 +42,17 @@ whole_again first depth s formed = by (is_comment s.class) refl
 -- the place of an argument, of what is read
 pub place_same : (depth : ℕ) (attr : List ℕ) (s t : Statement) (b : Between) → lineless t ≡ lineless s → HasPlace depth attr s b → HasPlace depth attr t b
 place_same depth attr s t b same has = record {
+  rule = has.rule;
+  rule_is = ap (λ (z : Statement). rule_of z.nodes) same ∙ has.rule_is;
   none = has.none ∙ ap (λ (z : Statement). is_empty (first_args attr z)) (sym same);
   reads = subst (AreReadAlone depth b.lines) (ap (λ (z : Statement). first_args attr z) (sym same)) has.reads;
   takes = λ f local some. ap (λ (z : Statement). layout_text (with_args f z)) same ∙ has.takes f local (ap (λ (z : Statement). is_empty (f (first_args attr z))) (sym same) ∙ some)
       ∙ ap (λ (z : Statement). b.before ++ (argument_lines (f (first_args attr z)) ++ b.after)) (sym same);
 }
 
-read_back : (first depth : ℕ) (attr : List ℕ) (class : Class) (name : Option (List ℕ)) (text end rest : List ℕ) → (f : IsStatementFront depth class name text end rest)
-    → IsReadBack first depth attr class name None (layout_text f.s ++ empty_line f.s.class) (layout_text f.s)
-read_back first depth attr class name text end rest f =
+read_back : (first depth : ℕ) (attr : List ℕ) (class : Class) (name : Option (List ℕ)) (place : Option Between) (text end rest : List ℕ) → (f : IsStatementFront depth class name text end rest)
+    → IfSome place (HasPlace depth attr f.s) → IsReadBack first depth attr class name place (layout_text f.s ++ empty_line f.s.class) (layout_text f.s)
+read_back first depth attr class name place text end rest f has =
     let again = whole_again first depth f.s f.well in
     let same : lineless again.0 ≡ lineless f.s = again.2 ∙ ap lineless f.stays in
     record {
@@ -60,16 +62,20 @@ read_back first depth attr class name text end rest f =
       named = ap (λ (z : Statement). rule_name (rule_of z.nodes)) same ∙ f.named;
       written = ap layout_text same;
       absent = λ name none. ap (λ (z : Statement). first_named name (rule_args (rule_of z.nodes))) same ∙ f.absent name none;
-      has = tt;
+      has = known_place place has;
     }
+  where
+    known_place : (place : Option Between) → IfSome place (HasPlace depth attr f.s) → IfSome place (HasPlace depth attr (whole_again first depth f.s f.well).0)
+    known_place None has = tt
+    known_place (Some b) has = place_same depth attr f.s (whole_again first depth f.s f.well).0 b ((whole_again first depth f.s f.well).2 ∙ ap lineless f.stays) has
 
-pub canonical_chunk : (depth : ℕ) (attr : List ℕ) (class : Class) (name : Option (List ℕ)) (chunk written text end rest : List ℕ) → IsStatementFront depth class name text end rest
-    → chunk ≡ take (length text - length rest) text → written ≡ take (length text - length end) text → IsCanonical depth attr class name None chunk written text
-canonical_chunk depth attr class name chunk written text end rest f chunk_is written_is =
+pub canonical_chunk : (depth : ℕ) (attr : List ℕ) (class : Class) (name : Option (List ℕ)) (place : Option Between) (chunk written text end rest : List ℕ) → (f : IsStatementFront depth class name text end rest)
+    → chunk ≡ take (length text - length rest) text → written ≡ take (length text - length end) text → IfSome place (HasPlace depth attr f.s) → IsCanonical depth attr class name place chunk written text
+canonical_chunk depth attr class name place chunk written text end rest f chunk_is written_is has =
     let s = f.s in
     let all : List ℕ = layout_text s ++ empty_line s.class in
     let front : text ≡ all ++ rest = f.front ∙ ap (λ (t : List ℕ). layout_text s ++ t) (f.ends ∙ ap (λ c. empty_line c ++ rest) (sym f.class_is)) ∙ sym (append_assoc (layout_text s) (empty_line s.class) rest) in
     let whole : IsChunk all = whole_chunk depth s f.well in
-    subst (λ bytes. IsCanonical depth attr class name None bytes written text) (sym (chunk_is ∙ taken text all rest front))
-    (subst (λ bytes. IsCanonical depth attr class name None all bytes text) (sym (written_is ∙ taken text (layout_text s) end f.front))
-    (record { some = chunk_some all whole; rest = rest; front = front; ends = whole; read = λ first. read_back first depth attr class name text end rest f }))
+    subst (λ bytes. IsCanonical depth attr class name place bytes written text) (sym (chunk_is ∙ taken text all rest front))
+    (subst (λ bytes. IsCanonical depth attr class name place all bytes text) (sym (written_is ∙ taken text (layout_text s) end f.front))
+    (record { some = chunk_some all whole; rest = rest; front = front; ends = whole; read = λ first. read_back first depth attr class name place text end rest f has }))

@@ -20,3 +20,4 @@ pub mod PutArguments
 pub mod PutRules
 pub mod AddedLines
 pub mod CommentedLines
+pub mod UnnamedRules

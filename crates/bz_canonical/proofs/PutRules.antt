@@ -217,7 +217,7 @@ placed_alone depth ps are = λ first t read.
     ap lineless (statement_same first (suc depth) (small_text (flat_map placed_lines ps)) t again.0 read (subst (λ text. IsStatementIn first (suc depth) text again.0) bytes again.1)) ∙ again.2
     ∙ ap (λ ss. record { before = []; nodes = leaf Identifier (codes "k") ∷ group RuleCall ss false (codes "#" ∷ []) ∷ []; suffix = None; class = RuleClass; start = 0; end = 0 }) (args_spelled depth ps are)
 
-with_group : (N G S : List Piece) (kind g : List ℕ) → bytes_of G ≡ g
+pub with_group : (N G S : List Piece) (kind g : List ℕ) → bytes_of G ≡ g
     → bytes_of (N ++ ((piece Closed Identifier kind ∷ (G ++ [])) ++ (S ++ (piece Closed Newline (codes "\n") ∷ [])))) ≡ bytes_of N ++ (kind ++ (g ++ (bytes_of S ++ 10 ∷ [])))
 with_group N G S kind g is =
     rw (
@@ -270,6 +270,8 @@ rule_place depth attr notes kind name placed end suffix text next place begins o
       before = (λ i. take (h.start i) (whole i)) ∙ take-append_seam (F ++ before) (one ++ (after ++ back));
       after = (λ i. drop (h.end i) ((whole ∙ sym (append_assoc (F ++ before) one (after ++ back))) i)) ∙ drop-append_seam ((F ++ before) ++ one) (after ++ back);
       has = record {
+        rule = _;
+        rule_is = refl;
         none = no_lines_of h.one ∙ ap is_empty (sym first_is);
         reads = subst (AreReadAlone (suc depth) (flat_map placed_lines h.one)) (sym first_is) (placed_alone depth h.one h.are);
         takes = λ f local some.
@@ -314,6 +316,8 @@ name_place depth attr notes kind name args end suffix text inside next place is 
       before = (λ i. take ((ap (λ (p : PutEnds). p.start) place_is ∙ size_before text H inside begins) i) (append_assoc H L after i)) ∙ take-append_seam H (L ++ after);
       after = (λ i. drop ((ap (λ (p : PutEnds). p.end) place_is ∙ size_before text (H ++ L) next all) i) ((H ++ L) ++ after)) ∙ drop-append_seam (H ++ L) after;
       has = record {
+        rule = _;
+        rule_is = refl;
         none = ap is_empty (sym first_is);
         reads = subst (AreReadAlone (suc depth) L) (sym first_is) (subst (λ (t : List ℕ). AreReadAlone (suc depth) t (n ∷ [])) (line_is name) (read_alone depth (n ∷ []) are));
         takes = λ f local some_new.

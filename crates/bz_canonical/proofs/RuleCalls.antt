@@ -1,8 +1,10 @@
 -- The call of a rule by what was read of it.
-use Rattle.std.proofs.Common.{◌≡◌, ℕ, ◌-◌, List, [], ◌∷◌, ◌++◌, Bool, true, false, refl, sym, ap, ◌∙◌, append_assoc, subst, length, take, nat_eq, option_and_then}
-use Rattle.std.specs.Prelude.{codes, Some, None, if◌then◌else◌}
+use Rattle.std.proofs.Common.{◌≡◌, ℕ, ◌-◌, List, [], ◌∷◌, ◌++◌, Bool, true, false, refl, sym, ap, ◌∙◌, append_assoc, subst, length, take, option_and_then}
+use Rattle.std.specs.Prelude.{bytes_eq, codes, Some, None, if◌then◌else◌}
 use Rattle.std.proofs.lemmas.Bool.{false≢true}
-use Rattle.std.specs.List.{starts_with}
+use Rattle.std.proofs.Math.Seq.{take-append_seam}
+use Rattle.std.proofs.lemmas.Slice.Eq.{bytes_eq-Decides}
+use Rattle.std.specs.List.{IsSplitAt}
 use Rattle.bz_token.proofs.Classes.{same_bytes}
 use Rattle.bz_token.specs.declared.token.Kind.TheVariants.{Identifier, String, Operator}
 use Rattle.bz_token.specs.Lexical.{is_text, keywords}
@@ -137,7 +139,7 @@ no_argument_name attr segs end none = by (is_broken RuleCall segs end (segs_hold
     by false none = none_in_place attr 0 true segs (bytes_of (piece Closed Operator (codes ")") ∷ []))
         (λ h. none (after_it attr (codes "(") _ (subst (HasArgumentName attr) (sym (bytes_append (flat_segs Broken 0 RuleCall true segs) (piece Closed Operator (codes ")") ∷ []))) h)))
 
-pub unnamed_front : (depth : ℕ) (text call rest : List ℕ) (h : Bool) → IsGroupFront RuleCall 0 depth text rest h → call ≡ take (length text - length rest) text → (HasArgumentName (codes "name") call → ⊥)
+abbrev pub unnamed_front : (depth : ℕ) (text call rest : List ℕ) (h : Bool) → IsGroupFront RuleCall 0 depth text rest h → call ≡ take (length text - length rest) text → (HasArgumentName (codes "name") call → ⊥)
     → IsRuleCallFront depth None text rest
 unnamed_front depth text call rest h g is none = record {
   holds = h;
@@ -150,16 +152,23 @@ all_but_first [] = []
 all_but_first (b ∷ bs) = bs
 
 -- where a text does not begin with it, it stands in what follows the first byte
-pub stands_later : (text rest : List ℕ) (b : ℕ) → text ≡ b ∷ rest → starts_with nat_eq text (codes "name =") ≡ false → HasArgumentName (codes "name") text → HasArgumentName (codes "name") rest
-stands_later text rest b is other has = by has.before (sym is ∙ has.is)
+pub stands_later : (name text rest : List ℕ) (b : ℕ) → text ≡ b ∷ rest → ((after : List ℕ) → text ≡ name ++ (codes " =" ++ after) → ⊥) → HasArgumentName name text → HasArgumentName name rest
+stands_later name text rest b is other has = by has.before (sym is ∙ has.is)
   where
-    by : (before : List ℕ) → b ∷ rest ≡ before ++ (codes "name =" ++ has.after) → HasArgumentName (codes "name") rest
-    by [] at = absurd (false≢true (sym other ∙ ap (λ t. starts_with nat_eq t (codes "name =")) (is ∙ at)))
+    by : (before : List ℕ) → b ∷ rest ≡ before ++ (name ++ (codes " =" ++ has.after)) → HasArgumentName name rest
+    by [] at = absurd (other has.after (is ∙ at))
     by (x ∷ xs) at = record { before = xs; after = has.after; is = ap all_but_first at }
 
-pub never_in_nothing : (text : List ℕ) → text ≡ [] → HasArgumentName (codes "name") text → ⊥
-never_in_nothing text is has = by has.before (sym has.is ∙ is)
+pub never_in_nothing : (name text : List ℕ) → text ≡ [] → HasArgumentName name text → ⊥
+never_in_nothing name text is has = by has.before name (sym has.is ∙ is)
   where
-    by : (before : List ℕ) → before ++ (codes "name =" ++ has.after) ≡ [] → ⊥
-    by [] at = cc
-    by (x ∷ xs) at = cc
+    by : (before name : List ℕ) → before ++ (name ++ (codes " =" ++ has.after)) ≡ [] → ⊥
+    by [] [] at = cc
+    by [] (b ∷ bs) at = cc
+    by (x ∷ xs) name at = cc
+
+-- the name stands there
+pub begins_so : (text name front rest after : List ℕ) → IsSplitAt text (length name) front rest → text ≡ name ++ (codes " =" ++ after) → bytes_eq front name ≡ false → ⊥
+begins_so text name front rest after split is other =
+    let same : front ≡ name = split.1 ∙ ap (take (length name)) is ∙ take-append_seam name (codes " =" ++ after) in
+    false≢true (sym other ∙ ap (λ (t : List ℕ). bytes_eq t name) same ∙ (bytes_eq-Decides name name).1 refl)

@@ -21,7 +21,7 @@ use Rattle.bz_canonical.proofs.RuleCalls.{after_it, before_it}
 use Rattle.bz_token.specs.Common.{is_filled}
 
 -- a statement that is more than comments
-pub statement_front : (depth : ℕ) (class : Class) (name : Option (List ℕ)) (text start middle end rest : List ℕ) (b : Bool) → AreLinesFront text start
+abbrev pub statement_front : (depth : ℕ) (class : Class) (name : Option (List ℕ)) (text start middle end rest : List ℕ) (b : Bool) → AreLinesFront text start
     → IsBareFront depth class name start middle → IsBesideFront middle end b
     → end ≡ 10 ∷ rest → IsStatementFront depth class name text rest rest
 statement_front depth class name text start middle end rest b above s beside ends = record {

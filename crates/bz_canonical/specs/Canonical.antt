@@ -71,9 +71,11 @@ pub record Between : Type 0 where
 abbrev pub between : ArgumentPlace → Between
 between place = record { before = place.before.now; lines = place.lines.now; after = place.after.now }
 
--- The lines are those of the first argument of this name, or there is none. An edit that looks at it alone changes what is
--- written of it alone.
+-- The lines are those of the first argument of this name in a rule, or there is none. An edit that looks at it alone changes what
+-- is written of it alone.
 pub record HasPlace (depth : ℕ) (attr : List ℕ) (s : Statement) (place : Between) : Type 0 where
+  pub rule : Rule
+  pub rule_is : rule_of s.nodes ≡ Some rule
   pub none : is_empty place.lines ≡ is_empty (first_args attr s)
   pub reads : AreReadAlone depth place.lines (first_args attr s)
   pub takes : (f : List Segment → List Segment) → IsLocal attr f → is_empty (f (first_args attr s)) ≡ false

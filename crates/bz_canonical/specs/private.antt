@@ -7,3 +7,4 @@ pub mod Statements
 pub mod Rewritten
 pub mod Added
 pub mod Commented
+pub mod Unnamed

@@ -6,6 +6,7 @@ ghost use Rattle.bz_canonical.specs.Canonical.{IsCanonical, between};
 use crate::put_rule::rule_head;
 use crate::rewrite::rule_chunk;
 use crate::statement::statement;
+use crate::unnamed::{unnamed_chunk, unnamed_rule};
 use bz_memory::NoMemory;
 use bz_token::check_utf8;
 use bz_tree::Class;
@@ -53,8 +54,11 @@ pub fn canonical<'t>(
     if max_depth > DEEPEST {
         return Ok(None);
     }
-    match rule_head(text.as_bytes()) {
-        Some(head) => rule_chunk(text, head, attr, max_depth, written),
+    if let Some(head) = rule_head(text.as_bytes()) {
+        return rule_chunk(text, head, attr, max_depth, written);
+    }
+    match unnamed_rule(text.as_bytes(), attr.as_bytes(), max_depth) {
+        Some(rule) => unnamed_chunk(text, rule, attr, max_depth, written),
         None => Ok(other_chunk(text, max_depth)),
     }
 }

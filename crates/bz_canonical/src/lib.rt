@@ -22,6 +22,7 @@ mod rewrite;
 mod rule;
 mod segments;
 mod statement;
+mod unnamed;
 mod value;
 
 pub use added::{Added, ListValue, lacks, put_added};

@@ -1,6 +1,6 @@
 //! The call of a rule that stands as it would be written.
 
-ghost use Rattle.std.specs.Prelude.{◌≡◌, ◌<◌, ◌∷◌, ◌++◌, codes, option_map, IfSome, IfNone, IsFalse, Some, None, ℕ, [], false, bytes_eq};
+ghost use Rattle.std.specs.Prelude.{◌≡◌, ◌<◌, ◌∷◌, ◌++◌, codes, option_map, IfSome, IfNone, IsFalse, Some, None, ℕ, List, [], false, bytes_eq};
 ghost use Rattle.bz_layout.specs.Pieces.{indent};
 ghost use Rattle.bz_canonical.specs.Canonical.{HasArgumentName};
 ghost use Rattle.bz_canonical.specs.private.Statements.{IsRuleCallFront};
@@ -55,24 +55,42 @@ fn unnamed_call(text: &[u8], depth: u8) -> Option<&[u8]>
 {
     let read = group(GroupKind::RuleCall, text, 0, depth)?;
     let call = before(text, read.rest.len())?;
-    if has_argument_name(call) {
+    if has_argument_name(call, b"name".as_slice()) {
         return None;
     }
     Some(read.rest)
 }
 
-/// Whether an argument `name` may stand here: its name and equals sign do.
-fn has_argument_name(text: &[u8]) -> bool
-    ensures { IsFalse result → HasArgumentName (codes "name") text.now → ⊥ }
+/// Whether an argument of this name may stand here: its name and equals sign do.
+pub(crate) fn has_argument_name(text: &[u8], name: &[u8]) -> bool
+    ensures { IsFalse result → HasArgumentName name.now text.now → ⊥ }
 {
     let mut rest = text;
     while let Some(next) = tail(rest) {
-        if rest.starts_with(b"name =") {
+        if begins_argument(rest, name) {
             return true;
         }
         rest = next;
     }
     false
+}
+
+/// The text begins with this name and an equals sign.
+#[inline(always)]
+fn begins_argument(text: &[u8], name: &[u8]) -> bool
+    ensures { IsFalse result → (after : List ℕ) → text.now ≡ name.now ++ (codes " =" ++ after) → ⊥ }
+{
+    match text.split_at_checked(name.len()) {
+        Some((front, rest)) => begins_equals(rest) && front == name,
+        None => false,
+    }
+}
+
+#[inline(always)]
+fn begins_equals(text: &[u8]) -> bool
+    ensures { IsFalse result → (after : List ℕ) → text.now ≡ codes " =" ++ after → ⊥ }
+{
+    matches!(text, [b' ', b'=', ..])
 }
 
 fn tail(text: &[u8]) -> Option<&[u8]>

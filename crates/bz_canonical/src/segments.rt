@@ -138,7 +138,7 @@ fn segment(kind: GroupKind, text: &[u8], level: u8, depth: u8) -> Option<Value<'
 /// What follows the entry of a dict here, or the argument of a call.
 #[cycle(values)]
 #[inline(never)]
-fn named_segment(kind: GroupKind, text: &[u8], level: u8, depth: u8) -> Option<Value<'_>>
+pub(crate) fn named_segment(kind: GroupKind, text: &[u8], level: u8, depth: u8) -> Option<Value<'_>>
     requires { level + depth < 255 }
     ensures { IfSome result (λ read. IsSegmentFront kind level depth text.now read.rest.now read.holds) }
 {

@@ -23,7 +23,7 @@ use Rattle.bz_attribute_commands.specs.Argument.{new_argument}
 use Rattle.bz_canonical.specs.Added.{AddsToLines, LacksInLines}
 use Rattle.bz_canonical.specs.declared.added.Added.{Added}
 use Rattle.bz_canonical.specs.declared.added.Added.TheVariants.{Present, New}
-use Rattle.bz_canonical.specs.Canonical.{AreReadAlone, Between, HasName, HasPlace, argument_lines, first_args, rule_args, small_text}
+use Rattle.bz_canonical.specs.Canonical.{AreReadAlone, Between, HasPlace, argument_lines, first_args, rule_args, small_text}
 use Rattle.bz_canonical.proofs.SmallRules.{small_after, small_told}
 use Rattle.bz_rule.specs.declared.command.Action.TheVariants.{Add, Remove, Replace, Set, SetIfAbsent}
 use Rattle.bz_rule.specs.Commands.{Command, after, args_after, args_done, done_of}
@@ -35,7 +35,6 @@ use Rattle.bz_engine.specs.declared.argument.EditedList.{EditedList}
 use Rattle.bz_engine.specs.declared.argument.EditedList.TheVariants.{Unchanged as Unlisted}
 use Rattle.bz_engine.specs.private.ArgumentEdits.{AddsArgument, AreLinesAfter, ChangesArgs, EditsLines, EditsList, EditsSmallRule, Setting, list_argument, list_edit, set_by, sought_by}
 use Rattle.bz_engine.specs.private.Found.{Makes, told_line}
-use Rattle.bz_engine.proofs.OnlyPass.{named_rule}
 use Rattle.bz_engine.proofs.TextAnswers.{no_args, none_has, stays_by}
 use Rattle.bz_token.specs.Common.{is_empty, map_or}
 
@@ -177,23 +176,22 @@ told_first attr g args looks = by (first_named attr args) refl
 told_of_rule : (attr : List ℕ) (g : List Segment → Done) (s : Statement) (r : Rule) → rule_of s.nodes ≡ Some r → g (first_args attr s) ≡ g r.args → slot_done g (Some s) ≡ g (first_args attr s)
 told_of_rule attr g s r at told = ap (λ x0. map_or (done None false) (λ r. g r.args) x0) at ∙ sym told
 
-args_told : (command : Command) (attr name : List ℕ) (home : Package) (s : Statement) → one_attribute command ≡ Some attr → HasName (Some name) s → done_of command home (Some s) ≡ args_done command home (first_args attr s)
-args_told command attr name home s one named =
+args_told : (command : Command) (attr : List ℕ) (home : Package) (s : Statement) → one_attribute command ≡ Some attr → (rule : (r : Rule) × (rule_of s.nodes ≡ Some r)) → done_of command home (Some s) ≡ args_done command home (first_args attr s)
+args_told command attr home s one rule =
     let law = local command home attr one in
-    let rule = named_rule s name named in
     law.done s ∙ told_of_rule attr (args_done command home) s rule.0 rule.1
     (ap (λ o. args_done command home (option_to_list (first_named attr (rule_args o)))) rule.1 ∙ told_first attr (args_done command home) rule.0.args law.told)
 
-pub argument_stays : (depth : ℕ) (command : Command) (attr name : List ℕ) (home : Package) (s : Statement) (place : Between) → one_attribute command ≡ Some attr → HasName (Some name) s → HasPlace depth attr s place
+pub argument_stays : (depth : ℕ) (command : Command) (attr : List ℕ) (home : Package) (s : Statement) (place : Between) → one_attribute command ≡ Some attr → (r : Rule) × (rule_of s.nodes ≡ Some r) → HasPlace depth attr s place
     → EditsLines depth command home place.lines Unchanged → Makes command home s s (told_line false None)
-argument_stays depth command attr name home s place one named has stays = stays_by command home s (args_told command attr name home s one named ∙ stays (first_args attr s) has.none has.reads)
+argument_stays depth command attr home s place one rule has stays = stays_by command home s (args_told command attr home s one rule ∙ stays (first_args attr s) has.none has.reads)
 
-pub argument_changes : (depth : ℕ) (command : Command) (attr name : List ℕ) (home : Package) (s : Statement) (place : Between) (lines : List ℕ) → one_attribute command ≡ Some attr → HasName (Some name) s → HasPlace depth attr s place
+pub argument_changes : (depth : ℕ) (command : Command) (attr : List ℕ) (home : Package) (s : Statement) (place : Between) (lines : List ℕ) → one_attribute command ≡ Some attr → (r : Rule) × (rule_of s.nodes ≡ Some r) → HasPlace depth attr s place
     → ((args : List Segment) → is_empty place.lines ≡ is_empty args → AreReadAlone depth place.lines args → ChangesArgs command home args lines)
     → Makes command home s (with_args (args_after command home) s) (told_line true None) × (layout_text (with_args (args_after command home) s) ≡ place.before ++ (lines ++ place.after))
-argument_changes depth command attr name home s place lines one named has changes =
+argument_changes depth command attr home s place lines one rule has changes =
     let law = local command home attr one in
     let made = changes (first_args attr s) has.none has.reads in (
-      record { after_is = law.slot s; done = args_told command attr name home s one named ∙ made.told },
+      record { after_is = law.slot s; done = args_told command attr home s one rule ∙ made.told },
       has.takes (args_after command home) law.args made.some ∙ ap (λ (t : List ℕ). place.before ++ (t ++ place.after)) (sym made.lines_are),
     )

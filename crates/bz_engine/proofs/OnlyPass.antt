@@ -36,6 +36,14 @@ named_rule s name is = by (rule_of s.nodes) refl is
     by None at other = absurd cc
     by (Some r) at named = (r, at, named)
 
+-- what is marked is a rule
+pub marked_rule : (target : Target) (s : Statement) → marks target s ≡ true → (r : Rule) × (rule_of s.nodes ≡ Some r)
+marked_rule target s met = by (rule_of s.nodes) refl met
+  where
+    by : (o : Option Rule) → rule_of s.nodes ≡ o → map_or false (marks_rule target s.start) o ≡ true → (r : Rule) × (rule_of s.nodes ≡ Some r)
+    by None at met = absurd (false≢true met)
+    by (Some r) at met = (r, at)
+
 -- what is no rule is not marked
 pub no_rule_passed : (home : Package) (passes : Script) (s : Statement) → s.class ≡ class_of s.nodes → (s.class ≡ RuleClass → ⊥)
     → IsPassedBy (meaning home) (changes home) (fails_on home) passes (Some s)

@@ -3,8 +3,9 @@
 ghost use Rattle.std.specs.Prelude.{◌≡◌, ℕ, IfOk, IfSome, IsTrue, Some, false, true};
 ghost use Rattle.bz_tree.specs.Tree.{Statement};
 ghost use Rattle.bz_attribute.specs.Marks.{marks};
+ghost use Rattle.bz_attribute.specs.Rules.{Rule, rule_of};
 ghost use Rattle.bz_canonical.specs.Canonical.{HasName};
-ghost use Rattle.bz_engine.specs.private.Found.{IsFound, IsWithout, LeavesRule, Makes, looked_at, told_line};
+ghost use Rattle.bz_engine.specs.private.Found.{IsFound, IsMarked, IsWithout, LeavesRule, Makes, looked_at, told_line};
 
 use crate::canonical::Found;
 use bz_attribute::Env;
@@ -94,8 +95,22 @@ pub(crate) fn is_without(found: Found<'_>, attr: &str) -> bool
     }
 }
 
+/// The target marks the statement of the chunk, whatever else is in it.
+pub(crate) fn marks_found(target: &Target, found: Found<'_>) -> bool
+    ensures { IsTrue result → (depth : ℕ) → IsMarked depth target.now found.entry }
+{
+    if let Some(name) = found.chunk.name {
+        return marks_name(target, name);
+    }
+    match found.chunk.place {
+        // What has a place for arguments is a rule.
+        Some(_) => marks_rules(target),
+        None => false,
+    }
+}
+
 /// The target marks a rule of this name, whatever else the rule is.
-pub(crate) fn marks_name(target: &Target, name: &str) -> bool
+fn marks_name(target: &Target, name: &str) -> bool
     ensures { IsTrue result → (s : Statement) → HasName (Some name.now) s → marks target.now s ≡ true }
 {
     match &target.marked {
@@ -103,4 +118,11 @@ pub(crate) fn marks_name(target: &Target, name: &str) -> bool
         Marked::All => true,
         _ => false,
     }
+}
+
+/// The target marks each rule.
+fn marks_rules(target: &Target) -> bool
+    ensures { IsTrue result → (s : Statement) (r : Rule) → rule_of s.nodes ≡ Some r → marks target.now s ≡ true }
+{
+    matches!(&target.marked, Marked::All)
 }

@@ -18,7 +18,7 @@ ghost use Rattle.bz_engine.specs.private.Found.{IsFound, IsMarked, one_pass};
 ghost use Rattle.bz_engine.specs.private.NextChunks.{EditsFound, IsFirstEdited, IsKnownEdited};
 ghost use Rattle.bz_engine.specs.private.Rows.{HasKey};
 
-use crate::answer::{asked_attribute, is_answerable, marks_name, unchanged_by_text};
+use crate::answer::{asked_attribute, is_answerable, marks_found, unchanged_by_text};
 use crate::argument::{EditedArgument, edit_lines};
 use crate::edit::{Edited, ScriptRun};
 use crate::failure::failure_by_text;
@@ -195,60 +195,36 @@ fn edit_unseen(
         put_canonical(script, found.chunk, progress, text)?;
         return Ok(true);
     }
-    let Some(only) = marks_found(script, found) else {
+    let Some(only) = marking(script, found) else {
         return Ok(false);
     };
     let env = Env {
         alloc: script.alloc,
         home: script.home,
     };
-    match unchanged_by_text(env, only.command, found)? {
-        None => fail_or_edit(script, only, found, progress, text),
-        Some(unchanged) => {
-            progress.keep_line(unchanged.line)?;
-            put_canonical(script, found.chunk, progress, text)?;
-            Ok(true)
-        }
+    if let Some(unchanged) = unchanged_by_text(env, only.command, found)? {
+        progress.keep_line(unchanged.line)?;
+        put_canonical(script, found.chunk, progress, text)?;
+        return Ok(true);
     }
+    if let Some(entry) = failure_by_text(script, only.command, found)? {
+        progress.keep_failure(entry)?;
+        put_canonical(script, found.chunk, progress, text)?;
+        return Ok(true);
+    }
+    edit_argument(script, only, found, progress, text)
 }
 
-/// The one command of the script, with its target, where that marks the rule of the chunk.
-fn marks_found<'a>(script: ScriptRun<'a>, found: Found<'_>) -> Option<OnePass<'a>>
+/// The one command of the script, with its target, where that marks the statement of the chunk.
+fn marking<'a>(script: ScriptRun<'a>, found: Found<'_>) -> Option<OnePass<'a>>
     ensures only { IfSome result (λ only. script.entry.passes.now ≡ one_pass only.target.now only.command.now) }
     ensures marked { IfSome result (λ only. IsMarked script.entry.max_depth only.target.now found.entry) }
 {
     let only = script.passes.only()?;
-    let name = found.chunk.name?;
-    if !marks_name(only.target, name) {
+    if !marks_found(only.target, found) {
         return None;
     }
     Some(only)
-}
-
-/// The one command of the script on a rule that it marks, where its text shows that it fails, or how to edit it.
-fn fail_or_edit(
-    script: ScriptRun<'_>,
-    only: OnePass<'_>,
-    found: Found<'_>,
-    progress: &mut Progress,
-    text: &mut Vec<u8>,
-) -> Result<bool, NoMemory>
-    requires only { script.passes.now ≡ one_pass only.target.now only.command.now }
-    requires marked { IsMarked script.max_depth only.target.now found }
-    requires fits { Fits progress.old.kept script.passes.now }
-    ensures fits { OnOk result (Fits progress.new.kept script.entry.passes.now) }
-    ensures line { OnOk result (progress.new.line ≡ progress.old.line) }
-    ensures edited { IfOk result (EditsFound (run_of script.entry) found.entry progress.old progress.new
-        text.old.items text.new.items) }
-{
-    match failure_by_text(script, only.command, found)? {
-        None => edit_argument(script, only, found, progress, text),
-        Some(entry) => {
-            progress.keep_failure(entry)?;
-            put_canonical(script, found.chunk, progress, text)?;
-            Ok(true)
-        }
-    }
 }
 
 /// The one command of the script on a rule that it marks, where it looks at one argument alone, and the lines of that

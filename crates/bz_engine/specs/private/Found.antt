@@ -48,11 +48,9 @@ pub record IsFound (depth : ℕ) (found : Found) (s : Statement) : Type 0 where
   pub written : layout_text s ≡ found.chunk.written.now
   pub has : IfSome (option_map between found.chunk.place) (HasPlace depth found.attr.now s)
 
--- the target marks the statement of the chunk, which is a rule
-pub record IsMarked (depth : ℕ) (target : Target) (found : Found) : Type 0 where
-  pub met : (s : Statement) → IsFound depth found s → marks target s ≡ true
-  pub name : List ℕ
-  pub named : option_map (λ name. name.now) found.chunk.name ≡ Some name
+-- the target marks the statement of the chunk
+abbrev pub IsMarked : ℕ → Target → Found → Type 0
+IsMarked depth target found = (s : Statement) → IsFound depth found s → marks target s ≡ true
 
 -- no argument of this name stands in a rule
 abbrev pub IsWithout : List ℕ → Statement → Type 0

@@ -1,0 +1,202 @@
+-- A rule without a name whose only argument stands in place, by what was read of it.
+use Rattle.std.proofs.Common.{◌≡◌, ℕ, suc, ◌-◌, length, take, drop, List, [], ◌∷◌, ◌++◌, Bool, true, false, ◌||◌, refl, sym, ap, ◌∙◌, append_assoc, append-nil, subst}
+use Rattle.std.proofs.Math.Seq.{take-append_seam, drop-append_seam}
+use Rattle.std.specs.Prelude.{codes, if◌then◌else◌, IfSome, Option, None, Some, option_map, option_to_list}
+use Rattle.std.proofs.lemmas.Bool.{false≢true}
+use Rattle.bz_token.specs.declared.token.Kind.TheVariants.{Identifier, Operator}
+use Rattle.bz_token.specs.Common.{is_empty}
+use Rattle.bz_tree.specs.declared.stmt.Class.TheVariants.{Rule as RuleClass}
+use Rattle.bz_tree.specs.declared.stmt.GroupKind.{GroupKind}
+use Rattle.bz_tree.specs.declared.stmt.GroupKind.TheVariants.{RuleCall}
+use Rattle.bz_tree.specs.Tree.{Item, leaf, group, Items, no_items, item, Segs, no_segs, seg, Segment, Statement, list_of, segments, segs_of}
+use Rattle.bz_layout.specs.Broken.{holds_broken, is_broken, items_hold, segs_hold}
+use Rattle.bz_layout.specs.Layout.{closing, flat_segs, item_pieces, items_pieces, opening}
+use Rattle.bz_layout.specs.Pieces.{Piece, piece, bytes_of, comma_if, comment_lines, gap_bytes, suffix_piece}
+use Rattle.bz_layout.specs.Spacing.{edge_after, gap_before}
+use Rattle.bz_layout.specs.declared.broken.Style.TheVariants.{Broken}
+use Rattle.bz_layout.specs.declared.spacing.Edge.{Edge}
+use Rattle.bz_layout.specs.declared.spacing.Edge.TheVariants.{Start}
+use Rattle.bz_layout.specs.declared.spacing.Gap.{Gap}
+use Rattle.bz_layout.specs.declared.spacing.Gap.TheVariants.{Closed, Line, Space}
+use Rattle.bz_layout.proofs.Pieces.{bytes_append}
+use Rattle.bz_layout_laws.proofs.SameInside.{items_same}
+use Rattle.bz_attribute.specs.Rules.{first_named, is_named}
+use Rattle.bz_attribute.proofs.Views.{segments_of}
+use Rattle.bz_canonical.specs.Canonical.{AreReadAlone, Between, HasArgumentName, HasPlace, IsCanonical, argument_lines, between, first_args}
+use Rattle.bz_canonical.specs.declared.chunk.CanonicalChunk.{CanonicalChunk}
+use Rattle.bz_canonical.specs.private.Fronts.{IsTokenFront}
+use Rattle.bz_canonical.specs.private.Segments.{AreLinesFront, IsGroupFront, IsSegmentFront}
+use Rattle.bz_canonical.specs.private.Unnamed.{IsStatementEnd, IsUnnamedRule}
+use Rattle.bz_canonical.proofs.CanonicalChunks.{canonical_chunk}
+use Rattle.bz_canonical.proofs.BareStatements.{rule_bare}
+use Rattle.bz_canonical.proofs.GroupSegments.{begin_flat, no_segments}
+use Rattle.bz_canonical.proofs.Operands.{flat_group}
+use Rattle.bz_canonical.proofs.Places.{group_takes}
+use Rattle.bz_canonical.proofs.PutRules.{with_group}
+use Rattle.bz_canonical.proofs.RuleCalls.{no_argument_name, unnamed_front}
+use Rattle.bz_canonical.proofs.SmallRules.{read_alone}
+use Rattle.bz_canonical.proofs.StatementFronts.{statement_front}
+use Rattle.bz_canonical.proofs.Taken.{taken}
+
+-- what stands in place is written so at each level
+
+or_none : (a b : Bool) → (a || b) ≡ false → (a ≡ false) × (b ≡ false)
+or_none true b none = absurd (false≢true (sym none))
+or_none false b none = (refl, none)
+
+mutual
+  item_level : (k l : ℕ) (gap : Gap) (x : Item) → holds_broken x ≡ false → item_pieces Broken k gap x ≡ item_pieces Broken l gap x
+  item_level k l gap (leaf kind text) none = refl
+  item_level k l gap (group kind segs one_comma end) none =
+      let two = or_none (is_broken kind segs end (segs_hold segs)) (segs_hold segs) none in
+      rw two.0 (ap (λ (ps : List Piece). piece gap Operator (opening kind) ∷ (ps ++ (comma_if one_comma ++ (piece Closed Operator (closing kind) ∷ [])))) (flat_level k l kind true segs two.1))
+
+  items_level : (k l : ℕ) (within : Option GroupKind) (first : Gap) (left : Edge) (xs : Items) → items_hold xs ≡ false → items_pieces Broken k within first left xs ≡ items_pieces Broken l within first left xs
+  items_level k l within first left no_items none = refl
+  items_level k l within first left (item x xs) none =
+      let two = or_none (holds_broken x) (items_hold xs) none in
+      λ i. item_level k l (gap_before first left x) x two.0 i ++ items_level k l within first (edge_after within left x) xs two.1 i
+
+  flat_level : (k l : ℕ) (kind : GroupKind) (first : Bool) (segs : Segs) → segs_hold segs ≡ false → flat_segs Broken k kind first segs ≡ flat_segs Broken l kind first segs
+  flat_level k l kind first no_segs none = refl
+  flat_level k l kind true (seg before nodes suffix ss) none =
+      let two = or_none (items_hold nodes) (segs_hold ss) none in
+      λ i. items_level k l (Some kind) Closed Start nodes two.0 i ++ flat_level k l kind false ss two.1 i
+  flat_level k l kind false (seg before nodes suffix ss) none =
+      let two = or_none (items_hold nodes) (segs_hold ss) none in
+      λ i. (piece Closed Operator (codes ",") ∷ items_level k l (Some kind) Space Start nodes two.0 i) ++ flat_level k l kind false ss two.1 i
+
+segment_level : (kind : GroupKind) (k l depth : ℕ) (text rest : List ℕ) → IsSegmentFront kind k depth text rest false → IsSegmentFront kind l depth text rest false
+segment_level kind k l depth text rest s = record {
+  xs = s.xs;
+  is = s.is;
+  front = λ gap. s.front gap ∙ ap (λ (ps : List Piece). bytes_of ps ++ rest) (items_level k l (Some kind) gap Start s.xs s.breaks);
+  breaks = s.breaks;
+}
+
+-- its one argument, on a line of its own
+
+abbrev argument_of : Items → Segment
+argument_of xs = record { before = []; nodes = list_of xs; suffix = None }
+
+same_front : (text x y rest : List ℕ) → text ≡ x ++ rest → text ≡ y ++ rest → x ≡ y
+same_front text x y rest is also = sym (taken text x rest is) ∙ taken text y rest also
+
+abbrev in_place : Items → List ℕ
+in_place xs = bytes_of (items_pieces Broken 1 (Some RuleCall) Closed Start xs)
+
+argument_line : (depth : ℕ) (text rest : List ℕ) → (s : IsSegmentFront RuleCall 1 depth text rest false) → argument_lines (argument_of s.xs ∷ []) ≡ codes "\n    " ++ (in_place s.xs ++ codes ",")
+argument_line depth text rest s =
+    let P : List Piece = items_pieces Broken 1 (Some RuleCall) (Line 1) Start s.xs in
+    let line : bytes_of P ≡ codes "\n    " ++ in_place s.xs = same_front (codes "\n    " ++ text) (bytes_of P) (codes "\n    " ++ in_place s.xs) rest (s.front (Line 1)) (ap (λ (t : List ℕ). codes "\n    " ++ t) (s.front Closed)) in
+    ap (λ xs. bytes_of (items_pieces Broken 1 (Some RuleCall) (Line 1) Start xs ++ (piece Closed Operator (codes ",") ∷ []))) (items_same s.xs)
+    ∙ bytes_append P (piece Closed Operator (codes ",") ∷ []) ∙ ap (λ (t : List ℕ). t ++ codes ",") line
+
+-- the rule
+
+abbrev unnamed_statement : List (List ℕ) → List ℕ → Items → Option (List ℕ) → Statement
+unnamed_statement notes kind xs suffix = record {
+  before = notes;
+  nodes = leaf Identifier kind ∷ group RuleCall (seg [] xs None no_segs) false [] ∷ [];
+  suffix = suffix;
+  class = RuleClass;
+  start = 0;
+  end = 0;
+}
+
+other_name : (attr : List ℕ) (n : Segment) → first_named attr (n ∷ []) ≡ None → is_named attr n ≡ false
+other_name attr n none = by (is_named attr n) none
+  where
+    by : (b : Bool) → (if b then Some n else first_named attr []) ≡ None → b ≡ false
+    by true is = absurd cc
+    by false is = refl
+
+abbrev head_of : List ℕ → List ℕ → List ℕ
+head_of N kind = N ++ (kind ++ 40 ∷ [])
+
+with_line : (N S kind line new : List ℕ) → N ++ (kind ++ (((40 ∷ (line ++ [])) ++ (new ++ (10 ∷ 41 ∷ []))) ++ (S ++ 10 ∷ []))) ≡ (head_of N kind ++ line) ++ (new ++ (10 ∷ 41 ∷ (S ++ 10 ∷ [])))
+with_line N S kind line new = ap (λ (t : List ℕ). N ++ (kind ++ (((40 ∷ t) ++ (new ++ (10 ∷ 41 ∷ []))) ++ (S ++ 10 ∷ [])))) (append-nil line) ∙ joined
+  where
+    joined : N ++ (kind ++ (((40 ∷ line) ++ (new ++ (10 ∷ 41 ∷ []))) ++ (S ++ 10 ∷ []))) ≡ (head_of N kind ++ line) ++ (new ++ (10 ∷ 41 ∷ (S ++ 10 ∷ [])))
+    joined = simp append_assoc
+
+with_new : (N S kind inner new line : List ℕ) → line ≡ codes "\n    " ++ (inner ++ codes ",")
+    → N ++ (kind ++ (((40 ∷ (line ++ [])) ++ (new ++ (10 ∷ 41 ∷ []))) ++ (S ++ 10 ∷ [])))
+    ≡ (head_of N kind ++ (codes "\n    " ++ (inner ++ codes ","))) ++ (new ++ (10 ∷ 41 ∷ (S ++ 10 ∷ [])))
+with_new N S kind inner new line is = with_line N S kind line new ∙ ap (λ (t : List ℕ). (head_of N kind ++ t) ++ (new ++ (10 ∷ 41 ∷ (S ++ 10 ∷ [])))) is
+
+unnamed_place : (depth : ℕ) (attr : List ℕ) (notes : List (List ℕ)) (kind : List ℕ) (suffix : Option (List ℕ)) (text rest : List ℕ) (s : IsSegmentFront RuleCall 1 depth text rest false)
+    → first_named attr (segments (seg [] s.xs None no_segs)) ≡ None
+    → HasPlace (suc depth) attr (unnamed_statement notes kind s.xs suffix)
+    (record { before = head_of (bytes_of (comment_lines notes)) kind ++ (codes "\n    " ++ (in_place s.xs ++ codes ",")); lines = []; after = 10 ∷ 41 ∷ (bytes_of (suffix_piece suffix) ++ 10 ∷ []) })
+unnamed_place depth attr notes kind suffix text rest s none =
+    let n : Segment = argument_of s.xs in
+    let first_is : first_args attr (unnamed_statement notes kind s.xs suffix) ≡ [] = ap option_to_list none in
+    record {
+      rule = _;
+      rule_is = refl;
+      none = ap is_empty (sym first_is);
+      reads = subst (AreReadAlone (suc depth) []) (sym first_is) (read_alone depth [] (no_segments RuleCall depth));
+      takes = λ f local some.
+          with_group (comment_lines notes) (item_pieces Broken 0 Closed (group RuleCall (segs_of (f (n ∷ []))) false [])) (suffix_piece suffix) kind _
+          (ap (λ xs. bytes_of (item_pieces Broken 0 Closed (group RuleCall (segs_of (f xs)) false []))) (sym (segments_of (n ∷ [])))
+          ∙ group_takes attr n [] [] [] [] (other_name attr n none) (λ f local. sym (append-nil (f []))) f local (ap (λ xs. is_empty (f xs)) (sym first_is) ∙ some))
+          ∙ with_new (bytes_of (comment_lines notes)) (bytes_of (suffix_piece suffix)) kind (in_place s.xs) (argument_lines (f [])) (argument_lines (n ∷ [])) (argument_line depth text rest s)
+          ∙ ap (λ xs. (head_of (bytes_of (comment_lines notes)) kind ++ (codes "\n    " ++ (in_place s.xs ++ codes ","))) ++ (argument_lines (f xs) ++ (10 ∷ 41 ∷ (bytes_of (suffix_piece suffix) ++ 10 ∷ [])))) (sym first_is);
+    }
+
+abbrev call_front : (depth : ℕ) (bracket argument close end : List ℕ) → bracket ≡ 40 ∷ argument → IsSegmentFront RuleCall 1 depth argument close false → close ≡ 41 ∷ end → IsGroupFront RuleCall 0 depth bracket end false
+call_front depth bracket argument close end opens s closes =
+    let all = begin_flat RuleCall 0 depth argument close false (segment_level RuleCall 1 0 depth argument close s) no_segs close (no_segments RuleCall depth) refl refl in
+    let g = flat_group RuleCall 0 depth argument close end 41 1 false refl all refl closes in
+    record { segs = g.segs; are = g.are; end = g.end; end_is = g.end_is; front = λ gap. ap (λ (t : List ℕ). gap_bytes gap ++ t) opens ∙ g.front gap; breaks = g.breaks }
+
+pub unnamed_rule : (depth : ℕ) (attr text start bracket argument close end call rest : List ℕ) → AreLinesFront text start → IsTokenFront Identifier start bracket → bracket ≡ 40 ∷ argument
+    → IsSegmentFront RuleCall 1 depth argument close false → close ≡ 41 ∷ end → call ≡ take (length bracket - length end) bracket → (HasArgumentName (codes "name") call → ⊥) → (HasArgumentName attr call → ⊥)
+    → IsStatementEnd end rest → IsUnnamedRule (suc depth) attr text argument close rest
+unfolding segment_level
+unnamed_rule depth attr text start bracket argument close end call rest above f opens s closes call_is no_name none e =
+    let N : List ℕ = bytes_of (comment_lines above.notes) in
+    let S : List ℕ = bytes_of (suffix_piece e.side.note) in
+    let g = call_front depth bracket argument close end opens s closes in
+    let absent : first_named attr (segments g.segs) ≡ None =
+    no_argument_name attr g.segs g.end (λ has. none (subst (HasArgumentName attr) (sym (call_is ∙ taken bracket (bytes_of (item_pieces Broken 0 Closed (group RuleCall g.segs false g.end))) end (g.front Closed))) has)) in
+    record {
+      front = statement_front (suc depth) RuleClass None text start end e.middle rest e.noted above (rule_bare depth None start bracket end f (unnamed_front depth bracket call end false g call_is no_name)) e.side e.ends;
+      head = head_of N f.token;
+      inner = in_place s.xs;
+      end = 41 ∷ (S ++ 10 ∷ []);
+      begins = above.front ∙ ap (λ (t : List ℕ). N ++ t) (f.front ∙ ap (λ (t : List ℕ). f.token ++ t) opens) ∙ head N f.token;
+      goes_on = s.front Closed;
+      ends = closes ∙ ap (λ (t : List ℕ). 41 ∷ t) (e.side.front ∙ ap (λ (t : List ℕ). S ++ t) e.ends ∙ sym (append_assoc S (10 ∷ []) rest));
+      has = unnamed_place depth attr above.notes f.token e.side.note argument close s absent;
+    }
+  where
+    head : (N kind : List ℕ) → N ++ (kind ++ (40 ∷ argument)) ≡ head_of N kind ++ argument
+    head N kind = simp append_assoc
+
+-- its chunk, and the texts of its parts in the buffer
+pub unnamed_chunk : (depth : ℕ) (attr text argument close rest chunk head inner end laid : List ℕ) (start : ℕ) (place : Between) → IsUnnamedRule depth attr text argument close rest → chunk ≡ take (length text - length rest) text
+    → head ≡ take (length text - length argument) text → inner ≡ take (length argument - length close) argument → end ≡ take (length close - length rest) close
+    → laid ≡ (head ++ (codes "\n    " ++ (inner ++ codes ","))) ++ (10 ∷ end) → start ≡ length (head ++ (codes "\n    " ++ (inner ++ codes ",")))
+    → place ≡ record { before = take start laid; lines = []; after = drop start laid } → IsCanonical depth attr RuleClass None (Some place) chunk chunk text
+unnamed_chunk depth attr text argument close rest chunk head inner end laid start place r chunk_is head_is inner_is end_is laid_is start_is place_is =
+    let H : List ℕ = head ++ (codes "\n    " ++ (inner ++ codes ",")) in
+    let begins : head ≡ r.head = head_is ∙ taken text r.head argument r.begins in
+    let middle : inner ≡ r.inner = inner_is ∙ taken argument r.inner close r.goes_on in
+    let ends : end ≡ r.end = end_is ∙ taken close r.end rest r.ends in
+    let same : place ≡ record { before = r.head ++ (codes "\n    " ++ (r.inner ++ codes ",")); lines = []; after = 10 ∷ r.end } = place_is
+    ∙ (λ i. record { before = take (start_is i) (laid_is i); lines = []; after = drop (start_is i) (laid_is i) })
+    ∙ (λ i. record { before = take-append_seam H (10 ∷ end) i; lines = []; after = drop-append_seam H (10 ∷ end) i })
+    ∙ (λ i. record { before = begins i ++ (codes "\n    " ++ (middle i ++ codes ",")); lines = []; after = 10 ∷ ends i }) in
+    canonical_chunk depth attr RuleClass None (Some place) chunk chunk text rest rest r.front chunk_is chunk_is (subst (HasPlace depth attr r.front.s) (sym same) r.has)
+
+pub canonical_of : (depth : ℕ) (attr text argument close rest chunk head inner end laid : List ℕ) (start : ℕ) → IsUnnamedRule depth attr text argument close rest → chunk ≡ take (length text - length rest) text
+    → head ≡ take (length text - length argument) text → inner ≡ take (length argument - length close) argument → end ≡ take (length close - length rest) close
+    → laid ≡ (head ++ (codes "\n    " ++ (inner ++ codes ","))) ++ (10 ∷ end) → start ≡ length (head ++ (codes "\n    " ++ (inner ++ codes ",")))
+    → (told : Option CanonicalChunk) → IfSome told (λ found. (found.class ≡ RuleClass) × (found.name ≡ None)) → IfSome told (λ found. (found.chunk.now ≡ chunk) × (found.written.now ≡ chunk))
+    → IfSome told (λ found. option_map between found.place ≡ Some (record { before = take start laid; lines = []; after = drop start laid }))
+    → IfSome told (λ found. IsCanonical depth attr found.class (option_map (λ name. name.now) found.name) (option_map between found.place) found.chunk.now found.written.now text)
+canonical_of depth attr text argument close rest chunk head inner end laid start r chunk_is head_is inner_is end_is laid_is start_is None rule same place = tt
+canonical_of depth attr text argument close rest chunk head inner end laid start r chunk_is head_is inner_is end_is laid_is start_is (Some found) rule same place =
+    rw (rule.0, rule.1, place, same.0, same.1) (unnamed_chunk depth attr text argument close rest chunk head inner end laid start _ r chunk_is head_is inner_is end_is laid_is start_is refl)
