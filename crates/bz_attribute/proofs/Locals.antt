@@ -12,7 +12,7 @@ has_first name (a ∷ args) = elim (is_named name a) as (λ b. (b || has name ar
 pub is_there : (name : List ℕ) (args : List Segment) (a : Segment) → first_named name args ≡ Some a → has name args ≡ true
 is_there name args a h = has_first name args ∙ ap is_some h
 
-is_first_named : (name : List ℕ) (args : List Segment) (a : Segment) → first_named name args ≡ Some a → is_named name a ≡ true
+pub is_first_named : (name : List ℕ) (args : List Segment) (a : Segment) → first_named name args ≡ Some a → is_named name a ≡ true
 is_first_named name [] a h = absurd cc
 is_first_named name (x ∷ args) a h =
     elim (is_named name x) as (λ b. is_named name x ≡ b → (if b then Some x else first_named name args) ≡ Some a → is_named name a ≡ true) [

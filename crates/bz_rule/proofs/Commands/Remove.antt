@@ -18,9 +18,9 @@ use Rattle.bz_attribute.specs.Remove.{goes_with_all, remove, removes}
 use Rattle.bz_rule.specs.Aside.{IsAside}
 use Rattle.bz_rule.proofs.Kept.{all_stay, all_stay_in, none_left_in, none_passes, none_passes_in}
 use Rattle.bz_rule.proofs.PartLaws.{parts_edited, parts_stay}
-use Rattle.bz_rule.proofs.Arguments.{attribute_named, first_same, is_first_named, rest_same, same_bytes, value_back, value_put}
+use Rattle.bz_rule.proofs.Arguments.{attribute_named, first_same, rest_same, same_bytes, value_back, value_put}
 use Rattle.bz_rule.specs.OneAttribute.{one_attribute}
-use Rattle.bz_rule.proofs.Local.{edit_local, looks_at_one}
+use Rattle.bz_rule.proofs.Local.{looks_at_one}
 use Rattle.bz_rule.proofs.Lawful.{Local, Lawful, on_arguments}
 use Rattle.bz_rule.proofs.NamesKept.{Leaves, edit_kept, filter_kept, first_kept, has_kept, named_kept, put_kept}
 use Rattle.bz_rule.proofs.Aside.{all_aside, leaves_all, leaves_mentioned}
@@ -33,6 +33,8 @@ use Rattle.bz_tree.specs.Grammar.{IsArg}
 use Rattle.std.specs.Str.{is_utf8}
 use Rattle.bz_rule.specs.Commands.{Command, IsRead, remove_of}
 use Rattle.bz_token.specs.Common.{is_empty, map_or}
+use Rattle.bz_attribute.proofs.Locals.{is_first_named}
+use Rattle.bz_list_commands.proofs.PlaceEdits.{edit_local}
 
 empty_or_not : (ss : List Segment) → not (is_empty ss) && is_empty ss ≡ false
 empty_or_not [] = refl
