@@ -1,20 +1,16 @@
 -- The first element that equals a word, looked for one by one.
-use Rattle.std.proofs.Common.{◌≡◌, ℕ, List, [], ◌∷◌, Bool, true, false, ◌||◌, Option, None, Some, is_some, drop, refl, ap, sym, ◌∙◌, option_and_then}
+use Rattle.std.proofs.Common.{◌≡◌, ℕ, List, [], ◌∷◌, Bool, false, ◌||◌, Option, None, Some, is_some, drop, refl, ap, sym, ◌∙◌, option_and_then}
 use Rattle.std.specs.List.{list_any, flat_map}
 use Rattle.std.specs.Prelude.{IfNone, IfSome}
 use Rattle.std.proofs.lemmas.List.Folds.{list_any-append}
 use Rattle.bz_command.specs.Labels.{Package}
 use Rattle.bz_tree.specs.Tree.{Segment}
 use Rattle.bz_tree.specs.Rows.{RowPart}
-use Rattle.bz_attribute.specs.Comment.{with_comment}
 use Rattle.bz_attribute.specs.Elements.{IsFirstEqual, IsNextElement, ListRest, elements_left, rest_parts}
 use Rattle.bz_attribute.specs.Lists.{equals, same}
 use Rattle.bz_attribute.specs.private.ListParts.{HasSought}
 use Rattle.bz_command.specs.Values.{value_of}
 use Rattle.bz_token.specs.Common.{map_or}
-
-pub sought_none : (home : Package) (word : List ℕ) (ps : List RowPart) (from : ℕ) → HasSought home word ps from from
-sought_none home word ps from = λ l after read. record { left = l; read = read; same = refl; found = λ f. refl }
 
 -- whether the next element equals the word
 next_told : (home : Package) (word : List ℕ) (ps : List RowPart) (at begin token to : ℕ) (text : Option (List ℕ)) (l : ListRest) (after : List RowPart) (b : Bool) → (n : IsNextElement l after ps at begin token to text) → b ≡ map_or false (λ value. same home value word) (option_and_then value_of text)
@@ -39,21 +35,6 @@ sought_on home word ps from at to first second = λ l after read.
     let h = first l after read in
     let k = second h.left after h.read in
     record { left = k.left; read = k.read; same = k.same ∙ h.same; found = λ f. h.found f ∙ k.found f }
-
-pub sought_found : (home : Package) (word : List ℕ) (ps : List RowPart) (from at begin token to : ℕ) (text : Option (List ℕ)) → HasSought home word ps from at
-    → ((l : ListRest) (after : List RowPart) → drop at ps ≡ rest_parts l after → IsNextElement l after ps at begin token to text) → true ≡ map_or false (λ value. same home value word) (option_and_then value_of text)
-    → (l : ListRest) (after : List RowPart) → drop from ps ≡ rest_parts l after → IsFirstEqual home word l after ps from token
-sought_found home word ps from at begin token to text sought next is l after read =
-    let h = sought l after read in
-    let n = next h.left after h.read in
-    let same : equals home word n.element ≡ true = next_told home word ps at begin token to text h.left after true n is in
-    record { there = sym h.same ∙ next_equals home word ps at begin token to text h.left after true n same; line = λ line. h.found (with_comment line) ∙ n.line (equals home word) line same }
-
-pub sought_all : (home : Package) (word : List ℕ) (ps : List RowPart) (from at : ℕ) → HasSought home word ps from at → ((l : ListRest) (after : List RowPart) → drop at ps ≡ rest_parts l after → elements_left l ≡ [])
-    → (l : ListRest) (after : List RowPart) → drop from ps ≡ rest_parts l after → list_any (equals home word) (elements_left l) ≡ false
-sought_all home word ps from at sought none l after read =
-    let h = sought l after read in
-    sym h.same ∙ ap (list_any (equals home word)) (none h.left after h.read)
 
 -- by what was found
 pub sought_told : (home : Package) (word : List ℕ) (ps : List RowPart) (from : ℕ) (o : Option ℕ) (b : Bool) → b ≡ is_some o

@@ -34,7 +34,7 @@ pub record EndsAt (ps : List RowPart) : Type 0 where
   pub suffix : Option (List ℕ)
   pub are : ps ≡ pre ++ (segment_end ∷ beside_part suffix)
 
-pub last_argument : (a : Segment) (args : List Segment) → EndsAt (segs_parts (segs_of (a ∷ args)))
+last_argument : (a : Segment) (args : List Segment) → EndsAt (segs_parts (segs_of (a ∷ args)))
 last_argument a [] =
     let nodes = items_parts (items_of a.nodes) in
     let joined : map above a.before ++ (nodes ++ (segment_end ∷ beside_part a.suffix)) ≡ (map above a.before ++ nodes) ++ (segment_end ∷ beside_part a.suffix) = simp append_assoc in
@@ -74,13 +74,6 @@ comments_at s r (a ∷ front) texts =
     let joined : before_args s r ++ (last.pre ++ (segment_end ∷ beside_part last.suffix)) ≡ (before_args s r ++ last.pre) ++ (segment_end ∷ beside_part last.suffix) = sym (append_assoc (before_args s r) last.pre (segment_end ∷ beside_part last.suffix)) in
     let same : before_args s r ++ segs_parts (segs_of (a ∷ front)) ≡ (before_args s r ++ last.pre) ++ (segment_end ∷ beside_part last.suffix) = ap (λ (ps : List RowPart). before_args s r ++ ps) last.are ∙ joined in
     ap (λ (ps : List RowPart). plain_len (ps ++ map above texts)) same ∙ plain_after (before_args s r ++ last.pre) last.suffix texts ∙ sym (ap length same)
-
--- the same of the arguments alone
-pub comments_after : (front : List Segment) (texts : List (List ℕ)) → plain_len (segs_parts (segs_of front) ++ map above texts) ≡ length (segs_parts (segs_of front))
-comments_after [] texts = plain_texts texts
-comments_after (a ∷ front) texts =
-    let last = last_argument a front in
-    ap (λ (ps : List RowPart). plain_len (ps ++ map above texts)) last.are ∙ plain_after last.pre last.suffix texts ∙ sym (ap length last.are)
 
 -- the end of an argument
 no_beside : (back : List RowPart) (suffix : Option (List ℕ)) → end_len (segment_end ∷ back) ≡ 1 → end_len (segment_end ∷ (beside_part suffix ++ back)) ≡ 1 + length (beside_part suffix)

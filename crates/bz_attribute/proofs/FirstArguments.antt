@@ -1,32 +1,15 @@
 -- The first of some arguments among their parts.
-use Rattle.std.proofs.Common.{◌≡◌, ℕ, ◌+◌, List, [], ◌∷◌, ◌++◌, true, false, Option, length, map, drop, refl, ap, sym, ◌∙◌, arith, length-append}
+use Rattle.std.proofs.Common.{◌≡◌, ℕ, ◌+◌, List, [], ◌∷◌, ◌++◌, Option, length, map, drop, refl, ap, sym, ◌∙◌, arith, length-append}
 use Rattle.std.proofs.lemmas.List.{length-map}
 use Rattle.std.proofs.Math.Seq.{drop-append_seam}
 use Rattle.bz_tree.specs.Tree.{Segment, items_of, segs_of}
-use Rattle.bz_tree.specs.Rows.{RowPart, a_token, opening, closing, segment_end, above, beside, beside_part, items_parts, segs_parts}
+use Rattle.bz_tree.specs.Rows.{RowPart, segment_end, above, beside_part, items_parts, segs_parts}
 use Rattle.bz_attribute.specs.Finder.{flat_name}
 use Rattle.bz_attribute.specs.FirstArguments.{IsFirstArgument, argument_parts}
-use Rattle.bz_attribute.specs.private.Ends.{above_len, end_len, is_above, segment_len}
+use Rattle.bz_attribute.specs.private.Ends.{above_len, end_len, segment_len}
 use Rattle.bz_attribute.proofs.EndsBack.{no_beside_argument, segment_long}
 use Rattle.bz_attribute.proofs.FoundArgs.{named}
 use Rattle.bz_attribute.proofs.Lengths.{above_passed, no_more_above}
-
--- the comments above it, a part at a time
-pub one_comment : (p : RowPart) (ps : List RowPart) → is_above p ≡ true → above_len (p ∷ ps) ≡ 1 + above_len ps
-one_comment (above text) ps h = omega arith
-one_comment (a_token kind text) ps h = absurd cc
-one_comment (opening kind) ps h = absurd cc
-one_comment (closing one_comma) ps h = absurd cc
-one_comment segment_end ps h = absurd cc
-one_comment (beside text) ps h = absurd cc
-
-pub no_comment : (p : RowPart) (ps : List RowPart) → is_above p ≡ false → above_len (p ∷ ps) ≡ 0
-no_comment (above text) ps h = absurd cc
-no_comment (a_token kind text) ps h = refl
-no_comment (opening kind) ps h = refl
-no_comment (closing one_comma) ps h = refl
-no_comment segment_end ps h = refl
-no_comment (beside text) ps h = refl
 
 -- nothing stands beside what comes before arguments
 end_before : (others : List Segment) → end_len (segment_end ∷ segs_parts (segs_of others)) ≡ 1

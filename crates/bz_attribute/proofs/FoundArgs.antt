@@ -8,11 +8,11 @@ use Rattle.bz_attribute.specs.Rules.{is_text, name_of, is_named, is_operator_ite
 use Rattle.bz_attribute.specs.Effects.{has}
 use Rattle.bz_attribute.specs.private.HeadParts as row
 use Rattle.bz_attribute.specs.Finder.{flat_name, depth_after, begins_after, find_from}
-use Rattle.bz_attribute.proofs.Passed.{IsPassed, nothing, twice, pass_items}
+use Rattle.bz_attribute.proofs.Passed.{IsPassed, nothing, twice, pass_items, one_more}
 use Rattle.bz_attribute.proofs.FinderSteps.{passed_one}
 
 -- the name of an argument is that of its parts
-pub no_ident : (p : RowPart) (ps : List RowPart) → row.ident_of p ≡ None → flat_name (p ∷ ps) ≡ None
+no_ident : (p : RowPart) (ps : List RowPart) → row.ident_of p ≡ None → flat_name (p ∷ ps) ≡ None
 no_ident p [] h = refl
 no_ident p (q ∷ ps) h = elim (row.is_operator_item (codes "=") q) as (λ b. (if b then row.ident_of p else None) ≡ None) [ true ↦ h | false ↦ refl ]
 
@@ -33,10 +33,6 @@ named (group k segs one_comma end ∷ y ∷ xs) more =
 unnamed : (name : List ℕ) (p : RowPart) (ps : List RowPart) → row.ident_of p ≡ None → (true && is_text name (flat_name (p ∷ ps))) ≡ false
 unnamed name p ps h = ap (is_text name) (no_ident p ps h)
 
-one_more : (n : ℕ) (o : Option ℕ) → option_map suc (option_map (λ (k : ℕ). n + k) o) ≡ option_map (λ (k : ℕ). suc n + k) o
-one_more n None = refl
-one_more n (Some k) = ap (λ (l : ℕ). Some l) (omega arith)
-
 as_one : (o : Option ℕ) → option_map suc o ≡ option_map (λ (k : ℕ). 1 + k) o
 as_one None = refl
 as_one (Some k) = ap (λ (l : ℕ). Some l) (omega arith)
@@ -54,9 +50,6 @@ beside_passed name (Some text) rest = passed_one name (beside text) rest 1 true 
 at_end : (name : List ℕ) (more : List RowPart) → find_from name 1 false (segment_end ∷ more) ≡ option_map (λ (k : ℕ). 1 + k) (find_from name 1 true more)
 at_end name more = passed_one name segment_end more 1 false refl ∙ as_one (find_from name 1 true more)
 
-sum : (m n : ℕ) (o : Option ℕ) → option_map (λ (k : ℕ). m + k) (option_map (λ (k : ℕ). n + k) o) ≡ option_map (λ (k : ℕ). m + n + k) o
-sum = twice
-
 -- the nodes of an argument of another name, and its end
 nodes_passed : (name : List ℕ) (xs : Items) (more : List RowPart) → is_text name (flat_name (items_parts xs ++ segment_end ∷ more)) ≡ false
     → find_from name 1 true (items_parts xs ++ segment_end ∷ more) ≡ option_map (λ (k : ℕ). length (items_parts xs) + 1 + k) (find_from name 1 true more)
@@ -65,13 +58,13 @@ nodes_passed name (item (leaf kind text) xs) more h =
     passed_one name (a_token kind text) (items_parts xs ++ segment_end ∷ more) 1 true h
     ∙ sym (passed_one name (a_token kind text) (items_parts xs ++ segment_end ∷ more) 1 false refl)
     ∙ pass_items name 0 (item (leaf kind text) xs) (segment_end ∷ more)
-    ∙ ap (option_map (λ (k : ℕ). length (items_parts (item (leaf kind text) xs)) + k)) (at_end name more) ∙ sum (length (items_parts (item (leaf kind text) xs))) 1 (find_from name 1 true more)
+    ∙ ap (option_map (λ (k : ℕ). length (items_parts (item (leaf kind text) xs)) + k)) (at_end name more) ∙ twice (length (items_parts (item (leaf kind text) xs))) 1 (find_from name 1 true more)
 nodes_passed name (item (group kind segs one_comma end) xs) more h =
     let ps : List RowPart = ((segs_parts segs ++ (map above end ++ closing one_comma ∷ [])) ++ items_parts xs) ++ segment_end ∷ more in
     passed_one name (opening kind) ps 1 true h
     ∙ sym (passed_one name (opening kind) ps 1 false refl)
     ∙ pass_items name 0 (item (group kind segs one_comma end) xs) (segment_end ∷ more)
-    ∙ ap (option_map (λ (k : ℕ). length (items_parts (item (group kind segs one_comma end) xs)) + k)) (at_end name more) ∙ sum (length (items_parts (item (group kind segs one_comma end) xs))) 1 (find_from name 1 true more)
+    ∙ ap (option_map (λ (k : ℕ). length (items_parts (item (group kind segs one_comma end) xs)) + k)) (at_end name more) ∙ twice (length (items_parts (item (group kind segs one_comma end) xs))) 1 (find_from name 1 true more)
 
 pub here : (name : List ℕ) (ps : List RowPart) → is_text name (flat_name ps) ≡ true → find_from name 1 true ps ≡ Some 0
 here name [] h = absurd cc
@@ -120,7 +113,7 @@ sizes s ss =
       length-append (beside_part s.suffix) (segs_parts (segs_of ss)),
     )
 
-split : (s : Segment) (ss : List Segment) (tail : List RowPart) → segs_parts (segs_of (s ∷ ss)) ++ tail ≡ map above s.before ++ (items_parts (items_of s.nodes) ++ segment_end ∷ (beside_part s.suffix ++ (segs_parts (segs_of ss) ++ tail)))
+pub split : (s : Segment) (ss : List Segment) (tail : List RowPart) → segs_parts (segs_of (s ∷ ss)) ++ tail ≡ map above s.before ++ (items_parts (items_of s.nodes) ++ segment_end ∷ (beside_part s.suffix ++ (segs_parts (segs_of ss) ++ tail)))
 split s ss tail = simp append_assoc
 
 -- an argument of another name
@@ -134,8 +127,8 @@ other name s ss tail h =
     ap (find_from name 1 true) (split s ss tail)
     ∙ comments_passed name s.before (items_parts (items_of s.nodes) ++ segment_end ∷ more)
     ∙ ap (option_map (λ (k : ℕ). a + k)) (nodes_passed name (items_of s.nodes) more (ap (is_text name) (named s.nodes more) ∙ h)
-    ∙ ap (option_map (λ (k : ℕ). n + k)) (beside_passed name s.suffix rest) ∙ sum n (length (beside_part s.suffix)) (find_from name 1 true rest))
-    ∙ sum a (n + length (beside_part s.suffix)) (find_from name 1 true rest)
+    ∙ ap (option_map (λ (k : ℕ). n + k)) (beside_passed name s.suffix rest) ∙ twice n (length (beside_part s.suffix)) (find_from name 1 true rest))
+    ∙ twice a (n + length (beside_part s.suffix)) (find_from name 1 true rest)
 
 this : (name : List ℕ) (s : Segment) (ss : List Segment) (tail : List RowPart) → is_named name s ≡ true → find_from name 1 true (segs_parts (segs_of (s ∷ ss)) ++ tail) ≡ Some (length (map above s.before) + 0)
 this name s ss tail h =

@@ -12,13 +12,14 @@ use Rattle.bz_tree.specs.Rows.{RowPart, opening, closing, above, beside_part, it
 use Rattle.bz_attribute.specs.Rules.{Rule, rule_of, call_at, kind_text, dotted}
 use Rattle.bz_attribute.specs.private.HeadParts.{after_comments, after_tokens, token_texts, in_call, IsInCall}
 use Rattle.bz_attribute.proofs.Calls.{rule_from_end, no_call, is_rule_call}
-use Rattle.bz_attribute.proofs.RuleNodes.{rule_nodes, segs_back}
+use Rattle.bz_attribute.proofs.RuleNodes.{rule_nodes}
 use Rattle.bz_attribute.proofs.RuleParts.{rule_dotted, with_last}
 use Rattle.bz_token.specs.Common.{is_empty}
 use Rattle.std.specs.List.{list_any}
 use Rattle.bz_token.proofs.Classes.{same_bytes}
+use Rattle.bz_tree.proofs.FromParts.{segs_back}
 
-pub class_called : (nodes : List Item) → class_of nodes ≡ RuleClass → is_rule nodes ≡ true
+class_called : (nodes : List Item) → class_of nodes ≡ RuleClass → is_rule nodes ≡ true
 class_called [] h = absurd cc
 class_called (x ∷ xs) h =
     elim (is_kept x) as (λ k. (if k then Block else (if is_load_word x then LoadClass else (if list_any is_assign (x ∷ xs) then Assign else (if is_rule (x ∷ xs) then RuleClass else OtherClass)))) ≡ RuleClass → is_rule (x ∷ xs) ≡ true) [
@@ -60,7 +61,7 @@ ruled false (leaf Operator text ∷ xs) segs one_comma end h =
 ruled false (leaf _ text ∷ xs) segs one_comma end h = absurd (false≢true h)
 ruled false (group l ss o e ∷ xs) segs one_comma end h = absurd (false≢true h)
 
-class_at : (kind : List Item) (segs : Segs) (one_comma : Bool) (end : List (List ℕ)) → dotted true kind ≡ true → class_of (kind ++ group RuleCall segs one_comma end ∷ []) ≡ RuleClass
+pub class_at : (kind : List Item) (segs : Segs) (one_comma : Bool) (end : List (List ℕ)) → dotted true kind ≡ true → class_of (kind ++ group RuleCall segs one_comma end ∷ []) ≡ RuleClass
 class_at [] segs one_comma end h = absurd (false≢true h)
 class_at (leaf Identifier text ∷ xs) segs one_comma end h =
     λ i. if no_assign true (leaf Identifier text ∷ xs) RuleCall segs one_comma end h i then Assign else (if ruled true (leaf Identifier text ∷ xs) segs one_comma end h i then RuleClass else OtherClass)

@@ -92,7 +92,7 @@ list_told (group ListKind segs one_comma end) = refl
 list_told (group _ segs one_comma end) = refl
 
 -- a part, and those after it
-pub part_at : (ps : List Part) (i : ℕ) (d : Part) → i < length ps → drop i (map part_view ps) ≡ part_view (get_or ps i d) ∷ drop (i + 1) (map part_view ps)
+part_at : (ps : List Part) (i : ℕ) (d : Part) → i < length ps → drop i (map part_view ps) ≡ part_view (get_or ps i d) ∷ drop (i + 1) (map part_view ps)
 part_at ps i d h = drop-map part_view i ps ∙ ap (map part_view) (drop_more ps i d h) ∙ ap (λ (qs : List RowPart). part_view (get_or ps i d) ∷ qs) (sym (drop-map part_view (i + 1) ps))
 
 -- an item begins at a place: what its first part tells, and where it ends

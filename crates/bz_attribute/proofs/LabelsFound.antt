@@ -27,7 +27,7 @@ abbrev chosen_value : Package → Moved → Option (List ℕ) → Bool
 chosen_value home All value = true
 chosen_value home (Values words) value = list_any (λ w. map_or false (λ value. same home value w) value) words
 
-and_false : (a : Bool) → (a && false) ≡ false
+pub and_false : (a : Bool) → (a && false) ≡ false
 and_false true = refl
 and_false false = refl
 
@@ -80,12 +80,6 @@ gained home value v old new is of gains text = gains text ∙ ap (λ (p : Packag
 
 pub not_gained : (home : Package) (v : Option (List ℕ)) (old new : LabelSet) → None ≡ v → new ≡ old → (text : List ℕ) → has new text ≡ (is_kept home text v || has old text)
 not_gained home v old new is same text = ap (λ (s : LabelSet). has s text) same ∙ ap (λ (o : Option (List ℕ)). is_kept home text o || has old text) is
-
-pub all_labelled : (home : Package) (choice : Moved) (ps : List RowPart) (from at : ℕ) (set : LabelSet) (l : ListRest) (after : List RowPart) → HaveLabels home choice ps from at set
-    → ((l : ListRest) (after : List RowPart) → drop at ps ≡ rest_parts l after → elements_left l ≡ []) → drop from ps ≡ rest_parts l after → (text : List ℕ) → has set text ≡ is_among home choice (elements_left l) text
-all_labelled home choice ps from at set l after have none read text =
-    let h = have l after read in
-    ap (λ (ss : List Segment). is_among home choice ss text || has set text) (sym (none h.left after h.read)) ∙ h.same text
 
 -- of all lists
 in_joined : (home : Package) (choice : Moved) (lists : List (List Segment)) (text : List ℕ) → is_among home choice (flat_map (λ ss. ss) lists) text ≡ is_in home choice lists text

@@ -1,4 +1,3 @@
-pub mod CallEdits
 pub mod Calls
 pub mod EditedAt
 pub mod EditedRules
@@ -9,7 +8,6 @@ pub mod First
 pub mod FirstArguments
 pub mod FoundArgs
 pub mod Fresh
-pub mod Groups
 pub mod Headed
 pub mod ItemParts
 pub mod KindPlaced
@@ -25,7 +23,6 @@ pub mod LocalLabels
 pub mod Locals
 pub mod Mapped
 pub mod NameTexts
-pub mod NextArguments
 pub mod OnlyLists
 pub mod Passed
 pub mod PlaceFound

@@ -23,6 +23,7 @@ use Rattle.bz_attribute.proofs.Lengths.{above_passed, no_more_above}
 use Rattle.bz_attribute.proofs.RuleNodes.{rule_nodes}
 use Rattle.bz_attribute.proofs.RuleParts.{before_args}
 use Rattle.bz_attribute.proofs.PlaceFound.{answered, argument_there, args_found, in_three, nodes_split, placed, post, pre, told}
+use Rattle.bz_attribute.proofs.FoundArgs.{split}
 
 -- what comes after the elements of a list
 abbrev tail : List (List ℕ) → Bool → List Item → List RowPart → List RowPart
@@ -32,7 +33,7 @@ tail end one_comma items after = map above end ++ closing one_comma ∷ value_pa
 no_above_close : (end : List (List ℕ)) (one_comma : Bool) (qs : List RowPart) → above_len (map above end ++ closing one_comma ∷ qs) ≡ length end
 no_above_close end one_comma qs = above_passed end (closing one_comma ∷ qs) ∙ omega arith
 
-pub at_close : (end : List (List ℕ)) (one_comma : Bool) (items : List Item) (after ps : List RowPart) (at token : ℕ) → drop at ps ≡ tail end one_comma items after → token ≡ at + above_len (drop at ps)
+at_close : (end : List (List ℕ)) (one_comma : Bool) (items : List Item) (after ps : List RowPart) (at token : ℕ) → drop at ps ≡ tail end one_comma items after → token ≡ at + above_len (drop at ps)
     → drop token ps ≡ closing one_comma ∷ value_parts items after
 at_close end one_comma items after ps at token read is =
     let rest : List RowPart = closing one_comma ∷ value_parts items after in
@@ -44,14 +45,10 @@ record AreNodes (s : Segment) (ps rest : List RowPart) (at token : ℕ) : Type 0
   begins : token ≡ at + length s.before
   read : drop token ps ≡ items_parts (items_of s.nodes) ++ segment_end ∷ (beside_part s.suffix ++ rest)
 
-element_cut : (s : Segment) (ss : List Segment) (last : List RowPart)
-    → segs_parts (segs_of (s ∷ ss)) ++ last ≡ map above s.before ++ (items_parts (items_of s.nodes) ++ segment_end ∷ (beside_part s.suffix ++ (segs_parts (segs_of ss) ++ last)))
-element_cut s ss last = simp append_assoc
-
 at_nodes : (s : Segment) (ss : List Segment) (last ps : List RowPart) (at token : ℕ) → drop at ps ≡ segs_parts (segs_of (s ∷ ss)) ++ last → token ≡ at + above_len (drop at ps) → AreNodes s ps (segs_parts (segs_of ss) ++ last) at token
 at_nodes s ss last ps at token read is =
     let nodes : List RowPart = items_parts (items_of s.nodes) ++ segment_end ∷ (beside_part s.suffix ++ (segs_parts (segs_of ss) ++ last)) in
-    let cut : drop at ps ≡ map above s.before ++ nodes = read ∙ element_cut s ss last in
+    let cut : drop at ps ≡ map above s.before ++ nodes = read ∙ split s ss last in
     let long : above_len (drop at ps) ≡ length s.before = ap above_len cut ∙ above_passed s.before nodes ∙ omega (arith, no_more_above (items_of s.nodes) (beside_part s.suffix ++ (segs_parts (segs_of ss) ++ last))) in
     let place : token ≡ at + length (map above s.before) = omega (arith, is, long, length-map s.before above) in
     record {
@@ -78,7 +75,7 @@ beside_none : (ss : List Segment) (end : List (List ℕ)) (one_comma : Bool) (qs
 beside_none [] end one_comma qs = ap (λ (ps : List RowPart). end_len (segment_end ∷ ps)) (sym (append_assoc (map above end) (closing one_comma ∷ []) qs)) ∙ no_beside_end end one_comma qs
 beside_none (s ∷ ss) end one_comma qs =
     let last : List RowPart = map above end ++ closing one_comma ∷ qs in
-    ap (λ (ps : List RowPart). end_len (segment_end ∷ ps)) (element_cut s ss last) ∙ no_beside_argument s.before (items_of s.nodes) (beside_part s.suffix ++ (segs_parts (segs_of ss) ++ last))
+    ap (λ (ps : List RowPart). end_len (segment_end ∷ ps)) (split s ss last) ∙ no_beside_argument s.before (items_of s.nodes) (beside_part s.suffix ++ (segs_parts (segs_of ss) ++ last))
 
 -- its text
 no_text : (kind : GroupKind) (qs : List RowPart) → string_in (opening kind ∷ qs) ≡ None

@@ -14,11 +14,7 @@ use Rattle.bz_attribute.specs.Lists as lists
 use Rattle.bz_attribute.specs.private.HeadParts.{is_end}
 use Rattle.bz_attribute.specs.private.ListParts.{HasJoints, HasWalked, IsWalked, KeepsOthers, ends_piece, is_joint, is_plus, item_len, opens_list}
 use Rattle.bz_attribute.proofs.ItemParts.{item_at, none_after, none_at, piece_told}
-use Rattle.bz_attribute.proofs.RuleNodes.{segs_back}
-
--- joints
-pub joints_begin : (ps : List RowPart) (from : ℕ) → HasJoints ps from from
-joints_begin ps from = λ nodes after read. record { back = nodes; read = read; joints = refl }
+use Rattle.bz_tree.proofs.FromParts.{segs_back}
 
 pub joints_pass : (ps : List Part) (from at end : ℕ) (d : Part) → HasJoints (map part_view ps) from at → at < length ps → is_end (part_view (get_or ps at d)) ≡ false → is_joint (part_view (get_or ps at d)) ≡ true
     → end ≡ at + item_len (drop at (map part_view ps)) → HasJoints (map part_view ps) from end
@@ -46,10 +42,6 @@ all_joints ps from at d nodes after w h end read =
 
 pub no_joints_after : {P : Type 0} (ps : List Part) (from at : ℕ) (nodes : List Item) (after : List RowPart) → HasJoints (map part_view ps) from at → length ps ≤ at → drop from (map part_view ps) ≡ value_parts nodes after → P
 no_joints_after ps from at nodes after w h read = let j = w nodes after read in none_after j.back after ps at j.read h
-
--- no list part so far
-pub walk_begins : (start : Bool) (ps : List RowPart) (from : ℕ) → HasWalked start start ps from from
-walk_begins start ps from = λ nodes after read. record { front = []; back = nodes; are = refl; place = omega arith; read = read; lists = refl; others = λ e keeps. refl }
 
 joined_long : (front : List Item) (x : Item) → length (items_parts (items_of (front ++ x ∷ []))) ≡ length (items_parts (items_of front)) + length (item_parts x)
 joined_long [] x = omega (arith, length-append (item_parts x) [])
@@ -185,10 +177,6 @@ list_here whole start ps from at end d nodes after w h more starts opens piece e
     let i = item_at k.back after ps at d k.read h more in
     let l = list_is i.x (sym i.list ∙ opens) in
     here whole nodes after (map part_view ps) from at i.xs l.segs l.one_comma l.end k (i.are ∙ ap (λ (y : Item). y ∷ i.xs) l.is) (sym (piece_told i.xs after) ∙ ap ends_piece (sym (i.next end end_is)) ∙ piece) joined
-
--- no list parts where not all are joints
-pub not_joined : (nodes : List Item) → list_all lists.is_joint nodes ≡ false → HasNoList true nodes
-not_joined nodes h = record { none = rw h refl; same = λ f. rw h refl }
 
 -- an answer that tells more
 pub some_as : {A : Type 0} (P Q : A → Type 0) (o : Option A) → ((n : A) → P n → Q n) → IfSome o P → IfSome o Q

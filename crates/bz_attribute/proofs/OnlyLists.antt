@@ -12,7 +12,7 @@ use Rattle.bz_attribute.specs.private.ListParts.{begins_list, ends_value, item_l
 use Rattle.bz_attribute.proofs.ItemParts.{item_long}
 use Rattle.bz_attribute.proofs.Lengths.{nodes_ended}
 use Rattle.bz_attribute.proofs.ListWalk.{found_here, opened, rest_of}
-use Rattle.bz_attribute.proofs.RuleNodes.{segs_back}
+use Rattle.bz_tree.proofs.FromParts.{segs_back}
 
 pub value_ended : (nodes : List Item) (after ps : List RowPart) (value end : ℕ) → drop value ps ≡ value_parts nodes after → end ≡ value + nodes_len 0 (drop value ps) → drop end ps ≡ segment_end ∷ after
 value_ended nodes after ps value end read is =

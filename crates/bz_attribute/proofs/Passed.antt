@@ -18,7 +18,7 @@ pub nothing : (o : Option ℕ) → o ≡ option_map (λ (k : ℕ). 0 + k) o
 nothing None = refl
 nothing (Some k) = ap (λ (l : ℕ). Some l) (omega arith)
 
-one_more : (n : ℕ) (o : Option ℕ) → option_map suc (option_map (λ (k : ℕ). n + k) o) ≡ option_map (λ (k : ℕ). suc n + k) o
+pub one_more : (n : ℕ) (o : Option ℕ) → option_map suc (option_map (λ (k : ℕ). n + k) o) ≡ option_map (λ (k : ℕ). suc n + k) o
 one_more n None = refl
 one_more n (Some k) = ap (λ (l : ℕ). Some l) (omega arith)
 

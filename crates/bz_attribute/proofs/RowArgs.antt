@@ -39,7 +39,7 @@ no_argument : (before : List (List ℕ)) (xs : Items) (ps : List RowPart) → []
 no_argument [] xs ps h = no_end xs ps h
 no_argument (text ∷ before) xs ps h = cc
 
-pub none_of_none : (ss : List Segment) → [] ≡ segs_parts (segs_of ss) → [] ≡ ss
+none_of_none : (ss : List Segment) → [] ≡ segs_parts (segs_of ss) → [] ≡ ss
 none_of_none [] h = refl
 none_of_none (s ∷ ss) h = absurd (no_argument s.before (items_of s.nodes) _ h)
 

@@ -17,9 +17,6 @@ use Rattle.bz_attribute.specs.declared.place.Place.{Place}
 pub seen_within : (place : Place) (ps : List Part) → (place.from ≤ place.to) × (place.to ≤ length ps) → IsWithin place (map part_view ps)
 seen_within place ps h = (h.0, omega (arith, h.1, length-map ps part_view))
 
-pub within_seen : (place : Place) (ps : List Part) → IsWithin place (map part_view ps) → (place.from ≤ place.to) × (place.to ≤ length ps)
-within_seen place ps h = (h.0, omega (arith, h.1, length-map ps part_view))
-
 -- where nothing changes
 pub unchanged : (edit : List Segment → List Segment) (told : List Segment → Done) (ps new : List RowPart) (d : Done) (e : Edit) → e ≡ record { done = d; place = record { from = 0; to = 0 } }
     → d.changed ≡ false → ((s : Statement) (r : Rule) → IsRuleRow s r ps → d ≡ told r.args) → IsRowEdit edit told ps new e

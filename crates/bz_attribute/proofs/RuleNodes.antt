@@ -1,17 +1,10 @@
 -- The nodes of a rule are those that its parts are read from.
-use Rattle.std.proofs.Common.{◌≡◌, List, [], ◌∷◌, ◌++◌, true, false, None, Some, refl, ap, ◌∙◌, if◌then◌else◌, append_assoc}
+use Rattle.std.proofs.Common.{◌≡◌, List, [], ◌∷◌, ◌++◌, true, false, None, Some, ap, ◌∙◌, if◌then◌else◌, append_assoc}
 use Rattle.bz_tree.specs.declared.stmt.GroupKind.TheVariants.{Call, RuleCall, Load, Paren, List as ListKind, Index, Dict, ListComp, DictComp}
-use Rattle.bz_tree.specs.Tree.{Item, leaf, group, Items, no_items, item, Segs, no_segs, seg, items_of, list_of, segs_of, segments}
+use Rattle.bz_tree.specs.Tree.{Item, leaf, group, Segs, segments}
 use Rattle.bz_attribute.specs.Rules.{Rule, rule_from, call_at, dotted}
 use Rattle.bz_attribute.specs.Effects.{nodes_of}
-
-items_back : (xs : Items) → items_of (list_of xs) ≡ xs
-items_back no_items = refl
-items_back (item x xs) = ap (λ (ys : Items). item x ys) (items_back xs)
-
-pub segs_back : (ss : Segs) → segs_of (segments ss) ≡ ss
-segs_back no_segs = refl
-segs_back (seg before nodes suffix ss) = λ i. seg before (items_back nodes i) suffix (segs_back ss i)
+use Rattle.bz_tree.proofs.FromParts.{segs_back}
 
 call_nodes : (kind : List Item) (x : Item) (r : Rule) → call_at kind x ≡ Some r → nodes_of r ≡ kind ++ x ∷ []
 call_nodes kind (leaf k text) r h = absurd cc

@@ -1,5 +1,5 @@
 -- A walk over all elements of a value.
-use Rattle.std.proofs.Common.{◌≡◌, ℕ, ◌+◌, ◌-◌, List, [], ◌∷◌, ◌++◌, Bool, true, false, ◌||◌, if◌then◌else◌, Option, None, Some, is_some, map, length, take, drop, refl, ap, sym, ◌∙◌, arith, append_assoc, append-nil, length-append, drop-drop, take-add}
+use Rattle.std.proofs.Common.{◌≡◌, ℕ, ◌+◌, ◌-◌, List, [], ◌∷◌, ◌++◌, Bool, true, false, ◌||◌, if◌then◌else◌, Option, None, Some, is_some, map, length, take, drop, refl, ap, sym, ◌∙◌, arith, append_assoc, length-append, drop-drop, take-add}
 use Rattle.std.specs.Prelude.{IfNone}
 use Rattle.std.specs.List.{list_any, flat_map}
 use Rattle.std.proofs.lemmas.List.{length-map, map-append}
@@ -8,7 +8,7 @@ use Rattle.bz_tree.specs.Tree.{Item, Segment, items_of, segs_of}
 use Rattle.bz_tree.specs.Rows.{RowPart, above, beside_part, closing, items_parts, segment_end, segs_parts}
 use Rattle.bz_attribute.specs.Comment.{edit_element_from, with_comment}
 use Rattle.bz_attribute.specs.Effects.{edit_first}
-use Rattle.bz_attribute.specs.Elements.{AreElementsTo, HasNoList, IsElementOf, IsListIn, IsNextElement, ListRest, elements_left, found_rest, rest_parts, value_parts}
+use Rattle.bz_attribute.specs.Elements.{IsElementOf, IsListIn, IsNextElement, ListRest, elements_left, found_rest, rest_parts, value_parts}
 use Rattle.bz_attribute.specs.Lists.{parts_from}
 use Rattle.bz_attribute.specs.private.ListParts.{HasElement, HasEmptied, HasPassedTo}
 use Rattle.bz_attribute.proofs.EditedAt.{segs_join}
@@ -36,16 +36,6 @@ one_passed ps from at token to string passed next = λ l after read.
       read = e.read;
     }
 
-pub all_passed : (ps : List RowPart) (from at : ℕ) (l : ListRest) (after : List RowPart) → HasPassedTo ps from at → ((rest : ListRest) (after : List RowPart) → drop at ps ≡ rest_parts rest after → rest.elements ≡ []) → drop from ps ≡ rest_parts l after
-    → AreElementsTo l ps from at
-all_passed ps from at l after passed none read =
-    let p = passed l after read in
-    let all : p.seen ≡ l.elements = sym (append-nil p.seen) ∙ ap (λ (ss : List Segment). p.seen ++ ss) (sym (none p.left after p.read)) ∙ sym p.elements in
-    record {
-      are = p.own ∙ ap (λ (ss : List Segment). segs_parts (segs_of ss) ++ drop at ps) all;
-      size = p.size ∙ ap (λ (ss : List Segment). from + length (segs_parts (segs_of ss))) all;
-    }
-
 -- the next list part
 abbrev last : ListRest → List RowPart → List RowPart
 last l after = map above l.end ++ closing l.one_comma ∷ value_parts l.items after
@@ -66,10 +56,6 @@ found_list p f l after ps at to none read n =
     ∙ ap (λ (xs : List Item). map above l.end ++ closing l.one_comma ∷ value_parts xs after) (n.found p f) ∙ ended l.end l.one_comma n.front (found_rest p f n.list) after in
     ap (λ (qs : List RowPart). take at ps ++ qs) made ∙ sym (append_assoc (take at ps) own (rest_parts (found_rest p f n.list) after)) ∙ ap (λ (qs : List RowPart). qs ++ rest_parts (found_rest p f n.list) after) (sym front)
 
--- one that is emptied, and the next
-pub first_emptied : (ps : List RowPart) (at : ℕ) → ((rest : ListRest) (after : List RowPart) → drop at ps ≡ rest_parts rest after → rest.elements ≡ []) → HasEmptied ps at at
-first_emptied ps at none = λ l after read. record { left = l; none = none l after read; same = refl; read = read; found = λ p f. refl }
-
 abbrev HasNext : List RowPart → ℕ → ℕ → Type 0
 HasNext ps end from = (rest : ListRest) (after : List RowPart) → rest.elements ≡ [] → drop end ps ≡ rest_parts rest after → IsListIn false rest.items after ps (end + length rest.end + 1) from
 
@@ -87,12 +73,6 @@ next_emptied ps at end from emptied next none = λ l after read.
       read = n.read;
       found = λ p f. m.found p f ∙ found_list p f m.left after ps end from m.none m.read n;
     }
-
-pub none_in_value : (ps : List RowPart) (at end : ℕ) (l : ListRest) (after : List RowPart) → HasEmptied ps at end
-    → ((rest : ListRest) (after : List RowPart) → rest.elements ≡ [] → drop end ps ≡ rest_parts rest after → HasNoList false rest.items) → drop at ps ≡ rest_parts l after → elements_left l ≡ []
-none_in_value ps at end l after emptied last read =
-    let m = emptied l after read in
-    m.same ∙ (λ i. m.none i ++ flat_map (λ ss. ss) ((last m.left after m.none m.read).none i))
 
 -- the first element that is left passes, or not
 parts_split : (s : Segment) (ss : List Segment) (qs : List RowPart) → segs_parts (segs_of (s ∷ ss)) ++ qs ≡ segs_parts (segs_of (s ∷ [])) ++ (segs_parts (segs_of ss) ++ qs)

@@ -9,14 +9,12 @@ pub mod KindPlaces
 pub mod Lists
 pub mod Marks
 pub mod Move
-pub mod NextPlaces
 pub mod Remove
 pub mod Rename
 pub mod Replace
 pub mod Rules
 pub mod RowEdits
 pub mod RowPlaces
-pub mod RuleViews
 pub mod Set
 pub mod Texts
 pub mod private

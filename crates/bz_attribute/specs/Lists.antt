@@ -1,7 +1,7 @@
 -- The list parts of a value, and which elements equal a word (this project's own rule).
 -- Begin with `edit_parts` and `equals`.
-use Rattle.std.specs.Prelude.{ℕ, List, [], ◌∷◌, ◌++◌, Bool, true, false, ◌&&◌, ◌||◌, not, if◌then◌else◌, codes, filter, take, is_some, bytes_eq}
-use Rattle.std.specs.List.{list_any, list_all}
+use Rattle.std.specs.Prelude.{ℕ, List, [], ◌∷◌, ◌++◌, Bool, true, false, ◌&&◌, ◌||◌, if◌then◌else◌, codes, take, is_some, bytes_eq}
+use Rattle.std.specs.List.{list_all}
 use Rattle.bz_token.specs.declared.token.Kind.TheVariants.{Keyword, Operator}
 use Rattle.bz_tree.specs.declared.stmt.GroupKind.TheVariants.{List as ListKind}
 use Rattle.bz_tree.specs.Tree.{Item, leaf, group, Segment, segs_of, segments}
@@ -17,10 +17,6 @@ same home a b = bytes_eq (completed home a) (completed home b)
 -- the element is one string whose value is the same label as the word
 abbrev pub equals : Package → List ℕ → Segment → Bool
 equals home word element = map_or false (λ value. same home value word) (string_value element.nodes)
-
--- the elements that equal no word
-abbrev pub without : Package → List (List ℕ) → List Segment → List Segment
-without home words ss = filter (λ s. not (list_any (λ word. equals home word s) words)) ss
 
 -- A value has list parts where all that stands in it at depth 0 is operands, plus operators and dots. It is split at each
 -- plus operator, and a piece that is one list is a part.

@@ -2,4 +2,3 @@ pub mod ElementSets
 pub mod Ends
 pub mod HeadParts
 pub mod ListParts
-pub mod Places

@@ -7,7 +7,6 @@ ghost use Rattle.bz_attribute.specs.Lists as spec;
 ghost use Rattle.bz_command.specs.Values as values;
 ghost use Rattle.bz_command.specs.private.ByteSteps.{left, is_good};
 ghost use Rattle.bz_token.specs.Common.{map_or};
-ghost use Rattle.std.specs.List.{list_any};
 ghost use Rattle.std.specs.Str.{bytes_eq};
 ghost use Rattle.bz_command.specs.Labels as labels;
 
@@ -45,14 +44,4 @@ fn are_local(value: &[u8], word: &[u8]) -> bool
     ensures { result ≡ true → (home : labels.Package) → spec.same home value.now word.now ≡ bytes_eq value.now word.now }
 {
     value.starts_with(b":") && word.starts_with(b":")
-}
-
-/// The element is one string whose value is the same label as the word.
-pub fn equals(home: &Package, element: &Seg<'_>, word: &str) -> bool
-    ensures { result ≡ spec.equals home.now word.now (seg_view element.now) }
-{
-    match string_of(element) {
-        None => false,
-        Some(value) => same_label(home, value, Bytes::Plain(word.as_bytes())),
-    }
 }

@@ -1,6 +1,6 @@
 //! The first argument of a name, looked for in the parts of a rule.
 
-ghost use Rattle.std.specs.Prelude.{◌≡◌, ◌<◌, ◌≤◌, ◌+◌, ◌^◌, false, true, map, option_map, IfSome, length};
+ghost use Rattle.std.specs.Prelude.{◌≡◌, ◌<◌, ◌+◌, ◌^◌, false, map, option_map, IfSome, length};
 ghost use Rattle.bz_tree.specs.Rows.{part_view};
 ghost use Rattle.bz_attribute.specs.Rules.{is_text};
 ghost use Rattle.bz_attribute.specs.Finder as spec;
@@ -50,14 +50,13 @@ fn begins_after(part: &Part<'_>, depth: usize, begins: bool) -> bool
     }
 }
 
-// Where the first argument of a name begins, with so many brackets open, where one may begin at once or not.
-fn find_from(parts: &[Part<'_>], name: &str, brackets: usize, may_begin: bool) -> Option<usize>
-    requires { brackets ≤ 1 }
-    ensures found { result ≡ spec.find_from name.now brackets may_begin (map part_view parts.now) }
+/// Where the first argument of a name begins among the parts of a rule, after the comments above it.
+pub fn find_argument(parts: &[Part<'_>], name: &str) -> Option<usize>
+    ensures found { result ≡ spec.find_from name.now 0 false (map part_view parts.now) }
     ensures within { IfSome result (λ at. at < length parts.now) }
 {
-    let mut depth = brackets;
-    let mut begins = may_begin;
+    let mut depth = 0;
+    let mut begins = false;
     for i in 0..parts.len() {
         if begins && begins_with(&parts[i..], name) {
             return Some(i);
@@ -67,20 +66,4 @@ fn find_from(parts: &[Part<'_>], name: &str, brackets: usize, may_begin: bool) -
         depth = depth_after(part, depth);
     }
     None
-}
-
-/// Where the first argument of a name begins among the parts of a rule, after the comments above it.
-pub fn find_argument(parts: &[Part<'_>], name: &str) -> Option<usize>
-    ensures found { result ≡ spec.find_from name.now 0 false (map part_view parts.now) }
-    ensures within { IfSome result (λ at. at < length parts.now) }
-{
-    find_from(parts, name, 0, false)
-}
-
-/// The same among those parts of a rule that begin with an argument or after the last one.
-pub fn find_next(parts: &[Part<'_>], name: &str) -> Option<usize>
-    ensures found { result ≡ spec.find_from name.now 1 true (map part_view parts.now) }
-    ensures within { IfSome result (λ at. at < length parts.now) }
-{
-    find_from(parts, name, 1, true)
 }

@@ -14,7 +14,6 @@ mod finder;
 mod head;
 mod head_parts;
 mod lists;
-mod next_argument;
 mod place;
 mod row_args;
 mod row_kind;
@@ -36,15 +35,11 @@ pub use elements::{
 pub use env::Env;
 pub use finder::find_argument;
 pub use head::Head;
-pub use lists::{elements_at, is_attribute, is_list};
-pub use next_argument::next_place;
+pub use lists::{elements_at, is_list};
 pub use place::{Place, all_arguments, new_place, place_of};
 pub use row_args::{Parts, push_stmt, read_arguments};
 pub use row_kind::kind_place;
-pub use rule::{
-    Rule, call_at, find, first_named, ident_of, is_named, is_string, name_of, only_text, rule_of,
-    value_of,
-};
+pub use rule::{is_rule, only_text, value_of};
 pub use texts::{label, push_home};
 pub use value::{only_list, value_end};
 pub use word_set::WordSet;

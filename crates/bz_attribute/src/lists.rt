@@ -1,19 +1,11 @@
-//! Keyword arguments, lists and their elements.
+//! Lists and their elements.
 
 ghost use Rattle.std.specs.Prelude.{◌≡◌};
-ghost use Rattle.bz_tree.specs.View.{node_view, seg_view, segs_view};
+ghost use Rattle.bz_tree.specs.View.{node_view, segs_view};
 ghost use Rattle.bz_attribute.specs.Rules.{elements};
 ghost use Rattle.bz_attribute.specs.Lists as spec;
 
-use crate::rule::name_of;
 use bz_tree::{GroupKind, Node, Seg};
-
-/// The segment is a keyword argument.
-pub fn is_attribute(arg: &Seg<'_>) -> bool
-    ensures { result ≡ spec.is_attribute (seg_view arg.now) }
-{
-    name_of(&arg.nodes).is_some()
-}
 
 pub fn is_list(node: &Node<'_>) -> bool
     ensures { result ≡ spec.is_list (node_view node.now) }

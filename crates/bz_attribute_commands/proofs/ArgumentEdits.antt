@@ -15,7 +15,8 @@ use Rattle.bz_attribute.specs.RowPlaces.{IsRuleRow}
 use Rattle.bz_attribute.proofs.RuleNodes.{rule_nodes}
 use Rattle.bz_attribute.proofs.EditedAt.{edited_at, segs_join, with_args_at}
 use Rattle.bz_attribute.proofs.FoundArgs.{Answer, found, absent, answer, IsArgAt}
-use Rattle.bz_attribute.proofs.RuleParts.{after_args, before_args, head_passed, is_after, parts_cut}
+use Rattle.bz_attribute.proofs.RuleParts.{after_args, before_args, is_after, parts_cut}
+use Rattle.bz_attribute.proofs.PlaceFound.{told}
 
 -- the parts before an argument, its own and others, and those after it
 abbrev pub front_parts : Statement → Rule → List Segment → List RowPart
@@ -69,9 +70,6 @@ at_place name s r ps n at h arg at_is =
 
 abbrev args_found : List ℕ → Statement → Rule → Option ℕ
 args_found name s r = find_from name 1 true (segs_parts (segs_of r.args) ++ after_args s r)
-
-told : (name : List ℕ) (s : Statement) (r : Rule) (ps : List RowPart) → IsRuleRow s r ps → find_from name 0 false ps ≡ option_map (λ (k : ℕ). length (before_args s r) + k) (args_found name s r)
-told name s r ps h = ap (find_from name 0 false) h.are ∙ head_passed name s r h.rule
 
 placed : (name : List ℕ) (s : Statement) (r : Rule) (ps : List RowPart) (at : ℕ) (o : Option ℕ) → IsRuleRow s r ps → Answer name r.args o → option_map (λ (k : ℕ). length (before_args s r) + k) o ≡ Some at → IsAt name s r ps at
 placed name s r ps at o h (found n on arg) is =

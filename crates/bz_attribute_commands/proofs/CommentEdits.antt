@@ -43,7 +43,7 @@ trimmed_other (x ∷ xs) b h =
 last_split : (bs : List ℕ) → 0 < length bs → bs ≡ take (length bs - 1) bs ++ get_or bs (length bs - 1) 0 ∷ []
 last_split bs h = sym (take_all (length bs - 1 + 1) bs (omega arith)) ∙ take_more bs (length bs - 1) 0 (omega arith)
 
-blank_low : (b : ℕ) → is_blank b ≡ true → b < 128
+pub blank_low : (b : ℕ) → is_blank b ≡ true → b < 128
 blank_low b h = grind (arith, nat_tests)
 
 -- the last byte goes, where it is a blank

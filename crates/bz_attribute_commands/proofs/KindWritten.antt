@@ -1,5 +1,5 @@
 -- The kind of a rule, set in its parts.
-use Rattle.std.proofs.Common.{◌≡◌, ℕ, ◌<◌, ◌==◌, List, [], ◌∷◌, ◌++◌, Bool, false, if◌then◌else◌, not, Some, None, length, take, drop, refl, ap, sym, ◌∙◌, arith, append_assoc}
+use Rattle.std.proofs.Common.{◌≡◌, ℕ, ◌<◌, ◌==◌, List, [], ◌∷◌, ◌++◌, Bool, false, if◌then◌else◌, Some, length, take, drop, refl, ap, sym, ◌∙◌, arith, append_assoc}
 use Rattle.std.specs.Prelude.{bytes_eq, codes}
 use Rattle.std.specs.List.{slice_split}
 use Rattle.bz_token.specs.declared.token.Kind.TheVariants.{Identifier, Operator}
@@ -7,8 +7,8 @@ use Rattle.bz_tree.specs.Tree.{Item, Statement, items_of, leaf}
 use Rattle.bz_tree.specs.Rows.{RowPart, a_token, items_parts, parts_of}
 use Rattle.bz_command.proofs.Cuts.{some_part}
 use Rattle.bz_attribute.specs.Rules.{Rule, rule_of, kind_text}
-use Rattle.bz_attribute.specs.Set.{joined_by_dots, kind_items, kind_after, sets_kind_of, with_kind}
-use Rattle.bz_attribute.specs.Effects.{done, nodes_of}
+use Rattle.bz_attribute.specs.Set.{joined_by_dots, kind_items, kind_after, with_kind}
+use Rattle.bz_attribute.specs.Effects.{nodes_of}
 use Rattle.bz_attribute.specs.KindPlaces.{IsKindPlace}
 
 joined_more : (name : List ℕ) (names : List (List ℕ)) → 0 < length names → joined_by_dots (name ∷ names) ≡ leaf Identifier name ∷ leaf Operator (codes ".") ∷ joined_by_dots names
@@ -30,6 +30,3 @@ kind_written kind old s r ps from to place is was differs =
     ap (kind_after kind s.nodes) is
     ∙ ap (λ (b : Bool). if b then s.nodes else nodes_of (record r { kind = kind_items kind })) (ap (λ (text : List ℕ). bytes_eq text kind) was ∙ differs) in
     place.kind (kind_items kind) ∙ sym (ap (λ (ns : List Item). parts_of (record s { nodes = ns })) nodes)
-
-pub kind_done : (kind old : List ℕ) (s : Statement) (r : Rule) (b : Bool) → rule_of s.nodes ≡ Some r → kind_text r.kind ≡ old → bytes_eq old kind ≡ b → done None (not b) ≡ sets_kind_of kind (Some s)
-kind_done kind old s r b is was told = rw (is, was, told) refl

@@ -7,4 +7,3 @@ pub mod Printed
 pub mod PrintedFields
 pub mod SameValues
 pub mod SetEdits
-pub mod Written

@@ -1,11 +1,10 @@
 -- The content of a string in single quotes.
-use Rattle.std.proofs.Common.{◌≡◌, ℕ, ◌-◌, List, [], ◌∷◌, ◌++◌, length, drop, true, false, length-append, refl, sym, ap, ◌∙◌, arith, inl, inr}
+use Rattle.std.proofs.Common.{◌≡◌, ℕ, ◌-◌, List, [], ◌∷◌, ◌++◌, length, drop, true, length-append, refl, sym, ap, arith}
 use Rattle.std.specs.List.{list_all}
 use Rattle.std.specs.Str.{bytes_eq}
-use Rattle.std.proofs.lemmas.Bool.{cases_Bool, and_parts, false≢true}
 use Rattle.std.proofs.lemmas.Slice.Eq.{bytes_eq-Decides}
 use Rattle.std.proofs.lemmas.List.{take_at}
-use Rattle.bz_layout.specs.Respell.{is_plain, content, is_single, respell}
+use Rattle.bz_layout.specs.Respell.{is_plain, content, respell}
 use Rattle.bz_token.specs.declared.token.Kind.TheVariants.{String}
 
 pub content_is : (text inner : List ℕ) → text ≡ 39 ∷ (inner ++ 39 ∷ []) → content text ≡ inner
@@ -19,12 +18,3 @@ respell_some text inner e plain =
     let k = content_is text inner e in
     let same : bytes_eq text (39 ∷ (inner ++ 39 ∷ [])) ≡ true = (bytes_eq-Decides text (39 ∷ (inner ++ 39 ∷ []))).1 e in
     rw (k, same, plain) refl
-
-pub respell_none : (text : List ℕ) → ((inner : List ℕ) → text ≡ 39 ∷ (inner ++ 39 ∷ []) → list_all is_plain inner ≡ false) → respell String text ≡ text
-respell_none text none =
-    elim (cases_Bool (is_single text)) [
-      | inl hit ↦
-          let parts = and_parts (bytes_eq text (39 ∷ (content text ++ 39 ∷ []))) (list_all is_plain (content text)) hit in
-          absurd (false≢true (sym (none (content text) ((bytes_eq-Decides text (39 ∷ (content text ++ 39 ∷ []))).0 parts.0)) ∙ parts.1))
-      | inr miss ↦ rw miss refl
-    ]

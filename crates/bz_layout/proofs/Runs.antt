@@ -17,10 +17,11 @@ use Rattle.bz_layout.specs.Broken.{count, is_broken, segs_hold}
 use Rattle.bz_layout.specs.Spacing.{edge_after, operator_edge, is_prefix, begins_argument, is_index_colon, gap_before, hugs}
 use Rattle.bz_layout.specs.Pieces.{Piece, piece, gap_bytes, bytes_of, comma_if, comments, suffix_piece}
 use Rattle.bz_layout.specs.Layout.{breaks, has_commas, item_pieces, items_pieces, broken_segs, flat_segs, opening as opening_text, closing as closing_text}
-use Rattle.bz_layout.specs.private.RowLayout.{Laid, gap_for, run, whole, first_frame, tail, comma_bytes, due, is_start, step, first_gap, level_in}
+use Rattle.bz_layout.specs.private.RowLayout.{Laid, gap_for, run, whole, first_frame, tail, comma_bytes, due, is_start, first_gap, level_in}
 use Rattle.bz_layout.proofs.Rules.{gap_is}
 use Rattle.bz_layout.proofs.Pieces.{bytes_append}
 use Rattle.bz_layout.proofs.Scans.{mark_as, item_marks, items_marks, segs_marks}
+use Rattle.bz_tree.proofs.FromParts.{segs_joined, seg_joined}
 
 abbrev pub at : List ℕ → List BracketForm → List OpenBracket → OpenBracket → Edge → ℕ → Laid
 at text marks outer here left level = record { text = text; marks = marks; outer = outer; here = here; left = left; level = level }
@@ -65,12 +66,6 @@ skip_above (comment ∷ comment_texts) rest t ms o kind later comma l n = ap (λ
 skip_beside : (suffix : Option (List ℕ)) (rest : List RowPart) (t : List ℕ) (ms : List BracketForm) (o : List OpenBracket) (kind : GroupKind) (later comma : Bool) (l : Edge) (n : ℕ) → run (beside_part suffix ++ rest) (at t ms o (flat_frame kind later comma) l n) ≡ run rest (at t ms o (flat_frame kind later comma) l n)
 skip_beside None rest t ms o kind later comma l n = refl
 skip_beside (Some comment) rest t ms o kind later comma l n = ap (λ (u : List ℕ). run rest (at u ms o (flat_frame kind later comma) l n)) (append-nil t)
-
-segs_joined : (ss : Segs) (end : List (List ℕ)) (one : Bool) (rest : List RowPart) → (segs_parts ss ++ (map above end ++ closing one ∷ [])) ++ rest ≡ segs_parts ss ++ (map above end ++ closing one ∷ rest)
-segs_joined ss end one rest = simp append_assoc
-
-seg_joined : (before : List (List ℕ)) (nodes : Items) (suffix : Option (List ℕ)) (ss : Segs) (rest : List RowPart) → segs_parts (seg before nodes suffix ss) ++ rest ≡ map above before ++ (items_parts nodes ++ (segment_end ∷ (beside_part suffix ++ (segs_parts ss ++ rest))))
-seg_joined before nodes suffix ss rest = simp append_assoc
 
 -- what is due before nodes
 abbrev due_at : Edge → Items → List ℕ
@@ -261,8 +256,3 @@ mutual
       (ap (λ (u : List ℕ). run (beside_part suffix ++ after) (at u (supply style marks) o (flat_frame kind true comma) Start n)) (in_place_text style n kind later comma nodes t) ∙
       (skip_beside suffix after t1 (supply style marks) o kind true comma Start n ∙ (run_flat style ss end rest t1 ms o kind comma one true n ∙
       ap (λ (u : List ℕ). run rest (at u (supply style ms) (tail o) (first_frame o) Operand n)) (next_text t a (flat_segs style n kind false ss) (comma_bytes one ++ closing_text kind)))))))
-
--- parts in two runs
-pub run_append : (a b : List RowPart) (s : Laid) → run (a ++ b) s ≡ run b (run a s)
-run_append [] b s = refl
-run_append (p ∷ a) b s = run_append a b (step p s)

@@ -9,8 +9,9 @@ use Rattle.bz_layout.specs.declared.marks.BracketForm.{BracketForm}
 use Rattle.bz_layout.specs.declared.marks.Contents.{Contents}
 use Rattle.bz_layout.specs.Broken.{count, have_comments, breaks_by_count, is_broken, holds_broken, items_hold, segs_hold}
 use Rattle.bz_layout.specs.Layout.{has_commas}
-use Rattle.bz_layout.specs.private.RowLayout.{Scan, closed, one_more, mark_of, breaks_with, holding, back, below, opened_back, scan, scan_onto}
+use Rattle.bz_layout.specs.private.RowLayout.{Scan, closed, one_more, mark_of, breaks_with, holding, below, opened_back, scan}
 use Rattle.bz_token.specs.Common.{is_filled}
+use Rattle.bz_tree.proofs.FromParts.{segs_joined, seg_joined}
 
 -- the mark of a group, and those in an item
 abbrev pub mark_as : Bool → GroupKind → Segs → Bool → BracketForm
@@ -125,16 +126,6 @@ scan_above (comment ∷ comments) rest = rw (scan_above comments rest) refl
 scan_beside : (suffix : Option (List ℕ)) (rest : List RowPart) → scan (beside_part suffix ++ rest) ≡ record { marks = (scan rest).marks; here = in_segs (is_some suffix) false (scan rest).here.segs (scan rest).here; outer = (scan rest).outer }
 scan_beside None rest = refl
 scan_beside (Some comment) rest = refl
-
-pub scan_append : (a b : List RowPart) → scan (a ++ b) ≡ scan_onto a (scan b)
-scan_append [] b = refl
-scan_append (p ∷ a) b = ap (back p) (scan_append a b)
-
-segs_joined : (ss : Segs) (end : List (List ℕ)) (one : Bool) (rest : List RowPart) → (segs_parts ss ++ (map above end ++ closing one ∷ [])) ++ rest ≡ segs_parts ss ++ (map above end ++ closing one ∷ rest)
-segs_joined ss end one rest = simp append_assoc
-
-seg_joined : (before : List (List ℕ)) (nodes : Items) (suffix : Option (List ℕ)) (ss : Segs) (rest : List RowPart) → segs_parts (seg before nodes suffix ss) ++ rest ≡ map above before ++ (items_parts nodes ++ (segment_end ∷ (beside_part suffix ++ (segs_parts ss ++ rest))))
-seg_joined before nodes suffix ss rest = simp append_assoc
 
 -- a bracket with what stands in it
 group_found : (kind : GroupKind) (segs : Segs) (one : Bool) (end : List (List ℕ)) (s : Scan) → opened_back kind (record { marks = segs_marks segs ++ s.marks; here = inside_of one segs end; outer = s.here ∷ s.outer }) ≡ found (item_marks (group kind segs one end)) (holds_broken (group kind segs one end)) s

@@ -92,7 +92,7 @@ told home p known there (s ∷ ss) h =
     ]
 
 -- all labels of the elements that are there
-pub any_joined : (p : Segment → Bool) (lists : List (List Segment)) → list_any p (flat_map (λ ss. ss) lists) ≡ list_any (list_any p) lists
+any_joined : (p : Segment → Bool) (lists : List (List Segment)) → list_any p (flat_map (λ ss. ss) lists) ≡ list_any (list_any p) lists
 any_joined p [] = refl
 any_joined p (ss ∷ lists) = list_any-append p ss (flat_map (λ ss. ss) lists) ∙ ap (λ (b : Bool). list_any p ss || b) (any_joined p lists)
 

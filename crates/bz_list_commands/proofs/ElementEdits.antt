@@ -9,7 +9,7 @@ use Rattle.std.proofs.Math.Seq.{drop-append_seam}
 use Rattle.bz_token.specs.declared.token.Kind.TheVariants.{String}
 use Rattle.bz_tree.specs.declared.stmt.GroupKind.TheVariants.{List as ListKind}
 use Rattle.bz_tree.specs.Tree.{Item, leaf, group, Segment, items_of, segs_of}
-use Rattle.bz_tree.specs.Rows.{RowPart, a_token, above, beside_part, closing, opening, segment_end, item_parts, items_parts, segs_parts}
+use Rattle.bz_tree.specs.Rows.{RowPart, a_token, above, beside_part, closing, opening, segment_end, items_parts, segs_parts}
 use Rattle.bz_attribute.specs.Rules.{only_text}
 use Rattle.bz_attribute.specs.Elements.{HasNoList, IsElementOf, IsListIn, ListRest, list_item, rest_parts, value_parts}
 use Rattle.bz_attribute.specs.Lists.{parts_from, edit_from}
@@ -23,6 +23,7 @@ use Rattle.bz_command.specs.Labels.{Package}
 use Rattle.bz_list_commands.specs.private.WrittenParts.{HasPut, IsWithin, IsWritten}
 use Rattle.bz_list_commands.specs.private.ElementEdits.{HasEditedElement, HasEditedFront, HasEditedList, HasEditedLists, HasEditedValue, HasPutElement}
 use Rattle.bz_list_commands.proofs.WrittenParts.{passed}
+use Rattle.bz_attribute.proofs.ListEdits.{items_join}
 
 -- what stands after some parts
 pub after_them : (ps xs ys : List RowPart) (at k : ℕ) → drop at ps ≡ xs ++ ys → k ≡ at + length xs → drop k ps ≡ ys
@@ -176,11 +177,6 @@ no_list_yet p literal nodes after w list ps out read some none =
       some = λ to is. subst (λ (k : ℕ). IsListIn true nodes after ps k to) (sym here) (some to is);
       none = none;
     }
-
--- the nodes before a list part, and its bracket
-pub items_join : (xs ys : List Item) → items_parts (items_of (xs ++ ys)) ≡ items_parts (items_of xs) ++ items_parts (items_of ys)
-items_join [] ys = refl
-items_join (x ∷ xs) ys = ap (λ (ps : List RowPart). item_parts x ++ ps) (items_join xs ys) ∙ sym (append_assoc (item_parts x) (items_parts (items_of xs)) (items_parts (items_of ys)))
 
 -- what is passed up to the elements of the next list part
 abbrev pub up_to_list : List RowPart → List Item → List RowPart

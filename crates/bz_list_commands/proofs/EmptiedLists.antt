@@ -10,12 +10,13 @@ use Rattle.bz_tree.specs.Tree.{Item, leaf, group, Segment, Segs, items_of, segme
 use Rattle.bz_tree.specs.Rows.{RowPart, above, beside_part, closing, opening, segment_end, item_parts, items_parts, segs_parts}
 use Rattle.bz_attribute.specs.Elements.{IsElementOf, ListRest, list_item, rest_parts, value_parts}
 use Rattle.bz_attribute.specs.Effects.{loses_all}
-use Rattle.bz_attribute.proofs.RuleNodes.{segs_back}
 use Rattle.bz_attribute.proofs.Views.{segments_of}
 use Rattle.bz_list_commands.specs.private.StringEdits.{become, become_all}
 use Rattle.bz_list_commands.specs.private.ElementEdits.{begins_list, is_node}
 use Rattle.bz_list_commands.proofs.ElementEdits.{after_them}
 use Rattle.bz_token.specs.Common.{is_empty}
+use Rattle.bz_attribute.proofs.LabelsFound.{and_false}
+use Rattle.bz_tree.proofs.FromParts.{segs_back}
 
 -- Some elements of a list were seen, and all are meant.
 pub record AreGone (p : Option (List ℕ) → Bool) (nodes : List Item) (after ps : List RowPart) (first at : ℕ) : Type 0 where
@@ -97,13 +98,6 @@ one_gone p nodes after ps first at token to string g e is later =
 -- of what is a list alone, by the elements that are left
 alone : (f : List Segment → List Segment) (list : ListRest) → loses_all f (list_item list ∷ []) ≡ (not (is_empty list.elements) && is_empty (f list.elements))
 alone f list = (λ i. not (is_empty (segments_of list.elements i)) && is_empty (f (segments_of list.elements i)))
-
-not_alone : (f : List Segment → List Segment) (list : ListRest) (x : Item) (xs : List Item) → list.items ≡ x ∷ xs → loses_all f (list_item list ∷ list.items) ≡ false
-not_alone f list x xs is = ap (λ (ns : List Item). loses_all f (list_item list ∷ ns)) is
-
-and_false : (b : Bool) → (b && false) ≡ false
-and_false true = refl
-and_false false = refl
 
 and_true : (b : Bool) → (b && true) ≡ b
 and_true true = refl

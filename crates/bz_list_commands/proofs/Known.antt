@@ -20,10 +20,7 @@ use Rattle.bz_attribute.specs.private.ElementSets.{is_in}
 use Rattle.bz_attribute.proofs.LabelSets.{or_false}
 use Rattle.bz_list_commands.specs.private.AddSteps.{Knows}
 use Rattle.bz_token.specs.Common.{map_or}
-
-and_false : (a : Bool) → (a && false) ≡ false
-and_false true = refl
-and_false false = refl
+use Rattle.bz_attribute.proofs.LabelsFound.{and_false}
 
 or_last : (a b c : Bool) → (c || (a || b)) ≡ (a || (b || (c || false)))
 or_last true b true = refl
@@ -47,7 +44,7 @@ one_word home words text among s = elim (cases_Bool (is_chosen home (Values (tex
 ]
 
 -- so among all elements it is the same label as one exactly where it is among those
-pub among_chosen : (home : Package) (words : List (List ℕ)) (lists : List (List Segment)) (text : List ℕ) → list_any (same home text) words ≡ true → is_in home (Values words) lists text ≡ is_in home All lists text
+among_chosen : (home : Package) (words : List (List ℕ)) (lists : List (List Segment)) (text : List ℕ) → list_any (same home text) words ≡ true → is_in home (Values words) lists text ≡ is_in home All lists text
 among_chosen home words lists text among = λ j. list_any (list_any (λ (s : Segment). one_word home words text among s j)) lists
 
 -- the labels of the elements that are among the values

@@ -74,7 +74,7 @@ told_removed : (home : Package) (attributes : Attributes) (v : List ℕ) (values
 told_removed home Every v values = λ i args. list_any (λ a. is_attribute a && list_any (list_any (meant_chosen home (v ∷ values) i)) (parts (value a))) args
 told_removed home (Named attr) v values = λ i args. told_first home (Values (v ∷ values)) (passes (equals_one home (v ∷ values))) (first_named attr args) (meant_chosen home (v ∷ values)) i
 
-pub rows_removed : (home : Package) (attributes : Attributes) (v : List ℕ) (more values : List (List ℕ)) (p : Option (List ℕ) → Bool) (ps new : List RowPart) (e : Edit) → values ≡ v ∷ more → p ≡ passes (equals_one home values)
+rows_removed : (home : Package) (attributes : Attributes) (v : List ℕ) (more values : List (List ℕ)) (p : Option (List ℕ) → Bool) (ps new : List RowPart) (e : Edit) → values ≡ v ∷ more → p ≡ passes (equals_one home values)
     → IsRowEdit (edited_in p None attributes) (λ args. done None (changes_in p attributes args)) ps new e → IsRowEdit (remove home attributes values) (λ args. done None (removes home attributes values args)) ps new e
 rows_removed home attributes v more values p ps new e are is h =
     subst (λ (vs : List (List ℕ)). IsRowEdit (remove home attributes vs) (λ args. done None (removes home attributes vs args)) ps new e) (sym are)

@@ -6,7 +6,7 @@ use Rattle.bz_tree.specs.Rows.{RowPart, parts_of, segs_parts}
 use Rattle.bz_tree.specs.Tree.{Item, Segment, Statement, segs_of}
 use Rattle.bz_command.specs.Labels.{Package}
 use Rattle.bz_command.specs.declared.arguments.Moved.{Moved}
-use Rattle.bz_attribute.specs.Effects.{done, edit_first, filtered, has, is_chosen, not_a_list, with_args}
+use Rattle.bz_attribute.specs.Effects.{done, edit_first, filtered, is_chosen, not_a_list, with_args}
 use Rattle.bz_attribute.specs.Elements.{AreLists, elements_left}
 use Rattle.bz_attribute.specs.Lists.{edit_first_part, edit_list, edit_one_from, is_joint, is_part, is_plus, parts, parts_from, with_value}
 use Rattle.bz_attribute.specs.Move.{arrivals, elements_of, move, move_note, moved, moves, put_in}
@@ -114,11 +114,6 @@ has_moved home old new chosen p at ps one left out places gone e same edit some 
     ∙ put ss (with_args go s) (rule_with go r) (arrived home old new chosen p at s r ps places same (from s r h) (to s r h) have) (row_after go s r ps left h (left_is ∙ edit.parts s r h some))
     ∙ ap parts_of (with_args_twice (put_in new ss) go s ∙ with_args_at (λ args. put_in new ss (go args)) (λ x0. if moves home old chosen x0 then moved home old new chosen x0 else x0) s r h.rule edits))
     (λ s r h. ap (done None) (sym (tells home old chosen p s r ps one gone true same edit some h)))
-
--- why nothing is moved
-pub no_attribute : (old new : List ℕ) (args : List Segment) (b : Bool) → has old args ≡ false → done (Some (NoAttribute old)) false ≡ done (move_note old new args) b
-no_attribute old new args b none =
-    sym (ap (λ (c : Bool). done (option_or (if c then None else Some (NoAttribute old)) (option_or (not_a_list old (first_named old args)) (not_a_list new (first_named new args)))) b) none)
 
 has_argument : (old new : List ℕ) (args : List Segment) (a : Segment) → first_named old args ≡ Some a → move_note old new args ≡ option_or (not_a_list old (Some a)) (not_a_list new (first_named new args))
 has_argument old new args a first =

@@ -11,7 +11,7 @@ use Rattle.bz_list_commands.specs.declared.rewriting.Written.{Written}
 use Rattle.bz_list_commands.specs.private.WrittenParts.{HasCopied, HasPut, IsWithin, IsWritten, literal_parts}
 
 -- the parts up to a place are those up to another and what stands between
-pub between : (ps : List RowPart) (i j : ℕ) → i ≤ j → take j ps ≡ take i ps ++ take (j - i) (drop i ps)
+between : (ps : List RowPart) (i j : ℕ) → i ≤ j → take j ps ≡ take i ps ++ take (j - i) (drop i ps)
 between ps i j h = let size : j ≡ i + (j - i) = omega (arith, h) in ap (λ (n : ℕ). take n ps) size ∙ take-add i (j - i) ps
 
 -- what stands between grows by what comes next

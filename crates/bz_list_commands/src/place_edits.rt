@@ -1,9 +1,8 @@
 //! Edits of the arguments of a rule in a place among its parts.
 
-ghost use Rattle.std.specs.Prelude.{◌≡◌, ◌≤◌, List, None as Nothing, false, map, length, IfOk};
+ghost use Rattle.std.specs.Prelude.{◌≤◌, None as Nothing, false, map, length, IfOk};
 ghost use Rattle.std.specs.List.{flat_map, list_any};
-ghost use Rattle.bz_tree.specs.Tree.{Segment, segs_of};
-ghost use Rattle.bz_tree.specs.Rows.{part_view, segs_parts};
+ghost use Rattle.bz_tree.specs.Rows.{part_view};
 ghost use Rattle.bz_attribute.specs.Effects.{done};
 ghost use Rattle.bz_attribute.specs.RowEdits.{IsRowEdit};
 ghost use Rattle.bz_list_commands.specs.private.ArgumentEdits.{changes_by, edit_by, goes_by, kept};
@@ -17,17 +16,6 @@ use bz_command::Attributes;
 use bz_memory::NoMemory;
 use bz_tree::Part;
 
-// The arguments that have these parts may change.
-fn may_change(edit: ArgumentEdit<'_, '_, '_>, parts: &[Part<'_>]) -> bool
-    ensures { result ≡ false → (args : List Segment) → map part_view parts.now ≡ segs_parts (segs_of args)
-        → list_any (changes_by edit.entry) args ≡ false }
-{
-    match edit {
-        ArgumentEdit::Gone(_) => true,
-        ArgumentEdit::Strings(strings) => strings.may_mean(parts),
-    }
-}
-
 /// The arguments in a place of a rule are edited.
 pub(crate) fn edit_in<'a>(
     edit: ArgumentEdit<'_, '_, '_>,
@@ -40,9 +28,6 @@ pub(crate) fn edit_in<'a>(
         (map part_view parts.now) (map part_view new.new.items) e) }
 {
     let own = &parts[place.from..place.to];
-    if !may_change(edit, own) {
-        return Ok(Edit::none(Done::quiet(false)));
-    }
     let written = edit_arguments(edit, own, new)?;
     if !written.changed {
         return Ok(Edit::none(Done::quiet(false)));

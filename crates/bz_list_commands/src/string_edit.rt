@@ -1,16 +1,12 @@
 //! What becomes of the elements that a command means.
 
-ghost use Rattle.std.specs.Prelude.{◌≡◌, ◌||◌, None as Nothing, Some as Something, map, option_map};
-ghost use Rattle.std.specs.List.{list_any};
+ghost use Rattle.std.specs.Prelude.{◌≡◌, Some as Something, option_map};
 ghost use Rattle.bz_list_commands.specs.private.StringEdits as spec;
 ghost use Rattle.bz_command.specs.Values.{quoted};
-ghost use Rattle.bz_tree.specs.Rows.{part_view};
 
 use bz_attribute::equals::text_equals;
 use bz_attribute::{Env, WordSet};
 use bz_command::has_value;
-use bz_token::Kind;
-use bz_tree::Part;
 
 /// Which elements a command means.
 #[derive(Clone, Copy)]
@@ -64,29 +60,5 @@ impl<'h, 'c, 'w> StringEdit<'h, 'c, 'w> {
             Some(text) => self.means_text(text),
             None => matches!(self.meant, Meant::Any),
         }
-    }
-
-    fn means_part(self, part: &Part<'_>) -> bool
-        ensures { result ≡ spec.means_part (spec.means self.entry) (part_view part.now) }
-    {
-        match part {
-            Part::Token(Kind::String, text) => self.means_text(text),
-            _ => false,
-        }
-    }
-
-    // One of the strings among these parts is meant.
-    fn means_any(self, parts: &[Part<'_>]) -> bool
-        ensures { result ≡ list_any (spec.means_part (spec.means self.entry)) (map part_view parts.now) }
-    {
-        parts.iter().any(|part| self.means_part(part))
-    }
-
-    /// An element may be meant that has some of these parts.
-    pub fn may_mean(self, parts: &[Part<'_>]) -> bool
-        ensures { result ≡ (spec.means self.entry Nothing
-            || list_any (spec.means_part (spec.means self.entry)) (map part_view parts.now)) }
-    {
-        self.means(None) || self.means_any(parts)
     }
 }

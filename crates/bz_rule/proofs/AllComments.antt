@@ -1,7 +1,7 @@
 -- All comments of a statement, where an edit leaves them.
 use Rattle.std.proofs.Common.{Bool, List, None, Option, Some, [], ap, append-nil, append_assoc, false, if◌then◌else◌, map, option_map, refl, sym, take, true, ℕ, ◌++◌, ◌∙◌, ◌∷◌, ◌≡◌}
 use Rattle.std.specs.List.{list_all}
-use Rattle.bz_attribute.proofs.RuleNodes.{rule_nodes, segs_back}
+use Rattle.bz_attribute.proofs.RuleNodes.{rule_nodes}
 use Rattle.bz_attribute.specs.Effects.{argument, edit_first, list_item, nodes_after, string, with_args}
 use Rattle.bz_attribute.specs.Lists.{edit_first_part, edit_from, edit_list, edit_one_from, edit_parts, is_joint, is_part, is_plus, with_value}
 use Rattle.bz_attribute.specs.Rules.{is_named, rule_of, value}
@@ -10,6 +10,7 @@ use Rattle.bz_tree.specs.Comments.{Lists, beside, comments_of, item_owners, item
 use Rattle.bz_tree.specs.Tree.{Item, Items, Segment, Segs, Statement, group, item, items_of, leaf, no_items, no_segs, seg, segments, segs_of}
 use Rattle.bz_tree.specs.declared.stmt.GroupKind.TheVariants.{RuleCall}
 use Rattle.bz_rule.proofs.Segments.{either_way}
+use Rattle.bz_tree.proofs.FromParts.{segs_back}
 
 -- all comments, owner by owner
 abbrev mutual

@@ -1,12 +1,12 @@
 -- Arguments with another value, and the first of a name.
-use Rattle.std.proofs.Common.{◌≡◌, ℕ, List, [], ◌∷◌, ◌++◌, true, false, ◌||◌, if◌then◌else◌, Some, None, option_map, is_some, drop, take, refl, ap, sym, ◌∙◌}
+use Rattle.std.proofs.Common.{◌≡◌, ℕ, List, [], ◌∷◌, ◌++◌, true, false, if◌then◌else◌, Some, None, option_map, is_some, drop, take, refl, ap, sym, ◌∙◌}
 use Rattle.std.specs.Prelude.{bytes_eq}
 use Rattle.std.proofs.lemmas.List.{append_cancel_right}
 use Rattle.std.proofs.lemmas.Slice.Eq.{bytes_eq-Decides}
 use Rattle.bz_tree.specs.Tree.{Item, Segment}
 use Rattle.bz_attribute.specs.Rules.{is_named, is_text, first_named, name_of, value}
 use Rattle.bz_attribute.specs.Lists.{is_attribute, with_value}
-use Rattle.bz_attribute.specs.Effects.{edit_first, has}
+use Rattle.bz_attribute.specs.Effects.{edit_first}
 
 pub same_bytes : (bytes : List ℕ) → bytes_eq bytes bytes ≡ true
 same_bytes bytes = (bytes_eq-Decides bytes bytes).1 refl
@@ -22,7 +22,7 @@ dropped (x ∷ y ∷ xs) nodes h = refl
 pub value_put : (nodes : List Item) (a : Segment) → is_attribute a ≡ true → value (with_value nodes a) ≡ nodes
 value_put nodes a h = dropped a.nodes nodes h
 
-name_taken : (xs nodes : List Item) → is_some (name_of xs) ≡ true → name_of (take 2 xs ++ nodes) ≡ name_of xs
+pub name_taken : (xs nodes : List Item) → is_some (name_of xs) ≡ true → name_of (take 2 xs ++ nodes) ≡ name_of xs
 name_taken [] nodes h = absurd cc
 name_taken (x ∷ []) nodes h = absurd cc
 name_taken (x ∷ y ∷ xs) nodes h = refl
@@ -37,19 +37,6 @@ rejoined (x ∷ y ∷ xs) = refl
 
 pub value_back : (a : Segment) → with_value (value a) a ≡ a
 value_back a = ap (λ (nodes : List Item). record a { nodes = nodes }) (rejoined a.nodes)
-
-pub is_first_named : (attr : List ℕ) (args : List Segment) (a : Segment) → first_named attr args ≡ Some a → is_named attr a ≡ true
-is_first_named attr [] a h = absurd cc
-is_first_named attr (b ∷ args) a h =
-    elim (is_named attr b) as (λ t. is_named attr b ≡ t → (if t then Some b else first_named attr args) ≡ Some a → is_named attr a ≡ true) [
-      | true ↦ λ e k. let is : b ≡ a = cc in ap (is_named attr) (sym is) ∙ e
-      | false ↦ λ e k. is_first_named attr args a k
-    ] refl h
-
-pub has_first : (attr : List ℕ) (args : List Segment) → has attr args ≡ is_some (first_named attr args)
-has_first attr [] = refl
-has_first attr (a ∷ args) =
-    elim (is_named attr a) as (λ b. b || has attr args ≡ is_some (if b then Some a else first_named attr args)) [ true ↦ refl | false ↦ has_first attr args ]
 
 -- where all stay, the first does
 pub first_same : (attr : List ℕ) (f : Segment → List Segment) (args : List Segment) (a : Segment) → first_named attr args ≡ Some a → edit_first (is_named attr) f args ≡ args → f a ≡ a ∷ []

@@ -9,8 +9,8 @@ use Rattle.bz_attribute.specs.Marks.{marks, marks_rule}
 use Rattle.bz_attribute.specs.Texts.{home_text, shown_text}
 use Rattle.bz_rule.specs.Aside.{KeepsNames}
 use Rattle.bz_rule.proofs.NamesKept.{name_kept}
-use Rattle.bz_rule.proofs.Rebuilt.{rule_after, rule_with}
 use Rattle.bz_token.specs.Common.{map_or}
+use Rattle.bz_attribute.proofs.EditedRules.{rule_after, rule_with}
 
 marks_rule_kept : (target : Target) (start : ℕ) (r : Rule) (g : Segment → Segment) → KeepsNames g → marks_rule target start (rule_with (map g) r) ≡ marks_rule target start r
 marks_rule_kept (Name text) start r g keeps = ap (is_text text) (name_kept g keeps.names keeps.name r.args)

@@ -23,15 +23,17 @@ use Rattle.bz_rule.specs.Commands.{Command, after, args_after, args_done, comman
 use Rattle.bz_rule.specs.OneAttribute.{one_attribute}
 use Rattle.bz_rule.specs.OwnComments.{Comments, own_comments}
 use Rattle.bz_rule.specs.declared.command.Action.TheVariants.{Comment}
-use Rattle.bz_rule.proofs.Arguments.{first_same, has_first}
+use Rattle.bz_rule.proofs.Arguments.{first_same}
 use Rattle.bz_rule.proofs.FirstEdits.{EditsFirst}
 use Rattle.bz_rule.proofs.Lawful.{Lawful, Local, SlotFormed}
 use Rattle.bz_rule.proofs.NewTexts.{line_text}
 use Rattle.bz_rule.proofs.PassingRules.{SlotPasses, StatementPasses}
 use Rattle.bz_rule.proofs.PassingWritten.{PassesWritten}
-use Rattle.bz_rule.proofs.Rebuilt.{holds_after, rule_after, rule_with}
+use Rattle.bz_rule.proofs.Rebuilt.{holds_after}
 use Rattle.bz_rule.proofs.RuleFormed.{rule_formed, rule_parts}
 use Rattle.bz_rule.proofs.Segments.{AreFormed}
+use Rattle.bz_attribute.proofs.EditedRules.{rule_after, rule_with}
+use Rattle.bz_attribute.proofs.Locals.{has_first}
 
 -- the comment line that a command writes passes the test, if it writes one
 abbrev pub LinePasses : (List ℕ → Bool) → Command → Type 0

@@ -14,10 +14,11 @@ use Rattle.bz_attribute.specs.Add.{add, fresh, is_fresh, new_elements, with_adde
 use Rattle.bz_attribute.specs.declared.done.Note.TheVariants.{NotAList}
 use Rattle.bz_attribute.proofs.Views.{segments_of}
 use Rattle.bz_rule.proofs.PartLaws.{edit_head}
-use Rattle.bz_rule.proofs.Arguments.{attribute_named, first_after, has_first, is_first_named, name_put, same_bytes}
+use Rattle.bz_rule.proofs.Arguments.{attribute_named, first_after, name_put, same_bytes}
 use Rattle.bz_rule.proofs.Likeness.{all_follow, chosen_alike, in_full, same_self, strings_chosen, or_none}
 use Rattle.bz_rule.proofs.Commands.Add.{add_kept, added_nothing, new_argument, parts_with}
 use Rattle.bz_token.specs.Common.{is_empty, map_or}
+use Rattle.bz_attribute.proofs.Locals.{has_first, is_first_named}
 
 -- an element of some lists equals the word
 abbrev stands_in : Package → List (List Segment) → List ℕ → Bool
@@ -47,7 +48,7 @@ or_grouped true y z h = refl
 or_grouped false true z h = refl
 or_grouped false false z h = absurd cc
 
-not_false : (b : Bool) → not b ≡ false → b ≡ true
+pub not_false : (b : Bool) → not b ≡ false → b ≡ true
 not_false true h = refl
 not_false false h = absurd cc
 

@@ -11,7 +11,7 @@ use Rattle.bz_command.specs.declared.arguments.Setting.TheVariants.{ToKind, ToVa
 use Rattle.bz_attribute.specs.Rules.{first_named, is_named, is_text, name_of, value, string_value}
 use Rattle.bz_attribute.specs.Lists.{edit_first_part, edit_parts, equals, parts, with_value}
 use Rattle.bz_attribute.specs.Add.{add, new_elements, with_added}
-use Rattle.bz_attribute.specs.Comment.{comment_attribute, comment_element, edit_element, comment_line, comment_note, comment_rule, comment_value, with_comment}
+use Rattle.bz_attribute.specs.Comment.{comment_attribute, comment_element, edit_element, comment_line, comment_note, comment_value, with_comment}
 use Rattle.bz_attribute.specs.Effects.{argument, edit_first, filtered, has, list_item, loses_all, unchosen, with_args}
 use Rattle.bz_attribute.specs.Heads.{HasHead}
 use Rattle.bz_attribute.specs.Replace.{replace, replaced, replaced_in}
@@ -22,12 +22,12 @@ use Rattle.bz_rule.specs.Commands.{Command, args_after}
 use Rattle.bz_rule.specs.declared.command.Action.TheVariants.{Add, Comment, Delete, Print, Remove, Replace, Set, SetIfAbsent}
 use Rattle.bz_rule.specs.OneAttribute.{one_attribute}
 use Rattle.bz_rule.specs.private.RowEdits.{KeepsHead, edits_arguments, rule_after}
-use Rattle.bz_rule.proofs.Arguments.{attribute_named, has_first, is_first_named, name_put}
+use Rattle.bz_rule.proofs.Arguments.{attribute_named, name_put}
 use Rattle.bz_rule.proofs.Commands.{local}
-use Rattle.bz_rule.proofs.Rebuilt.{rule_with}
-use Rattle.bz_rule.proofs.Rebuilt as rebuilt
 use Rattle.bz_rule.proofs.RowEdited.{args_rule}
 use Rattle.bz_token.specs.Common.{is_empty}
+use Rattle.bz_attribute.proofs.Locals.{has_first, is_first_named}
+use Rattle.bz_attribute.proofs.EditedRules.{rule_after as rule_edited, rule_with}
 
 -- two names that differ, either way round
 other_way : (a b : List ℕ) → bytes_eq a b ≡ false → bytes_eq b a ≡ false
@@ -179,10 +179,10 @@ edits (Print fields) attr is = absurd cc
 edits _ attr is = refl
 
 with_head : (f : List Segment → List Segment) (s : Statement) → ((args : List Segment) → first_named (codes "name") (f args) ≡ first_named (codes "name") args) → KeepsHead s (with_args f s)
-with_head f s same None has = rebuilt.rule_after f s ∙ ap (option_map (rule_with f)) has
+with_head f s same None has = rule_edited f s ∙ ap (option_map (rule_with f)) has
 with_head f s same (Some head) has = record {
   rule = rule_with f has.rule;
-  is = rebuilt.rule_after f s ∙ ap (option_map (rule_with f)) has.is;
+  is = rule_edited f s ∙ ap (option_map (rule_with f)) has.is;
   kind_is = has.kind_is;
   name_is = has.name_is ∙ sym (ap (option_and_then (λ a. string_value (value a))) (same has.rule.args));
   start_is = has.start_is;
@@ -193,8 +193,3 @@ pub head_stays : (c : Command) (home : Package) (attr : List ℕ) (s : Statement
 head_stays c home attr s is h head has =
     subst (HasHead head) (sym (args_rule c home s (edits c attr is)))
     (with_head (args_after c home) s (first_stays (codes "name") attr (args_after c home) h (local c home attr is).args (makes_no c home attr (codes "name") is h)) head has)
-
--- a comment above it
-pub above_stays : (text : List ℕ) (s : Statement) → KeepsHead s (comment_rule text s)
-above_stays text s None has = has
-above_stays text s (Some head) has = record { rule = has.rule; is = has.is; kind_is = has.kind_is; name_is = has.name_is; start_is = has.start_is; end_is = has.end_is }

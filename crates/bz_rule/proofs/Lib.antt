@@ -2,15 +2,14 @@ mod Accepting
 mod Again
 mod AllComments
 mod ArgumentValues
-mod Arguments
+pub mod Arguments
 mod Aside
 mod AsideTargets
 mod Below
-mod CallArguments
 pub mod Commands
 mod CommentEdits
 pub mod FirstEdits
-mod Found
+pub mod Found
 mod Gone
 mod GoodArguments
 mod HeadKept
@@ -27,12 +26,12 @@ mod PassingParts
 mod PassingRules
 mod PassingTexts
 mod PassingWritten
-mod Rebuilt
+pub mod Rebuilt
 mod RowEdited
 mod RowStatements
 mod RuleClass
 mod RuleFormed
-mod Segments
+pub mod Segments
 mod SetAgain
 mod Spliced
 mod Tests

@@ -1,7 +1,7 @@
 -- Words that are the same label find the same elements.
-use Rattle.std.proofs.Common.{◌≡◌, ℕ, List, [], ◌∷◌, Bool, true, false, ◌||◌, Option, Some, None, map, refl, ap, sym, ◌∙◌, inl, inr, bytes_eq}
+use Rattle.std.proofs.Common.{◌≡◌, ℕ, List, [], ◌∷◌, Bool, true, false, ◌||◌, Option, Some, None, map, refl, ap, bytes_eq}
 use Rattle.std.specs.List.{list_any, list_all}
-use Rattle.std.proofs.lemmas.Bool.{and_from, and_parts, cases_Bool}
+use Rattle.std.proofs.lemmas.Bool.{and_from, and_parts}
 use Rattle.std.proofs.lemmas.Slice.Eq.{bytes_eq-Decides}
 use Rattle.bz_tree.specs.Tree.{Segment}
 use Rattle.bz_command.specs.Labels.{Package}
@@ -13,21 +13,13 @@ use Rattle.bz_attribute.specs.Effects.{is_chosen, string}
 use Rattle.bz_command.proofs.ReadBack.{quoted_value}
 use Rattle.bz_rule.proofs.Arguments.{same_bytes}
 use Rattle.bz_token.specs.Common.{map_or}
+use Rattle.bz_attribute.proofs.LabelSets.{same_back}
 
 pub same_self : (home : Package) (v : List ℕ) → same home v v ≡ true
 same_self home v = same_bytes (completed home v)
 
 pub in_full : (home : Package) (v w : List ℕ) → same home v w ≡ true → completed home v ≡ completed home w
 in_full home v w h = (bytes_eq-Decides (completed home v) (completed home w)).0 h
-
-same_swapped : (home : Package) (v w : List ℕ) → same home v w ≡ same home w v
-same_swapped home v w = elim (cases_Bool (same home v w)) [
-  | inl is ↦ rw (in_full home v w is) refl
-  | inr other ↦ elim (cases_Bool (same home w v)) [
-    | inl back ↦ rw (in_full home w v back) refl
-    | inr neither ↦ other ∙ sym neither
-  ]
-]
 
 pub chosen_alike : (home : Package) (v w : List ℕ) (s : Segment) → completed home v ≡ completed home w → is_chosen home (Values (v ∷ [])) s ≡ is_chosen home (Values (w ∷ [])) s
 chosen_alike home v w s h =
@@ -44,7 +36,7 @@ or_none false = refl
 
 pub strings_chosen : (home : Package) (v : List ℕ) (words : List (List ℕ)) → list_any (is_chosen home (Values (v ∷ []))) (map string words) ≡ list_any (same home v) words
 strings_chosen home v [] = refl
-strings_chosen home v (w ∷ words) = rw (string_chosen home v w, or_none (same home w v), same_swapped home w v, strings_chosen home v words) refl
+strings_chosen home v (w ∷ words) = rw (string_chosen home v w, or_none (same home w v), same_back home w v, strings_chosen home v words) refl
 
 -- a test that follows from another
 pub all_follow : {X : Type 0} (p q : X → Bool) → ((x : X) → p x ≡ true → q x ≡ true) → (xs : List X) → list_all p xs ≡ true → list_all q xs ≡ true

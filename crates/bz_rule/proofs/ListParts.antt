@@ -2,7 +2,6 @@
 use Rattle.std.proofs.Common.{Bool, List, [], ap, arith, false, if◌then◌else◌, refl, subst, suc, sym, true, ℕ, ◌&&◌, ◌++◌, ◌∙◌, ◌∷◌, ◌≡◌, ◌≤◌}
 use Rattle.std.proofs.lemmas.Bool.{and_parts, false≢true}
 use Rattle.std.specs.List.{AllByRecursion, list_all, list_any}
-use Rattle.bz_attribute.proofs.RuleNodes.{segs_back}
 use Rattle.bz_attribute.specs.Comment.{edit_element, edit_element_from}
 use Rattle.bz_attribute.specs.Effects.{edit_first, list_item}
 use Rattle.bz_attribute.specs.Lists.{edit_first_part, edit_from, edit_list, edit_one_from, edit_parts, ends, is_joint, is_list, is_part, is_plus, parts, parts_from}
@@ -24,6 +23,7 @@ use Rattle.bz_tree.specs.declared.kinds.Preceding.TheVariants.{Other}
 use Rattle.bz_tree.specs.declared.kinds.Shape.TheVariants.{Square}
 use Rattle.bz_tree.specs.declared.stmt.GroupKind.TheVariants.{List as ListKind}
 use Rattle.bz_tree.specs.private.Machine.{accepts, next, role_of}
+use Rattle.bz_tree.proofs.FromParts.{segs_back}
 
 -- a node is itself, or a list with other elements
 data IsEdit (depth : ℕ) : Item → Item → Type 0 where

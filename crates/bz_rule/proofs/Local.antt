@@ -7,12 +7,11 @@ use Rattle.bz_attribute.specs.Effects.{argument, edit_first, list_item, not_a_li
 use Rattle.bz_attribute.specs.Add.{add, new_elements, with_added}
 use Rattle.bz_attribute.specs.Comment.{comment_attribute, comment_element, comment_line, comment_note, comment_value, is_missing, with_comment}
 use Rattle.bz_attribute.specs.RowPlaces.{IsLocal, LooksAt}
-use Rattle.bz_attribute.specs.Set.{new_of, new_value, set, set_if_absent, set_in}
+use Rattle.bz_attribute.specs.Set.{new_of, new_value, set, set_in}
 use Rattle.bz_attribute.specs.declared.done.Note.{Note}
 use Rattle.bz_attribute.specs.declared.done.Note.TheVariants.{NoAttribute}
 use Rattle.bz_attribute.proofs.EditedAt.{none_first}
-use Rattle.bz_attribute.proofs.Locals.{edit_same, edits_one, first_alone, is_there, kept_first}
-use Rattle.bz_rule.proofs.Arguments.{has_first}
+use Rattle.bz_attribute.proofs.Locals.{edit_same, edits_one, first_alone, is_there, kept_first, has_first}
 use Rattle.std.specs.Option.{option_or}
 
 pub looks_at_one : {A : Type 0} (name : List ℕ) (f : List Segment → A) (g : Option Segment → A) → ((args : List Segment) → f args ≡ g (first_named name args)) → LooksAt name f
@@ -38,12 +37,6 @@ set_local attr words =
     (λ args a h. ap (λ (b : Bool). if b then made (first_named attr args) args else more (first_named attr args) args) (is_there attr args a h)
     ∙ ap (λ (o : Option Segment). made o args) h
     ∙ edit_same attr (λ x. set_in (new_of attr words (Some a)) x ∷ []) (set_in (new_of attr words (Some a)) a ∷ []) args a h refl)
-
-pub set_if_absent_local : (attr : List ℕ) (words : List (List ℕ)) → IsLocal attr (set_if_absent attr words)
-set_if_absent_local attr words =
-    edits_one attr (set_if_absent attr words) (argument attr (new_value (new_of attr words None)) ∷ []) (λ a. a ∷ [])
-    (λ args h. rw h refl)
-    (λ args a h. ap (λ (b : Bool). if b then args else args ++ argument attr (new_value (new_of attr words None)) ∷ []) (is_there attr args a h) ∙ kept_first attr args a h)
 
 pub comment_local : (attr text : List ℕ) → IsLocal attr (comment_attribute attr text)
 comment_local attr text =

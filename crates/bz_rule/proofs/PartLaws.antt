@@ -6,7 +6,7 @@ use Rattle.bz_tree.specs.Tree.{Item, leaf, group, Segs, Segment, segs_of, segmen
 use Rattle.bz_attribute.specs.Rules.{elements}
 use Rattle.bz_attribute.specs.Lists.{edit_list, edit_from, edit_parts, edit_one_from, edit_first_part, ends, is_joint, is_list, is_part, is_plus, parts, parts_from}
 use Rattle.bz_attribute.proofs.Views.{segments_of}
-use Rattle.bz_attribute.proofs.RuleNodes.{segs_back}
+use Rattle.bz_tree.proofs.FromParts.{segs_back}
 
 pub joint_edited : (f : List Segment → List Segment) (x : Item) → is_joint (edit_list f x) ≡ is_joint x
 joint_edited f (leaf kind text) = refl

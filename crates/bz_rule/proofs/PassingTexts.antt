@@ -8,8 +8,8 @@ use Rattle.bz_tree.specs.Tree.{Item, leaf, group, Segment, items_of, segs_of, se
 use Rattle.bz_layout_laws.specs.EachText.{item_passes, items_pass, segs_pass}
 use Rattle.bz_attribute.specs.Rules.{elements, first_named, is_named}
 use Rattle.bz_attribute.specs.Lists.{with_value}
-use Rattle.bz_attribute.proofs.RuleNodes.{segs_back}
 use Rattle.bz_rule.proofs.Segments.{all_appended, either_way}
+use Rattle.bz_tree.proofs.FromParts.{segs_back}
 
 abbrev pub NodePasses : (List ℕ → Bool) → Item → Type 0
 NodePasses q x = item_passes q x ≡ true

@@ -1,32 +1,16 @@
 -- A statement with other arguments: the rule that it is.
 use Rattle.std.proofs.Common.{◌≡◌, ℕ, ◌<◌, ◌==◌, List, [], ◌∷◌, true, false, Option, Some, None, is_some, option_map, length, if◌then◌else◌, refl, ap, sym, ◌∙◌, arith, not}
-use Rattle.bz_attribute.proofs.RuleParts.{rule_dotted}
 use Rattle.std.specs.Prelude.{bytes_eq}
 use Rattle.std.specs.List.{slice_split}
-use Rattle.bz_tree.specs.declared.stmt.GroupKind.TheVariants.{RuleCall}
-use Rattle.bz_tree.specs.Tree.{Item, group, Segment, Statement, segs_of}
+use Rattle.bz_tree.specs.Tree.{Item, Segment, Statement}
 use Rattle.bz_command.proofs.Cuts.{some_part}
 use Rattle.bz_attribute.specs.Rules.{Rule, dotted, kind_text, rule_of}
 use Rattle.bz_attribute.specs.declared.done.Done.{Done}
 use Rattle.bz_attribute.specs.Effects.{holds_rule, nodes_after, nodes_of, slot_done, with_args, done}
 use Rattle.bz_attribute.specs.Set.{joined_by_dots, kind_after, kind_items, sets_kind_of, with_kind}
-use Rattle.bz_attribute.proofs.Calls.{rule_from_end}
 use Rattle.bz_attribute.proofs.RuleNodes.{rule_nodes}
-use Rattle.bz_attribute.proofs.Views.{segments_of}
 use Rattle.bz_token.specs.Common.{map_or}
-
--- the nodes of a rule are read as this rule
-pub nodes_read : (r : Rule) → dotted true r.kind ≡ true → rule_of (nodes_of r) ≡ Some r
-nodes_read r dots = rule_from_end [] r.kind (group RuleCall (segs_of r.args) r.one_comma r.end) ∙ rw (dots, segments_of r.args) refl
-
-abbrev pub rule_with : (List Segment → List Segment) → Rule → Rule
-rule_with f r = record r { args = f r.args }
-
--- with other arguments it is the same rule with these, and no rule stays none
-pub rule_after : (f : List Segment → List Segment) (s : Statement) → rule_of (with_args f s).nodes ≡ option_map (rule_with f) (rule_of s.nodes)
-rule_after f s =
-    elim (rule_of s.nodes) as (λ o. rule_of s.nodes ≡ o → rule_of (nodes_after f s.nodes o) ≡ option_map (rule_with f) o)
-    [ None ↦ λ e. e | Some r ↦ λ e. nodes_read (rule_with f r) (rule_dotted [] s.nodes r e) ] refl
+use Rattle.bz_attribute.proofs.EditedRules.{nodes_read, rule_after, with_args_twice, rule_with}
 
 pub kinds_after : (f : List Segment → List Segment) (s : Statement) → option_map (λ r. r.kind) (rule_of (with_args f s).nodes) ≡ option_map (λ r. r.kind) (rule_of s.nodes)
 kinds_after f s =
@@ -38,14 +22,6 @@ is_rule_after f s = ap is_some (rule_after f s) ∙ elim (rule_of s.nodes) as (�
 pub holds_after : (f : List Segment → List Segment) (slot : Option Statement) → holds_rule (option_map (with_args f) slot) ≡ holds_rule slot
 holds_after f None = refl
 holds_after f (Some s) = is_rule_after f s
-
--- one edit after another
-pub with_args_twice : (f h : List Segment → List Segment) (s : Statement) → with_args f (with_args h s) ≡ with_args (λ args. f (h args)) s
-with_args_twice f h s =
-    let nodes : nodes_after f (with_args h s).nodes (rule_of (with_args h s).nodes) ≡ nodes_after (λ args. f (h args)) s.nodes (rule_of s.nodes) =
-    ap (nodes_after f (with_args h s).nodes) (rule_after h s)
-    ∙ elim (rule_of s.nodes) as (λ o. nodes_after f (nodes_after h s.nodes o) (option_map (rule_with h) o) ≡ nodes_after (λ args. f (h args)) s.nodes o) [ None ↦ refl | Some r ↦ refl ] in
-    ap (λ (nodes : List Item). record s { nodes = nodes }) nodes
 
 -- edits that are the same of each list
 pub with_args_alike : (f h : List Segment → List Segment) → ((args : List Segment) → f args ≡ h args) → (s : Statement) → with_args f s ≡ with_args h s
@@ -79,7 +55,7 @@ told_alike t f alike (Some s) =
 
 -- `set kind`
 
-joined_dotted : (names : List (List ℕ)) → 0 < length names → dotted true (joined_by_dots names) ≡ true
+pub joined_dotted : (names : List (List ℕ)) → 0 < length names → dotted true (joined_by_dots names) ≡ true
 joined_dotted [] h = absurd (omega arith)
 joined_dotted (name ∷ []) h = refl
 joined_dotted (name ∷ other ∷ names) h = joined_dotted (other ∷ names) (omega arith)

@@ -23,8 +23,9 @@ use Rattle.bz_command.specs.declared.arguments.Field.{Field}
 use Rattle.bz_attribute_commands.specs.Print.{prints, fields_of, printed}
 use Rattle.bz_rule.proofs.Commands.{lawful}
 use Rattle.bz_rule.proofs.Rebuilt.{kind_dotted}
-use Rattle.bz_rule.proofs.RuleClass.{call_class, class_after, rule_class}
+use Rattle.bz_rule.proofs.RuleClass.{class_after}
 use Rattle.bz_token.specs.Common.{map_or}
+use Rattle.bz_attribute.proofs.Headed.{class_at, rule_class}
 
 -- what an edit leaves of a rule
 pub after_edit : (c : Command) (home : Package) (s : Statement) → is_edit c ≡ true → after c home (Some s) ≡ Some (rule_after c home s)
@@ -40,7 +41,7 @@ next_args f s r ps is are = record { are = are; rule = class_after f s r is; bef
 kind_class : (kind : List ℕ) (s : Statement) (r : Rule) → rule_of s.nodes ≡ Some r → class_of (with_kind kind s).nodes ≡ RuleClass
 kind_class kind s r is =
     let other : Rule = record r { kind = kind_items kind } in
-    let made : class_of (nodes_of other) ≡ RuleClass = call_class (kind_items kind) (segs_of r.args) r.one_comma r.end (kind_dotted kind) in
+    let made : class_of (nodes_of other) ≡ RuleClass = class_at (kind_items kind) (segs_of r.args) r.one_comma r.end (kind_dotted kind) in
     ap (λ (o : Option Rule). class_of (kind_after kind s.nodes o)) is
     ∙ elim (bytes_eq (kind_text r.kind) kind) as (λ b. class_of (if b then s.nodes else nodes_of other) ≡ RuleClass) [ true ↦ rule_class s.nodes r is | false ↦ made ]
 

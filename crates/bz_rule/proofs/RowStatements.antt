@@ -1,17 +1,15 @@
 -- A row is of one statement, and what is known of that by its head.
-use Rattle.std.proofs.Common.{◌≡◌, ◌≤◌, ◌∙◌, ℕ, length, List, [], false, Option, None, Some, is_some, map, option_map, ap, refl, sym, subst, ◌++◌}
-use Rattle.std.specs.Prelude.{unwrap_or, ◌∷◌}
+use Rattle.std.proofs.Common.{◌≡◌, ◌≤◌, ◌∙◌, ℕ, length, List, false, Option, None, Some, is_some, map, option_map, ap, refl, sym, subst}
 use Rattle.bz_tree.specs.Tree.{Statement}
 use Rattle.bz_tree.specs.Rows.{part_view, parts_of}
 use Rattle.bz_tree.specs.declared.row.Part.{Part}
 use Rattle.bz_tree.specs.declared.stmt.Class.{Class}
 use Rattle.bz_tree.specs.private.PartSteps.{content_of, last_beside}
 use Rattle.bz_tree.proofs.FromParts.{statement_of_parts}
-use Rattle.bz_command.specs.Labels.{Name, Package, Target}
+use Rattle.bz_command.specs.Labels.{Name, Target}
 use Rattle.bz_attribute.specs.Heads.{HasHead, IsHeadOf}
 use Rattle.bz_attribute.specs.Marks.{marks, marks_rule}
-use Rattle.bz_attribute.specs.Rules.{Rule, is_text, kind_text, rule_of, name_in}
-use Rattle.bz_attribute.specs.Texts.{shown_text, home_text}
+use Rattle.bz_attribute.specs.Rules.{Rule, is_text, kind_text, rule_of}
 use Rattle.bz_attribute.specs.declared.head.Head.{Head}
 use Rattle.bz_rule.specs.RowViews.{row_value, row_statement}
 use Rattle.bz_rule.specs.private.RowEdits.{HasItsHead}
@@ -41,9 +39,6 @@ has_head s parts class start end head comments is has below =
 -- of what is no rule
 pub unmarked : (target : Target) (s : Statement) → rule_of s.nodes ≡ None → false ≡ marks target s
 unmarked target s none = sym (ap (map_or false (marks_rule target s.start)) none)
-
-pub not_shown : (home : Package) (s : Statement) → rule_of s.nodes ≡ None → [] ≡ shown_text home s
-not_shown home s none = sym (ap (λ x0. map_or [] (λ r. home_text home ++ unwrap_or (name_in r.args) (37 ∷ kind_text r.kind)) x0) none)
 
 -- the name of a rule
 pub named_by : (name : List ℕ) (head : Head) (s : Statement) → IsHeadOf head s → marks (Name name) s ≡ is_text name (option_map (λ text. text.now) head.name)

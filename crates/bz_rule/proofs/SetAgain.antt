@@ -1,20 +1,20 @@
 -- A second `set` of the same changes nothing.
-use Rattle.std.proofs.Common.{◌≡◌, ℕ, ◌<◌, ◌==◌, List, [], ◌∷◌, ◌||◌, true, false, not, Option, None, Some, option_map, length, refl, ap, ◌∙◌, arith, inl, inr}
+use Rattle.std.proofs.Common.{◌≡◌, ℕ, List, [], ◌∷◌, ◌||◌, true, false, not, Option, None, Some, option_map, refl, ap, ◌∙◌, inl, inr}
 use Rattle.std.specs.Prelude.{bytes_eq, codes}
-use Rattle.std.specs.List.{slice_split}
 use Rattle.std.proofs.lemmas.Bool.{cases_Bool, or_parts, or_from, or_right}
 use Rattle.bz_tree.specs.declared.stmt.GroupKind.TheVariants.{RuleCall}
 use Rattle.bz_tree.specs.Tree.{Item, group, Segment, Statement, segs_of}
-use Rattle.bz_attribute.specs.Rules.{Rule, rule_of, call_at, dotted, kind_text, is_named, is_text, first_named, value}
+use Rattle.bz_attribute.specs.Rules.{Rule, rule_of, call_at, kind_text, is_named, is_text, first_named, value}
 use Rattle.bz_attribute.specs.Effects.{argument, edit_first, nodes_of, string, done}
-use Rattle.bz_attribute.specs.Set.{New, NewStrings, is_list_attribute, is_number, is_constant, new_word, new_of, new_value, is_value, set_in, set, sets, joined_by_dots, kind_items, kind_after, with_kind, sets_kind_of}
+use Rattle.bz_attribute.specs.Set.{New, NewStrings, is_list_attribute, is_number, is_constant, new_word, new_of, new_value, is_value, set_in, set, sets, kind_items, kind_after, with_kind, sets_kind_of}
 use Rattle.bz_attribute.proofs.Calls.{rule_from_end}
-use Rattle.bz_command.proofs.Cuts.{some_part}
-use Rattle.bz_rule.proofs.Arguments.{attribute_named, first_after, is_first_named, name_put, same_bytes}
+use Rattle.bz_rule.proofs.Arguments.{attribute_named, first_after, name_put, same_bytes}
 use Rattle.bz_rule.proofs.Commands.Set.{in_stays, in_value, is_written, kind_read, set_absent, set_present}
 use Rattle.bz_rule.proofs.Found.{first_at_end}
 use Rattle.bz_attribute.specs.Lists.{is_list, is_only}
 use Rattle.bz_token.specs.Common.{map_or}
+use Rattle.bz_attribute.proofs.Locals.{is_first_named}
+use Rattle.bz_rule.proofs.Rebuilt.{kind_dotted}
 
 in_named : (attr : List ℕ) (new : New) (a : Segment) → is_named attr a ≡ true → is_named attr (set_in new a) ≡ true
 in_named attr new a named = elim (cases_Bool (is_value new (value a))) [
@@ -79,14 +79,6 @@ set_again attr words args =
             | inr other ↦ set_already attr words (Some a) (set_in new a) (in_value attr new a (is_first_named attr args a e) other)
           ]
     ] refl
-
-joined_dotted : (names : List (List ℕ)) → 0 < length names → dotted true (joined_by_dots names) ≡ true
-joined_dotted [] h = absurd (omega arith)
-joined_dotted (name ∷ []) h = refl
-joined_dotted (name ∷ other ∷ names) h = joined_dotted (other ∷ names) (omega arith)
-
-kind_dotted : (kind : List ℕ) → dotted true (kind_items kind) ≡ true
-kind_dotted kind = joined_dotted (slice_split (λ b. b == 46) kind) (some_part (λ b. b == 46) kind)
 
 rule_again : (kind : List ℕ) (r : Rule) → rule_of (nodes_of (record r { kind = kind_items kind })) ≡ call_at (kind_items kind) (group RuleCall (segs_of r.args) r.one_comma r.end)
 rule_again kind r = rule_from_end [] (kind_items kind) (group RuleCall (segs_of r.args) r.one_comma r.end)

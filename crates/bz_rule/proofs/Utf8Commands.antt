@@ -2,7 +2,7 @@
 use Rattle.std.proofs.Common.{◌≡◌, ℕ, ◌<◌, ◌==◌, List, [], ◌∷◌, ◌++◌, Bool, true, Some, refl, sym, ap, subst, arith, ◌⊎◌, inl, inr, append_assoc, append-nil, eqb-true}
 use Rattle.std.specs.List.{AllByRecursion, flat_map, list_all, onto_first, slice_split}
 use Rattle.std.specs.Str.{IsUtf8, is_utf8}
-use Rattle.std.proofs.lemmas.Bool.{and_parts, cases_Bool, or_cases}
+use Rattle.std.proofs.lemmas.Bool.{and_parts, cases_Bool}
 use Rattle.std.proofs.lemmas.Str.{IsUtf8-append, IsUtf8-from_is_utf8, IsUtf8-past_char, encode_ascii, is_utf8-from_IsUtf8}
 use Rattle.bz_tree.specs.Tree.{Statement}
 use Rattle.bz_layout_laws.specs.EachText.{HasUtf8}
@@ -15,6 +15,7 @@ use Rattle.bz_attribute.specs.Comment.{comment_line, is_blank, trimmed}
 use Rattle.bz_rule.proofs.Commands.{commands_pass}
 use Rattle.bz_rule.proofs.PassingWritten.{PassesWritten}
 use Rattle.bz_rule.proofs.PassingTexts.{WordPasses}
+use Rattle.bz_attribute_commands.proofs.CommentEdits.{blank_low}
 
 -- what stands after an ASCII byte
 after_low : (b : ℕ) (bs : List ℕ) → b < 128 → IsUtf8 (b ∷ bs) → IsUtf8 bs
@@ -66,10 +67,6 @@ quoted_utf8 : (word : List ℕ) → IsUtf8 word → IsUtf8 (quoted word)
 quoted_utf8 word u =
     let quote = low_utf8 34 (omega arith) in
     IsUtf8-append (34 ∷ []) (flat_map written word ++ 34 ∷ []) quote (IsUtf8-append (flat_map written word) (34 ∷ []) (written_after [] word u) quote)
-
--- blanks at the end are ASCII
-blank_low : (b : ℕ) → is_blank b ≡ true → b < 128
-blank_low b h = elim (or_cases (b == 32) (b == 9) h) [ inl is ↦ same_low b 32 is (omega arith) | inr is ↦ same_low b 9 is (omega arith) ]
 
 trimmed_after : (a bs : List ℕ) → IsUtf8 (a ++ bs) → IsUtf8 (a ++ trimmed bs)
 trimmed_after a [] u = u

@@ -8,7 +8,7 @@ ghost use Rattle.bz_rule.specs.Commands as commands;
 use crate::command::Command;
 use crate::statement_row::{StatementRow, execute};
 use bumpalo::Bump;
-use bz_attribute::{Done, Env, Executed, call_at};
+use bz_attribute::{Done, Env, Executed, is_rule};
 use bz_command::Package;
 use bz_memory::NoMemory;
 use bz_tree::Stmt;
@@ -36,7 +36,7 @@ pub fn apply<'a>(
     let Some(stmt) = slot else {
         return Ok(Done::quiet(false));
     };
-    if call_at(&stmt.nodes).is_none() {
+    if !is_rule(&stmt.nodes) {
         return Ok(Done::quiet(false));
     }
     let mut row = Some(StatementRow::of_stmt(alloc, bump, stmt)?);

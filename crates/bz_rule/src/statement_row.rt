@@ -22,7 +22,7 @@ use crate::command::{Action, Command};
 use crate::row_edit::{RuleParts, edit_rule, keeps_head, new_comments};
 use crate::row_parts::{RowParts, with_others};
 use bumpalo::Bump;
-use bz_attribute::{Done, Env, Executed, Head, Parts, Place, call_at, push_stmt};
+use bz_attribute::{Done, Env, Executed, Head, Parts, Place, is_rule, push_stmt};
 use bz_attribute_commands::print::print;
 use bz_command::{Field, Package, Target};
 use bz_layout::put_row;
@@ -299,10 +299,10 @@ fn head_of<'a>(
     requires { map part_view parts.now ≡ parts_of (view stmt.now) }
     ensures { IfOk result (λ head. HasHead head (view stmt.now)) }
 {
-    match call_at(&stmt.nodes) {
-        None => Ok(None),
-        Some(_) => Head::of_parts(alloc, bump, parts, stmt.start, stmt.end),
+    if !is_rule(&stmt.nodes) {
+        return Ok(None);
     }
+    Head::of_parts(alloc, bump, parts, stmt.start, stmt.end)
 }
 
 /// Applies a command to what a slot holds, as `apply` does. An `Err` leaves the slot as it was.

@@ -1,29 +1,7 @@
 -- The first argument of a name.
-use Rattle.std.proofs.Common.{◌≡◌, ℕ, List, [], ◌∷◌, true, false, ◌||◌, if◌then◌else◌, cond, Some, option_map, is_some, filter, refl, ap, sym, ◌∙◌}
+use Rattle.std.proofs.Common.{◌≡◌, ℕ, List, [], ◌∷◌, true, false, if◌then◌else◌, cond, Some, filter, refl}
 use Rattle.bz_tree.specs.Tree.{Segment}
 use Rattle.bz_attribute.specs.Rules.{first_named, is_named}
-use Rattle.bz_attribute.specs.Effects.{edit_first, has}
-
-pub has_first : (attr : List ℕ) (args : List Segment) → has attr args ≡ is_some (first_named attr args)
-has_first attr [] = refl
-has_first attr (a ∷ args) =
-    elim (is_named attr a) as (λ b. b || has attr args ≡ is_some (if b then Some a else first_named attr args)) [ true ↦ refl | false ↦ has_first attr args ]
-
-pub is_first_named : (attr : List ℕ) (args : List Segment) (a : Segment) → first_named attr args ≡ Some a → is_named attr a ≡ true
-is_first_named attr [] a h = absurd cc
-is_first_named attr (b ∷ args) a h =
-    elim (is_named attr b) as (λ t. is_named attr b ≡ t → (if t then Some b else first_named attr args) ≡ Some a → is_named attr a ≡ true) [
-      | true ↦ λ e k. let is : b ≡ a = cc in ap (is_named attr) (sym is) ∙ e
-      | false ↦ λ e k. is_first_named attr args a k
-    ] refl h
-
--- the first of a name, after an edit that leaves the name
-pub first_after : (attr : List ℕ) (g : Segment → Segment) (args : List Segment) → ((a : Segment) → is_named attr a ≡ true → is_named attr (g a) ≡ true)
-    → first_named attr (edit_first (is_named attr) (λ a. g a ∷ []) args) ≡ option_map g (first_named attr args)
-first_after attr g [] named = refl
-first_after attr g (a ∷ args) named =
-    elim (is_named attr a) as (λ t. is_named attr a ≡ t → first_named attr (if t then g a ∷ args else a ∷ edit_first (is_named attr) (λ z. g z ∷ []) args) ≡ option_map g (if t then Some a else first_named attr args))
-    [ true ↦ λ e. rw (named a e) refl | false ↦ λ e. rw e (first_after attr g args named) ] refl
 
 -- the first of a name is the first of those of the name
 pub first_of_named : (attr : List ℕ) (args : List Segment) → first_named attr (filter (is_named attr) args) ≡ first_named attr args

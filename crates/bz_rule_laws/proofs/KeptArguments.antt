@@ -25,11 +25,13 @@ use Rattle.bz_rule.specs.Commands.{Command, after, args_after, mentions}
 use Rattle.bz_rule.proofs.Commands.Comment.{comment_attribute_edits, comment_value_edits}
 use Rattle.bz_rule.proofs.Commands.Rename.{rename_edits}
 use Rattle.bz_rule.proofs.Commands.Replace.{replace_edits}
-use Rattle.bz_rule.proofs.FirstEdits.{EditsFirst, Noting, noted}
+use Rattle.bz_rule.proofs.FirstEdits.{EditsFirst, Noting, noted, named_with}
 use Rattle.bz_rule_laws.specs.Unmentioned.{arguments_in, arguments_of, is_delete, is_unmentioned, may_change, may_change_named, unmentioned}
-use Rattle.bz_rule_laws.proofs.ArgumentNames.{attribute_named, either_way, name_with_value, same_bytes}
 use Rattle.bz_rule_laws.proofs.RuleArguments.{there, there_after}
 use Rattle.bz_token.specs.Common.{is_empty}
+use Rattle.bz_rule.proofs.Arguments.{name_put, same_bytes}
+use Rattle.bz_rule.proofs.Segments.{either_way}
+use Rattle.bz_rule.proofs.Found.{not_false}
 
 -- the edit leaves all that stay
 abbrev Leaves : Command → (List Segment → List Segment) → Type 0
@@ -77,9 +79,6 @@ one_edited : (c : Command) (attr : List ℕ) → may_change c attr ≡ true → 
     → Leaves c (edit_first (is_named attr) (λ a. g a ∷ []))
 one_edited c attr mentioned g named args = first_edited c attr mentioned (λ a. g a ∷ []) (λ a h. one_gone c attr mentioned (g a) (named a h)) args
 
-named_with_value : (attr : List ℕ) (nodes : List Item) (a : Segment) → is_named attr a ≡ true → is_named attr (with_value nodes a) ≡ true
-named_with_value attr nodes a h = ap (is_text attr) (name_with_value nodes a (attribute_named attr a h)) ∙ h
-
 -- a new argument comes after all
 one_added : (c : Command) (attr : List ℕ) → may_change c attr ≡ true → (nodes : List Item) → Leaves c (λ args. args ++ argument attr nodes ∷ [])
 one_added c attr mentioned nodes args =
@@ -94,14 +93,14 @@ either_leaves c b args xs ys h k = either_way (λ zs. unmentioned c zs ≡ unmen
 -- an argument whose elements are filtered
 filtered_goes : (c : Command) (attr : List ℕ) → may_change c attr ≡ true → (f : List Segment → List Segment) (a : Segment) → is_named attr a ≡ true → unmentioned c (filtered f a) ≡ []
 filtered_goes c attr mentioned f a h =
-    either_way (λ zs. unmentioned c zs ≡ []) (loses_all f (value a)) refl (one_gone c attr mentioned (with_value (edit_parts f (value a)) a) (named_with_value attr (edit_parts f (value a)) a h))
+    either_way (λ zs. unmentioned c zs ≡ []) (loses_all f (value a)) refl (one_gone c attr mentioned (with_value (edit_parts f (value a)) a) (named_with attr (edit_parts f (value a)) a h))
 
 -- of a command that mentions all names
 attribute_goes : (c : Command) → ((name : List ℕ) → may_change c name ≡ true) → (a : Segment) → is_attribute a ≡ true → is_unmentioned c a ≡ false
 attribute_goes c all a h = elim (name_of a.nodes) as (λ n. is_some n ≡ true → not (may_change_named c n) ≡ false) [ None ↦ λ k. absurd cc | Some name ↦ λ k. ap not (all name) ] h
 
 attribute_with_value : (nodes : List Item) (a : Segment) → is_attribute a ≡ true → is_attribute (with_value nodes a) ≡ true
-attribute_with_value nodes a h = ap is_some (name_with_value nodes a h) ∙ h
+attribute_with_value nodes a h = ap is_some (name_put nodes a h) ∙ h
 
 each_edited : (c : Command) → ((name : List ℕ) → may_change c name ≡ true) → (f : Segment → List Segment) → ((a : Segment) → is_attribute a ≡ true → unmentioned c (f a) ≡ [])
     → Leaves c (flat_map (λ a. if is_attribute a then f a else a ∷ []))
@@ -149,7 +148,7 @@ add_leaves home attr values args =
     either_leaves c (has attr args) args _ _ (one_edited c attr (same_bytes attr) (with_added home values) named args) (one_added c attr (same_bytes attr) _ args)
   where
     named : (a : Segment) → is_named attr a ≡ true → is_named attr (with_added home values a) ≡ true
-    named a h = either_way (λ (z : Segment). is_named attr z ≡ true) (is_empty (parts (value a))) h (named_with_value attr (edit_first_part (λ ss. ss ++ new_elements home (parts (value a)) values) (value a)) a h)
+    named a h = either_way (λ (z : Segment). is_named attr z ≡ true) (is_empty (parts (value a))) h (named_with attr (edit_first_part (λ ss. ss ++ new_elements home (parts (value a)) values) (value a)) a h)
 
 set_leaves : (attr : List ℕ) (words : List (List ℕ)) → Leaves (Set (ToValues attr words)) (set attr words)
 set_leaves attr words args =
@@ -158,16 +157,12 @@ set_leaves attr words args =
     either_leaves c (has attr args) args _ _ (one_edited c attr (same_bytes attr) (set_in new) (named new) args) (one_added c attr (same_bytes attr) (new_value new) args)
   where
     named : (new : New) (a : Segment) → is_named attr a ≡ true → is_named attr (set_in new a) ≡ true
-    named new a h = either_way (λ (z : Segment). is_named attr z ≡ true) (is_value new (value a)) h (named_with_value attr (new_value new) a h)
+    named new a h = either_way (λ (z : Segment). is_named attr z ≡ true) (is_value new (value a)) h (named_with attr (new_value new) a h)
 
 set_if_absent_leaves : (attr : List ℕ) (words : List (List ℕ)) → Leaves (SetIfAbsent attr words) (set_if_absent attr words)
 set_if_absent_leaves attr words args =
     let c = SetIfAbsent attr words in
     either_leaves c (has attr args) args _ _ refl (one_added c attr (same_bytes attr) (new_value (new_of attr words None)) args)
-
-not_false : (b : Bool) → not b ≡ false → b ≡ true
-not_false true h = refl
-not_false false h = absurd cc
 
 all_goes : (a : Segment) → goes_with_all a ≡ true → is_unmentioned (Remove Every []) a ≡ false
 all_goes a h =
@@ -195,7 +190,7 @@ remove_leaves home (Named attr) (v ∷ values) args =
 put_in_leaves : (c : Command) (attr : List ℕ) → may_change c attr ≡ true → (ss : List Segment) → Leaves c (put_in attr ss)
 put_in_leaves c attr mentioned ss args =
     either_leaves c (has attr args) args _ _
-    (one_edited c attr mentioned (λ a. with_value (edit_first_part (λ there. there ++ ss) (value a)) a) (λ a h. named_with_value attr (edit_first_part (λ there. there ++ ss) (value a)) a h) args)
+    (one_edited c attr mentioned (λ a. with_value (edit_first_part (λ there. there ++ ss) (value a)) a) (λ a h. named_with attr (edit_first_part (λ there. there ++ ss) (value a)) a h) args)
     (one_added c attr mentioned _ args)
 
 move_leaves : (home : Package) (old new : List ℕ) (chosen : Moved) → Leaves (Move old new chosen) (move home old new chosen)

@@ -1,4 +1,3 @@
-mod ArgumentNames
 pub mod CommandsAgain
 mod FirstNamed
 pub mod KeptArguments

@@ -18,12 +18,13 @@ use Rattle.bz_rule.specs.declared.command.Action.TheVariants.{Add, Remove, Set, 
 use Rattle.bz_rule.specs.Commands.{Command, after, args_after, args_done, done_of}
 use Rattle.bz_rule_laws.specs.Again.{HasOnce, IsOnce, IsQuiet, IsSettled, are_apart, are_others, is_steady, sets_a_kind, subject}
 use Rattle.bz_rule_laws.specs.Unmentioned.{arguments_in, arguments_of, is_unmentioned, may_change, may_change_named}
-use Rattle.bz_rule_laws.proofs.FirstNamed.{first_of_named, has_first}
+use Rattle.bz_rule_laws.proofs.FirstNamed.{first_of_named}
 use Rattle.bz_rule_laws.proofs.KeptArguments.{args_left, narrower}
 use Rattle.bz_rule_laws.proofs.RuleArguments.{kind_kept, kind_there, there, there_after}
 use Rattle.bz_rule_laws.proofs.SecondTime.{print_quiet, told, told_there}
 use Rattle.bz_attribute.specs.Replace.{replaces_in}
 use Rattle.bz_token.specs.Common.{map_or}
+use Rattle.bz_attribute.proofs.Locals.{has_first}
 
 -- Of two lists of arguments, those that some attributes are of: all, or those of a name.
 abbrev Alike : Option Attributes → List Segment → List Segment → Type 0

@@ -1,17 +1,12 @@
 -- The arguments of a rule after an edit of them, and after another kind.
-use Rattle.std.proofs.Common.{◌≡◌, ℕ, ◌<◌, ◌==◌, List, [], ◌∷◌, Bool, true, false, Option, Some, None, option_map, is_some, length, if◌then◌else◌, refl, ap, sym, ◌∙◌, arith}
+use Rattle.std.proofs.Common.{◌≡◌, ℕ, ◌<◌, List, [], ◌∷◌, Bool, true, false, Option, Some, None, option_map, is_some, length, if◌then◌else◌, refl, ap, sym, ◌∙◌, arith}
 use Rattle.bz_attribute.proofs.RuleParts.{rule_dotted}
 use Rattle.std.specs.Prelude.{bytes_eq}
-use Rattle.std.specs.List.{slice_split}
 use Rattle.std.proofs.lemmas.Bool.{false≢true}
-use Rattle.bz_tree.specs.declared.stmt.GroupKind.TheVariants.{RuleCall}
-use Rattle.bz_tree.specs.Tree.{group, Segment, Statement, segs_of}
-use Rattle.bz_command.proofs.Cuts.{some_part}
+use Rattle.bz_tree.specs.Tree.{Segment, Statement}
 use Rattle.bz_attribute.specs.Rules.{Rule, dotted, kind_text, rule_of}
 use Rattle.bz_attribute.specs.Effects.{nodes_after, nodes_of, with_args}
 use Rattle.bz_attribute.specs.Set.{joined_by_dots, kind_after, kind_items, with_kind}
-use Rattle.bz_attribute.proofs.Calls.{rule_from_end}
-use Rattle.bz_attribute.proofs.Views.{segments_of}
 use Rattle.bz_attribute.specs.Comment.{comment_rule}
 use Rattle.bz_command.specs.Labels.{Package}
 use Rattle.bz_command.specs.declared.arguments.Commented.TheVariants.{Rule as OfRule}
@@ -19,10 +14,8 @@ use Rattle.bz_command.specs.declared.arguments.Setting.TheVariants.{ToKind}
 use Rattle.bz_rule.specs.declared.command.Action.TheVariants.{Set, Delete, Comment, Print}
 use Rattle.bz_rule.specs.Commands.{Command, after, args_after}
 use Rattle.bz_rule_laws.specs.Again.{is_steady, sets_a_kind}
-
--- the nodes of a rule are read as this rule
-nodes_read : (r : Rule) → dotted true r.kind ≡ true → rule_of (nodes_of r) ≡ Some r
-nodes_read r dots = rule_from_end [] r.kind (group RuleCall (segs_of r.args) r.one_comma r.end) ∙ rw (dots, segments_of r.args) refl
+use Rattle.bz_attribute.proofs.EditedRules.{nodes_read}
+use Rattle.bz_rule.proofs.Rebuilt.{kind_dotted}
 
 -- the arguments of what may be a rule
 abbrev pub there : Option Rule → Option (List Segment)
@@ -37,9 +30,6 @@ joined_dotted : (names : List (List ℕ)) → 0 < length names → dotted true (
 joined_dotted [] h = absurd (omega arith)
 joined_dotted (name ∷ []) h = refl
 joined_dotted (name ∷ other ∷ names) h = joined_dotted (other ∷ names) (omega arith)
-
-kind_dotted : (kind : List ℕ) → dotted true (kind_items kind) ≡ true
-kind_dotted kind = joined_dotted (slice_split (λ b. b == 46) kind) (some_part (λ b. b == 46) kind)
 
 kind_set : (kind : List ℕ) (s : Statement) → there (rule_of (with_kind kind s).nodes) ≡ there (rule_of s.nodes)
 kind_set kind s =

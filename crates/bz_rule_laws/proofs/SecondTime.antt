@@ -10,10 +10,9 @@ use Rattle.bz_command.specs.declared.arguments.Attributes.TheVariants.{Every, Na
 use Rattle.bz_command.specs.declared.arguments.Field.{Field}
 use Rattle.bz_command.specs.declared.arguments.Moved.TheVariants.{Values}
 use Rattle.bz_command.specs.declared.arguments.Setting.TheVariants.{ToKind, ToValues}
-use Rattle.bz_command.proofs.ReadBack.{quoted_value}
-use Rattle.bz_attribute.specs.Rules.{Rule, first_named, is_named, is_text, rule_of, string_value, value, kind_text}
-use Rattle.bz_attribute.specs.Lists.{equals, is_attribute, parts}
-use Rattle.bz_attribute.specs.Effects.{argument, chooses, done, fails, has, is_chosen, not_a_list, slot_done, string, string_item}
+use Rattle.bz_attribute.specs.Rules.{Rule, first_named, is_named, is_text, rule_of, value, kind_text}
+use Rattle.bz_attribute.specs.Lists.{is_attribute, parts}
+use Rattle.bz_attribute.specs.Effects.{argument, chooses, done, fails, has, is_chosen, not_a_list, slot_done, string}
 use Rattle.bz_attribute.specs.Add.{add, adds, fresh, new_elements}
 use Rattle.bz_attribute.specs.Remove.{goes_with_all, remove, removes}
 use Rattle.bz_attribute.specs.Replace.{is_replaced, replace, replaced, replaced_in, replaces, replaces_in}
@@ -26,10 +25,12 @@ use Rattle.bz_rule.specs.declared.command.Action.TheVariants.{Add, Remove, Set, 
 use Rattle.bz_rule.specs.Commands.{Command, after, args_after, args_done, done_of, is_command}
 use Rattle.bz_rule_laws.specs.Again.{IsOnce, IsQuiet, IsSettled, is_steady, subject}
 use Rattle.bz_rule_laws.specs.Unmentioned.{arguments_in, arguments_of}
-use Rattle.bz_rule_laws.proofs.ArgumentNames.{attribute_named, either_way, name_with_value, same_bytes}
-use Rattle.bz_rule_laws.proofs.FirstNamed.{first_after, is_first_named}
 use Rattle.bz_rule_laws.proofs.RuleArguments.{there, there_after}
 use Rattle.bz_token.specs.Common.{is_empty, map_or}
+use Rattle.bz_attribute.proofs.Locals.{is_first_named}
+use Rattle.bz_rule.proofs.Arguments.{attribute_named, name_put, first_after, same_bytes}
+use Rattle.bz_rule.proofs.Segments.{either_way}
+use Rattle.bz_rule.proofs.Commands.Replace.{lists_settled}
 
 -- what the laws of bz_rule say of the effects of commands
 pub record Known : Type 0 where
@@ -92,29 +93,12 @@ set_if_absent_again attr words args =
     elim (has attr args) as (λ b. has attr args ≡ b → has attr (if b then args else args ++ x ∷ []) ≡ true)
     [ true ↦ λ e. e | false ↦ λ e. list_any-append (is_named attr) args (x ∷ []) ∙ or_right (has attr args) _ (or_left (is_named attr x) false (same_bytes attr)) ] refl
 
--- `replace`
-
-replaced_once : (home : Package) (old new : List ℕ) (s : Segment) → is_replaced home old new (replaced home old new s) ≡ false
-replaced_once home old new s =
-    let now : Segment = record s { nodes = string_item new ∷ [] } in
-    let exactly : is_text new (string_value (string_item new ∷ [])) ≡ true = ap (is_text new) (quoted_value new) ∙ same_bytes new in
-    elim (is_replaced home old new s) as (λ b. is_replaced home old new s ≡ b → is_replaced home old new (if b then now else s) ≡ false)
-    [ true ↦ λ e. and_right (equals home old now) _ (ap not exactly) | false ↦ λ e. e ] refl
-
-none_in : (home : Package) (old new : List ℕ) (ss : List Segment) → list_any (is_replaced home old new) (map (replaced home old new) ss) ≡ false
-none_in home old new [] = refl
-none_in home old new (s ∷ ss) = rw (replaced_once home old new s) (none_in home old new ss)
-
-none_in_lists : (home : Package) (old new : List ℕ) (lists : List (List Segment)) → list_any (list_any (is_replaced home old new)) (map (map (replaced home old new)) lists) ≡ false
-none_in_lists home old new [] = refl
-none_in_lists home old new (ss ∷ lists) = rw (none_in home old new ss) (none_in_lists home old new lists)
-
 replaced_in_once : Known → (home : Package) (old new : List ℕ) (a : Segment) → is_attribute a ≡ true → replaces_in home old new (replaced_in home old new a) ≡ false
-replaced_in_once known home old new a h = ap (list_any (list_any (is_replaced home old new))) (known.replaced home old new a h) ∙ none_in_lists home old new (parts (value a))
+replaced_in_once known home old new a h = ap (list_any (list_any (is_replaced home old new))) (known.replaced home old new a h) ∙ lists_settled home old new (parts (value a))
 
 replace_again : Known → (home : Package) (attrs : Attributes) (old new : List ℕ) (args : List Segment) → replaces home attrs old new (replace home attrs old new args) ≡ false
 replace_again known home (Named attr) old new args =
-    ap (map_or false (replaces_in home old new)) (first_after attr (replaced_in home old new) args (λ a h. ap (is_text attr) (name_with_value _ a (attribute_named attr a h)) ∙ h))
+    ap (map_or false (replaces_in home old new)) (first_after attr (replaced_in home old new) args (λ a h. ap (is_text attr) (name_put _ a (attribute_named attr a h)) ∙ h))
     ∙ elim (first_named attr args) as (λ o. first_named attr args ≡ o → map_or false (replaces_in home old new) (option_map (replaced_in home old new) o) ≡ false)
     [ None ↦ λ e. refl | Some a ↦ λ e. replaced_in_once known home old new a (attribute_named attr a (is_first_named attr args a e)) ] refl
 replace_again known home Every old new [] = refl

@@ -1,6 +1,6 @@
 -- What is in the grammar is accepted by the recognizer.
-use Rattle.std.proofs.Common.{◌≡◌, ℕ, List, Bool, true, false, ◌&&◌, cond, refl, sym, ap, ◌∙◌}
-use Rattle.std.proofs.lemmas.Bool.{false≢true}
+use Rattle.std.proofs.Common.{◌≡◌, ℕ, List, Bool, true, false, cond, refl, sym, ap, ◌∙◌}
+use Rattle.std.proofs.lemmas.Bool.{false≢true, and_from}
 use Rattle.bz_tree.specs.declared.stmt.GroupKind.{GroupKind}
 use Rattle.bz_tree.specs.declared.stmt.GroupKind.TheVariants.{Call, RuleCall, Paren, List as ListKind, Dict, ListComp, DictComp}
 use Rattle.bz_tree.specs.declared.role.Role.{Role}
@@ -21,10 +21,6 @@ join_empty (item x xs) = ap (item x) (join_empty xs)
 pub join_assoc : (xs ys zs : Items) → join (join xs ys) zs ≡ join xs (join ys zs)
 join_assoc no_items ys zs = refl
 join_assoc (item x xs) ys zs = ap (item x) (join_assoc xs ys zs)
-
-pub both : (a b : Bool) → a ≡ true → b ≡ true → (a && b) ≡ true
-both true b g h = h
-both false b g h = absurd (false≢true g)
 
 abbrev is_stray : Role → Bool
 is_stray Stray = true
@@ -174,7 +170,7 @@ mutual
 
   pub suffix_run : {x : Item} → IsSuffix x → role_of x ≡ Suffix
   suffix_run (call {kind} {segs} {one_comma = one} {end} is args) = call_role kind segs one end is (args_run args)
-  suffix_run (index i) = ap (λ b. cond b Suffix Stray) (both _ true (index_run i) refl)
+  suffix_run (index i) = ap (λ b. cond b Suffix Stray) (and_from _ true (index_run i) refl)
 
   pub operand_run : {x : Item} → IsOperand x → (p : Goal) (c : Bool) (xs : Items) → accepts (Has p c) xs ≡ true → accepts (Wants p c) (item x xs) ≡ true
   operand_run (ident {x} e) p c xs h = step (Wants p c) x xs Name (role_known x Name e refl) h
@@ -182,16 +178,16 @@ mutual
   operand_run (paren {segs} {one_comma} {end} ts) p c xs h = step (Wants p c) (group Paren segs one_comma end) xs Value (ap (λ b. cond b Value Stray) (tests_run ts)) h
   operand_run (list {segs} {one_comma} {end} ts) p c xs h = step (Wants p c) (group ListKind segs one_comma end) xs Value (ap (λ b. cond b Value Stray) (tests_run ts)) h
   operand_run (dict {segs} {one_comma} {end} es) p c xs h = step (Wants p c) (group Dict segs one_comma end) xs Value (ap (λ b. cond b Value Stray) (entries_run es)) h
-  operand_run (list_comp {before} {nodes} {beside} {one_comma} {end} e) p c xs h = step (Wants p c) (group ListComp (seg before nodes beside no_segs) one_comma end) xs Value (ap (λ b. cond b Value Stray) (both _ true (element_run e) refl)) h
-  operand_run (dict_comp {before} {nodes} {beside} {one_comma} {end} e) p c xs h = step (Wants p c) (group DictComp (seg before nodes beside no_segs) one_comma end) xs Value (ap (λ b. cond b Value Stray) (both _ true (entry_element_run e) refl)) h
+  operand_run (list_comp {before} {nodes} {beside} {one_comma} {end} e) p c xs h = step (Wants p c) (group ListComp (seg before nodes beside no_segs) one_comma end) xs Value (ap (λ b. cond b Value Stray) (and_from _ true (element_run e) refl)) h
+  operand_run (dict_comp {before} {nodes} {beside} {one_comma} {end} e) p c xs h = step (Wants p c) (group DictComp (seg before nodes beside no_segs) one_comma end) xs Value (ap (λ b. cond b Value Stray) (and_from _ true (entry_element_run e) refl)) h
 
   pub tests_run : {segs : Segs} → AreTests segs → each (Wants Alone false) segs ≡ true
   tests_run no_test = refl
-  tests_run (one_test {before} {nodes} t ts) = both _ _ (whole (Wants Alone false) nodes (test_run t Alone no_items refl (refl, refl))) (tests_run ts)
+  tests_run (one_test {before} {nodes} t ts) = and_from _ _ (whole (Wants Alone false) nodes (test_run t Alone no_items refl (refl, refl))) (tests_run ts)
 
   pub args_run : {segs : Segs} → AreArgs segs → each Argument segs ≡ true
   args_run no_arg = refl
-  args_run (one_arg t ts) = both _ _ (arg_run t) (args_run ts)
+  args_run (one_arg t ts) = and_from _ _ (arg_run t) (args_run ts)
 
   pub arg_run : {xs : Items} → IsArg xs → accepts Argument xs ≡ true
   arg_run (positional {xs} t) = argument_run xs (whole (Wants Alone false) xs (test_run t Alone no_items refl (refl, refl)))
@@ -200,7 +196,7 @@ mutual
 
   pub entries_run : {segs : Segs} → AreEntries segs → each (Wants Key false) segs ≡ true
   entries_run no_entry = refl
-  entries_run (one_entry t ts) = both _ _ (entry_run t) (entries_run ts)
+  entries_run (one_entry t ts) = and_from _ _ (entry_run t) (entries_run ts)
 
   pub entry_run : {xs : Items} → IsEntry xs → accepts (Wants Key false) xs ≡ true
   entry_run (entry {xs} {a} {b} c is ta rc tb) = rw is (test_run ta Key (item c b) refl (leave Key false c b Colon (Wants Alone false) (role_known c Colon rc refl) refl refl (whole (Wants Alone false) b (test_run tb Alone no_items refl (refl, refl)))))

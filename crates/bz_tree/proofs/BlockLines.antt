@@ -35,9 +35,6 @@ counted_found t ts more columns opens false (l ∷ ls) is = at_indent (indented 
     at_indent None = refl
     at_indent (Some inner) = more inner (is_colon t) true ∙ ap (found_in true (begun t inner)) is
 
-comment_found : (ts : List Placed) → Found ts → (columns : List ℕ) (opens inside : Bool) → indent_run (record { columns = columns; opens = opens; inside = inside }) ts ≡ found_in inside (record { columns = columns; opens = opens; inside = inside }) (logical_lines ts)
-comment_found ts more columns opens inside = more columns opens inside
-
 line_found : (ts : List Placed) → Found ts → (columns : List ℕ) (opens inside : Bool) → indent_run (record { columns = columns; opens = opens; inside = false }) ts ≡ found_in inside (record { columns = columns; opens = opens; inside = inside }) ([] ∷ logical_lines ts)
 line_found ts more columns opens true = more columns opens false
 line_found ts more columns opens false = more columns opens false

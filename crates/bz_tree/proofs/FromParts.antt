@@ -15,11 +15,11 @@ pub listed_back : (xs : List Item) → list_of (items_of xs) ≡ xs
 listed_back [] = refl
 listed_back (x ∷ xs) = ap (λ ys. x ∷ ys) (listed_back xs)
 
-items_back : (xs : Items) → items_of (list_of xs) ≡ xs
+pub items_back : (xs : Items) → items_of (list_of xs) ≡ xs
 items_back no_items = refl
 items_back (item x xs) = ap (item x) (items_back xs)
 
-segs_back : (ss : Segs) → segs_of (segments ss) ≡ ss
+pub segs_back : (ss : Segs) → segs_of (segments ss) ≡ ss
 segs_back no_segs = refl
 segs_back (seg before nodes suffix ss) = λ i. seg before (items_back nodes i) suffix (segs_back ss i)
 
@@ -43,10 +43,10 @@ last_written text (x ∷ []) (suc i) s r last here new = absurd (omega (arith, l
 last_written text (x ∷ y ∷ ss) zero s r last here new = absurd (omega (arith, last))
 last_written text (x ∷ y ∷ ss) (suc i) s r last here new = ap (λ zs. seg_view x ∷ zs) (last_written text (y ∷ ss) i s r (omega (arith, last)) here new)
 
-segs_joined : (ss : Segs) (end : List (List ℕ)) (one : Bool) (rest : List RowPart) → (segs_parts ss ++ (map above end ++ closing one ∷ [])) ++ rest ≡ segs_parts ss ++ (map above end ++ closing one ∷ rest)
+pub segs_joined : (ss : Segs) (end : List (List ℕ)) (one : Bool) (rest : List RowPart) → (segs_parts ss ++ (map above end ++ closing one ∷ [])) ++ rest ≡ segs_parts ss ++ (map above end ++ closing one ∷ rest)
 segs_joined ss end one rest = simp append_assoc
 
-seg_joined : (before : List (List ℕ)) (nodes : Items) (suffix : Option (List ℕ)) (ss : Segs) (rest : List RowPart) → segs_parts (seg before nodes suffix ss) ++ rest ≡ map above before ++ (items_parts nodes ++ (segment_end ∷ (beside_part suffix ++ (segs_parts ss ++ rest))))
+pub seg_joined : (before : List (List ℕ)) (nodes : Items) (suffix : Option (List ℕ)) (ss : Segs) (rest : List RowPart) → segs_parts (seg before nodes suffix ss) ++ rest ≡ map above before ++ (items_parts nodes ++ (segment_end ∷ (beside_part suffix ++ (segs_parts ss ++ rest))))
 seg_joined before nodes suffix ss rest = simp append_assoc
 
 read_above : (comment_texts : List (List ℕ)) (segs : List Segment) (comments : List (List ℕ)) (nodes : List Item) (outer : List Outer) (rest : List RowPart)

@@ -41,9 +41,6 @@ apart l m c d before = at_line (eqb l m) refl
 step_at : (m d l c b : ℕ) (rest : List ℕ) (n : Bool) (k : ℕ) → (b == 10) ≡ n → (l == m && c == d) ≡ false → offset_run m d (cond n (l + 1) l) (cond n 1 (c + 1)) rest ≡ k → offset_run m d l c (b ∷ rest) ≡ k + 1
 step_at m d l c b rest n k is other more = rw (other, is) (ap (λ j. j + 1) more)
 
-abbrev Found : List ℕ → List ℕ → Type 0
-Found before after = (l c m d : ℕ) → m ≡ l + newlines before → d ≡ column_from c before → offset_run m d l c (before ++ after) ≡ length before
-
 found_at : (n : Bool) (b : ℕ) (bs after : List ℕ) → (b == 10) ≡ n → ((l c m d : ℕ) → m ≡ l + newlines bs → d ≡ column_from c bs → offset_run m d l c (bs ++ after) ≡ length bs)
     → (l c m d : ℕ) → m ≡ l + cond n (1 + newlines bs) (newlines bs) → d ≡ column_from (cond n 1 (c + 1)) bs → offset_run m d l c (b ∷ (bs ++ after)) ≡ length bs + 1
 found_at true b bs after is more l c m d em ed =

@@ -1,6 +1,5 @@
 pub mod Views
 pub mod Borrowed
-pub mod Closing
 pub mod Walking
 pub mod ByLines
 pub mod ByOwns

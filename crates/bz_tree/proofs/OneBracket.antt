@@ -44,7 +44,7 @@ joined w os = record {
 abbrev whole : Walked → List Own → Option Inside
 whole w os = cond (no_empty (has_nodes w.nodes) os) (Some (joined w os)) None
 
-same_either : {A : Type 0} (b : Bool) (x : A) → cond b x x ≡ x
+pub same_either : {A : Type 0} (b : Bool) (x : A) → cond b x x ≡ x
 same_either true x = refl
 same_either false x = refl
 

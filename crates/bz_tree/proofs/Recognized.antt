@@ -1,6 +1,6 @@
 -- The recognizer accepts the statements of the grammar, and nothing else.
 use Rattle.std.proofs.Common.{◌≡◌, ℕ, List, Bool, true, false, ◌&&◌, ◌||◌, refl, ap, ◌∙◌, inl, inr}
-use Rattle.std.proofs.lemmas.Bool.{false≢true, and_parts, or_left, or_right, or_cases}
+use Rattle.std.proofs.lemmas.Bool.{false≢true, and_parts, or_left, or_right, or_cases, and_from}
 use Rattle.bz_tree.specs.declared.stmt.GroupKind.TheVariants.{Load}
 use Rattle.bz_tree.specs.declared.role.Role.{Role}
 use Rattle.bz_tree.specs.declared.role.Role.TheVariants.{Name, Value, Comma, Equals, Augmented}
@@ -11,7 +11,7 @@ use Rattle.bz_tree.specs.Tree.{Item, leaf, group, Items, no_items, item, Segs, n
 use Rattle.bz_tree.specs.Statement.{is_load_word}
 use Rattle.bz_tree.specs.Grammar.{token_role, leaf_role, is_assignment, join, IsExpr, last_test, test, IsString, string, IsLoadArg, loaded, renamed, AreLoadArgs, no_load_arg, load_arg, IsLoad, load, IsStatement, comments, load_statement, expression, assignment}
 use Rattle.bz_tree.specs.private.Machine.{accepts, role_of, after_part, is_value, is_name, is_equals, is_string_item, is_string, is_renamed, is_load_argument, are_load_arguments, are_loaded, is_load_group, is_load, is_nothing, is_statement}
-use Rattle.bz_tree.proofs.Accepted.{join_assoc, both, role_known, leave, whole, Accepts, is_test_part, test_run}
+use Rattle.bz_tree.proofs.Accepted.{join_assoc, role_known, leave, whole, Accepts, is_test_part, test_run}
 use Rattle.bz_tree.proofs.Meant.{Sides, one_side, two_sides, statement_means, named_token, equals_token}
 
 -- expressions
@@ -34,7 +34,7 @@ string_run : {xs : Items} → IsString xs → is_string xs ≡ true
 string_run (string {x} e) = string_item x e
 
 renamed_run : {xs : Items} (n e : Item) → token_role n ≡ Name → token_role e ≡ Equals → IsString xs → is_renamed (item n (item e xs)) ≡ true
-renamed_run n e en ee (string {x} ex) = both _ _ (both _ _ (ap is_name (role_known n Name en refl)) (ap is_equals (role_known e Equals ee refl))) (string_item x ex)
+renamed_run n e en ee (string {x} ex) = and_from _ _ (and_from _ _ (ap is_name (role_known n Name en refl)) (ap is_equals (role_known e Equals ee refl))) (string_item x ex)
 
 load_arg_run : {xs : Items} → IsLoadArg xs → is_load_argument xs ≡ true
 load_arg_run (loaded {xs} s) = or_left (is_string xs) (is_renamed xs) (string_run s)
@@ -42,10 +42,10 @@ load_arg_run (renamed {n} {e} {xs} en ee s) = or_right (is_string (item n (item 
 
 load_args_run : {segs : Segs} → AreLoadArgs segs → are_load_arguments segs ≡ true
 load_args_run no_load_arg = refl
-load_args_run (load_arg a as_) = both _ _ (load_arg_run a) (load_args_run as_)
+load_args_run (load_arg a as_) = and_from _ _ (load_arg_run a) (load_args_run as_)
 
 load_run : {xs : Items} → IsLoad xs → is_load xs ≡ true
-load_run (load is s args) = both _ _ is (both _ _ (string_run s) (load_args_run args))
+load_run (load is s args) = and_from _ _ is (and_from _ _ (string_run s) (load_args_run args))
 
 pub statement_accepted : {xs : Items} → IsStatement xs → is_statement xs ≡ true
 statement_accepted comments = refl

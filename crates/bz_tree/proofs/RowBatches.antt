@@ -75,16 +75,6 @@ pub record IsRowSoFar (first depth : ℕ) (text : List ℕ) (reader : TokenReade
   pub end_is : option_map placed end ≡ last_token given
   pub upright : is_upright (first_token given) ≡ true
 
-pub started : (first depth : ℕ) (text : List ℕ) (reader : TokenReader) (walk : RowWalk) → HasGiven first depth text [] reader → row_state walk ≡ row_start → IsRowSoFar first depth text reader walk None None
-started first depth text reader walk read start = record {
-  given = [];
-  read = read;
-  run = λ rest. ap (λ s. row_run s rest) start;
-  begin_is = refl;
-  end_is = refl;
-  upright = refl;
-}
-
 -- after one more batch
 pub goes_on : (first depth : ℕ) (text : List ℕ) (before reader : TokenReader) (walk passed : RowWalk) (begin end front back : Option Token)
     → (i : IsRowSoFar first depth text before walk begin end) → HasGiven first depth text (i.given ++ batch reader) reader

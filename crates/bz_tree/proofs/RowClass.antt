@@ -27,6 +27,7 @@ use Rattle.bz_token.specs.Common.{is_empty}
 use Rattle.bz_token.specs.Lexical.{is_one_of}
 use Rattle.bz_tree.specs.Kinds.{is_operator_at}
 use Rattle.std.specs.List.{list_any}
+use Rattle.bz_tree.proofs.OneBracket.{same_either}
 
 -- a rule, from some node on
 abbrev from : Naming → List Item → Bool
@@ -95,10 +96,6 @@ never_lost (x ∷ xs) r h = lost_stays r.naming x (ap is_lost (sym (naming_is x 
 after_end : (x : Item) → is_lost (naming_item End x) ≡ true
 after_end (leaf kind text) = refl
 after_end (group kind segs one_comma end) = refl
-
-same_either : {A : Type 0} (b : Bool) (x : A) → cond b x x ≡ x
-same_either true x = refl
-same_either false x = refl
 
 -- a node that another one follows
 call_goes_on : (b : Bool) (kind : GroupKind) (segs : Segs) (one_comma : Bool) (end : List (List ℕ)) (y : Item) → is_lost (naming_item (cond b End Never) y) ≡ false → group (cond b RuleCall kind) segs one_comma end ≡ group kind segs one_comma end

@@ -1,6 +1,6 @@
 -- Parts that are read as a load are those of a load.
 use Rattle.std.proofs.Common.{◌≡◌, ℕ, List, [], ◌∷◌, ◌++◌, map, Bool, true, false, cond, Option, Some, None, refl, sym, ap, ◌∙◌, append_assoc}
-use Rattle.std.proofs.lemmas.Bool.{false≢true, and_parts, or_left, or_right}
+use Rattle.std.proofs.lemmas.Bool.{false≢true, and_parts, or_left, or_right, and_from}
 use Rattle.bz_token.specs.declared.token.Kind.{Kind}
 use Rattle.bz_token.specs.declared.token.Kind.TheVariants.{Keyword}
 use Rattle.bz_tree.specs.declared.stmt.Class.TheVariants.{Load as LoadClass}
@@ -16,7 +16,6 @@ use Rattle.bz_tree.specs.Grammar.{leaf_role}
 use Rattle.bz_tree.specs.Rows.{RowPart, a_token, opening, closing, segment_end, above, beside, beside_part, items_parts, segs_parts}
 use Rattle.bz_tree.specs.private.Machine.{role_of, is_value, is_name, is_equals, is_string, is_renamed, is_load_argument, are_load_arguments, are_loaded, is_load_group, is_load}
 use Rattle.bz_tree.specs.private.LoadSteps.{load_string, load_argument, load_equal, load_kind, load_opening, load_above, load_next, load_run, is_load_row}
-use Rattle.bz_tree.proofs.Accepted.{both}
 
 -- what is no load stays none
 no_next : (p : RowPart) → load_next No p ≡ No
@@ -83,7 +82,7 @@ equal_run (item (group kind segs one_comma end) xs) ps h = absurd (no_group Equa
 
 renamed_is : (n e : Item) (xs : Items) → is_name (role_of n) ≡ true → is_equals (role_of e) ≡ true → is_string xs ≡ true → is_renamed (item n (item e xs)) ≡ true
 renamed_is n e no_items name equals string = absurd (false≢true string)
-renamed_is n e (item x no_items) name equals string = both _ _ (both _ _ name equals) string
+renamed_is n e (item x no_items) name equals string = and_from _ _ (and_from _ _ name equals) string
 renamed_is n e (item x (item y xs)) name equals string = absurd (false≢true string)
 
 argument_leaf : (kind : Kind) (text : List ℕ) (r : Role) → leaf_role kind text ≡ r → (xs : Items) (ps : List RowPart) → load_run (load_argument r) (ended xs ps) ≡ true
@@ -116,7 +115,7 @@ arguments_run no_segs ps h = (refl, h)
 arguments_run (seg before nodes suffix segs) ps h =
     let p = argument_run nodes (after_nodes suffix segs ps) (sym (ap (load_run More) (seg_split before nodes suffix segs ps) ∙ above_run More refl before _) ∙ h) in
     let q = arguments_run segs ps (sym (beside_run suffix (segs_parts segs ++ ps)) ∙ p.1) in
-    (both _ _ p.0 q.0, q.1)
+    (and_from _ _ p.0 q.0, q.1)
 
 abbrev closed_with : List (List ℕ) → Bool → List RowPart → List RowPart
 closed_with end one_comma ps = map above end ++ (closing one_comma ∷ ps)
@@ -127,7 +126,7 @@ bracket_run (seg before nodes suffix segs) end one_comma ps h =
     let rest = closed_with end one_comma ps in
     let p = string_run nodes (after_nodes suffix segs rest) (sym (ap (load_run String) (seg_split before nodes suffix segs rest) ∙ above_run String refl before _) ∙ h) in
     let q = arguments_run segs rest (sym (beside_run suffix (segs_parts segs ++ rest)) ∙ p.1) in
-    (both _ _ p.0 q.0, sym (above_run More refl end (closing one_comma ∷ ps)) ∙ q.1)
+    (and_from _ _ p.0 q.0, sym (above_run More refl end (closing one_comma ∷ ps)) ∙ q.1)
 
 -- the statement
 closed_run : (xs : Items) (suffix : Option (List ℕ)) → load_run Closed (items_parts xs ++ beside_part suffix) ≡ true → xs ≡ no_items
@@ -159,7 +158,7 @@ open_run (item (group kind segs one_comma end) xs) suffix h =
 
 word_leaf : (kind : Kind) (text : List ℕ) (b : Bool) → is_load_word (leaf kind text) ≡ b → (xs : Items) (suffix : Option (List ℕ)) → load_run (cond b Bracket No) (items_parts xs ++ beside_part suffix) ≡ true
     → is_load (item (leaf kind text) xs) ≡ true
-word_leaf kind text true e xs suffix h = let p = open_run xs suffix h in ap (λ ys. is_load (item (leaf kind text) ys)) p.xs_are ∙ both _ _ e p.loaded
+word_leaf kind text true e xs suffix h = let p = open_run xs suffix h in ap (λ ys. is_load (item (leaf kind text) ys)) p.xs_are ∙ and_from _ _ e p.loaded
 word_leaf kind text false e xs suffix h = absurd (no_run (items_parts xs ++ beside_part suffix) h)
 
 word_run : (xs : Items) (suffix : Option (List ℕ)) → load_run Word (items_parts xs ++ beside_part suffix) ≡ true → is_load xs ≡ true

@@ -1,6 +1,6 @@
 -- The parts of a bracket that is open, one more thing at a time.
 use Rattle.std.proofs.Common.{◌≡◌, ℕ, List, [], ◌∷◌, ◌++◌, map, Bool, true, false, ◌&&◌, Option, Some, None, refl, sym, ap, ◌∙◌, append_assoc, append-nil}
-use Rattle.std.proofs.lemmas.Bool.{false≢true, and_parts}
+use Rattle.std.proofs.lemmas.Bool.{false≢true, and_parts, and_from}
 use Rattle.bz_tree.specs.declared.stmt.GroupKind.{GroupKind}
 use Rattle.bz_tree.specs.declared.kinds.Preceding.TheVariants.{Operand}
 use Rattle.bz_tree.specs.declared.stage.Stage.{Stage}
@@ -15,7 +15,6 @@ use Rattle.bz_tree.specs.Rows.{RowPart, opening, segment_end, above, beside, bes
 use Rattle.bz_tree.specs.private.Machine.{next, may_end, accepts, role_of, each}
 use Rattle.bz_tree.specs.private.Steps.{to_last}
 use Rattle.bz_tree.specs.private.RowSteps.{At, nothing, a_comma, a_node, an_end, called, shown_kind, start, read_leaf, one_more, Stand}
-use Rattle.bz_tree.proofs.Accepted.{both}
 
 -- where one stands in a bracket: before the first node of a segment, directly after a comma on this line, directly after a node
 -- that ends on this line, or after the last segment
@@ -155,8 +154,8 @@ segs_push [] s = ap (λ ps. map above s.before ++ (nodes_parts s.nodes ++ (segme
 segs_push (r ∷ ss) s = ap (λ ps. map above r.before ++ (nodes_parts r.nodes ++ (segment_end ∷ (beside_part r.suffix ++ ps)))) (segs_push ss s) ∙ simp append_assoc
 
 pub each_push : (ss : List Segment) (s : Segment) (stage : Stage) → each stage (segs_of ss) ≡ true → accepts stage (items_of s.nodes) ≡ true → each stage (segs_of (ss ++ s ∷ [])) ≡ true
-each_push [] s stage all here = both _ _ here refl
-each_push (r ∷ ss) s stage all here = let p = and_parts _ _ all in both _ _ p.0 (each_push ss s stage p.1 here)
+each_push [] s stage all here = and_from _ _ here refl
+each_push (r ∷ ss) s stage all here = let p = and_parts _ _ all in and_from _ _ p.0 (each_push ss s stage p.1 here)
 
 pub done_push : (ss : List Segment) (s : Segment) → done_of (ss ++ s ∷ []) ≡ one_more (done_of ss)
 done_push [] s = refl

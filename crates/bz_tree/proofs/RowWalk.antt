@@ -26,6 +26,8 @@ use Rattle.bz_tree.proofs.InPlace.{filled_push, filled_last}
 use Rattle.bz_tree.proofs.Sound.{none_is_some, some_injective, same_shape_is}
 use Rattle.bz_tree.proofs.RowParts.{Place, none, fresh, some, over, Bracket, bracket, nodes_of, read_item, read_items, read_of, at_place, done_of, stand_of, shown_item, shown, nodes_parts, all_segs_parts, place_parts, bracket_parts, all_parts, all_push, read_push, shown_push, nodes_more, item_at, accepts_read, never_shown, segs_push, each_push, done_push, is_open, open_push, beside_last, each_last, done_last}
 use Rattle.bz_token.specs.Common.{is_filled}
+use Rattle.bz_tree.proofs.Walking.{level_is}
+use Rattle.std.proofs.lemmas.Option.{cond_some}
 
 -- the same bracket in the walk that builds the tree
 abbrev walked_of : List Segment → Place → Walked
@@ -80,15 +82,8 @@ passed : {A : Type 0} (b : Bool) (x y : A) → cond b None (Some x) ≡ Some y �
 passed false x y h = (refl, some_injective x y h)
 passed true x y h = absurd (none_is_some y h)
 
-taken : {A : Type 0} (b : Bool) (x y : A) → cond b (Some x) None ≡ Some y → (b ≡ true) × (x ≡ y)
-taken true x y h = (refl, some_injective x y h)
-taken false x y h = absurd (none_is_some y h)
-
 abbrev leveled : Option GroupKind → Option Walked → Preceding → Level
 leveled kind w at = record { kind = kind; walked = w; at = at }
-
-level_is : (k k2 : Option GroupKind) (w w2 : Option Walked) (at at2 : Preceding) → k ≡ k2 → w ≡ w2 → at ≡ at2 → leveled k w at ≡ leveled k2 w2 at2
-level_is k k2 w w2 at at2 e f g = rw (e, f, g) refl
 
 -- a step that stays in its bracket
 stays : (kind : Option GroupKind) (ss rr : List Segment) (p q : Place) (gs : List Bracket) (ps : List RowPart) (top : Stand) (step : Option Levels) (new : RowState)
@@ -208,7 +203,7 @@ segment_leads t kind segs (none after) gs new same good goods = absurd (none_is_
 segment_leads t kind segs (fresh end) gs new same good goods = absurd (none_is_some new same)
 segment_leads t kind segs (over before x xs suffix after) gs new same good goods = absurd (none_is_some new same)
 segment_leads t kind segs (some before x xs end) gs new same good goods =
-    let p = taken (may_end (read_items (start (Some kind)) (x ∷ xs)).stage) _ new same in
+    let p = cond_some (may_end (read_items (start (Some kind)) (x ∷ xs)).stage) _ new same in
     let rr = with_last segs before (x ∷ xs) None in
     let w = walked_of segs (some before x xs end) in
     let own : after_own (is_one kind) (comma t) (Some w) ≡ Some (walked_of rr (fresh t.line)) =
@@ -341,7 +336,7 @@ closes kind segs (fresh line) ends same good = record {
   role_is = group_role_is kind (done (walked_of segs (fresh line))) good.0 good.1;
 }
 closes kind segs (some before x xs line) ends same good =
-    let p = taken (may_end (read_items (start (Some kind)) (x ∷ xs)).stage) _ ends same in
+    let p = cond_some (may_end (read_items (start (Some kind)) (x ∷ xs)).stage) _ ends same in
     record {
       parts_are = λ c.
           ap (λ ps. bracket_parts (bracket (Some kind) segs (some before x xs line)) ++ (ps ++ closing c ∷ [])) (sym p.1)
@@ -350,7 +345,7 @@ closes kind segs (some before x xs line) ends same good =
       role_is = group_role_is kind (done (walked_of segs (some before x xs line))) good.0 (segment_good kind segs before (x ∷ xs) None good.1 p.0);
     }
 closes kind segs (over before x xs suffix after) ends same good =
-    let p = taken (may_end (read_items (start (Some kind)) (x ∷ xs)).stage) _ ends same in
+    let p = cond_some (may_end (read_items (start (Some kind)) (x ∷ xs)).stage) _ ends same in
     record {
       parts_are = λ c.
           ap (λ ps. bracket_parts (bracket (Some kind) segs (over before x xs suffix after)) ++ (ps ++ closing c ∷ [])) (sym p.1)

@@ -1,11 +1,10 @@
 -- The view of a node, a group and a segment, level by level.
-use Rattle.std.proofs.Common.{◌≡◌, ℕ, ◌<◌, List, [], ◌∷◌, length, slice_index_or, option_map, sym, ap, arith, rules}
+use Rattle.std.proofs.Common.{◌≡◌, option_map, rules}
 use Rattle.bz_tree.specs.declared.stmt.Leaf.{Leaf}
 use Rattle.bz_tree.specs.declared.stmt.Node.{Token, Group, the_lemmas}
 use Rattle.bz_tree.specs.declared.stmt.Group.{Group as GroupValue, out-Group}
 use Rattle.bz_tree.specs.declared.stmt.Seg.{Seg}
 use Rattle.bz_tree.specs.Tree.{leaf, group, segs_of}
-use Rattle.bz_tree.specs.Statement.{one_segment}
 use Rattle.bz_tree.specs.View.{text_of, node_view, group_view, seg_view, nodes_view, segs_view, texts}
 
 pub view-Token : (t : Leaf) → node_view (Token t) ≡ leaf t.kind (text_of t.text)
@@ -19,11 +18,3 @@ view-group g = search (rules, the_lemmas)
 
 pub view-seg : (s : Seg) → seg_view s ≡ record { before = texts s.before.items; nodes = nodes_view s.nodes.items; suffix = option_map text_of s.suffix }
 view-seg s = search (rules, the_lemmas)
-
-nothing : 0 < 0 → ⊥
-nothing e = omega (arith, e)
-
--- the statement's segment is the first of the list
-pub one_segment-first : (ss : List Seg) (s : Seg) (end : List (List ℕ)) → 0 < length ss → s ≡ slice_index_or ss 0 s → one_segment (segs_view ss) end ≡ one_segment (seg_view s ∷ []) end
-one_segment-first [] s end some e = absurd (nothing some)
-one_segment-first (t ∷ ts) s end some e = ap (λ u. one_segment (seg_view u ∷ []) end) (sym e)

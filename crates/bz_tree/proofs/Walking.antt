@@ -32,7 +32,7 @@ so_far_is w v f e same = ap (λ b. cond b (Some (walked v)) None) same ∙ (ap (
 abbrev leveled : Option GroupKind → Option Walked → Preceding → Level
 leveled kind w at = record { kind = kind; walked = w; at = at }
 
-level_is : (k k2 : Option GroupKind) (w w2 : Option Walked) (at at2 : Preceding) → k ≡ k2 → w ≡ w2 → at ≡ at2 → leveled k w at ≡ leveled k2 w2 at2
+pub level_is : (k k2 : Option GroupKind) (w w2 : Option Walked) (at at2 : Preceding) → k ≡ k2 → w ≡ w2 → at ≡ at2 → leveled k w at ≡ leveled k2 w2 at2
 level_is k k2 w w2 at at2 e f g = rw (e, f, g) refl
 
 pub group_added : (kind : Option GroupKind) (w v : Walk) (at : Preceding) (line : ℕ) (g : GroupValue) → walked v ≡ after_node (line + 0) (node_view (Group g)) (walked w) → v.whole ≡ w.whole

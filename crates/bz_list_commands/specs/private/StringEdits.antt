@@ -3,7 +3,6 @@ use Rattle.std.specs.Prelude.{ℕ, List, [], ◌∷◌, Bool, true, false, ◌&&
 use Rattle.std.specs.List.{flat_map, list_any}
 use Rattle.bz_token.specs.declared.token.Kind.TheVariants.{String}
 use Rattle.bz_tree.specs.Tree.{leaf, Segment}
-use Rattle.bz_tree.specs.Rows.{RowPart, a_token}
 use Rattle.bz_command.specs.Labels.{Package}
 use Rattle.bz_command.specs.Values.{quoted, value_of}
 use Rattle.bz_attribute.specs.Rules.{is_text, only_text, value}
@@ -45,10 +44,6 @@ literal_in _ = None
 
 abbrev pub literal_of : StringEdit → Option (List ℕ)
 literal_of e = literal_in e.meant
-
-abbrev pub means_part : (Option (List ℕ) → Bool) → RowPart → Bool
-means_part p (a_token String text) = p (Some text)
-means_part p _ = false
 
 abbrev pub is_meant : (Option (List ℕ) → Bool) → Segment → Bool
 is_meant p s = p (only_text s.nodes)

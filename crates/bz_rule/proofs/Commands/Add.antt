@@ -9,7 +9,7 @@ use Rattle.bz_attribute.specs.Effects.{argument, done, edit_first, has, list_ite
 use Rattle.bz_attribute.specs.Add.{add, adds, new_elements, with_added, fresh, is_fresh}
 use Rattle.bz_attribute.specs.declared.done.Note.TheVariants.{NotAList}
 use Rattle.bz_rule.proofs.PartLaws.{edit_head, first_part_stays, parts_first_edited}
-use Rattle.bz_rule.proofs.Arguments.{attribute_named, first_same, has_first, is_first_named, rest_same, same_bytes, value_back, value_put}
+use Rattle.bz_rule.proofs.Arguments.{attribute_named, first_same, rest_same, same_bytes, value_back, value_put}
 use Rattle.bz_rule.specs.declared.command.Action.TheVariants.{Add}
 use Rattle.bz_rule.proofs.Local.{add_local, looks_at_one}
 use Rattle.bz_rule.proofs.Lawful.{Lawful, note_unchanged, on_arguments}
@@ -31,6 +31,7 @@ use Rattle.bz_tree.specs.Grammar.{IsArg}
 use Rattle.std.specs.Str.{is_utf8}
 use Rattle.bz_rule.specs.Commands.{Command, IsRead, add_of}
 use Rattle.bz_token.specs.Common.{is_empty}
+use Rattle.bz_attribute.proofs.Locals.{has_first, is_first_named}
 
 pub parts_with : (home : Package) (values : List (List ℕ)) (a : Segment) → is_attribute a ≡ true → is_empty (parts (value a)) ≡ false
     → parts (value (with_added home values a)) ≡ edit_head (λ ss. ss ++ new_elements home (parts (value a)) values) (parts (value a))

@@ -15,7 +15,7 @@ use Rattle.bz_attribute.proofs.Views.{segments_of}
 use Rattle.bz_command.specs.declared.arguments.Commented.{Commented}
 use Rattle.bz_command.specs.declared.arguments.Commented.TheVariants.{Rule as OfRule, Attribute, Value}
 use Rattle.bz_rule.specs.declared.command.Action.TheVariants.{Comment}
-use Rattle.bz_rule.proofs.Arguments.{attribute_named, first_same, has_first, is_first_named, same_bytes, value_put}
+use Rattle.bz_rule.proofs.Arguments.{attribute_named, first_same, same_bytes, value_put}
 use Rattle.bz_rule.proofs.Local.{comment_local, comment_value_local, looks_at_one, note_by_first, note_of}
 use Rattle.bz_rule.specs.OwnComments.{Comments}
 use Rattle.bz_rule.proofs.CommentEdits.{ChangesComments, EditsComments, EditsRuleComments, above_rule, always, comments_edits, own_after, rule_comments, with_above, with_comments}
@@ -36,6 +36,7 @@ use Rattle.bz_tree.specs.Grammar.{IsArg, IsTest}
 use Rattle.std.specs.Str.{is_utf8}
 use Rattle.bz_token.specs.Common.{map_or}
 use Rattle.std.specs.Option.{option_or}
+use Rattle.bz_attribute.proofs.Locals.{has_first, is_first_named}
 
 push_longer : (xs : List (List ℕ)) (y : List ℕ) → xs ++ y ∷ [] ≡ xs → ⊥
 push_longer xs y h = let long : length xs + 1 ≡ length xs = sym (length_push xs y) ∙ ap length h in absurd (omega arith)

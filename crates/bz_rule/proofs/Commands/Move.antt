@@ -12,7 +12,7 @@ use Rattle.bz_attribute.specs.Rules.{first_named, is_named, is_text as is_word, 
 use Rattle.bz_attribute.specs.Lists.{edit_first_part, edit_parts, with_value, is_attribute, parts, equals}
 use Rattle.bz_attribute.specs.Effects.{argument, edit_first, filtered, has, list_item, loses_all, unchosen, is_chosen, chooses}
 use Rattle.bz_attribute.specs.Move.{arrivals, elements_of, move, move_note, moved, moves, put_in}
-use Rattle.bz_rule.proofs.Arguments.{attribute_named, is_first_named, name_put}
+use Rattle.bz_rule.proofs.Arguments.{attribute_named, name_put}
 use Rattle.bz_token.proofs.Classes.{same_bytes}
 use Rattle.std.proofs.lemmas.List.Elements.{filter-append}
 use Rattle.bz_rule.proofs.Commands.Remove.{filtered_kept, filtered_same}
@@ -34,6 +34,7 @@ use Rattle.bz_token.specs.declared.token.Kind.TheVariants.{Identifier}
 use Rattle.bz_tree.specs.Grammar.{IsArg, IsTest}
 use Rattle.std.specs.Str.{is_utf8}
 use Rattle.bz_token.specs.Common.{map_or}
+use Rattle.bz_attribute.proofs.Locals.{is_first_named}
 
 -- an argument has one name
 text_of_one : (old new : List ℕ) (name : Option (List ℕ)) → bytes_eq old new ≡ false → is_word old name ≡ true → is_word new name ≡ false

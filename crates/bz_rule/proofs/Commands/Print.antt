@@ -18,12 +18,12 @@ use Rattle.bz_attribute_commands.specs.Print.{field_name, field_text, fields_of,
 use Rattle.bz_rule.specs.Aside.{IsAside}
 use Rattle.bz_rule.proofs.Lawful.{Lawful, held}
 use Rattle.bz_rule.proofs.NamesKept.{KeepsEach, Leaves, first_kept, name_kept}
-use Rattle.bz_rule.proofs.Rebuilt.{rule_after, rule_with}
 use Rattle.bz_rule.proofs.Aside.{leaves_mentioned}
 use Rattle.std.specs.Str.{is_utf8}
 use Rattle.bz_rule.specs.declared.command.CommandFault.TheVariants.{BadAttribute}
 use Rattle.bz_rule.specs.Commands.{Command, IsRead, print_of}
 use Rattle.bz_token.specs.Common.{map_or}
+use Rattle.bz_attribute.proofs.EditedRules.{rule_after, rule_with}
 
 print_quiet : (home : Package) (fields : List Field) (slot : Option Statement) → (prints home fields slot).changed ≡ false
 print_quiet home fields None = refl

@@ -18,7 +18,7 @@ use Rattle.bz_attribute.specs.Remove.{goes_with_all, remove, removes}
 use Rattle.bz_rule.specs.Aside.{IsAside}
 use Rattle.bz_rule.proofs.Kept.{all_stay, all_stay_in, none_left_in, none_passes, none_passes_in}
 use Rattle.bz_rule.proofs.PartLaws.{parts_edited, parts_stay}
-use Rattle.bz_rule.proofs.Arguments.{attribute_named, first_same, is_first_named, rest_same, same_bytes, value_back, value_put}
+use Rattle.bz_rule.proofs.Arguments.{attribute_named, first_same, rest_same, same_bytes, value_back, value_put}
 use Rattle.bz_rule.specs.OneAttribute.{one_attribute}
 use Rattle.bz_attribute.proofs.Locals.{edit_local}
 use Rattle.bz_rule.proofs.Local.{looks_at_one}
@@ -34,6 +34,8 @@ use Rattle.bz_tree.specs.Grammar.{IsArg}
 use Rattle.std.specs.Str.{is_utf8}
 use Rattle.bz_rule.specs.Commands.{Command, IsRead, remove_of}
 use Rattle.bz_token.specs.Common.{is_empty, map_or}
+use Rattle.bz_attribute.proofs.Locals.{is_first_named}
+use Rattle.bz_list_commands.proofs.PlaceEdits.{edit_local}
 
 empty_or_not : (ss : List Segment) → not (is_empty ss) && is_empty ss ≡ false
 empty_or_not [] = refl

@@ -14,7 +14,7 @@ use Rattle.bz_attribute.specs.Lists.{edit_parts, equals, is_attribute, parts, wi
 use Rattle.bz_attribute.specs.Effects.{done, edit_first, string_item}
 use Rattle.bz_attribute.specs.Replace.{is_replaced, replaced, replaced_in, replace, replaces, replaces_in}
 use Rattle.bz_command.proofs.ReadBack.{quoted_value}
-use Rattle.bz_rule.proofs.Arguments.{attribute_named, first_after, is_first_named, name_put, rest_same, same_bytes, value_back, value_put}
+use Rattle.bz_rule.proofs.Arguments.{attribute_named, first_after, name_put, rest_same, same_bytes, value_back, value_put}
 use Rattle.bz_attribute.proofs.Locals.{edit_local}
 use Rattle.bz_rule.proofs.Local.{looks_at_one}
 use Rattle.bz_rule.proofs.FirstEdits.{EditsFirst, edits_first, named_with}
@@ -35,9 +35,11 @@ use Rattle.bz_tree.specs.Grammar.{IsArg, IsTest}
 use Rattle.std.specs.Str.{is_utf8}
 use Rattle.bz_rule.specs.Commands.{Command, IsRead, replace_of}
 use Rattle.bz_token.specs.Common.{map_or}
+use Rattle.bz_attribute.proofs.Locals.{is_first_named}
+use Rattle.bz_list_commands.proofs.PlaceEdits.{edit_local}
 
 -- an element that was replaced is exactly `new`
-settled : (home : Package) (old new : List ℕ) (s : Segment) → is_replaced home old new (replaced home old new s) ≡ false
+pub settled : (home : Package) (old new : List ℕ) (s : Segment) → is_replaced home old new (replaced home old new s) ≡ false
 settled home old new s = elim (cases_Bool (is_replaced home old new s)) [
   | inl is ↦
       let e : replaced home old new s ≡ record s { nodes = string_item new ∷ [] } = rw is refl in
@@ -47,11 +49,11 @@ settled home old new s = elim (cases_Bool (is_replaced home old new s)) [
   | inr other ↦ let e : replaced home old new s ≡ s = rw other refl in ap (is_replaced home old new) e ∙ other
 ]
 
-all_settled : (home : Package) (old new : List ℕ) (ss : List Segment) → list_any (is_replaced home old new) (map (replaced home old new) ss) ≡ false
+pub all_settled : (home : Package) (old new : List ℕ) (ss : List Segment) → list_any (is_replaced home old new) (map (replaced home old new) ss) ≡ false
 all_settled home old new [] = refl
 all_settled home old new (s ∷ ss) = ap (λ (t : Bool). t || list_any (is_replaced home old new) (map (replaced home old new) ss)) (settled home old new s) ∙ all_settled home old new ss
 
-lists_settled : (home : Package) (old new : List ℕ) (lists : List (List Segment)) → list_any (list_any (is_replaced home old new)) (map (map (replaced home old new)) lists) ≡ false
+pub lists_settled : (home : Package) (old new : List ℕ) (lists : List (List Segment)) → list_any (list_any (is_replaced home old new)) (map (map (replaced home old new)) lists) ≡ false
 lists_settled home old new [] = refl
 lists_settled home old new (ss ∷ lists) = rw (all_settled home old new ss) (lists_settled home old new lists)
 

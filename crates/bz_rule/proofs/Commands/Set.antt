@@ -19,8 +19,8 @@ use Rattle.bz_command.specs.declared.arguments.Setting.TheVariants.{ToKind, ToVa
 use Rattle.bz_rule.specs.declared.command.Action.TheVariants.{Set, SetIfAbsent}
 use Rattle.bz_command.specs.Labels.{Package}
 use Rattle.bz_attribute.specs.Lists.{with_value, is_attribute, is_list, is_only}
-use Rattle.bz_rule.proofs.Arguments.{attribute_named, first_same, has_first, is_first_named, rest_same, same_bytes, value_put}
-use Rattle.bz_rule.proofs.Local.{looks_at_one, set_if_absent_local, set_local}
+use Rattle.bz_rule.proofs.Arguments.{attribute_named, first_same, rest_same, same_bytes, value_put}
+use Rattle.bz_rule.proofs.Local.{looks_at_one, set_local}
 use Rattle.bz_rule.proofs.Lawful.{Lawful, on_arguments, passed, held, none_of_either}
 use Rattle.bz_rule.proofs.NamesKept.{KeepsEach, Leaves, append_kept, edit_one_kept, first_kept, has_kept, put_kept, taken}
 use Rattle.bz_rule.proofs.Aside.{leaves_mentioned}
@@ -46,6 +46,8 @@ use Rattle.std.specs.Str.{is_utf8}
 use Rattle.bz_rule.specs.declared.command.CommandFault.TheVariants.{WrongCount, BadAttribute}
 use Rattle.bz_rule.specs.Commands.{Command, IsRead, on_attribute, set_if_absent_of, set_kind_of, set_of, takes_one}
 use Rattle.bz_token.specs.Common.{map_or}
+use Rattle.bz_attribute.proofs.Locals.{has_first, is_first_named}
+use Rattle.bz_attribute_commands.proofs.SetEdits.{set_if_absent_local}
 
 -- what is written is what was meant
 

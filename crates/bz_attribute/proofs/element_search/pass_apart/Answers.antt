@@ -4,14 +4,11 @@ use Rattle.bz_command.specs.Values.{value_of}
 use Rattle.bz_token.specs.Common.{map_or}
 use Rattle.bz_attribute.specs.Lists.{same}
 use Rattle.bz_attribute.specs.private.ListParts.{bare_string}
-use Rattle.bz_attribute.proofs.ElementSearch.{sought_more, sought_none}
+use Rattle.bz_attribute.proofs.ElementSearch.{sought_more}
 use Rattle.bz_attribute.proofs.ListElements.{bare_there}
 use Rattle.bz_attribute.proofs.Slices.{rest_seen}
 use Rattle.bz_attribute.proofs.ValueElements.{next_here}
 use Rattle.bz_attribute.proofs.element_search.pass_apart.Goals as goal
-
-pub loop-text-init : goal.loop-text-init
-loop-text-init c = record { within = search rules; after = search rules; sought = λ home. sought_none home c.args.word.now (map part_view c.args.parts.now) c.args.from }
 
 pub loop-text-preserved : goal.loop-text-preserved
 loop-text-preserved c =

@@ -1,6 +1,6 @@
 use Rattle.std.proofs.Common.{rules, map}
 use Rattle.bz_tree.specs.Rows.{part_view}
-use Rattle.bz_attribute.proofs.ValueElements.{all_passed, none_passed, one_passed}
+use Rattle.bz_attribute.proofs.ValueElements.{none_passed, one_passed}
 use Rattle.bz_attribute.proofs.elements.elements_end.Goals as goal
 
 pub loop-to-init : goal.loop-to-init
@@ -12,6 +12,3 @@ loop-to-preserved c = record {
   after = search rules;
   passed = one_passed (map part_view c.args.parts.now) c.args.from c.loop-to.at c.in-Some.ensures.some.0 c.in-Some.to c.in-Some.ensures.some.1 c.loop-to.invariant.passed c.in-Some.ensures.some.2;
 }
-
-pub returns-clause-elements : goal.returns-clause-elements
-returns-clause-elements c = λ rest after read. all_passed (map part_view c.args.parts.now) c.args.from c.loop-to.at rest after c.loop-to.invariant.passed c.in_default.ensures.none read

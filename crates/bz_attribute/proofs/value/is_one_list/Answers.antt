@@ -10,8 +10,3 @@ returns-then-begins_list-clause-told c = λ nodes after are.
     let qs = map part_view c.args.parts.now in
     let left = c.ends_value.ensures ∙ ap ends_value (rest_seen c.args.parts.now c.item_len.result ∙ ap (λ n. drop n qs) c.item_len.ensures.len) in
     (λ i. (sym c.if-begins_list.true ∙ c.begins_list.ensures) i && left i) ∙ only_told nodes after qs are
-
-pub returns-else-begins_list-clause-told : goal.returns-else-begins_list-clause-told
-returns-else-begins_list-clause-told c = λ nodes after are.
-    let qs = map part_view c.args.parts.now in
-    c.if-begins_list.false ∙ (λ i. (sym c.if-begins_list.false ∙ c.begins_list.ensures) i && ends_value (drop (item_len qs) qs)) ∙ only_told nodes after qs are

@@ -1,5 +1,4 @@
-use Rattle.std.proofs.Common.{◌<◌, arith, drop, length, length-drop, refl, map, sym, ◌∙◌}
-use Rattle.std.proofs.lemmas.List.{take_rest}
+use Rattle.std.proofs.Common.{refl, map, sym, ◌∙◌}
 use Rattle.bz_tree.specs.Rows.{part_view}
 use Rattle.bz_attribute.proofs.OnlyLists.{only_there}
 use Rattle.bz_attribute.proofs.Slices.{rest_seen}
@@ -11,8 +10,3 @@ returns-then-not-is_one_list-clause-list c = λ nodes after read. sym (c.is_one_
 pub returns-clause-list : goal.returns-clause-list
 returns-clause-list c = λ nodes after read.
     only_there nodes after (map part_view c.args.parts.now) c.args.value _ read refl (sym (c.is_one_list.ensures.told nodes after (rest_seen c.args.parts.now c.args.value ∙ read)) ∙ c.if-not-is_one_list.false)
-
-pub returns-clause-within : goal.returns-clause-within
-returns-clause-within c =
-    let some : 0 < length (drop c.args.value c.args.parts.now) = rw take_rest at (c.is_one_list.ensures.some c.if-not-is_one_list.false) in
-    omega (arith, some, length-drop c.args.value c.args.parts.now)

@@ -3,7 +3,7 @@ use Rattle.bz_tree.specs.declared.stmt.Node.{Node}
 use Rattle.bz_tree.specs.Tree.{Segment}
 use Rattle.bz_tree.specs.View.{nodes_view, seg_view, segs_view}
 use Rattle.bz_attribute.specs.Rules.{string_value}
-use Rattle.bz_attribute.proofs.Groups.{view_of_seg}
+use Rattle.bz_tree.proofs.Views.{view-seg}
 use Rattle.bz_attribute_commands.specs.private.PrintSteps.{element_word, spaced_from}
 use Rattle.bz_attribute_commands.proofs.Printed.{spaced_all, next_viewed}
 use Rattle.bz_attribute_commands.proofs.print.push_words.Goals as goal
@@ -22,7 +22,7 @@ loop-element-init c =
 pub loop-element-preserved : goal.loop-element-preserved
 loop-element-preserved c =
     let word : map_or [] word_form (string_value (nodes_view c.deref.result.now)) ≡ element_word (seg_view c.element-item.result) =
-    ap (λ (ns : List Node). map_or [] word_form (string_value (nodes_view ns))) c.deref.ensures.value ∙ ap (λ (s : Segment). map_or [] word_form (string_value s.nodes)) (sym (view_of_seg c.element-item.result)) in
+    ap (λ (ns : List Node). map_or [] word_form (string_value (nodes_view ns))) c.deref.ensures.value ∙ ap (λ (s : Segment). map_or [] word_form (string_value s.nodes)) (sym (view-seg c.element-item.result)) in
     record {
       utf8 = search rules;
       written =

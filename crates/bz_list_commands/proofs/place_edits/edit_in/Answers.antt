@@ -9,16 +9,10 @@ use Rattle.bz_list_commands.specs.private.WrittenParts.{IsWithin}
 use Rattle.bz_list_commands.proofs.PlaceEdits.{quiet_place, written_place}
 use Rattle.bz_list_commands.proofs.place_edits.edit_in.Goals as goal
 
-pub returns-then-not-may_change : goal.returns-then-not-may_change
-returns-then-not-may_change c =
-    quiet_place (edit_by c.args.edit) (changes_by c.args.edit) c.args.place (map part_view c.args.parts.now) (map part_view c.args.new.now.items) c.none.result
-    (c.none.ensures ∙ ap (λ (d : Done). record { done = d; place = record { from = 0; to = 0 } }) c.quiet.ensures)
-    (λ args there. c.may_change.ensures c.if-not-may_change.true args (slice_seen c.args.parts.now c.args.place.from (c.args.place.to - c.args.place.from) ∙ there))
-
 pub returns-then-not-written : goal.returns-then-not-written
 returns-then-not-written c =
-    quiet_place (edit_by c.args.edit) (changes_by c.args.edit) c.args.place (map part_view c.args.parts.now) (map part_view c.edit_arguments.new.out.items) c.none-then-not-written.result
-    (c.none-then-not-written.ensures ∙ ap (λ (d : Done). record { done = d; place = record { from = 0; to = 0 } }) c.quiet-then-not-written.ensures)
+    quiet_place (edit_by c.args.edit) (changes_by c.args.edit) c.args.place (map part_view c.args.parts.now) (map part_view c.edit_arguments.new.out.items) c.none.result
+    (c.none.ensures ∙ ap (λ (d : Done). record { done = d; place = record { from = 0; to = 0 } }) c.quiet.ensures)
     (λ args there. sym (c.in_ok-written.ensures.edited args (slice_seen c.args.parts.now c.args.place.from (c.args.place.to - c.args.place.from) ∙ there)).changed ∙ not-true c.in_ok-written.written.changed c.if-not-written.true)
 
 pub returns : goal.returns

@@ -1,5 +1,6 @@
-use Rattle.bz_rule.proofs.Rebuilt.{with_args_same, with_args_twice}
+use Rattle.bz_rule.proofs.Rebuilt.{with_args_same}
 use Rattle.bz_rule.proofs.laws.edits_of_arguments_compose.Goals as goal
+use Rattle.bz_attribute.proofs.EditedRules.{with_args_twice}
 
 pub returns-clause-twice : goal.returns-clause-twice
 returns-clause-twice c = with_args_twice

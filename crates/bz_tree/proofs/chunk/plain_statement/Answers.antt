@@ -1,5 +1,4 @@
-use Rattle.std.proofs.Common.{map, option_map, sym, ap, ◌∙◌, arith}
-use Rattle.std.proofs.lemmas.Grind.{common_steps}
+use Rattle.std.proofs.Common.{map, option_map, sym, ap, ◌∙◌}
 use Rattle.bz_token.specs.Places.{placed}
 use Rattle.bz_tree.specs.Tree.{Segment, items_of}
 use Rattle.bz_tree.specs.View.{seg_view, nodes_view}
@@ -21,6 +20,3 @@ returns-clause-statement c =
     plain_is (map placed c.args.tokens.now) (seg_view c.in-Some.seg) _ (sym c.in_ok-seg.ensures.value ∙ ap (option_map seg_view) c.in-Some.is)
     (ap (λ (s : Segment). is_statement (items_of s.nodes)) (view-seg c.in-Some.seg) ∙ ap (λ ns. is_statement (items_of (nodes_view ns))) (sym c.deref.ensures.value) ∙ sym c.is_statement.ensures ∙ c.if-not-is_statement.false)
     c.with_class.ensures.value
-
-pub returns-clause-borrowed : goal.returns-clause-borrowed
-returns-clause-borrowed c = grind (arith, common_steps)

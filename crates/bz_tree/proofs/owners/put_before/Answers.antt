@@ -1,5 +1,4 @@
 use Rattle.std.proofs.Common.{ap, ◌∙◌, arith}
-use Rattle.std.proofs.lemmas.Grind.{common_steps}
 use Rattle.bz_tree.specs.Borrowed.{owned, owned_in, owned_of}
 use Rattle.bz_tree.proofs.Borrowed.{owned_push}
 use Rattle.bz_tree.proofs.owners.put_before.Goals as goal
@@ -10,6 +9,3 @@ returns-in_ok-push-clause-borrowed c =
     let some = ap owned_of c.in-Some.is in
     let suffix = ap owned_of c.take.ensures.value in
     omega (arith, before, some, suffix)
-
-pub returns-in_ok-push-clause-value : goal.returns-in_ok-push-clause-value
-returns-in_ok-push-clause-value c = grind (arith, common_steps)

@@ -9,8 +9,3 @@ pub returns-in-None : goal.returns-in-None
 returns-in-None c =
     let words : List (List ℕ) = c.args.self.now.words.now in
     sym (none_same c.args.home.now words) ∙ ap (λ (v : Option (List ℕ)). list_any (λ w. map_or false (λ value. same c.args.home.now value w) v) words) (sym c.in-None.ensures.none)
-
-pub returns-in-Some : goal.returns-in-Some
-returns-in-Some c =
-    let words : List (List ℕ) = c.args.self.now.words.now in
-    c.has.ensures ∙ ap (λ (v : Option (List ℕ)). list_any (λ w. map_or false (λ value. same c.args.home.now value w) v) words) (sym c.in-Some.ensures.some)

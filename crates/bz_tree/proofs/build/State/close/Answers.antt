@@ -1,5 +1,4 @@
 use Rattle.std.proofs.Common.{map, ap, ◌∙◌, arith}
-use Rattle.std.proofs.lemmas.Grind.{common_steps}
 use Rattle.bz_tree.specs.Borrowed.{total}
 use Rattle.bz_tree.specs.private.BorrowedSteps.{frame_owned}
 use Rattle.bz_tree.proofs.Borrowed.{owned_pop}
@@ -18,27 +17,3 @@ returns-clause-borrowed c =
     let inner = ap frame_owned c.replace-walk.ensures.value in
     let group = rw c.in-Some-2.is at c.in_ok-group.ensures.borrowed in
     omega (arith, outer, top, inner, group, c.in_ok-add_group.ensures.borrowed)
-
-pub returns-in_default-clause-value : goal.returns-in_default-clause-value
-returns-in_default-clause-value c = grind (arith, common_steps)
-
-pub returns-in_default-clause-borrowed : goal.returns-in_default-clause-borrowed
-returns-in_default-clause-borrowed c = grind (arith, common_steps)
-
-pub returns-then-not-same_shape-clause-value : goal.returns-then-not-same_shape-clause-value
-returns-then-not-same_shape-clause-value c = grind (arith, common_steps)
-
-pub returns-then-not-same_shape-clause-borrowed : goal.returns-then-not-same_shape-clause-borrowed
-returns-then-not-same_shape-clause-borrowed c = grind (arith, common_steps)
-
-pub returns-in_default-pop-clause-value : goal.returns-in_default-pop-clause-value
-returns-in_default-pop-clause-value c = grind (arith, common_steps)
-
-pub returns-in_default-pop-clause-borrowed : goal.returns-in_default-pop-clause-borrowed
-returns-in_default-pop-clause-borrowed c = grind (arith, common_steps)
-
-pub returns-in_default-2-clause-value : goal.returns-in_default-2-clause-value
-returns-in_default-2-clause-value c = grind (arith, common_steps)
-
-pub returns-clause-value : goal.returns-clause-value
-returns-clause-value c = grind (arith, common_steps)

@@ -1,5 +1,4 @@
 use Rattle.std.proofs.Common.{map, ap, ◌∙◌, arith}
-use Rattle.std.proofs.lemmas.Grind.{common_steps}
 use Rattle.bz_tree.specs.Borrowed.{total}
 use Rattle.bz_tree.specs.private.BorrowedSteps.{frame_owned}
 use Rattle.bz_tree.proofs.Borrowed.{owned_push}
@@ -11,6 +10,3 @@ returns-clause-borrowed c =
     let moved = ap frame_owned c.replace.ensures.value in
     let left = ap frame_owned c.replace.ensures.after in
     omega (arith, outer, moved, left, c.new-frame.ensures.borrowed)
-
-pub returns-clause-value : goal.returns-clause-value
-returns-clause-value c = grind (arith, common_steps)

@@ -1,6 +1,4 @@
 use Rattle.std.proofs.Common.{ap, ◌∙◌, arith}
-use Rattle.std.proofs.lemmas.Grind.{common_steps}
-use Rattle.bz_tree.specs.declared.stmt.Node.{the_lemmas}
 use Rattle.bz_tree.specs.declared.stmt.Seg.{Seg}
 use Rattle.bz_tree.specs.Borrowed.{owned, owned_in, owned_of}
 use Rattle.bz_tree.specs.private.BorrowedSteps.{nodes_owned, segs_owned}
@@ -20,6 +18,3 @@ returns-clause-borrowed c =
     let suffix_left = ap (λ (s : Seg). owned_of s.suffix) c.replace.ensures.after ∙ ap owned_of c.empty_segment.ensures.suffix in
     let segs = ap segs_owned c.in_ok-push.ensures.items ∙ seg_push w.segs.items c.replace.result in
     omega (arith, before, after, before_moved, before_left, nodes_moved, nodes_left, suffix_moved, suffix_left, segs)
-
-pub returns-clause-value : goal.returns-clause-value
-returns-clause-value c = grind (arith, common_steps, the_lemmas)

@@ -1,5 +1,4 @@
 use Rattle.std.proofs.Common.{ap, ◌∙◌, arith}
-use Rattle.std.proofs.lemmas.Grind.{common_steps}
 use Rattle.bz_tree.specs.Borrowed.{owned, owned_in, owned_of, node_owned}
 use Rattle.bz_tree.specs.private.BorrowedSteps.{nodes_owned}
 use Rattle.bz_tree.proofs.Borrowed.{owned_more, owned_push}
@@ -15,6 +14,3 @@ returns-clause-borrowed c =
     on_both c.put_above.result
     (λ before after. omega (arith, ap owned_in before ∙ owned_more owned c.put_before.new.seg.before.items w.after.items, ap owned_in after, suffix, nodes, nodes_kept, c.in_ok-put_before.ensures.borrowed))
     c.put_above.ensures.before c.put_above.ensures.after
-
-pub returns-clause-value : goal.returns-clause-value
-returns-clause-value c = grind (arith, common_steps)

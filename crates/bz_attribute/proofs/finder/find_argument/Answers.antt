@@ -5,8 +5,8 @@ use Rattle.bz_tree.specs.Rows.{part_view}
 use Rattle.bz_attribute.specs.Rules.{is_text}
 use Rattle.bz_attribute.specs.Finder.{flat_name}
 use Rattle.bz_attribute.proofs.FinderSteps.{depth_bound, one_on}
-use Rattle.bz_attribute.proofs.finder.find_from.Goals as goal
-use Rattle.bz_attribute.proofs.finder.find_from.Goals.{else-begins-via-then-begins+else-begins_with, else-begins-via-else-begins}
+use Rattle.bz_attribute.proofs.finder.find_argument.Goals as goal
+use Rattle.bz_attribute.proofs.finder.find_argument.Goals.{else-begins-via-then-begins+else-begins_with, else-begins-via-else-begins}
 
 pub loop-i-preserved : goal.loop-i-preserved
 loop-i-preserved c =
