@@ -39,7 +39,7 @@ pub use head::Head;
 pub use lists::{elements_at, is_attribute, is_list};
 pub use next_argument::next_place;
 pub use place::{Place, all_arguments, new_place, place_of};
-pub use row_args::{Parts, push_stmt, read_arguments};
+pub use row_args::{push_stmt, read_arguments};
 pub use row_kind::kind_place;
 pub use rule::{
     Rule, call_at, find, first_named, ident_of, is_named, is_string, name_of, only_text, rule_of,
@@ -48,4 +48,5 @@ pub use rule::{
 pub use texts::{label, push_home};
 pub use value::{only_list, value_end};
 pub use word_set::WordSet;
+pub use bz_tree::Parts;
 pub use written::{begin_argument, literal_in, push_element, push_string, push_token};
