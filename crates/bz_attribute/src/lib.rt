@@ -26,6 +26,7 @@ mod written;
 
 pub use apart::literal_apart;
 pub use arguments::{FirstArgument, first_argument};
+pub use bz_tree::Parts;
 pub use done::{Done, Executed, Note};
 pub use edit::Edit;
 pub use element_labels::labels_of;
@@ -48,5 +49,4 @@ pub use rule::{
 pub use texts::{label, push_home};
 pub use value::{only_list, value_end};
 pub use word_set::WordSet;
-pub use bz_tree::Parts;
 pub use written::{begin_argument, literal_in, push_element, push_string, push_token};

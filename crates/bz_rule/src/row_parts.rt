@@ -29,7 +29,11 @@ pub(crate) fn with_others<'a>(
 }
 
 /// Puts others in a place of a list. `Err`: memory was refused, and the list is as it was.
-pub(crate) fn put_in<'a>(list: &mut Parts<'a>, place: Place, new: &[Part<'a>]) -> Result<(), NoMemory>
+pub(crate) fn put_in<'a>(
+    list: &mut Parts<'a>,
+    place: Place,
+    new: &[Part<'a>],
+) -> Result<(), NoMemory>
     requires { (place.from ≤ place.to) × (place.to ≤ length list.old.items) }
     ensures ok { OnOk result (list.new.items ≡ splice list.old.items place.from place.to new.now) }
     ensures err { OnErr result (list.new.items ≡ list.old.items) }

@@ -62,11 +62,7 @@ impl<'a> Model for StatementRow<'a> {
 
 impl<'a> StatementRow<'a> {
     /// The statement of a row. What commands make of it stands in the arena.
-    pub fn of_row(
-        alloc: Global,
-        bump: &'a Bump,
-        row: Row<'a>,
-    ) -> Result<StatementRow<'a>, NoMemory>
+    pub fn of_row(alloc: Global, bump: &'a Bump, row: Row<'a>) -> Result<StatementRow<'a>, NoMemory>
         requires { (s : Statement) × ((s.class ≡ class_of s.nodes) × IsRowOf s row) }
         ensures { IfOk result (λ stmt. (s : Statement) → IsRowOf s row.entry → stmt ≡ s) }
     {
