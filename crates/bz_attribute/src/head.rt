@@ -42,7 +42,7 @@ impl<'a> Head<'a> {
             → HasHead found s) }
     {
         match row.class {
-            Class::Rule => Head::of_parts(alloc, bump, row.parts, row.start, row.end),
+            Class::Rule => Head::of_parts(alloc, bump, &row.parts, row.start, row.end),
             _ => Ok(None),
         }
     }

@@ -25,6 +25,7 @@ mod written;
 
 pub use apart::literal_apart;
 pub use arguments::{FirstArgument, first_argument};
+pub use bz_tree::Parts;
 pub use done::{Done, Executed, Note};
 pub use edit::Edit;
 pub use element_labels::labels_of;
@@ -37,7 +38,7 @@ pub use finder::find_argument;
 pub use head::Head;
 pub use lists::{elements_at, is_list};
 pub use place::{Place, all_arguments, new_place, place_of};
-pub use row_args::{Parts, push_stmt, read_arguments};
+pub use row_args::{push_stmt, read_arguments};
 pub use row_kind::kind_place;
 pub use rule::{is_rule, only_text, value_of};
 pub use texts::{label, push_home};

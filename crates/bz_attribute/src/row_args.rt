@@ -9,12 +9,9 @@ ghost use Rattle.bz_tree.specs.Rows.{above, beside_part, closing, opening, item_
 
 use bumpalo::Bump;
 use bz_memory::{NoMemory, alloc_str, extend_from_slice, push, with_room_for};
-use bz_tree::{Group, GroupKind, Node, Part, Seg, Stmt, nodes_of_parts};
+use bz_tree::{Group, GroupKind, Node, Part, Parts, Seg, Stmt, nodes_of_parts};
 use std::alloc::Global;
 use std::borrow::CowStr;
-
-/// A list of parts in the arena of a chunk.
-pub type Parts<'a> = Vec<Part<'a>, &'a Bump>;
 
 // The segments of a node; of a token, none.
 fn segments_of<'a>(alloc: Global, node: Node<'a>) -> Vec<Seg<'a>>

@@ -7,12 +7,11 @@ ghost use Rattle.bz_tree.specs.Rows.{a_token, part_view, segs_parts};
 ghost use Rattle.bz_command.specs.Values.{quoted};
 ghost use Rattle.bz_attribute.specs.Effects.{string};
 
-use crate::row_args::Parts;
 use bumpalo::Bump;
 use bz_command::quote;
 use bz_memory::{NoMemory, alloc_str, push};
 use bz_token::Kind;
-use bz_tree::Part;
+use bz_tree::{Part, Parts};
 use std::alloc::Global;
 
 /// The literal of a string, in an arena. `Err`: memory was refused.

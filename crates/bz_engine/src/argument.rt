@@ -294,7 +294,7 @@ fn edit_small_rule<'s>(
         alloc: script.alloc,
         home: script.home,
     };
-    let mut slot = Some(StatementRow::of_row(script.alloc, script.bump, &row)?);
+    let mut slot = Some(StatementRow::of_row(script.alloc, script.bump, row)?);
     let done = execute(env, command, &mut slot)?;
     lines_after(script.alloc, &done, &slot, &mut spare.laid)
 }

@@ -100,7 +100,7 @@ pub(crate) fn edit_chunk<'a>(
         progress.pass_lines(chunk.as_bytes());
         return Ok(Edited::Done);
     };
-    let scripted = edit_row(script, &row, progress, text)?;
+    let scripted = edit_row(script, row, progress, text)?;
     progress.pass_lines(chunk.as_bytes());
     Ok(edited_of(scripted))
 }
@@ -108,19 +108,19 @@ pub(crate) fn edit_chunk<'a>(
 /// The script on the statement of a row.
 fn edit_row<'a>(
     script: ScriptRun<'a>,
-    row: &'a Row<'a>,
+    row: Row<'a>,
     progress: &mut Progress,
     text: &mut Vec<u8>,
 ) -> Result<Scripted, NoMemory>
     requires fits { Fits progress.old.kept script.passes.now }
-    requires row { (s : Statement) × ((s.class ≡ class_of s.nodes) × IsRowOf s row.now) }
+    requires row { (s : Statement) × ((s.class ≡ class_of s.nodes) × IsRowOf s row) }
     ensures fits { OnOk result (Fits progress.new.kept script.entry.passes.now) }
-    ensures scripted { IfOk result (λ scripted. (s : Statement) → s.class ≡ class_of s.nodes → IsRowOf s row.now
+    ensures scripted { IfOk result (λ scripted. (s : Statement) → s.class ≡ class_of s.nodes → IsRowOf s row.entry
         → IsScripted (run_of script.entry) s progress.old progress.new text.old.items text.new.items scripted) }
 {
-    let head = Head::of_row(script.alloc, script.bump, row)?;
+    let head = Head::of_row(script.alloc, script.bump, &row)?;
     if is_passed_by(script, head) {
-        put_passed(script, row, progress, text)?;
+        put_passed(script, &row, progress, text)?;
         return Ok(Scripted::Done);
     }
     let mut slot = Some(StatementRow::new(script.bump, row, head));

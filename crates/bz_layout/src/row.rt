@@ -96,5 +96,5 @@ pub fn put_row(alloc: Global, row: &Row<'_>, out: &mut Vec<u8>) -> Result<(), No
         ((s : Statement) → IsRowOf s row.now → out.new.items ≡ out.old.items ++ layout_text s) }
     ensures unchanged { OnErr result (out.new.items ≡ out.old.items) }
 {
-    put_parts(alloc, row.parts, row.class, out)
+    put_parts(alloc, &row.parts, row.class, out)
 }

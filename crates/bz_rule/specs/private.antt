@@ -1,3 +1,2 @@
 pub mod CommandSteps
-pub mod PartsOf
 pub mod RowEdits

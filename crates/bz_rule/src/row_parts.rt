@@ -1,9 +1,7 @@
-//! The parts of a statement: those that were read, or those that commands have left. An edit of these moves what stands
-//! behind it, and no more.
+//! An edit of the parts of a statement: it moves what stands behind its place, and no more.
 
 ghost use Rattle.std.specs.Prelude.{◌≡◌, ◌≤◌, ◌++◌, drop, length, IfOk, OnErr, OnOk};
 ghost use Rattle.std.specs.List.{splice};
-ghost use Rattle.bz_rule.specs.private.PartsOf.{parts_in};
 
 use bumpalo::Bump;
 use bz_attribute::{Parts, Place};
@@ -12,47 +10,6 @@ use bz_tree::Part;
 
 // For the next edits, which mostly add.
 const ROOM: usize = 16;
-
-/// The parts of a statement.
-#[derive(Drop)]
-pub(crate) enum RowParts<'a> {
-    /// As they were read.
-    Read(&'a [Part<'a>]),
-    /// As commands have left them.
-    Written(Parts<'a>),
-}
-
-impl<'a> RowParts<'a> {
-    pub(crate) fn as_slice(&self) -> &[Part<'a>]
-        ensures { result.now ≡ parts_in self.now }
-    {
-        match self {
-            RowParts::Read(parts) => parts,
-            RowParts::Written(parts) => parts,
-        }
-    }
-
-    /// Puts others in a place of them. `Err`: memory was refused, and they stay.
-    pub(crate) fn put(
-        &mut self,
-        bump: &'a Bump,
-        place: Place,
-        new: &[Part<'a>],
-    ) -> Result<(), NoMemory>
-        requires { (place.from ≤ place.to) × (place.to ≤ length (parts_in self.old)) }
-        ensures ok { OnOk result (parts_in self.new ≡ splice (parts_in self.old) place.from place.to new.now) }
-        ensures err { OnErr result (parts_in self.new ≡ parts_in self.old) }
-    {
-        match self {
-            RowParts::Written(list) => put_in(list, place, new),
-            RowParts::Read(parts) => {
-                let list = with_others(bump, parts, place, new)?;
-                *self = RowParts::Written(list);
-                Ok(())
-            }
-        }
-    }
-}
 
 /// A list of some parts with others in a place of them.
 pub(crate) fn with_others<'a>(
@@ -71,8 +28,12 @@ pub(crate) fn with_others<'a>(
     Ok(list)
 }
 
-// Puts others in a place of a list. `Err`: memory was refused, and the list is as it was.
-fn put_in<'a>(list: &mut Parts<'a>, place: Place, new: &[Part<'a>]) -> Result<(), NoMemory>
+/// Puts others in a place of a list. `Err`: memory was refused, and the list is as it was.
+pub(crate) fn put_in<'a>(
+    list: &mut Parts<'a>,
+    place: Place,
+    new: &[Part<'a>],
+) -> Result<(), NoMemory>
     requires { (place.from ≤ place.to) × (place.to ≤ length list.old.items) }
     ensures ok { OnOk result (list.new.items ≡ splice list.old.items place.from place.to new.now) }
     ensures err { OnErr result (list.new.items ≡ list.old.items) }

@@ -20,7 +20,7 @@ ghost use Rattle.bz_rule.specs.private.RowEdits.{HasKindAndParts, HasMore, IsNex
 
 use crate::command::{Action, Command};
 use crate::row_edit::{RuleParts, edit_rule, keeps_head, new_comments};
-use crate::row_parts::{RowParts, with_others};
+use crate::row_parts::{put_in, with_others};
 use bumpalo::Bump;
 use bz_attribute::{Done, Env, Executed, Head, Parts, Place, is_rule, push_stmt};
 use bz_attribute_commands::print::print;
@@ -35,12 +35,9 @@ use std::mem;
 /// A statement.
 #[derive(Drop)]
 pub struct StatementRow<'a> {
-    pub(crate) parts: RowParts<'a>,
+    pub(crate) row: Row<'a>,
     // Where commands write new parts: what it holds does not count.
     pub(crate) spare: Parts<'a>,
-    pub(crate) class: Class,
-    pub(crate) start: u64,
-    pub(crate) end: u64,
     // None: it is no rule.
     pub(crate) head: Option<Head<'a>>,
     // Its parts begin with so many comments at least: those that commands have added.
@@ -53,43 +50,35 @@ impl<'a> Model for StatementRow<'a> {
     ghost use Rattle.std.specs.Coded.{codes, code_by};
     ghost use Rattle.bz_tree.specs.Tree.{Statement};
     ghost use Rattle.bz_rule.specs.RowViews.{RowValue, row_of, row_statement, row_value, statement_back};
-    ghost use Rattle.bz_rule.specs.private.PartsOf.{parts_in};
     ghost use Rattle.bz_rule.specs.private.RowEdits.{HasItsHead};
 
     ghost Value = { Statement };
 
     ghost coded = { code_by RowValue (Prim.hlevel codes) row_of row_statement statement_back };
 
-    ghost view = { λ l. row_statement (row_value (parts_in l.parts) l.class l.start l.end) };
+    ghost view = { λ l. row_statement (row_value l.row.parts.items l.row.class l.row.start l.row.end) };
 
-    ghost invariant = { λ l. HasItsHead (row_value (parts_in l.parts) l.class l.start l.end) l.head l.comments };
+    ghost invariant = { λ l. HasItsHead (row_value l.row.parts.items l.row.class l.row.start l.row.end) l.head l.comments };
 }
 
 impl<'a> StatementRow<'a> {
     /// The statement of a row. What commands make of it stands in the arena.
-    pub fn of_row(
-        alloc: Global,
-        bump: &'a Bump,
-        row: &Row<'a>,
-    ) -> Result<StatementRow<'a>, NoMemory>
-        requires { (s : Statement) × ((s.class ≡ class_of s.nodes) × IsRowOf s row.now) }
-        ensures { IfOk result (λ stmt. (s : Statement) → IsRowOf s row.now → stmt ≡ s) }
+    pub fn of_row(alloc: Global, bump: &'a Bump, row: Row<'a>) -> Result<StatementRow<'a>, NoMemory>
+        requires { (s : Statement) × ((s.class ≡ class_of s.nodes) × IsRowOf s row) }
+        ensures { IfOk result (λ stmt. (s : Statement) → IsRowOf s row.entry → stmt ≡ s) }
     {
-        let head = Head::of_row(alloc, bump, row)?;
+        let head = Head::of_row(alloc, bump, &row)?;
         Ok(StatementRow::new(bump, row, head))
     }
 
     /// The statement of a row whose head is known.
-    pub fn new(bump: &'a Bump, row: &Row<'a>, head: Option<Head<'a>>) -> StatementRow<'a>
-        requires { (s : Statement) × (IsRowOf s row.now × HasHead head s) }
-        ensures { (s : Statement) → IsRowOf s row.now → result ≡ s }
+    pub fn new(bump: &'a Bump, row: Row<'a>, head: Option<Head<'a>>) -> StatementRow<'a>
+        requires { (s : Statement) × (IsRowOf s row × HasHead head s) }
+        ensures { (s : Statement) → IsRowOf s row.entry → result ≡ s }
     {
         StatementRow {
-            parts: RowParts::Read(row.parts),
+            row,
             spare: Vec::new(bump),
-            class: row.class,
-            start: row.start,
-            end: row.end,
             head,
             comments: 0,
             bump,
@@ -108,11 +97,13 @@ impl<'a> StatementRow<'a> {
         push_stmt(bump, stmt, &mut parts)?;
         let head = head_of(alloc, bump, stmt, &parts)?;
         Ok(StatementRow {
-            parts: RowParts::Written(parts),
+            row: Row {
+                parts,
+                class: stmt.class,
+                start: stmt.start,
+                end: stmt.end,
+            },
             spare: Vec::new(bump),
-            class: stmt.class,
-            start: stmt.start,
-            end: stmt.end,
             head,
             comments: 0,
             bump,
@@ -122,7 +113,7 @@ impl<'a> StatementRow<'a> {
     pub fn class(&self) -> Class
         ensures { result ≡ self.now.class }
     {
-        self.class
+        self.row.class
     }
 
     fn is_rule(&self) -> bool
@@ -168,21 +159,15 @@ impl<'a> StatementRow<'a> {
         ensures appended { OnOk result (out.new.items ≡ out.old.items ++ layout_text self.now) }
         ensures unchanged { OnErr result (out.new.items ≡ out.old.items) }
     {
-        let row = Row {
-            parts: self.parts.as_slice(),
-            class: self.class,
-            start: self.start,
-            end: self.end,
-        };
-        put_row(alloc, &row, out)
+        put_row(alloc, &self.row, out)
     }
 
     /// Its tree. `Err`: memory was refused.
     pub(crate) fn tree(&self, alloc: Global) -> Result<Stmt<'a>, NoMemory>
         ensures { IfOk result (λ stmt. view stmt ≡ self.now) }
     {
-        let parts = self.parts.as_slice();
-        stmt_of_parts(alloc, parts, self.class, self.start, self.end)
+        let row = &self.row;
+        stmt_of_parts(alloc, row.parts.as_slice(), row.class, row.start, row.end)
     }
 
     // What is printed of it. Of what is no rule nothing is.
@@ -191,7 +176,7 @@ impl<'a> StatementRow<'a> {
     {
         match self.head {
             None => Ok(Done::quiet(false)),
-            Some(head) => print(env, fields, head, self.parts.as_slice()),
+            Some(head) => print(env, fields, head, self.row.parts.as_slice()),
         }
     }
 
@@ -211,7 +196,7 @@ impl<'a> StatementRow<'a> {
         RuleParts {
             kind: self.kind(),
             comments: self.comments,
-            parts: self.parts.as_slice(),
+            parts: self.row.parts.as_slice(),
         }
     }
 
@@ -221,8 +206,8 @@ impl<'a> StatementRow<'a> {
         ensures taken { OnOk result ((s : Statement) → IsNextOf self.old (map part_view new.entry.items) s → self.new ≡ s) }
         ensures err { OnErr result (self.new ≡ self.old) }
     {
-        let head = Head::of_parts(alloc, self.bump, &new, self.start, self.end)?;
-        self.parts = RowParts::Written(new);
+        let head = Head::of_parts(alloc, self.bump, &new, self.row.start, self.row.end)?;
+        self.row.parts = new;
         self.head = head;
         Ok(())
     }
@@ -242,7 +227,7 @@ impl<'a> StatementRow<'a> {
             → IsNextOf self.old (replaced_at place (map part_view new.now) (parts_of self.old)) s → self.new ≡ s) }
         ensures err { OnErr result (self.new ≡ self.old) }
     {
-        self.parts.put(self.bump, place, new)?;
+        put_in(&mut self.row.parts, place, new)?;
         self.comments = self.comments.saturating_add(comments);
         Ok(())
     }
@@ -265,7 +250,7 @@ impl<'a> StatementRow<'a> {
         if keeps_head(command) {
             return self.put_beside(place, new, new_comments(command));
         }
-        let list = with_others(self.bump, self.parts.as_slice(), place, new)?;
+        let list = with_others(self.bump, self.row.parts.as_slice(), place, new)?;
         self.take(env.alloc, list)
     }
 

@@ -207,7 +207,7 @@ fn put_part(part: Part<'_>, out: &mut String) -> Result<(), Fail> {
 }
 
 fn put_parts(row: &Row<'_>, out: &mut String) -> Result<(), Fail> {
-    for part in row.parts {
+    for part in &row.parts {
         put_part(*part, out)?;
     }
     Ok(())

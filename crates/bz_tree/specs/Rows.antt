@@ -51,7 +51,7 @@ part_view (Part.Beside text) = beside text.now
 
 -- the row of a statement
 pub record IsRowOf (s : Statement) (row : Row) : Type 0 where
-  pub parts : map part_view row.parts.now ≡ parts_of s
+  pub parts : map part_view row.parts.items ≡ parts_of s
   pub class : row.class ≡ s.class
   pub start : row.start ≡ s.start
   pub end : row.end ≡ s.end

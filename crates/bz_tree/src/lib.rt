@@ -30,6 +30,6 @@ pub use from_parts::{nodes_of_parts, stmt_of_parts};
 pub use parts::{push_above, push_beside, push_nodes, push_parts};
 pub use read::{read_statement, read_text};
 pub use role::Role;
-pub use row::{Part, Row};
+pub use row::{Part, Parts, Row};
 pub use rows::read_row;
 pub use stmt::{Class, Group, GroupKind, Leaf, Node, Seg, Stmt};

@@ -12,12 +12,11 @@ ghost use Rattle.bz_tree.specs.Rows.{IsRowOf, part_view};
 use crate::chunk::{parse, parse_tokens};
 use crate::fault::ParseFault;
 use crate::parts::push_parts;
-use crate::row::{Part, Row};
+use crate::row::{Part, Parts, Row};
 use crate::rows::read_row;
 use crate::stmt::Stmt;
 use crate::text_row::row_of_text;
 use bumpalo::Bump;
-use bumpalo::collections::into_bump_slice;
 use bz_memory::{NoMemory, alloc_str, push, with_room_for};
 use bz_token::Token;
 use std::alloc::Global;
@@ -37,14 +36,14 @@ fn part_in<'a>(bump: &'a Bump, part: Part<'_>) -> Result<Part<'a>, NoMemory>
 }
 
 // The same parts in the arena.
-fn parts_in<'a>(bump: &'a Bump, parts: &[Part<'_>]) -> Result<&'a [Part<'a>], NoMemory>
-    ensures { IfOk result (λ copies. map part_view copies.now ≡ map part_view parts.now) }
+fn parts_in<'a>(bump: &'a Bump, parts: &[Part<'_>]) -> Result<Parts<'a>, NoMemory>
+    ensures { IfOk result (λ copies. map part_view copies.items ≡ map part_view parts.now) }
 {
     let mut copies = with_room_for(bump, parts, 0)?;
     for part in parts {
         push(&mut copies, part_in(bump, *part)?)?;
     }
-    Ok(into_bump_slice(copies))
+    Ok(copies)
 }
 
 // The row of a statement that has a tree.

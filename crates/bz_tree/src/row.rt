@@ -1,6 +1,7 @@
 //! Statements as rows: their parts in the order in which they are written, in one list.
 
 use crate::stmt::{Class, GroupKind};
+use bumpalo::Bump;
 use bz_token::Kind;
 
 /// A part of a statement: a token, an end of a bracket or of a segment, or a comment.
@@ -20,10 +21,13 @@ pub enum Part<'a> {
     Beside(&'a str),
 }
 
-/// A statement as the list of its parts, in an arena. Each text is a slice of the chunk that it was read from.
-#[derive(Clone, Copy)]
+/// A list of parts in an arena.
+pub type Parts<'a> = Vec<Part<'a>, &'a Bump>;
+
+/// A statement as the list of its parts. Each text is a slice of the chunk that it was read from.
+#[derive(Drop)]
 pub struct Row<'a> {
-    pub parts: &'a [Part<'a>],
+    pub parts: Parts<'a>,
     pub class: Class,
     /// The line of its first token, comments not counted unless the class is Comment.
     pub start: u64,

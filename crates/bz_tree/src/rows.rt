@@ -23,13 +23,12 @@ use crate::kinds::{
 };
 use crate::owners::ends_on;
 use crate::role::{Role, operator_role, token_role};
-use crate::row::{Part, Row};
+use crate::row::{Part, Parts, Row};
 use crate::span::{counted_end_of, first_seen, first_token, newlines, start_of};
 use crate::spot::{Around, Here, Spot, shown_kind};
 use crate::stage::may_end;
 use crate::stmt::GroupKind;
 use bumpalo::Bump;
-use bumpalo::collections::into_bump_slice;
 use bz_memory::{NoMemory, push, with_room_within};
 use bz_token::{Kind, Token};
 use std::cmp::min;
@@ -40,7 +39,7 @@ const MOST_MORE: usize = 4096;
 // The parts so far, the bracket that is open here, and those around it.
 #[derive(Drop)]
 pub(crate) struct RowWalk<'a> {
-    pub(crate) parts: Vec<Part<'a>, &'a Bump>,
+    pub(crate) parts: Parts<'a>,
     pub(crate) outer: Vec<Around, &'a Bump>,
     pub(crate) top: Spot<'a>,
 }
@@ -295,8 +294,7 @@ impl<'a> RowWalk<'a> {
         if top.kind.is_some() || !outer.is_empty() {
             return None;
         }
-        let parts = into_bump_slice(parts);
-        let class = top.class(parts)?;
+        let class = top.class(&parts)?;
         Some(Row {
             parts,
             class,

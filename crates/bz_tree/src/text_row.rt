@@ -19,10 +19,13 @@ use bz_token::TokenReader;
 // The commas of so many bytes tell how many parts a long text has.
 const FRONT: usize = 4096;
 
+// Room beside them for the first commands.
+const ROOM: usize = 64;
+
 // Room for the parts of a text: most often two go with a comma, an element and the end of its segment, and a few with
 // what stands around. A long list that grows in an arena leaves much room unused there.
 fn first_room(text: &str) -> usize
-    ensures { result ≤ length text.now + 8 }
+    ensures { result ≤ length text.now + 64 }
 {
     if text.len() < FRONT {
         return text.len() / 4 + 8;
@@ -33,7 +36,7 @@ fn first_room(text: &str) -> usize
         .saturating_add(32)
         .saturating_mul(2)
         .saturating_mul(fronts)
-        .min(text.len())
+        .min(text.len().saturating_add(ROOM))
 }
 
 /// Reads the row that `read_row` gives for the tokens of a chunk, whose list is never there: it would take more memory

@@ -244,7 +244,7 @@ pub record RowView : Type 0 where
   pub class : Class
 
 abbrev pub row_view : Row → RowView
-row_view row = record { parts = map part_view row.parts.now; class = row.class }
+row_view row = record { parts = map part_view row.parts.items; class = row.class }
 
 abbrev pub is_rule_read : Naming → Bool
 is_rule_read End = true

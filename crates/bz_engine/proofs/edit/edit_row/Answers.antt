@@ -7,7 +7,7 @@ use Rattle.bz_engine.proofs.edit.edit_row.Goals as goal
 
 pub returns-then-is_passed_by-clause-scripted : goal.returns-then-is_passed_by-clause-scripted
 returns-then-is_passed_by-clause-scripted c s class row =
-    passed_by (run_of c.args.script) c.args.row.now.class s c.args.progress.now c.put_passed.new.progress
+    passed_by (run_of c.args.script) c.args.row.class s c.args.progress.now c.put_passed.new.progress
     c.args.text.now.items c.put_passed.new.text.items
     (c.is_passed_by.ensures c.if-is_passed_by.true s (c.in_ok-head.ensures s class row)) row.class c.in_ok-put_passed.ensures.last (c.in_ok-put_passed.ensures.text s row)
 

@@ -5,7 +5,6 @@ use Rattle.bz_tree.specs.declared.row.Part.{Part}
 use Rattle.bz_tree.specs.Rows.{part_view, parts_of}
 use Rattle.bz_attribute.specs.Rules.{rule_of}
 use Rattle.bz_attribute.specs.RowEdits.{replaced_at}
-use Rattle.bz_rule.specs.private.PartsOf.{parts_in}
 use Rattle.bz_rule.specs.private.RowEdits.{rule_after}
 use Rattle.bz_rule.proofs.RowEdited.{next_of, some_rule}
 use Rattle.bz_rule.proofs.Spliced.{of_next}
@@ -35,11 +34,11 @@ take-requires c =
     let command = c.args.command.now in
     let home = c.args.env.home.now in
     let r = some_rule (rule_of old.nodes) c.requires.rule in
-    let list : c.in_ok-list.list.items ≡ splice (parts_in i.parts) c.args.place.from c.args.place.to c.args.new.now =
-    c.in_ok-list.ensures ∙ ap (λ (ps : List Part). splice ps c.args.place.from c.args.place.to c.args.new.now) c.as_slice.ensures in (
+    let list : c.in_ok-list.list.items ≡ splice i.row.parts.items c.args.place.from c.args.place.to c.args.new.now =
+    c.in_ok-list.ensures ∙ ap (λ (ps : List Part). splice ps c.args.place.from c.args.place.to c.args.new.now) c.as_slice.ensures.value in (
       rule_after command home old,
       next_of command home old r.0 (map part_view c.in_ok-list.list.items) r.1
-          (of_next c.args.place (parts_in i.parts) c.args.new.now c.in_ok-list.list.items old (rule_after command home old) list (c.self.invariant.are ∙ ap parts_of c.self.view_is) c.requires.next),
+          (of_next c.args.place i.row.parts.items c.args.new.now c.in_ok-list.list.items old (rule_after command home old) list (c.self.invariant.are ∙ ap parts_of c.self.view_is) c.requires.next),
     )
 
 pub returns-clause-changed : goal.returns-clause-changed
@@ -49,8 +48,8 @@ returns-clause-changed c =
     let command = c.args.command.now in
     let home = c.args.env.home.now in
     let r = some_rule (rule_of old.nodes) c.requires.rule in
-    let list : c.in_ok-list.list.items ≡ splice (parts_in i.parts) c.args.place.from c.args.place.to c.args.new.now =
-    c.in_ok-list.ensures ∙ ap (λ (ps : List Part). splice ps c.args.place.from c.args.place.to c.args.new.now) c.as_slice.ensures in
+    let list : c.in_ok-list.list.items ≡ splice i.row.parts.items c.args.place.from c.args.place.to c.args.new.now =
+    c.in_ok-list.ensures ∙ ap (λ (ps : List Part). splice ps c.args.place.from c.args.place.to c.args.new.now) c.as_slice.ensures.value in
     let next = next_of command home old r.0 (map part_view c.in_ok-list.list.items) r.1
-    (of_next c.args.place (parts_in i.parts) c.args.new.now c.in_ok-list.list.items old (rule_after command home old) list (c.self.invariant.are ∙ ap parts_of c.self.view_is) c.requires.next) in
+    (of_next c.args.place i.row.parts.items c.args.new.now c.in_ok-list.list.items old (rule_after command home old) list (c.self.invariant.are ∙ ap parts_of c.self.view_is) c.requires.next) in
     on_ok_weaker c.take.result (λ taken. taken (rule_after command home old) next) c.take.ensures.taken

@@ -8,7 +8,6 @@ use Rattle.bz_attribute.specs.RowEdits.{IsWithin, replaced_at}
 use Rattle.bz_attribute.specs.declared.done.Done.{Done}
 use Rattle.bz_rule.specs.Commands.{after, done_of}
 use Rattle.bz_rule.specs.RowViews.{row_statement, row_value}
-use Rattle.bz_rule.specs.private.PartsOf.{parts_in}
 use Rattle.bz_rule.proofs.Below.{comments_fit}
 use Rattle.bz_rule.proofs.RowEdited.{after_edit, edit_stays, some_rule}
 use Rattle.bz_rule.proofs.statement_row.StatementRow.edit.Goals as goal
@@ -16,7 +15,7 @@ use Rattle.bz_rule.proofs.statement_row.StatementRow.edit.Goals as goal
 pub returns-then-not-edit-clause-done : goal.returns-then-not-edit-clause-done
 returns-then-not-edit-clause-done c =
     let i = c.self.inside in
-    let s = row_statement (row_value (parts_in i.parts) i.class i.start i.end) in
+    let s = row_statement (row_value i.row.parts.items i.row.class i.row.start i.row.end) in
     let command = c.args.command.now in
     let home = c.args.env.home.now in
     let r = some_rule (rule_of s.nodes) (ap (λ (z : Statement). is_some (rule_of z.nodes)) c.self.view_is ∙ c.requires.rule) in
@@ -26,7 +25,7 @@ returns-then-not-edit-clause-done c =
 pub returns-then-not-edit-clause-slot : goal.returns-then-not-edit-clause-slot
 returns-then-not-edit-clause-slot c =
     let i = c.self.inside in
-    let s = row_statement (row_value (parts_in i.parts) i.class i.start i.end) in
+    let s = row_statement (row_value i.row.parts.items i.row.class i.row.start i.row.end) in
     let command = c.args.command.now in
     let home = c.args.env.home.now in
     let r = some_rule (rule_of s.nodes) (ap (λ (z : Statement). is_some (rule_of z.nodes)) c.self.view_is ∙ c.requires.rule) in
@@ -44,7 +43,7 @@ change-requires-clause-within c = subst (λ (ps : List RowPart). IsWithin c.in_o
 pub change-requires-clause-next : goal.change-requires-clause-next
 change-requires-clause-next c =
     let i = c.self.inside in
-    let s = row_statement (row_value (parts_in i.parts) i.class i.start i.end) in
+    let s = row_statement (row_value i.row.parts.items i.row.class i.row.start i.row.end) in
     let place = c.in_ok-edit.edit.place in
     let r = some_rule (rule_of s.nodes) (ap (λ (z : Statement). is_some (rule_of z.nodes)) c.self.view_is ∙ c.requires.rule) in
     let kp = c.rule.ensures in
@@ -56,7 +55,7 @@ change-requires-clause-next c =
 pub returns-clause-done : goal.returns-clause-done
 returns-clause-done c =
     let i = c.self.inside in
-    let s = row_statement (row_value (parts_in i.parts) i.class i.start i.end) in
+    let s = row_statement (row_value i.row.parts.items i.row.class i.row.start i.row.end) in
     let command = c.args.command.now in
     let home = c.args.env.home.now in
     let r = some_rule (rule_of s.nodes) (ap (λ (z : Statement). is_some (rule_of z.nodes)) c.self.view_is ∙ c.requires.rule) in
@@ -66,7 +65,7 @@ returns-clause-done c =
 pub returns-clause-slot : goal.returns-clause-slot
 returns-clause-slot c =
     let i = c.self.inside in
-    let s = row_statement (row_value (parts_in i.parts) i.class i.start i.end) in
+    let s = row_statement (row_value i.row.parts.items i.row.class i.row.start i.row.end) in
     let command = c.args.command.now in
     let home = c.args.env.home.now in
     ap (λ (z : Statement). Some z) (c.self-2.view_is ∙ c.in_ok-change.ensures.changed) ∙ sym (after_edit command home s c.requires.edits)
@@ -75,6 +74,6 @@ returns-clause-slot c =
 pub edit_rule-requires-clause-fits : goal.edit_rule-requires-clause-fits
 edit_rule-requires-clause-fits c =
     let i = c.self.inside in
-    let s = row_statement (row_value (parts_in i.parts) i.class i.start i.end) in
+    let s = row_statement (row_value i.row.parts.items i.row.class i.row.start i.row.end) in
     let kp = c.rule.ensures in
     omega (arith, comments_fit c.rule.result.comments s kp.fits, ap length kp.are, length-map c.rule.result.parts.now part_view)

@@ -2,7 +2,6 @@ use Rattle.std.proofs.Common.{◌∙◌, ap, length, subst, sym, arith}
 use Rattle.bz_tree.specs.Tree.{Statement}
 use Rattle.bz_tree.specs.Rows.{parts_of}
 use Rattle.bz_attribute.specs.Heads.{HasHead}
-use Rattle.bz_rule.specs.private.PartsOf.{parts_in}
 use Rattle.bz_rule.proofs.RowStatements.{has_head, statement_of}
 use Rattle.bz_rule.proofs.Spliced.{of_next}
 use Rattle.bz_rule.proofs.statement_row.StatementRow.put_beside.Goals as goal
@@ -13,8 +12,8 @@ invariant_of-self-2 c =
     let old = c.args.self.now in
     let s = c.requires.next.0 in
     let next = c.requires.next.1.0 in
-    has_head s (parts_in c.put.new.self) _ _ _ i.head _ (record {
-      are = of_next c.args.place (parts_in i.parts) c.args.new.now (parts_in c.put.new.self) old s c.in_ok-put.ensures.ok (c.self.invariant.are ∙ ap parts_of c.self.view_is) next.are;
+    has_head s c.put_in.new.list.items _ _ _ i.head _ (record {
+      are = of_next c.args.place i.row.parts.items c.args.new.now c.put_in.new.list.items old s c.in_ok-put_in.ensures.ok (c.self.invariant.are ∙ ap parts_of c.self.view_is) next.are;
       is = ap (λ (z : Statement). z.class) c.self.view_is ∙ sym next.same;
       begins = ap (λ (z : Statement). z.start) c.self.view_is ∙ sym next.start;
       ends = ap (λ (z : Statement). z.end) c.self.view_is ∙ sym next.end;
@@ -25,8 +24,8 @@ pub returns-clause-taken : goal.returns-clause-taken
 returns-clause-taken c s next =
     let i = c.self.inside in
     let old = c.args.self.now in
-    statement_of s (parts_in c.put.new.self) _ _ _ (record {
-      are = of_next c.args.place (parts_in i.parts) c.args.new.now (parts_in c.put.new.self) old s c.in_ok-put.ensures.ok (c.self.invariant.are ∙ ap parts_of c.self.view_is) next.are;
+    statement_of s c.put_in.new.list.items _ _ _ (record {
+      are = of_next c.args.place i.row.parts.items c.args.new.now c.put_in.new.list.items old s c.in_ok-put_in.ensures.ok (c.self.invariant.are ∙ ap parts_of c.self.view_is) next.are;
       is = ap (λ (z : Statement). z.class) c.self.view_is ∙ sym next.same;
       begins = ap (λ (z : Statement). z.start) c.self.view_is ∙ sym next.start;
       ends = ap (λ (z : Statement). z.end) c.self.view_is ∙ sym next.end;

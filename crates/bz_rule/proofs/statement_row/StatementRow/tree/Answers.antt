@@ -2,11 +2,10 @@ use Rattle.std.proofs.Common.{◌∙◌, ap, map}
 use Rattle.std.proofs.lemmas.Result.{IfOk-weaker}
 use Rattle.bz_tree.specs.Rows.{part_view}
 use Rattle.bz_rule.specs.RowViews.{row_statement, row_value}
-use Rattle.bz_rule.specs.private.PartsOf.{parts_in}
 use Rattle.bz_rule.proofs.statement_row.StatementRow.tree.Goals as goal
 
 pub returns : goal.returns
 returns c =
     let i = c.self.inside in
-    let s = row_statement (row_value (parts_in i.parts) i.class i.start i.end) in
-    IfOk-weaker c.stmt_of_parts.result _ _ (λ stmt h. h s (ap (map part_view) c.as_slice-parts.ensures ∙ c.self.invariant.are) ∙ c.self.view_is) c.stmt_of_parts.ensures
+    let s = row_statement (row_value i.row.parts.items i.row.class i.row.start i.row.end) in
+    IfOk-weaker c.stmt_of_parts.result _ _ (λ stmt h. h s (ap (map part_view) c.as_slice.ensures.value ∙ c.self.invariant.are) ∙ c.self.view_is) c.stmt_of_parts.ensures
