@@ -35,7 +35,6 @@ use Rattle.std.specs.Str.{is_utf8}
 use Rattle.bz_rule.specs.Commands.{Command, IsRead, remove_of}
 use Rattle.bz_token.specs.Common.{is_empty, map_or}
 use Rattle.bz_attribute.proofs.Locals.{is_first_named}
-use Rattle.bz_list_commands.proofs.PlaceEdits.{edit_local}
 
 empty_or_not : (ss : List Segment) → not (is_empty ss) && is_empty ss ≡ false
 empty_or_not [] = refl

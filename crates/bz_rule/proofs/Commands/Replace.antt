@@ -36,7 +36,6 @@ use Rattle.std.specs.Str.{is_utf8}
 use Rattle.bz_rule.specs.Commands.{Command, IsRead, replace_of}
 use Rattle.bz_token.specs.Common.{map_or}
 use Rattle.bz_attribute.proofs.Locals.{is_first_named}
-use Rattle.bz_list_commands.proofs.PlaceEdits.{edit_local}
 
 -- an element that was replaced is exactly `new`
 pub settled : (home : Package) (old new : List ℕ) (s : Segment) → is_replaced home old new (replaced home old new s) ≡ false
