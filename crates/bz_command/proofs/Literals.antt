@@ -31,9 +31,6 @@ escape_apart c d h = elim (cases_Bool (c == 13)) [
   | inr other ↦ rw other refl
 ]
 
-escape_joins : (c d : ℕ) → c == 13 && d == 10 ≡ true → takes (92 ∷ c ∷ []) d ≡ true
-escape_joins c d h = let parts = and_parts (c == 13) (d == 10) h in rw (parts.0, parts.1) refl
-
 byte_apart : (b c : ℕ) → b == 92 ≡ false → b == 13 && c == 10 ≡ false → takes (b ∷ []) c ≡ false
 byte_apart b c h k = elim (cases_Bool (b == 13)) [
   | inl is ↦ rw (h, is) (rw is at k)

@@ -53,9 +53,3 @@ loop-byte-preserved c = record {
   some = rw c.in-Some-next_in.ensures.quotes c.loop-byte.invariant.some;
   ascii = rw c.in-Some-next_in.ensures.quotes c.loop-byte.invariant.ascii;
 }
-
-pub overflow_sub-run : goal.overflow_sub-run
-overflow_sub-run c = c.loop-byte.invariant.walk.fits
-
-pub overflow_sub-run-2 : goal.overflow_sub-run-2
-overflow_sub-run-2 c = c.loop-byte.invariant.walk.fits

@@ -26,14 +26,6 @@ returns-clause-value c =
     let parts : rest ≡ value ++ quote ∷ [] = last_apart rest c.in-len1-up.len_at_least ∙ ap (λ (b : ℕ). value ++ b ∷ []) c.if-last-quote.false in
     ap (λ (q : List ℕ). inner_value c.args.literal.raw q rest) one ∙ ap (inner_value c.args.literal.raw (quote ∷ [])) parts ∙ plain_value c.args.literal.raw quote value plain
 
-pub returns-clause-back : goal.returns-clause-back
-returns-clause-back c =
-    let quotes : List ℕ = c.args.literal.quotes.now in
-    let rest : List ℕ = c.args.literal.rest.now in
-    last_apart rest c.in-len1-up.len_at_least
-    ∙ ap (λ (b : ℕ). take (length rest - 1) rest ++ b ∷ []) c.if-last-quote.false
-    ∙ ap (λ (bs : List ℕ). take (length rest - 1) rest ++ bs) (sym (one_item quotes c.in-len1.len_at_least c.in-len1.len_below))
-
 pub returns-then-last-quote-clause-none : goal.returns-then-last-quote-clause-none
 returns-then-last-quote-clause-none c = λ value (q, quotes, rest, plain).
     let is = plain_left value c.args.literal.quotes.now c.args.literal.rest.now q quotes rest plain in
