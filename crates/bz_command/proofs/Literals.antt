@@ -169,23 +169,6 @@ past raw quotes rest after b h some e =
     step raw quotes rest some h
     ∙ ap₂ (λ (x : Option ℕ) (bs : List ℕ). option_and_then (λ b. option_map (λ bs. b ∷ bs) (inner_value raw quotes bs)) x) is.0 is.1
 
-value_more : (v : List ℕ) (b c : ℕ) (o : Option (List ℕ)) → is_value (b ∷ v) (option_map (λ bs. c ∷ bs) o) ≡ (b == c) && is_value v o
-value_more v b c None = elim (b == c) as (λ t. false ≡ (t && false)) [ true ↦ refl | false ↦ refl ]
-value_more v b c (Some w) = refl
-
--- the first byte of a value is that of the first unit, and the rest goes on
-pub value_same : (v rest : List ℕ) (b : ℕ) (o : Option (List ℕ)) → bytes_eq (take 1 v) (b ∷ []) ≡ true → rest ≡ drop 1 v → is_value rest o ≡ is_value v (option_map (λ bs. b ∷ bs) o)
-value_same [] rest b o same e = absurd (cc)
-value_same (c ∷ v) rest b o same e = ap (λ (w : List ℕ). is_value w o) e ∙ sym (value_more v c b o ∙ rw ((and_parts (c == b) true same).0) refl)
-
-pub value_differs : (v : List ℕ) (b : ℕ) (o : Option (List ℕ)) → bytes_eq (take 1 v) (b ∷ []) ≡ false → is_value v (option_map (λ bs. b ∷ bs) o) ≡ false
-value_differs [] b None h = refl
-value_differs [] b (Some w) h = refl
-value_differs (c ∷ v) b o h = elim (cases_Bool (c == b)) [
-  | inl is ↦ let none : true ≡ false = rw is at h in absurd (cc)
-  | inr other ↦ value_more v c b o ∙ rw other refl
-]
-
 pub is_value-iff : (v : List ℕ) (o : Option (List ℕ)) → (is_value v o ≡ true → o ≡ Some v) × (o ≡ Some v → is_value v o ≡ true)
 is_value-iff v None = ((λ h. cc), (λ h. cc))
 is_value-iff v (Some w) = ((λ h. ap (λ (x : List ℕ). Some x) (sym ((bytes_eq-Decides v w).0 h))), (λ h. (bytes_eq-Decides v w).1 (cc)))

@@ -1,10 +1,9 @@
 -- How a value is written, character by character.
-use Rattle.std.proofs.Common.{◌≡◌, ℕ, suc, ◌<◌, ◌≤◌, List, [], ◌∷◌, ◌++◌, length, get_or, encode_utf8, refl, sym, ap, ◌∙◌, arith, inl, inr, append_assoc, append-nil}
+use Rattle.std.proofs.Common.{◌≡◌, ℕ, suc, ◌<◌, ◌≤◌, List, [], ◌∷◌, length, get_or, encode_utf8, refl, sym, arith, inl, inr, append-nil}
 use Rattle.std.specs.List.{flat_map}
 use Rattle.std.proofs.lemmas.Bool.{ne_eqb, cases_lt}
-use Rattle.std.proofs.lemmas.Grind.{flat_map-append}
 use Rattle.std.proofs.lemmas.Str.{inside_one, encode_ascii}
-use Rattle.bz_command.specs.Values.{written, quoted}
+use Rattle.bz_command.specs.Values.{written}
 
 abbrev IsHigh : List ℕ → Type 0
 IsHigh bs = (k : ℕ) → k < length bs → 128 ≤ get_or bs k 0
@@ -29,17 +28,3 @@ plain_char c a b d e f = elim (cases_lt c 128) [
   | inl low ↦ rw (encode_ascii c low, ne_eqb c 92 a, ne_eqb c 34 b, ne_eqb c 10 d, ne_eqb c 13 e, ne_eqb c 9 f) refl
   | inr high ↦ all_high (encode_utf8 c) (char_high c high)
 ]
-
--- one character more is written
-pub goes_on : (text text' value rest rest' char : List ℕ) → text ++ flat_map written rest ≡ 34 ∷ flat_map written value → rest ≡ char ++ rest' → text' ≡ text ++ flat_map written char → text' ++ flat_map written rest' ≡ 34 ∷ flat_map written value
-goes_on text text' value rest rest' char so_far split more =
-    ap (λ (w : List ℕ). w ++ flat_map written rest') more
-    ∙ append_assoc text (flat_map written char) (flat_map written rest')
-    ∙ ap (λ (w : List ℕ). text ++ w) (sym (flat_map-append written char rest') ∙ ap (flat_map written) (sym split))
-    ∙ so_far
-
-pub ends : (text text' value rest : List ℕ) → text ++ flat_map written rest ≡ 34 ∷ flat_map written value → length rest ≡ 0 → text' ≡ text ++ 34 ∷ [] → text' ≡ quoted value
-ends text text' value [] so_far none more =
-    let whole : text ≡ 34 ∷ flat_map written value = sym (append-nil text) ∙ so_far in
-    more ∙ ap (λ (w : List ℕ). w ++ 34 ∷ []) whole
-ends text text' value (c ∷ rest) so_far none more = absurd (omega arith)
