@@ -3,7 +3,7 @@
 ghost use Rattle.std.specs.Prelude.{◌≡◌, ◌+◌, true, false, map, IfOk, OnOk, Some, None, [], ◌∷◌, option_map, option_and_then, ◌≤◌, IfSome};
 ghost use Rattle.std.specs.Bool.{then_some};
 ghost use Rattle.bz_token.specs.Places.{placed};
-ghost use Rattle.bz_tree.specs.View.{text_of, node_view, group_view, seg_view};
+ghost use Rattle.bz_tree.specs.View.{group_view, seg_view};
 ghost use Rattle.bz_tree.specs.Kinds.{group_kind, is_for_at};
 ghost use Rattle.bz_tree.specs.Owners.{node};
 ghost use Rattle.bz_tree.specs.Brackets.{leaf_of, own_of};

@@ -1,13 +1,13 @@
 //! The statement of a chunk.
 
-ghost use Rattle.std.specs.Prelude.{ℕ, ◌≡◌, ◌+◌, ◌<◌, ◌^◌, ◌==◌, true, false, IfOk, IfErr, IfSome, IfNone, IsSome, IsNone, map, option_map, count_by};
+ghost use Rattle.std.specs.Prelude.{ℕ, ◌≡◌, ◌+◌, ◌<◌, ◌^◌, ◌==◌, false, IfOk, IfErr, IfSome, IfNone, map, count_by};
 ghost use Rattle.bz_token.specs.Places.{placed};
 ghost use Rattle.bz_token.specs.Reading.{AreTokensOf};
 ghost use Rattle.bz_tree.specs.Tree.{Statement};
 ghost use Rattle.bz_tree.specs.View.{texts, view, seg_view};
 ghost use Rattle.bz_tree.specs.Statement.{EndsFit, statement_with, first_token, first_seen, last_seen};
 ghost use Rattle.bz_tree.specs.Blocks.{kept_statement, is_block_word};
-ghost use Rattle.bz_tree.specs.Chunk.{IsPlain, indent_fault, IsChunkOf, IsReadAs, IsTokenFault, IsStatementIn, IsBlank, IsFaultIn};
+ghost use Rattle.bz_tree.specs.Chunk.{IsPlain, indent_fault, IsChunkOf, IsStatementIn, IsBlank, IsFaultIn};
 ghost use Rattle.bz_tree.specs.private.BlockSteps.{AreStanding};
 ghost use Rattle.bz_tree.specs.Borrowed.{owned_in, owned_texts, seg_owned};
 ghost use Rattle.bz_token.specs.Common.{map_or};

@@ -1,10 +1,9 @@
 //! What a statement is to the layout and to the commands.
 
-ghost use Rattle.std.specs.Prelude.{◌≡◌, map, ◌≤◌, ◌+◌, codes};
+ghost use Rattle.std.specs.Prelude.{◌≡◌, ◌≤◌, codes};
 ghost use Rattle.bz_tree.specs.Tree.{leaf};
 ghost use Rattle.bz_tree.specs.View.{text_of, node_view, nodes_view, seg_view};
 ghost use Rattle.bz_tree.specs.Statement.{is_rule, is_call, as_rule_call, rule_call, with_rule_call, is_assign_operator, is_assign, is_kept, is_load_word, class_of};
-ghost use Rattle.bz_tree.specs.private.Steps.{rule_from};
 ghost use Rattle.bz_tree.specs.Borrowed.{node_owned, seg_owned};
 ghost use Rattle.bz_tree.specs.private.BorrowedSteps.{nodes_owned};
 ghost use Rattle.bz_tree.specs.Kinds.{is_operator_at};

@@ -1,8 +1,8 @@
 //! The recognizer of the grammar: it goes over the nodes once, down into the brackets.
 
-ghost use Rattle.std.specs.Prelude.{◌≡◌, map};
+ghost use Rattle.std.specs.Prelude.{◌≡◌};
 ghost use Rattle.bz_tree.specs.Tree.{items_of, segs_of};
-ghost use Rattle.bz_tree.specs.View.{node_view, group_view, seg_view, nodes_view, segs_view};
+ghost use Rattle.bz_tree.specs.View.{node_view, group_view, nodes_view, segs_view};
 ghost use Rattle.bz_tree.specs.private.Machine.{accepts, role_of, each, is_whole, is_single, is_string_item, is_string, is_renamed, is_load_argument, are_load_arguments, are_loaded, is_load_group, is_load, is_nothing, is_statement};
 
 use crate::class::is_load_word;

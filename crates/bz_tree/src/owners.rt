@@ -1,6 +1,6 @@
 //! The segments of one bracket, and the owners of the comments that stand in it.
 
-ghost use Rattle.std.specs.Prelude.{◌≡◌, ◌+◌, ◌∷◌, ◌++◌, ◌==◌, true, false, map, count_by, IfOk, OnOk, Some, None, [], option_map, option_and_then, ◌≤◌, IfSome};
+ghost use Rattle.std.specs.Prelude.{◌≡◌, ◌+◌, ◌++◌, ◌==◌, true, false, map, count_by, IfOk, OnOk, Some, None, [], option_map, option_and_then, ◌≤◌, IfSome};
 ghost use Rattle.bz_tree.specs.View.{text_of, texts, node_view, seg_view};
 ghost use Rattle.bz_tree.specs.private.Steps.{walked, so_far, is_in_first, texts_of, content_view, at_start, after_node, after_comma, after_comment, done, add_beside, to_last};
 ghost use Rattle.bz_tree.specs.Borrowed.{owned, owned_in, owned_of, node_owned, seg_owned};
