@@ -1,6 +1,6 @@
 //! Sets and maps that grow.
 
-ghost use Rattle.std.specs.Prelude.{◌≡◌, None, Some, not, true, IfOk, OnOk, OnErr};
+ghost use Rattle.std.specs.Prelude.{◌≡◌, None, not, true, IfOk, OnOk, OnErr};
 ghost use Rattle.std.specs.BTreeSet.{contains, IsUnchanged, Updates};
 ghost use Rattle.std.specs.BTreeMap as btree;
 ghost use Rattle.std.specs.BTreeMap.Entry.{IsEntryFor, entry_key, entry_map_ref, entry_value};

@@ -1,6 +1,6 @@
 //! Strings that grow.
 
-ghost use Rattle.std.specs.Prelude.{◌≡◌, ◌≤◌, ◌<◌, ◌+◌, [], ◌∷◌, ◌++◌, is_ok, if◌then◌else◌, IfOk, OnOk, OnErr, length, string_bytes, encode_utf8};
+ghost use Rattle.std.specs.Prelude.{◌≡◌, ◌<◌, ◌+◌, [], ◌∷◌, ◌++◌, is_ok, if◌then◌else◌, IfOk, OnOk, string_bytes, encode_utf8};
 ghost use Rattle.std.specs.Fmt.{decimal};
 
 use crate::no_memory::{NoMemory, refused};
