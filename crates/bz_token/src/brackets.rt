@@ -1,6 +1,6 @@
 //! The brackets that are open where a token stands.
 
-ghost use Rattle.std.specs.Prelude.{◌≡◌, ◌≤◌, ◌<◌, ◌+◌, ◌-◌, ◌||◌, true, false, length, drop, map, IfSome, IfNone, OnOk, IfErr, [], ◌∷◌, Err, List};
+ghost use Rattle.std.specs.Prelude.{◌≡◌, ◌≤◌, ◌<◌, ◌+◌, ◌-◌, ◌||◌, true, false, length, map, IfSome, IfNone, OnOk, IfErr, [], ◌∷◌, Err, List};
 ghost use Rattle.bz_token.specs.Places.{Placed, placed};
 ghost use Rattle.bz_token.specs.declared.brackets.Bracket.TheVariants.{Opening, Closing, Neither};
 ghost use Rattle.bz_token.specs.Brackets.{is_opening_bracket, is_closing_bracket, is_pair, is_inside, is_bracket, bracket_fits, closes_innermost, open_tokens, open_after_token};

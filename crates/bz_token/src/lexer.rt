@@ -1,7 +1,7 @@
 //! The tokens of a text. `parse` of bz_tree calls `tokens` for a whole text; `first_chunk` (`chunk.rt`) and
 //! `TokenReader` (`reader.rt`) have a `Lexer` read line by line.
 
-ghost use Rattle.std.specs.Prelude.{◌≡◌, ◌≤◌, ◌<◌, ◌+◌, ◌^◌, ◌==◌, ◌⊎◌, ◌∷◌, [], List, ℕ, max, true, false, not, length, take, drop, count_by, map, IfOk, IfErr, IfSome, IfNone, IsTrue, Some, None, nat_eq};
+ghost use Rattle.std.specs.Prelude.{◌≡◌, ◌≤◌, ◌<◌, ◌+◌, ◌^◌, ◌==◌, ◌⊎◌, [], List, ℕ, max, true, false, not, length, take, drop, count_by, map, IfOk, IfErr, IsTrue, Some, None, nat_eq};
 ghost use Rattle.std.specs.Option.{option_eq};
 ghost use Rattle.std.specs.List.{list_any};
 ghost use Rattle.bz_token.specs.Lexical.{is_newline};

@@ -1,12 +1,12 @@
 //! How long the token at the front of some bytes is.
 
-ghost use Rattle.std.specs.Prelude.{◌≡◌, ◌≤◌, ◌<◌, ◌+◌, ◌-◌, ◌++◌, ◌==◌, ◌∷◌, [], ℕ, true, false, not, length, take, drop, slice_index, map, IfOk, IfErr, IfSome, IfNone, IsTrue, bytes_eq};
+ghost use Rattle.std.specs.Prelude.{◌≡◌, ◌≤◌, ◌<◌, ◌+◌, ◌-◌, ◌==◌, ◌∷◌, [], ℕ, true, false, not, length, take, drop, slice_index, bytes_eq};
 ghost use Rattle.std.specs.Char.{is_ascii_digit, is_ascii_hexdigit};
-ghost use Rattle.std.specs.List.{list_all, list_any, prefix_len};
+ghost use Rattle.std.specs.List.{list_all, prefix_len};
 ghost use Rattle.bz_token.specs.declared.token.Kind.TheVariants.{Operator};
 ghost use Rattle.bz_token.specs.Ends.{stops_at};
 ghost use Rattle.bz_token.specs.private.Keywords.{keyword_len};
-ghost use Rattle.bz_token.specs.Lexical.{operators, keywords, begins, is_blank, is_word_byte, is_octal_digit, are_based, is_number, is_keyword, is_one_of, is_operator_text, is_comment, is_newline};
+ghost use Rattle.bz_token.specs.Lexical.{operators, keywords, begins, is_blank, is_word_byte, is_octal_digit, are_based, is_number, is_keyword, is_operator_text, is_comment, is_newline};
 
 use crate::table::is_word_byte;
 use memchr::memchr;

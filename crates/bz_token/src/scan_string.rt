@@ -1,7 +1,7 @@
 //! Where a string literal opens and closes.
 
 ghost use Rattle.std.specs.Prelude.{◌≡◌, ◌≤◌, ◌<◌, ◌-◌, ℕ, Some, true, false, length, take, slice_index, IfSome, IfNone};
-ghost use Rattle.std.specs.List.{list_any, prefix_len};
+ghost use Rattle.std.specs.List.{list_any};
 ghost use Rattle.bz_token.specs.Pieces.{is_quote};
 ghost use Rattle.bz_token.specs.Lexical.{is_newline, closing_row, prefix_letters, are_two, opening};
 ghost use Rattle.bz_token.specs.private.Closing.{is_escaped, escape_after, closes};

@@ -1,6 +1,6 @@
 //! The token at a place.
 
-ghost use Rattle.std.specs.Prelude.{◌≡◌, ◌<◌, ◌≤◌, ◌==◌, ◌||◌, ℕ, Bool, List, Some, None, true, false, length, slice_index, IfOk, IfErr, IfSome, IfNone};
+ghost use Rattle.std.specs.Prelude.{◌≡◌, ◌<◌, ◌==◌, ◌||◌, Bool, Some, None, true, false, length, slice_index, IfOk, IfErr, IfSome, IfNone};
 ghost use Rattle.bz_token.specs.declared.token.Kind.TheVariants.{Comment, String};
 ghost use Rattle.std.specs.Char.{is_ascii_digit};
 ghost use Rattle.bz_token.specs.Lexical.{begins, opening, is_word_byte};

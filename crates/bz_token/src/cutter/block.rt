@@ -1,6 +1,6 @@
 //! The words that begin a block, and the lines that go on with it.
 
-ghost use Rattle.std.specs.Prelude.{◌≡◌, ◌<◌, ◌++◌, [], List, ℕ, true, false, length, bytes_eq};
+ghost use Rattle.std.specs.Prelude.{◌≡◌, ◌<◌, [], true, false, bytes_eq};
 ghost use Rattle.std.specs.List.{list_all};
 ghost use Rattle.bz_token.specs.Lexical.{is_word_byte};
 ghost use Rattle.bz_token.specs.Blocks.{is_white, word_at, opener_of, has_branch, goes_on};

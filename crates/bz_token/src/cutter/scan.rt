@@ -1,6 +1,6 @@
 //! The walk over the bytes of a file that finds where its logical lines end. The `Cutter` (`cutter.rt`) walks by it.
 
-ghost use Rattle.std.specs.Prelude.{◌≡◌, ◌+◌, ◌-◌, ◌≤◌, ◌<◌, ◌^◌, ◌==◌, true, false, not, length, take, drop};
+ghost use Rattle.std.specs.Prelude.{◌≡◌, ◌+◌, ◌-◌, ◌≤◌, ◌<◌, ◌^◌, ◌==◌, not, length, take};
 ghost use Rattle.std.specs.List.{prefix_len};
 ghost use Rattle.bz_token.specs.private.CutSteps.{is_ended, is_quiet, byte_of, with_comment, at, outside, in_short, in_long, next, start, run};
 
