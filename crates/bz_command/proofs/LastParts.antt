@@ -3,6 +3,7 @@ use Rattle.std.proofs.Common.{◌≡◌, ℕ, ◌<◌, List, [], ◌∷◌, ◌+
 use Rattle.std.specs.Prelude.{◌==◌, ◌||◌, ◌&&◌, nat_eq, codes, Option, is_some, option_map, MatchOption}
 use Rattle.std.specs.List.{list_any, onto_first, starts_with}
 use Rattle.std.proofs.lemmas.Bool.{cases_Bool}
+use Rattle.std.proofs.Math.Bool.{or-true}
 use Rattle.bz_command.specs.Labels.{Package, last_of, parts_of, is_slash, is_colon}
 use Rattle.bz_command.specs.Same.{completed, in_package, with_name}
 use Rattle.bz_command.specs.private.ByteSteps.{left}
@@ -57,13 +58,9 @@ pub has_colon : (found : Option Bytes) (bs : List ℕ) → option_map left found
 has_colon None bs h = sym (ap is_some h ∙ is_there 58 bs)
 has_colon (Some rest) bs h = sym (ap is_some h ∙ is_there 58 bs)
 
-or_true : (a : Bool) → (a || true) ≡ true
-or_true true = refl
-or_true false = refl
-
 colon_within : (path text : List ℕ) → list_any is_colon (path ++ 58 ∷ text) ≡ true
 colon_within [] text = refl
-colon_within (b ∷ path) text = ap (λ (a : Bool). is_colon b || a) (colon_within path text) ∙ or_true (is_colon b)
+colon_within (b ∷ path) text = ap (λ (a : Bool). is_colon b || a) (colon_within path text) ∙ or-true (is_colon b)
 
 in_full : (home : Package) (text : List ℕ) → with_name (in_package home (58 ∷ text)) ≡ in_package home (58 ∷ text)
 in_full None text = refl

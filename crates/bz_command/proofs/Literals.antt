@@ -216,7 +216,7 @@ off : (b : Bool) → not b ≡ true → b ≡ false
 off true h = sym h
 off false h = refl
 
-one_alone : (b : ℕ) (bs : List ℕ) → b == 92 ≡ false → b == 13 ≡ false → first_len (b ∷ bs) ≡ 1
+pub one_alone : (b : ℕ) (bs : List ℕ) → b == 92 ≡ false → b == 13 ≡ false → first_len (b ∷ bs) ≡ 1
 one_alone b [] h k = refl
 one_alone b (c ∷ []) h k = rw (h, k) refl
 one_alone b (c ∷ d ∷ bs) h k = rw (h, k) refl

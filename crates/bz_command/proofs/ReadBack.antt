@@ -4,16 +4,11 @@ use Rattle.std.specs.List.{flat_map, starts_with}
 use Rattle.std.proofs.lemmas.Bool.{cases_Bool, eqb-false, ne_eqb}
 use Rattle.bz_command.specs.Values.{written, quoted, escapes, meant, value_of, opening}
 use Rattle.bz_command.specs.private.ValueSteps.{first_len, inner_value}
-use Rattle.bz_command.proofs.Literals.{step}
+use Rattle.bz_command.proofs.Literals.{step, one_alone}
 
 escape_len : (x : ℕ) (r : List ℕ) → x == 13 ≡ false → first_len (92 ∷ x ∷ r) ≡ 2
 escape_len x [] h = refl
 escape_len x (d ∷ r) h = rw h refl
-
-byte_len : (b : ℕ) (r : List ℕ) → b == 92 ≡ false → b == 13 ≡ false → first_len (b ∷ r) ≡ 1
-byte_len b [] h k = refl
-byte_len b (c ∷ []) h k = rw (h, k) refl
-byte_len b (c ∷ d ∷ r) h k = rw (h, k) refl
 
 escape_read : (x k : ℕ) (r v : List ℕ) → x == 13 ≡ false → meant x escapes ≡ Some k → inner_value false (34 ∷ []) r ≡ Some v → inner_value false (34 ∷ []) (92 ∷ x ∷ r) ≡ Some (k ∷ v)
 escape_read x k r v h m rest =
@@ -22,7 +17,7 @@ escape_read x k r v h m rest =
 byte_read : (b : ℕ) (r v : List ℕ) → b == 92 ≡ false → b == 34 ≡ false → b == 10 ≡ false → b == 13 ≡ false → inner_value false (34 ∷ []) r ≡ Some v → inner_value false (34 ∷ []) (b ∷ r) ≡ Some (b ∷ v)
 byte_read b r v back quote line return rest =
     step false (34 ∷ []) (b ∷ r) (omega arith) (rw (ne_eqb 34 b (λ e. eqb-false b 34 quote (sym e))) refl)
-    ∙ rw (byte_len b r back return, back, line, return, rest) refl
+    ∙ rw (one_alone b r back return, back, line, return, rest) refl
 
 unit_read : (b : ℕ) (r v : List ℕ) → inner_value false (34 ∷ []) r ≡ Some v → inner_value false (34 ∷ []) (written b ++ r) ≡ Some (b ∷ v)
 unit_read b r v rest = elim (cases_Bool (b == 92)) [
