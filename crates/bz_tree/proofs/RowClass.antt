@@ -27,6 +27,7 @@ use Rattle.bz_token.specs.Common.{is_empty}
 use Rattle.bz_token.specs.Lexical.{is_one_of}
 use Rattle.bz_tree.specs.Kinds.{is_operator_at}
 use Rattle.std.specs.List.{list_any}
+use Rattle.std.proofs.Math.Bool.{and-false, or-false, or_assoc}
 use Rattle.bz_tree.proofs.OneBracket.{same_either}
 
 -- a rule, from some node on
@@ -195,20 +196,12 @@ leaf_assigns OperatorToken text = operator_assigns text
 leaf_assigns Keyword text = word_assigns text
 leaf_assigns _ text = refl
 
-or_none : (b : Bool) → b ≡ (b || false)
-or_none true = refl
-or_none false = refl
-
-or_assoc : (a b c : Bool) → ((a || b) || c) ≡ (a || (b || c))
-or_assoc true b c = refl
-or_assoc false b c = refl
-
 item_assigns : (x : Item) (r : Read) → (read_item x r).assigns ≡ (r.assigns || is_assign x)
 item_assigns (leaf kind text) r = ap (λ b. r.assigns || b) (leaf_assigns kind text)
-item_assigns (group kind segs one_comma end) r = or_none r.assigns
+item_assigns (group kind segs one_comma end) r = sym (or-false r.assigns)
 
 read_assigns : (xs : List Item) (r : Read) → (read_items r xs).assigns ≡ (r.assigns || list_any is_assign xs)
-read_assigns [] r = or_none r.assigns
+read_assigns [] r = sym (or-false r.assigns)
 read_assigns (x ∷ xs) r = read_assigns xs (read_item x r) ∙ (ap (λ b. b || list_any is_assign xs) (item_assigns x r) ∙ or_assoc r.assigns (is_assign x) (list_any is_assign xs))
 
 -- a rule whose call is shown
@@ -238,11 +231,7 @@ same_from (group kind segs one_comma end ∷ []) Name s h = absurd (false≢true
 same_from (group kind segs one_comma end ∷ []) Never s h = absurd (false≢true h)
 same_from (group kind segs one_comma end ∷ []) End s h = absurd (false≢true h)
 same_from (group kind segs one_comma end ∷ []) Lost s h = absurd (false≢true h)
-same_from (group kind segs one_comma end ∷ y ∷ ys) Join s h = absurd (false≢true (sym (and_false (is_call kind)) ∙ h))
-  where
-    and_false : (b : Bool) → (b && false) ≡ false
-    and_false true = refl
-    and_false false = refl
+same_from (group kind segs one_comma end ∷ y ∷ ys) Join s h = absurd (false≢true (sym (and-false (is_call kind)) ∙ h))
 same_from (group kind segs one_comma end ∷ y ∷ ys) Name s h = absurd (false≢true h)
 same_from (group kind segs one_comma end ∷ y ∷ ys) Never s h = absurd (false≢true h)
 same_from (group kind segs one_comma end ∷ y ∷ ys) End s h = absurd (false≢true h)
