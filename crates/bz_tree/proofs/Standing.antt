@@ -18,17 +18,9 @@ use Rattle.bz_tree.specs.Brackets.{is_line, without_lines}
 use Rattle.bz_tree.specs.Statement.{is_aside, bare_tokens, last_of, EndsFit}
 use Rattle.bz_tree.specs.Blocks.{IsAt, is_block_word_at}
 use Rattle.bz_tree.specs.private.BlockSteps.{IsAsciiFront, AreStanding}
-use Rattle.bz_tree.proofs.KeptText.{newlines, newlines_are}
+use Rattle.bz_token.proofs.Progress.{newlines, newlines-append}
 use Rattle.bz_tree.proofs.Sound.{none_is_some, some_injective}
 use Rattle.bz_token.specs.Common.{first_of}
-
-newlines_append : (xs ys : List ℕ) → newlines (xs ++ ys) ≡ newlines xs + newlines ys
-newlines_append [] ys = omega arith
-newlines_append (b ∷ xs) ys = at_byte (b == 10) (newlines_append xs ys)
-  where
-    at_byte : (n : Bool) → newlines (xs ++ ys) ≡ newlines xs + newlines ys → cond n (1 + newlines (xs ++ ys)) (newlines (xs ++ ys)) ≡ cond n (1 + newlines xs) (newlines xs) + newlines ys
-    at_byte true e = omega (arith, e)
-    at_byte false e = e
 
 -- each token ends on a line of the text
 ends_in : (first : ℕ) (ps : List Piece) (depth : ℕ) (before lines opened bs rest : List ℕ) → IsReading depth opened ps rest bs → first + newlines (before ++ bs) < 2 ^ 64 → EndsFit (tokens_of first before lines ps)
@@ -37,16 +29,16 @@ ends_in first (p ∷ ps) depth before lines opened bs rest reading fits =
     let after = reading.0 in
     let all : before ++ bs ≡ (before ++ (p.gap ++ p.text)) ++ after = ap (λ xs. before ++ xs) reading.1.bytes_are ∙ simp append_assoc in
     let parts : before ++ bs ≡ ((before ++ p.gap) ++ p.text) ++ after = ap (λ xs. before ++ xs) reading.1.bytes_are ∙ simp append_assoc in
-    let n = newlines_append ((before ++ p.gap) ++ p.text) after in
-    let k = newlines_append (before ++ p.gap) p.text in
+    let n = newlines-append ((before ++ p.gap) ++ p.text) after in
+    let k = newlines-append (before ++ p.gap) p.text in
     let here : first + count_by (λ b. b == 10) (before ++ p.gap) + count_by (λ b. b == 10) p.text < 2 ^ 64 =
-    omega (arith, fits, ap newlines parts, n, k, newlines_are (before ++ p.gap), newlines_are p.text) in
+    omega (arith, fits, ap newlines parts, n, k) in
     let more : first + newlines ((before ++ (p.gap ++ p.text)) ++ after) < 2 ^ 64 = omega (arith, fits, ap newlines all) in
     (here, ends_in first ps depth (before ++ (p.gap ++ p.text)) (line_at first (before ++ p.gap) ∷ lines) (open_after_token opened p.text) after rest reading.2 more)
 
 pub ends_fit : (first depth : ℕ) (bytes : List ℕ) (tokens : List Placed) → AreTokensOf first depth bytes tokens → first + count_by (λ b. b == 10) bytes < 2 ^ 64 → EndsFit tokens
 ends_fit first depth bytes tokens is fits =
-    subst EndsFit (sym is.5) (ends_in first is.0 depth [] [] [] bytes is.1 is.2 (omega (arith, fits, newlines_are bytes)))
+    subst EndsFit (sym is.5) (ends_in first is.0 depth [] [] [] bytes is.1 is.2 (omega (arith, fits)))
 
 -- gaps begin with ASCII
 white_ascii : (inside : Bool) (b : ℕ) → is_white inside b ≡ true → b < 128
