@@ -130,7 +130,8 @@ fn edit_known(
     }))
 }
 
-/// Whether what the script makes of some statements may be known without them.
+/// Whether what the script makes of some statements may be known without them: each target asks for a name, or there
+/// is one command, which may be answered from a text (`is_answerable` of `answer.rt`).
 fn may_be_known(script: ScriptRun<'_>) -> bool {
     if script.passes.ask_for_names() {
         return true;
