@@ -1,4 +1,6 @@
--- What commands do to the arguments of a rule, as far as several do it: notes, the elements that a command means, new nodes, and the edit of a rule's arguments (buildozer README, edit commands; the failures are this project's own rule).
+-- What commands do to the arguments of a rule, as far as several do it: notes, the elements that a command means, new
+-- nodes, and the edit of a rule's arguments (buildozer README, edit commands; the failures are this project's own rule).
+-- Begin with `with_args`, `slot_done` and `done`.
 use Rattle.std.specs.Prelude.{ℕ, List, [], ◌∷◌, ◌++◌, Bool, true, false, ◌&&◌, not, if◌then◌else◌, Option, Some, None, is_some, filter, codes, option_and_then}
 use Rattle.std.specs.List.{list_any}
 use Rattle.bz_token.specs.declared.token.Kind.TheVariants.{Identifier, Operator, String}

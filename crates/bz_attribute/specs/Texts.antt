@@ -8,7 +8,7 @@ use Rattle.bz_command.specs.Labels.{Package, Target, Name, Pkg, All, Kind, Line}
 use Rattle.bz_attribute.specs.Rules.{rule_of, kind_text, name_in}
 use Rattle.bz_token.specs.Common.{map_or}
 
--- a package and the colon after it
+-- a package and the colon after it (47 is `/`, 58 `:`, and below 37 `%`)
 abbrev pub home_text : Package → List ℕ
 home_text home = map_or (codes "-:") (λ path. 47 ∷ 47 ∷ (path ++ 58 ∷ [])) home
 

@@ -291,7 +291,7 @@ pub(crate) struct PutArguments<'t> {
     pub(crate) at: Pending<'t>,
     /// The first one of the name. Where there is none: after the last. None: it is not known.
     pub(crate) place: Option<PutPlace<'t>>,
-    /// There is one at least, or a comment.
+    /// There is one at least, or a comment: `put_rule` takes no rule without either.
     pub(crate) some: bool,
 }
 

@@ -1,4 +1,7 @@
 -- Labels: a package and what is meant in it (buildozer README, targets; what it leaves open is this project's own rule).
+-- Begin with `Package` and `Target`.
+-- In no stop: `is_kind` of `Names` (identifiers joined by dots, none a keyword), for how a label is read, which `run` does
+-- not reach.
 use Rattle.std.specs.Prelude.{ℕ, nat_lt, nat_eq, ◌==◌, ◌<◌, ◌^◌, List, [], ◌∷◌, Bool, true, false, ◌&&◌, ◌||◌, not, if◌then◌else◌, IsTrue, Option, None, Some, Result, Ok, Err, codes, length, drop, bytes_eq, unwrap_or}
 use Rattle.std.specs.List.{position_or_len, list_all, list_any, before_first, after_first, starts_with, slice_split, last_or}
 use Rattle.std.specs.Char.{is_ascii_digit}

@@ -23,7 +23,7 @@ pub enum Setting {
     ToValues(Text, Seq<Text>),
 }
 
-/// The elements that `move` moves.
+/// The elements that `move` moves; the definition of `remove` chooses elements by it too.
 #[derive(Drop)]
 pub enum Moved {
     /// All of them, written `*`.

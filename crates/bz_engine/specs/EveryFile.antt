@@ -1,4 +1,5 @@
 -- What a run answers for a file that it may not have read to its end: the same, whatever stands after what was read (this project's own rule).
+-- Begin with `ForEveryFile`.
 use Rattle.std.specs.Prelude.{◌≡◌, ℕ, IsTrue, List, [], ◌++◌}
 use Rattle.bz_devices.specs.Device.{ends}
 use Rattle.std.specs.List.{concat}

@@ -1,4 +1,5 @@
 -- The texts of messages (this project's own rule): a rule is shown by its label, a fault by its line and column.
+-- Begin with `fault_text`, `note_text` and `not_found_text`.
 use Rattle.std.specs.Prelude.{ℕ, List, ◌++◌, codes}
 use Rattle.std.specs.Fmt.{decimal}
 use Rattle.bz_token.specs.declared.fault.LexFault.{LexFault}

@@ -12,8 +12,8 @@ use Rattle.bz_engine.specs.declared.options.Options.{Options}
 use Rattle.bz_engine.specs.File.{Give}
 use Rattle.bz_engine.specs.Outcome.{Script, Run, run_with, some_failure}
 
--- After these reads another was needed: none of them met the end, the chunks that they gave do not end the run, and the bytes that are left leave
--- the next chunk open.
+-- After these reads another was needed: none of them met the end, the chunks that they gave, the first on line 1, do not end
+-- the run, and the bytes that are left leave the next chunk open.
 pub record IsOneNeeded (run : Run) (max_statement : ℕ) (pieces : List (List ℕ)) : Type 0 where
   pub going : NoneEnds pieces
   pub front : List (List ℕ)

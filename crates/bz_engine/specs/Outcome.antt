@@ -100,7 +100,7 @@ told_of_failure home passes before s =
 abbrev pub told_by : Report → Told
 told_by r = record { lines = r.lines; messages = r.messages; changed = r.changed; failed = r.failed; end = r.end }
 
--- The file begins with these statements: its first chunks have them, and no fault.
+-- The file begins with these statements: its first chunks, the first on line 1, have them, and no fault.
 pub record BeginsWith (max_depth : ℕ) (file : List ℕ) (statements : List Statement) : Type 0 where
   pub front : List (List ℕ)
   pub after : List (List ℕ)

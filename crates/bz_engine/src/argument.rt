@@ -88,8 +88,8 @@ pub(crate) fn edit_lines<'s>(
     edit_small_rule(script, command, spare)
 }
 
-/// What the command makes of the argument that has these lines, where it adds one value to a list of strings, or looks for
-/// one that is not in it. None: it may be another command, or another argument.
+/// What the command makes of the argument that has these lines, where it adds one value to a list of strings, or looks
+/// for one that is not in it. None: it may be another command, or another argument; then the buffer does not count.
 fn edit_list(
     script: ScriptRun<'_>,
     command: &Command,

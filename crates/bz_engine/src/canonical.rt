@@ -101,7 +101,8 @@ pub(crate) fn edit_whole(
     }
 }
 
-/// The script on the statement of a chunk that was found. None, with nothing done: the chunk is to be read.
+/// The script on the statement of a chunk that was found, for both calls above. `text` is the buffer for what is written
+/// of the chunk. None, with nothing done: the chunk is to be read.
 #[inline(always)]
 fn edit_known(
     script: ScriptRun<'_>,
@@ -129,7 +130,8 @@ fn edit_known(
     }))
 }
 
-/// Whether what the script makes of some statements may be known without them.
+/// Whether what the script makes of some statements may be known without them: each target asks for a name, or there
+/// is one command, which may be answered from a text (`is_answerable` of `answer.rt`).
 fn may_be_known(script: ScriptRun<'_>) -> bool {
     if script.passes.ask_for_names() {
         return true;
@@ -178,7 +180,8 @@ fn asked<'a>(script: ScriptRun<'a>) -> &'a str {
     }
 }
 
-/// The script on the statement of such a chunk. False, with nothing done: the statement is to be seen.
+/// The script on the statement of such a chunk, by the first of these: no pass marks it; the one command leaves it as
+/// it is, fails on it, or edits one argument. False, with nothing done: the statement is to be seen.
 fn edit_unseen(
     script: ScriptRun<'_>,
     found: Found<'_>,
@@ -293,6 +296,7 @@ fn is_passed_by(script: ScriptRun<'_>, found: Found<'_>) -> bool
 {
     match found.chunk.class {
         Class::Rule => script.passes.ask_for_names() && is_name_passed_by(script, found.chunk.name),
+        // Targets mark rules alone.
         _ => true,
     }
 }

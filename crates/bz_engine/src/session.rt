@@ -90,7 +90,8 @@ impl Model for Session {
 }
 
 impl Session {
-    /// A session before its first chunk.
+    /// A session before its first chunk. By the limit an input has at most 2^63 bytes, 8,192 a read: so the number of a
+    /// line never overflows.
     pub fn new(
         alloc: Global,
         home: Package,
@@ -176,7 +177,8 @@ impl Session {
         self.report_at(end)
     }
 
-    /// The report of a session that ended in this way.
+    /// The report of a session that ended in this way. `take_report` stops it first: what was kept moves into the report,
+    /// and a session that counts as ended has to have it still (`IsSession`).
     fn report_at(&mut self, end: End) -> Result<Report, RunFault>
         requires stopped { self.old.stage ≡ Stopped }
         requires fits { Fits self.old.progress.kept self.old.passes }
@@ -233,7 +235,8 @@ impl Session {
         }
     }
 
-    /// The session has ended in this way.
+    /// The session has ended in this way. `advance` calls it with what is kept in place for each pass and command: so
+    /// `finish` tells it (`IsSession`).
     fn end_at(&mut self, end: End) -> Step
         requires { Fits self.old.progress.kept self.old.passes }
         ensures ended { self.new ≡ record self.old { stage = Ended end } }
@@ -289,6 +292,8 @@ impl Session {
     }
 
     /// The script on the next chunk, where it ends being found line by line; none where the input has ended.
+    /// In the midst of a step more may be ahead than of a session that goes on (`IsReady`): so `advance` has it stopped
+    /// until the chunk is taken.
     fn edit_found<S: Source>(
         &mut self,
         source: &mut S,

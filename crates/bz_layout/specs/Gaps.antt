@@ -1,4 +1,5 @@
 -- Where empty lines stand between statements (this project's own rule).
+-- Begin with `lines_between` and `gap_text`.
 use Rattle.std.specs.Prelude.{ℕ, List, replicate, Option}
 use Rattle.std.specs.Prelude.Option.{Some, None}
 use Rattle.bz_tree.specs.declared.stmt.Class.{Class}

@@ -1,4 +1,5 @@
 -- A written text as pieces: tokens and comments, each after its gap (this project's own form of a layout).
+-- Begin with `Piece` and `bytes_of`.
 use Rattle.std.specs.Prelude.{codes, ℕ, zero, suc, List, [], ◌∷◌, ◌++◌, Bool, if◌then◌else◌, Option, map, flat_map}
 use Rattle.std.specs.Prelude.Option.{Some, None}
 use Rattle.bz_token.specs.declared.token.Kind.{Kind}

@@ -1,5 +1,6 @@
 -- Where a space stands between two neighbouring nodes (this project's own rule).
 -- Begin with `gap_before`.
+-- An `Edge` (`src/spacing.rt`) is what the nodes so far leave to the next; `within` is the kind of the group around them.
 -- Of later stops: 7 `is_call`.
 use Rattle.std.specs.Prelude.{codes, ℕ, List, Bool, true, false, ◌&&◌, ◌||◌, if◌then◌else◌, Option}
 use Rattle.std.specs.Prelude.Option.{Some}

@@ -1,4 +1,5 @@
 -- The evidence that memory was refused, which has one value: the type's one field, `seen`, is `()`, in specs `tt`.
+-- Begin with `no_memory`.
 use Rattle.bz_memory.specs.declared.no_memory.NoMemory.{NoMemory}
 
 abbrev pub no_memory : NoMemory

@@ -1,4 +1,5 @@
 -- The texts of what a run tells, each kind by itself.
+-- Begin with `line_text`, `message_text` and `failure_text`.
 use Rattle.std.specs.Prelude.{ℕ, List, [], ◌∷◌}
 use Rattle.bz_passes.specs.declared.entry.Entry.{Entry}
 use Rattle.bz_passes.specs.declared.entry.Entry.TheVariants.{Line, Warning, Failure}

@@ -1,5 +1,10 @@
--- The ten commands: how their words are read (buildozer README, edit commands; the refusals are this project's own rule), which attributes they mention, a test of their words; the statement after each, what it tells, and which leave all comments.
+-- The ten commands: how their words are read (buildozer README, edit commands; the refusals are this project's own rule),
+-- which attributes they mention, a test of their words; the statement after each, what it tells, and which leave all
+-- comments.
 -- Begin with `after` and `done_of`.
+-- In no stop, since `run` does not reach what they are for: bz_command `Words` (a text as words), `Names` (identifiers and
+-- kinds), `Arguments` (what arguments keep that were read, which attributes they mention, a test of their words). They are
+-- for how commands are read (`command_of`, `is_command`), for `mentions` and for `command_passes`.
 use Rattle.std.specs.Prelude.{◌≡◌, ℕ, ◌==◌, List, [], ◌∷◌, Bool, true, false, ◌&&◌, ◌||◌, not, if◌then◌else◌, Option, Some, None, Result, Ok, Err, map, length, codes, bytes_eq, option_map}
 use Rattle.std.specs.List.{list_all, list_any}
 use Rattle.std.specs.Str.{is_utf8}

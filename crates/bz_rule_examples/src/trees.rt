@@ -9,7 +9,8 @@ use std::borrow::CowStr;
 use std::test::Fail;
 
 /// A chunk, and the copy of its statement or its fault. A statement is its class, and then the comments above it, its
-/// nodes and its suffix; so is each segment, between angles.
+/// nodes and its suffix; so is each segment, between angles and without a class. `|` stands before a bracket's end
+/// comments. What each comment belongs to: `Owners.antt` of bz_tree.
 const TREES: &str = r##"
 ---
 f (

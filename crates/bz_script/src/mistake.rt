@@ -245,7 +245,8 @@ fn of_target(target: &str) -> Mistake {
     Mistake::Space
 }
 
-/// What is wrong with the number of a command's words.
+/// What is wrong with the number of a command's words. On the command line (`line` 0) a name alone is taken for a
+/// command without its quotes.
 fn of_count(word: &str, line: u64) -> Mistake {
     let name = first_word(word);
     let form = form_of(name).unwrap_or("");

@@ -14,7 +14,7 @@ is_white b = b == 32 || b == 9 || b == 13 || b == 10
 abbrev pub continues : ℕ → List ℕ → Bool
 continues b after = b == 92 && (bytes_eq (take 1 after) (10 ∷ []) || bytes_eq (take 2 after) (13 ∷ 10 ∷ []))
 
--- what stands after white space and continued lines, if it stands in column 1; `first`: this is column 1
+-- what stands after white space and continued lines, if it stands in column 1; `first`: this is column 1 (`cond b x y` is x if b, else y)
 abbrev pub head_from : Bool → List ℕ → List ℕ
 head_from first [] = []
 head_from first (b ∷ bs) =

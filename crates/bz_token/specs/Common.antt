@@ -1,4 +1,5 @@
 -- Words on lists and options that the definitions share.
+-- Begin with `is_empty`, `is_filled`, `first_of` and `map_or`.
 use Rattle.std.specs.Prelude.{List, [], ◌∷◌, Bool, true, false, Option, None, Some}
 
 abbrev pub is_empty {ℓ} : {A : Type ℓ} → List A → Bool

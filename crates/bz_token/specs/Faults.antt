@@ -65,7 +65,8 @@ pub record IsOpenBracket (first depth : ℕ) (bytes : List ℕ) (line col : ℕ)
   pub line_is : line ≡ bracket.line
   pub col_is : col ≡ bracket.col
 
--- The first fault of the text from left to right; want of memory is none of the text's.
+-- The first fault of the text from left to right. That memory was refused says nothing of the text, so it holds of each; `IsLexical`
+-- (bz_tree `Chunk`) leaves it out.
 abbrev pub IsFault : ℕ → ℕ → List ℕ → LexFault → Type 0
 IsFault first depth bytes (OutOfMemory _) = Unit {0}
 IsFault first depth bytes (BadCharacter line col) = IsFaultAt first depth bytes (λ opened. IsBadCharacter) line col

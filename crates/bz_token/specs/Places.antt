@@ -1,4 +1,5 @@
 -- Where a token stands: its line from the newlines before it, its column in bytes from the newline before it.
+-- Begin with `Placed`, `line_at` and `column_at`.
 use Rattle.std.specs.Prelude.{ℕ, ◌+◌, List, [], ◌∷◌, count_by, ◌==◌, Bool, if◌then◌else◌}
 use Rattle.bz_token.specs.declared.token.Kind.{Kind}
 use Rattle.bz_token.specs.declared.token.Token.{Token}

@@ -102,7 +102,7 @@ abbrev pub above : List Placed → List (List ℕ)
 above [] = []
 above (t ∷ ts) = above_at (mark_of t) t.text (above ts)
 
--- After these bytes a token begins at its place.
+-- After these bytes, which begin on line `first`, a token begins at its place.
 pub record IsAt (first : ℕ) (before : List ℕ) (t : Placed) : Type 0 where
   pub line : line_at first before ≡ t.line
   pub col : column_at before ≡ t.col

@@ -1,7 +1,7 @@
 -- The grammar of a statement's nodes (Starlark specification, "Grammar reference"), a relation with a constructor for each row.
--- Chains are flat: nothing is evaluated, so precedence plays no part.
+-- Chains are flat: nothing is evaluated, so precedence plays no part. In comments `{x}` is any number of x, `[x]` one or none.
 -- Begin with `IsStatement`.
--- Of later stops: 8 `is_one_of`.
+-- Of later stops: 8 `is_one_of`. It is in bz_token `Lexical`.
 use Rattle.std.specs.Prelude.{codes, ◌≡◌, ℕ, List, [], ◌∷◌, Bool, true, false, if◌then◌else◌, Option}
 use Rattle.std.specs.Str.{bytes_eq}
 use Rattle.bz_token.specs.declared.token.Kind.{Kind}

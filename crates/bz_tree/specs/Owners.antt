@@ -26,6 +26,7 @@ is_on no_token line = false
 is_on (end_of_node end) line = end == line
 is_on (end_of_comma end) line = end == line
 
+-- the segments of a bracket, whether a comma stands after its last node, its end comments
 pub record Inside : Type 0 where
   pub segs : List Segment
   pub trailing : Bool

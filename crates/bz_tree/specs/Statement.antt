@@ -1,6 +1,6 @@
 -- The statement that a list of tokens is: its tree, its class and its lines.
 -- Begin with `IsStatementOf`.
--- Of later stops: 8 `Placed`, `is_one_of`.
+-- Of later stops: 8 `Placed`, `is_one_of`. They are in bz_token `Places` and `Lexical`.
 use Rattle.std.specs.Prelude.{codes, ℕ, List, [], ◌∷◌, ◌++◌, Bool, true, false, if◌then◌else◌, ◌≡◌, ◌<◌, ◌^◌, ◌&&◌, ◌||◌, None, Option, Some, ◌<◌, ◌^◌}
 use Rattle.std.specs.Str.{bytes_eq}
 use Rattle.bz_token.specs.declared.token.Kind.{Kind}

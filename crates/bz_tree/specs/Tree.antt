@@ -18,9 +18,10 @@ mutual
 
   pub data Segs : Type 0 where
     no_segs : Segs
+    -- the comments above it, its nodes, the comment beside it, the segments after it
     seg : List (List ℕ) → Items → Option (List ℕ) → Segs → Segs
 
--- a segment with its comments
+-- a segment: the comments above it, its nodes, the comment beside it (on the last line of its nodes, or of its comma)
 pub record Segment : Type 0 where
   pub before : List (List ℕ)
   pub nodes : List Item

@@ -58,7 +58,7 @@ impl<'a> RowWalk<'a> {
         })
     }
 
-    // One more node, a token of this role.
+    // One more node, a token of this role. Most callers know `kind` and `role`, so tests of them fold away.
     #[inline(always)]
     fn push_leaf(&mut self, token: &Token<'a>, kind: Kind, role: Role) -> Result<bool, NoMemory>
         requires kind { kind ≡ token.now.kind }
