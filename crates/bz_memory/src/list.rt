@@ -1,7 +1,7 @@
 //! Lists that grow.
 
 ghost use Rattle.std.specs.Iterator.{DrainsIf, IsFinite};
-ghost use Rattle.std.specs.Prelude.{⊤, List, ◌≡◌, ◌≤◌, ◌<◌, ◌+◌, [], ◌∷◌, ◌++◌, is_ok, if◌then◌else◌, IfOk, OnOk, OnErr, length, max, take, vec_len, vec_capacity};
+ghost use Rattle.std.specs.Prelude.{⊤, List, ◌≡◌, ◌≤◌, ◌<◌, ◌+◌, [], ◌∷◌, ◌++◌, is_ok, if◌then◌else◌, IfOk, OnOk, OnErr, length, take, vec_len, vec_capacity};
 
 use crate::no_memory::{NoMemory, refused};
 use std::alloc::{Allocator, Global};
@@ -58,18 +58,6 @@ pub fn reserve_for<T, A: Allocator>(list: &mut Vec<T, A>, like: &[T]) -> Result<
     ensures full { OnErr result (vec_capacity list.old < vec_len list.old + length like.now) }
 {
     list.reserve(like.len()).map_err(|_| refused())
-}
-
-/// Makes room for a few values more, and takes no more memory than that.
-#[inline(always)]
-pub fn reserve_exact<T, A: Allocator>(list: &mut Vec<T, A>, few: usize) -> Result<(), NoMemory>
-    requires { few ≤ 131072 }
-    ensures items { list.new.items ≡ list.old.items }
-    ensures exact { OnOk result (vec_capacity list.new ≡ max (vec_capacity list.old) (vec_len list.old + few)) }
-    ensures ok { OnOk result (vec_len list.new + few ≤ vec_capacity list.new) }
-    ensures full { OnErr result (vec_capacity list.old < vec_len list.old + few) }
-{
-    list.reserve_exact(few).map_err(|_| refused())
 }
 
 /// An empty list with room for a few values.

@@ -1,7 +1,7 @@
 //! The nodes that parts are of: one walk over the parts, with a stack of open brackets. bz_rule (`statement_row.rt`)
 //! makes a tree of a row by it, and bz_attribute (`row_args.rt`) an argument.
 
-ghost use Rattle.std.specs.Prelude.{◌≡◌, ◌≤◌, map, IfOk, OnOk, option_map, ◌<◌};
+ghost use Rattle.std.specs.Prelude.{◌≡◌, map, IfOk, OnOk, option_map};
 ghost use Rattle.bz_tree.specs.Tree.{Statement};
 ghost use Rattle.bz_tree.specs.View.{node_view, nodes_view, text_of, view};
 ghost use Rattle.bz_tree.specs.Rows.{part_view, parts_of};
@@ -11,13 +11,10 @@ ghost use Rattle.bz_tree.specs.private.PartSteps.{beside_text, content, content_
 use crate::parts::push_parts;
 use crate::row::Part;
 use crate::stmt::{Class, Group, GroupKind, Leaf, Node, Seg, Stmt};
-use bz_memory::{NoMemory, push, reserve_exact};
+use bz_memory::{NoMemory, push};
 use std::alloc::Global;
 use std::borrow::CowStr;
 use std::mem;
-
-// Most rules have fewer arguments.
-const FIRST_ARGUMENTS: usize = 12;
 
 // What stands in a bracket, or at the top, so far.
 #[derive(Drop)]
@@ -44,63 +41,6 @@ pub(crate) struct Nesting<'a> {
     pub(crate) outer: Vec<OpenGroup<'a>>,
 }
 
-// No node of its segment follows, or no segment of its bracket.
-#[inline(always)]
-fn is_last(following: Option<&Part<'_>>) -> bool {
-    matches!(following, None | Some(Part::End | Part::Close(_)))
-}
-
-// How many nodes a segment has, as far as these parts tell that stand after its first.
-#[inline(always)]
-fn nodes_with(following: &[Part<'_>]) -> usize
-    ensures { (0 < result) × (result ≤ 4) }
-{
-    if is_last(following.first()) {
-        1
-    } else if is_last(following.get(1)) {
-        2
-    } else if is_last(following.get(2)) {
-        3
-    } else {
-        4
-    }
-}
-
-// Short segments, as most are, take no more room than they need.
-#[inline(always)]
-fn reserve_nodes(nodes: &mut Vec<Node<'_>>, following: &[Part<'_>]) -> Result<(), NoMemory>
-    ensures { OnOk result (nodes.new.items ≡ nodes.old.items) }
-{
-    if nodes.is_empty() {
-        reserve_exact(nodes, nodes_with(following))
-    } else {
-        Ok(())
-    }
-}
-
-// Room for the segments of a bracket. A rule has some arguments, and may get one more.
-#[inline(always)]
-fn reserve_arguments(segs: &mut Vec<Seg<'_>>, kind: GroupKind) -> Result<(), NoMemory>
-    ensures { OnOk result (segs.new.items ≡ segs.old.items) }
-{
-    if kind == GroupKind::RuleCall {
-        reserve_exact(segs, FIRST_ARGUMENTS)
-    } else {
-        Ok(())
-    }
-}
-
-#[inline(always)]
-fn reserve_segs(segs: &mut Vec<Seg<'_>>, last: bool) -> Result<(), NoMemory>
-    ensures { OnOk result (segs.new.items ≡ segs.old.items) }
-{
-    if last && segs.is_empty() {
-        reserve_exact(segs, 1)
-    } else {
-        Ok(())
-    }
-}
-
 impl<'a> Inside<'a> {
     #[inline(always)]
     fn new(alloc: Global) -> Inside<'a>
@@ -114,18 +54,15 @@ impl<'a> Inside<'a> {
     }
 
     #[inline(always)]
-    fn add_node(&mut self, node: Node<'a>, following: &[Part<'a>]) -> Result<(), NoMemory>
+    fn add_node(&mut self, node: Node<'a>) -> Result<(), NoMemory>
         ensures { OnOk result (content self.new ≡ with_node (node_view node.entry) (content self.old)) }
     {
-        reserve_nodes(&mut self.nodes, following)?;
-        push(&mut self.nodes, node)?;
-        Ok(())
+        push(&mut self.nodes, node)
     }
 
-    fn end_segment(&mut self, alloc: Global, last: bool) -> Result<(), NoMemory>
+    fn end_segment(&mut self, alloc: Global) -> Result<(), NoMemory>
         ensures { OnOk result (content self.new ≡ with_segment (content self.old)) }
     {
-        reserve_segs(&mut self.segs, last)?;
         push(
             &mut self.segs,
             Seg {
@@ -133,8 +70,7 @@ impl<'a> Inside<'a> {
                 nodes: mem::replace(&mut self.nodes, Vec::new(alloc)),
                 suffix: None,
             },
-        )?;
-        Ok(())
+        )
     }
 
     fn put_beside(&mut self, text: &'a str)
@@ -150,14 +86,11 @@ impl<'a> Nesting<'a> {
     fn open(&mut self, alloc: Global, kind: GroupKind) -> Result<(), NoMemory>
         ensures { OnOk result (nest self.new ≡ opened kind (nest self.old)) }
     {
-        let mut inner = Inside::new(alloc);
-        reserve_arguments(&mut inner.segs, kind)?;
-        let inside = mem::replace(&mut self.here, inner);
-        push(&mut self.outer, OpenGroup { kind, inside })?;
-        Ok(())
+        let inside = mem::replace(&mut self.here, Inside::new(alloc));
+        push(&mut self.outer, OpenGroup { kind, inside })
     }
 
-    fn close(&mut self, one_comma: bool, following: &[Part<'a>]) -> Result<(), NoMemory>
+    fn close(&mut self, one_comma: bool) -> Result<(), NoMemory>
         ensures { OnOk result (nest self.new
             ≡ closed one_comma (content self.old.here) (outers self.old.outer.items)) }
     {
@@ -171,28 +104,22 @@ impl<'a> Nesting<'a> {
             one_comma,
             end: comments,
         };
-        self.here.add_node(Node::Group(group), following)
+        self.here.add_node(Node::Group(group))
     }
 
     #[inline(always)]
-    fn step(
-        &mut self,
-        alloc: Global,
-        part: Part<'a>,
-        following: &[Part<'a>],
-    ) -> Result<(), NoMemory>
+    fn step(&mut self, alloc: Global, part: Part<'a>) -> Result<(), NoMemory>
         ensures { OnOk result (nest self.new ≡ step (part_view part.entry) (nest self.old)) }
     {
         match part {
             Part::Token(kind, text) => {
                 let text = CowStr::Borrowed(text);
-                self.here
-                    .add_node(Node::Token(Leaf { kind, text }), following)
+                self.here.add_node(Node::Token(Leaf { kind, text }))
             }
             Part::Open(kind) => self.open(alloc, kind),
-            Part::Close(one_comma) => self.close(one_comma, following),
-            Part::End => self.here.end_segment(alloc, is_last(following.first())),
-            Part::Above(text) => Ok(push(&mut self.here.comments, CowStr::Borrowed(text))?),
+            Part::Close(one_comma) => self.close(one_comma),
+            Part::End => self.here.end_segment(alloc),
+            Part::Above(text) => push(&mut self.here.comments, CowStr::Borrowed(text)),
             Part::Beside(text) => {
                 self.here.put_beside(text);
                 Ok(())
@@ -210,7 +137,7 @@ fn read_parts<'a>(alloc: Global, parts: &[Part<'a>]) -> Result<Inside<'a>, NoMem
         outer: Vec::new(alloc),
     };
     for i in 0..parts.len() {
-        nesting.step(alloc, parts[i], &parts[i + 1..])?;
+        nesting.step(alloc, parts[i])?;
     }
     let Nesting { here, .. } = nesting;
     Ok(here)
