@@ -1,18 +1,14 @@
 -- Worked examples of the definitions.
-use Rattle.std.proofs.Common.{◌≡◌, ℕ, List, [], ◌∷◌, ◌++◌, Bool, true, false, Some, None, refl, sym, ap, Bor}
+use Rattle.std.proofs.Common.{◌≡◌, ℕ, List, [], ◌∷◌, ◌++◌, Bool, true, false, Some, None, refl, sym, ap}
 use Rattle.std.specs.Str.{bytes_eq}
 use Rattle.std.proofs.lemmas.Bool.{false≢true}
 use Rattle.std.specs.Prelude.{codes}
-use Rattle.std.specs.declared.borrow.CowStr.TheVariants.{Borrowed, Owned}
-use Rattle.std.specs.declared.string.String.{String}
-use Rattle.std.specs.declared.alloc.Global.{Global}
 use Rattle.bz_token.specs.declared.token.Kind.{Kind}
 use Rattle.bz_token.specs.declared.token.Kind.TheVariants.{Identifier, Keyword, Operator, Newline, Comment as CommentToken}
 use Rattle.bz_token.specs.Places.{Placed}
 use Rattle.bz_tree.specs.declared.stmt.Class.TheVariants.{Comment, Other}
 use Rattle.bz_tree.specs.declared.stmt.GroupKind.TheVariants.{Call}
 use Rattle.bz_tree.specs.Tree.{group, no_items, item, no_segs, seg, Statement}
-use Rattle.bz_tree.specs.Borrowed.{owned_in}
 use Rattle.bz_tree.specs.Brackets.{leaf_of}
 use Rattle.bz_tree.specs.Owners.{node, comma, comment, inside, no_empty}
 use Rattle.bz_tree.specs.Statement.{class_of, start_of}
@@ -90,7 +86,3 @@ second_column = refl
 
 nothing_there : class_of [] ≡ Comment
 nothing_there = refl
-
--- of three comments the second is owned
-one_owned : (slice other : Bor (List ℕ)) (string : String Global) → owned_in (Borrowed slice ∷ Owned string ∷ Borrowed other ∷ []) ≡ 1
-one_owned slice other string = refl

@@ -1,5 +1,4 @@
 pub mod Views
-pub mod Borrowed
 pub mod Walking
 pub mod ByLines
 pub mod ByOwns

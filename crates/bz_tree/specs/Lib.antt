@@ -1,6 +1,5 @@
 pub mod Tree
 pub mod View
-pub mod Borrowed
 pub mod Kinds
 pub mod Owners
 pub mod Brackets

@@ -1,5 +1,4 @@
 pub mod BlockSteps
-pub mod BorrowedSteps
 pub mod LoadSteps
 pub mod Machine
 pub mod PartSteps

@@ -8,14 +8,12 @@ ghost use Rattle.bz_tree.specs.Kinds.{mark_of};
 ghost use Rattle.bz_tree.specs.Blocks.{is_block_word, is_colon, popped, pushed, indented, block_indent, depth_after, has_colon, header_line, logical_lines, is_block, above};
 ghost use Rattle.bz_tree.specs.Statement.{last_token};
 ghost use Rattle.bz_tree.specs.private.BlockSteps.{lines_view, begun, next_counted, next_indent, first_lines};
-ghost use Rattle.bz_tree.specs.Borrowed.{owned_in};
 
 use crate::kinds::{Mark, mark_of};
 use crate::span::last_token;
 use bz_memory::{NoMemory, push};
 use bz_token::{Kind, Token};
 use std::alloc::Global;
-use std::borrow::CowStr;
 
 /// Whether the token begins a block.
 pub(crate) fn is_block_word(token: &Token<'_>) -> bool
@@ -178,14 +176,13 @@ pub(crate) fn is_block(tokens: &[Token<'_>]) -> bool
 pub(crate) fn comments_above<'a>(
     alloc: Global,
     tokens: &[Token<'a>],
-) -> Result<Vec<CowStr<'a>>, NoMemory>
+) -> Result<Vec<&'a str>, NoMemory>
     ensures value { IfOk result (λ v. texts v.items ≡ above (map placed tokens.now)) }
-    ensures borrowed { IfOk result (λ v. owned_in v.items ≡ 0) }
 {
     let mut comments = Vec::new(alloc);
     for token in tokens {
         match mark_of(token) {
-            Mark::Comment => push(&mut comments, CowStr::Borrowed(token.text))?,
+            Mark::Comment => push(&mut comments, token.text)?,
             Mark::Newline => {}
             _ => return Ok(comments),
         }

@@ -10,8 +10,6 @@ ghost use Rattle.bz_tree.specs.Brackets.{leaf_of, own_of};
 ghost use Rattle.bz_tree.specs.declared.kinds.Mark.TheVariants.{Close, Comma, Comment, Plain};
 ghost use Rattle.bz_tree.specs.Statement.{one_segment, segment_with};
 ghost use Rattle.bz_tree.specs.private.Steps.{leaf_view, content_view, so_far, done, has_one, kind_with, level, levels, with_own, new_level, closed, next, next_at, finished, run, state};
-ghost use Rattle.bz_tree.specs.Borrowed.{owned, group_owned, seg_owned};
-ghost use Rattle.bz_tree.specs.private.BorrowedSteps.{walk_owned, content_owned, frame_owned, state_owned};
 
 use crate::class::with_rule_call;
 use crate::kinds::{
@@ -23,7 +21,6 @@ use crate::stmt::{Group, GroupKind, Leaf, Node, Seg};
 use bz_memory::{NoMemory, append, push};
 use bz_token::Token;
 use std::alloc::Global;
-use std::borrow::CowStr;
 use std::mem;
 
 // A bracket that is still open, or the top.
@@ -44,11 +41,10 @@ pub(crate) struct State<'a> {
 #[inline(always)]
 fn leaf_of<'a>(token: &Token<'a>) -> Leaf<'a>
     ensures value { leaf_view result ≡ leaf_of (placed token.now) }
-    ensures borrowed { owned result.text ≡ 0 }
 {
     Leaf {
         kind: token.kind,
-        text: CowStr::Borrowed(token.text),
+        text: token.text,
     }
 }
 
@@ -56,7 +52,6 @@ fn leaf_of<'a>(token: &Token<'a>) -> Leaf<'a>
 #[inline(always)]
 fn closed<'a>(kind: GroupKind, walk: Walk<'a>) -> Result<Option<Group<'a>>, NoMemory>
     ensures value { IfOk result (λ o. option_map group_view o ≡ closed (Some kind) (so_far walk.entry)) }
-    ensures borrowed { IfOk result (λ o. IfSome o (λ g. group_owned g ≤ walk_owned walk.entry)) }
 {
     let Some(content) = walk.finish()? else {
         return Ok(None);
@@ -74,7 +69,6 @@ impl<'a> Frame<'a> {
     #[inline(always)]
     fn new(alloc: Global, kind: Option<GroupKind>) -> Frame<'a>
         ensures value { level result ≡ new_level kind }
-        ensures borrowed { frame_owned result ≡ 0 }
     {
         Frame {
             kind,
@@ -110,7 +104,6 @@ impl<'a> Frame<'a> {
     #[inline(always)]
     fn add_leaf(&mut self, token: &Token<'a>) -> Result<(), NoMemory>
         ensures value { OnOk result (level self.new ≡ with_own (level self.old) (own_of Plain (placed token.now))) }
-        ensures borrowed { OnOk result (frame_owned self.new ≤ frame_owned self.old) }
     {
         self.kind = self.kind_with(token);
         self.at = kind_after(token.kind, token.text);
@@ -121,7 +114,6 @@ impl<'a> Frame<'a> {
     #[inline(always)]
     fn add_comma(&mut self, alloc: Global, token: &Token<'a>) -> Result<(), NoMemory>
         ensures value { OnOk result (level self.new ≡ with_own (level self.old) (own_of Comma (placed token.now))) }
-        ensures borrowed { OnOk result (frame_owned self.new ≤ frame_owned self.old) }
     {
         self.at = Preceding::Other;
         if self.is_one() {
@@ -135,16 +127,13 @@ impl<'a> Frame<'a> {
     #[inline(always)]
     fn add_comment(&mut self, token: &Token<'a>) -> Result<(), NoMemory>
         ensures value { OnOk result (level self.new ≡ with_own (level self.old) (own_of Comment (placed token.now))) }
-        ensures borrowed { OnOk result (frame_owned self.new ≤ frame_owned self.old) }
     {
-        self.walk
-            .add_comment(token.line, CowStr::Borrowed(token.text))
+        self.walk.add_comment(token.line, token.text)
     }
 
     #[inline(always)]
     fn add_group(&mut self, group: Group<'a>, line: u64) -> Result<(), NoMemory>
         ensures value { OnOk result (level self.new ≡ with_own (level self.old) (node line (group_view group.entry))) }
-        ensures borrowed { OnOk result (frame_owned self.new ≤ frame_owned self.old + group_owned group.entry) }
     {
         self.at = Preceding::Operand;
         self.walk.add_node(Node::Group(group), line, "")
@@ -158,7 +147,6 @@ impl<'a> State<'a> {
           new_level (Some (group_kind shape self.old.top.at false)),
           level self.old.top ∷ levels self.old.outer.items,
         )) }
-        ensures borrowed { OnOk result (state_owned self.new ≤ state_owned self.old) }
     {
         let frame = Frame::new(alloc, Some(group_kind(shape, self.top.at, false)));
         push(&mut self.outer, mem::replace(&mut self.top, frame))?;
@@ -169,7 +157,6 @@ impl<'a> State<'a> {
     fn close(&mut self, shape: Shape, token: &Token<'a>) -> Result<bool, NoMemory>
         ensures value { IfOk result (λ some. then_some some (state self.new)
             ≡ next_at (Close shape) (placed token.now) (level self.old.top) (levels self.old.outer.items)) }
-        ensures borrowed { OnOk result (state_owned self.new ≤ state_owned self.old) }
     {
         let Some(kind) = self.top.kind else {
             return Ok(false);
@@ -193,7 +180,6 @@ impl<'a> State<'a> {
     fn step(&mut self, alloc: Global, token: &Token<'a>) -> Result<bool, NoMemory>
         ensures value { IfOk result (λ some. then_some some (state self.new)
             ≡ next (placed token.now) (state self.old)) }
-        ensures borrowed { OnOk result (state_owned self.new ≤ state_owned self.old) }
     {
         match mark_of(token) {
             Mark::Newline => {}
@@ -210,7 +196,6 @@ impl<'a> State<'a> {
     fn walk(&mut self, alloc: Global, tokens: &[Token<'a>]) -> Result<bool, NoMemory>
         ensures value { IfOk result (λ some. option_and_then finished (then_some some (state self.new))
             ≡ run (level self.old.top) (levels self.old.outer.items) (map placed tokens.now)) }
-        ensures borrowed { OnOk result (state_owned self.new ≤ state_owned self.old) }
     {
         for token in tokens {
             if !self.step(alloc, token)? {
@@ -223,7 +208,6 @@ impl<'a> State<'a> {
     // None: a bracket is open, or a segment is empty.
     fn finish(self, alloc: Global) -> Result<Option<Seg<'a>>, NoMemory>
         ensures value { IfOk result (λ o. option_map seg_view o ≡ finished (state self.entry)) }
-        ensures borrowed { IfOk result (λ o. IfSome o (λ s. seg_owned s ≤ state_owned self.entry)) }
     {
         if self.top.kind.is_some() || !self.outer.is_empty() {
             return Ok(None);
@@ -236,7 +220,6 @@ impl<'a> State<'a> {
 fn one_segment<'a>(alloc: Global, content: Content<'a>) -> Result<Seg<'a>, NoMemory>
     ensures value { IfOk result
         (λ s. seg_view s ≡ one_segment (content_view content.entry).segs (content_view content.entry).end) }
-    ensures borrowed { IfOk result (λ s. seg_owned s ≤ content_owned content.entry) }
 {
     let Content {
         mut segs,
@@ -258,7 +241,6 @@ fn one_segment<'a>(alloc: Global, content: Content<'a>) -> Result<Seg<'a>, NoMem
 fn statement<'a>(alloc: Global, walk: Walk<'a>) -> Result<Option<Seg<'a>>, NoMemory>
     ensures value { IfOk result
         (λ o. option_map seg_view o ≡ option_map segment_with (option_map done (so_far walk.entry))) }
-    ensures borrowed { IfOk result (λ o. IfSome o (λ s. seg_owned s ≤ walk_owned walk.entry)) }
 {
     let Some(content) = walk.finish()? else {
         return Ok(None);
@@ -270,7 +252,6 @@ fn statement<'a>(alloc: Global, walk: Walk<'a>) -> Result<Option<Seg<'a>>, NoMem
 /// The statement's segment. None: there is no tree.
 pub(crate) fn run<'a>(alloc: Global, tokens: &[Token<'a>]) -> Result<Option<Seg<'a>>, NoMemory>
     ensures value { IfOk result (λ o. option_map seg_view o ≡ run (new_level None) [] (map placed tokens.now)) }
-    ensures borrowed { IfOk result (λ o. IfSome o (λ s. seg_owned s ≡ 0)) }
 {
     let mut state = State {
         outer: Vec::new(alloc),

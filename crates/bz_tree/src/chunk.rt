@@ -9,7 +9,6 @@ ghost use Rattle.bz_tree.specs.Statement.{EndsFit, statement_with, first_token, 
 ghost use Rattle.bz_tree.specs.Blocks.{kept_statement, is_block_word};
 ghost use Rattle.bz_tree.specs.Chunk.{IsPlain, indent_fault, IsChunkOf, IsStatementIn, IsBlank, IsFaultIn};
 ghost use Rattle.bz_tree.specs.private.BlockSteps.{AreStanding};
-ghost use Rattle.bz_tree.specs.Borrowed.{owned_in, owned_texts, seg_owned};
 ghost use Rattle.bz_token.specs.Common.{map_or};
 
 use crate::block::{block_indent, comments_above, is_block, is_block_word};
@@ -24,13 +23,11 @@ use bumpalo::Bump;
 use bz_memory::{NoMemory, with_capacity};
 use bz_token::{Kind, LexFault, Token, tokens};
 use std::alloc::Global;
-use std::borrow::CowStr;
 
 // The statement of these nodes and comments.
 fn with_class<'a>(seg: Seg<'a>, tokens: &[Token<'a>]) -> Stmt<'a>
     requires { EndsFit (map placed tokens.now) }
     ensures value { view result ≡ statement_with (map placed tokens.now) (seg_view seg.entry) }
-    ensures borrowed { owned_texts result ≡ seg_owned seg.entry }
 {
     let class = class_of(&seg.nodes);
     let Seg {
@@ -53,7 +50,6 @@ fn plain_statement<'a>(alloc: Global, tokens: &[Token<'a>]) -> Result<Option<Stm
     requires { EndsFit (map placed tokens.now) }
     ensures statement { IfOk result (λ o. IfSome o (λ s. IsPlain (map placed tokens.now) (view s))) }
     ensures none { IfOk result (λ o. IfNone o ((t : Statement) → IsPlain (map placed tokens.now) t → ⊥)) }
-    ensures borrowed { IfOk result (λ o. IfSome o (λ s. owned_texts s ≡ 0)) }
 {
     let Some(seg) = run(alloc, tokens)? else {
         return Ok(None);
@@ -67,19 +63,18 @@ fn plain_statement<'a>(alloc: Global, tokens: &[Token<'a>]) -> Result<Option<Stm
 // The statement that a block is.
 fn kept_statement<'a>(
     alloc: Global,
-    before: Vec<CowStr<'a>>,
+    before: Vec<&'a str>,
     kept: &'a str,
     header: &Token<'a>,
     end: u64,
 ) -> Result<Stmt<'a>, NoMemory>
     ensures value { IfOk result
         (λ s. view s ≡ kept_statement (texts before.entry.items) kept.now (placed header.now) end) }
-    ensures borrowed { IfOk result (λ s. owned_texts s ≡ owned_in before.entry.items) }
 {
     let mut nodes = with_capacity(alloc, 1)?;
     nodes.push_reserved(Node::Token(Leaf {
         kind: Kind::Kept,
-        text: CowStr::Borrowed(kept),
+        text: kept,
     }));
     Ok(Stmt {
         before,
@@ -114,7 +109,6 @@ fn chunk_statement<'a>(
         (λ o. IfSome o (λ s. IsChunkOf first_line text.now (map placed tokens.now) (view s))) }
     ensures none { IfOk result
         (λ o. IfNone o ((t : Statement) → IsChunkOf first_line text.now (map placed tokens.now) t → ⊥)) }
-    ensures borrowed { IfOk result (λ o. IfSome o (λ s. owned_texts s ≡ 0)) }
 {
     if !begins_block(tokens) {
         return plain_statement(alloc, tokens);
@@ -158,7 +152,6 @@ pub(crate) fn parse_tokens<'a>(
     ensures statement { IfOk result (λ o. IfSome o (λ s. (depth : ℕ)
         → AreTokensOf first_line depth text.now (map placed tokens.now)
         → IsStatementIn first_line depth text.now (view s))) }
-    ensures borrowed { IfOk result (λ o. IfSome o (λ s. owned_texts s ≡ 0)) }
     ensures blank { IfOk result (λ o. IfNone o ((depth : ℕ)
         → AreTokensOf first_line depth text.now (map placed tokens.now) → IsBlank first_line depth text.now)) }
     ensures fault { IfErr result (λ fault. (depth : ℕ)
@@ -189,7 +182,6 @@ pub fn parse<'a>(
 ) -> Result<Option<Stmt<'a>>, ParseFault>
     requires { first_line + count_by (λ b. b == 10) text.now < 2 ^ 64 }
     ensures statement { IfOk result (λ o. IfSome o (λ s. IsStatementIn first_line max_depth text.now (view s))) }
-    ensures borrowed { IfOk result (λ o. IfSome o (λ s. owned_texts s ≡ 0)) }
     ensures blank { IfOk result (λ o. IfNone o (IsBlank first_line max_depth text.now)) }
     ensures fault { IfErr result (IsFaultIn first_line max_depth text.now) }
 {

@@ -4,8 +4,6 @@ ghost use Rattle.std.specs.Prelude.{◌≡◌, ◌≤◌, codes};
 ghost use Rattle.bz_tree.specs.Tree.{leaf};
 ghost use Rattle.bz_tree.specs.View.{text_of, node_view, nodes_view, seg_view};
 ghost use Rattle.bz_tree.specs.Statement.{is_rule, is_call, as_rule_call, rule_call, with_rule_call, is_assign_operator, is_assign, is_kept, is_load_word, class_of};
-ghost use Rattle.bz_tree.specs.Borrowed.{node_owned, seg_owned};
-ghost use Rattle.bz_tree.specs.private.BorrowedSteps.{nodes_owned};
 ghost use Rattle.bz_tree.specs.Kinds.{is_operator_at};
 ghost use Rattle.std.specs.List.{list_any};
 
@@ -47,7 +45,7 @@ pub(crate) fn is_dot_at(kind: Kind, text: &str) -> bool
 fn is_dot(leaf: &Leaf<'_>) -> bool
     ensures { result ≡ is_operator_at (codes ".") leaf.now.kind (text_of leaf.now.text) }
 {
-    is_dot_at(leaf.kind, leaf.text.as_str())
+    is_dot_at(leaf.kind, leaf.text)
 }
 
 pub(crate) fn is_call(kind: GroupKind) -> bool
@@ -58,7 +56,6 @@ pub(crate) fn is_call(kind: GroupKind) -> bool
 
 fn as_rule_call(node: Node<'_>) -> Node<'_>
     ensures value { node_view result ≡ as_rule_call (node_view node.entry) }
-    ensures borrowed { node_owned result ≤ node_owned node.entry }
 {
     match node {
         Node::Token(leaf) => Node::Token(leaf),
@@ -73,7 +70,6 @@ fn as_rule_call(node: Node<'_>) -> Node<'_>
 
 fn rule_call(nodes: Vec<Node<'_>>) -> Vec<Node<'_>>
     ensures value { nodes_view result.items ≡ rule_call (nodes_view nodes.entry.items) }
-    ensures borrowed { nodes_owned result.items ≤ nodes_owned nodes.entry.items }
 {
     let mut nodes = nodes;
     if let Some(node) = nodes.pop() {
@@ -85,7 +81,6 @@ fn rule_call(nodes: Vec<Node<'_>>) -> Vec<Node<'_>>
 /// The segment, its call marked where it is a rule.
 pub(crate) fn with_rule_call(seg: Seg<'_>) -> Seg<'_>
     ensures value { seg_view result ≡ with_rule_call (seg_view seg.entry) }
-    ensures borrowed { seg_owned result ≤ seg_owned seg.entry }
 {
     if !is_rule(&seg.nodes) {
         return seg;
@@ -107,7 +102,7 @@ fn is_assign(node: &Node<'_>) -> bool
     ensures { result ≡ is_assign (node_view node.now) }
 {
     match node {
-        Node::Token(leaf) => leaf.kind == Kind::Operator && is_assign_operator(leaf.text.as_str()),
+        Node::Token(leaf) => leaf.kind == Kind::Operator && is_assign_operator(leaf.text),
         Node::Group(_) => false,
     }
 }
@@ -134,7 +129,7 @@ pub(crate) fn is_load_word(node: &Node<'_>) -> bool
     ensures { result ≡ is_load_word (node_view node.now) }
 {
     match node {
-        Node::Token(leaf) => is_load_at(leaf.kind, leaf.text.as_str()),
+        Node::Token(leaf) => is_load_at(leaf.kind, leaf.text),
         Node::Group(_) => false,
     }
 }

@@ -13,7 +13,6 @@ use crate::row::Part;
 use crate::stmt::{Class, Group, GroupKind, Leaf, Node, Seg, Stmt};
 use bz_memory::{NoMemory, push};
 use std::alloc::Global;
-use std::borrow::CowStr;
 use std::mem;
 
 // What stands in a bracket, or at the top, so far.
@@ -22,7 +21,7 @@ pub(crate) struct Inside<'a> {
     // The segments that have ended.
     pub(crate) segs: Vec<Seg<'a>>,
     // The comments after those.
-    pub(crate) comments: Vec<CowStr<'a>>,
+    pub(crate) comments: Vec<&'a str>,
     // The nodes of the segment here.
     pub(crate) nodes: Vec<Node<'a>>,
 }
@@ -77,7 +76,7 @@ impl<'a> Inside<'a> {
         ensures { content self.new ≡ with_beside text.now (content self.old) }
     {
         if let Some(seg) = self.segs.last_mut() {
-            seg.suffix = Some(CowStr::Borrowed(text));
+            seg.suffix = Some(text);
         }
     }
 }
@@ -113,13 +112,13 @@ impl<'a> Nesting<'a> {
     {
         match part {
             Part::Token(kind, text) => {
-                let text = CowStr::Borrowed(text);
+                let text = text;
                 self.here.add_node(Node::Token(Leaf { kind, text }))
             }
             Part::Open(kind) => self.open(alloc, kind),
             Part::Close(one_comma) => self.close(one_comma),
             Part::End => self.here.end_segment(alloc),
-            Part::Above(text) => push(&mut self.here.comments, CowStr::Borrowed(text)),
+            Part::Above(text) => push(&mut self.here.comments, text),
             Part::Beside(text) => {
                 self.here.put_beside(text);
                 Ok(())
@@ -151,17 +150,17 @@ pub fn nodes_of_parts<'a>(alloc: Global, parts: &[Part<'a>]) -> Result<Vec<Node<
     Ok(nodes)
 }
 
-fn beside_text<'a>(part: &Part<'a>) -> Option<CowStr<'a>>
+fn beside_text<'a>(part: &Part<'a>) -> Option<&'a str>
     ensures { option_map text_of result ≡ beside_text (part_view part.now) }
 {
     match part {
-        Part::Beside(text) => Some(CowStr::Borrowed(*text)),
+        Part::Beside(text) => Some(text),
         _ => None,
     }
 }
 
 // The comment with which the parts end, beside what stands before it.
-fn last_beside<'a>(parts: &[Part<'a>]) -> Option<CowStr<'a>>
+fn last_beside<'a>(parts: &[Part<'a>]) -> Option<&'a str>
     ensures { option_map text_of result ≡ last_beside (map part_view parts.now) }
 {
     let [.., last] = parts else {

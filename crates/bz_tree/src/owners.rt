@@ -3,14 +3,11 @@
 ghost use Rattle.std.specs.Prelude.{◌≡◌, ◌+◌, ◌++◌, ◌==◌, true, false, map, count_by, IfOk, OnOk, Some, None, [], option_map, option_and_then, ◌≤◌, IfSome};
 ghost use Rattle.bz_tree.specs.View.{text_of, texts, node_view, seg_view};
 ghost use Rattle.bz_tree.specs.private.Steps.{walked, so_far, is_in_first, texts_of, content_view, at_start, after_node, after_comma, after_comment, done, add_beside, to_last};
-ghost use Rattle.bz_tree.specs.Borrowed.{owned, owned_in, owned_of, node_owned, seg_owned};
-ghost use Rattle.bz_tree.specs.private.BorrowedSteps.{segs_owned, walk_owned, content_owned};
 
 use crate::span::newlines;
 use crate::stmt::{Node, Seg};
 use bz_memory::{NoMemory, append, push};
 use std::alloc::Global;
-use std::borrow::CowStr;
 use std::mem;
 
 // What stands directly before a comment. A node has the line on which it begins, and its text if it is a token: it ends
@@ -28,7 +25,7 @@ pub(crate) enum Before<'a> {
 pub(crate) struct Walk<'a> {
     pub(crate) segs: Vec<Seg<'a>>,
     pub(crate) here: Seg<'a>,
-    pub(crate) after: Vec<CowStr<'a>>,
+    pub(crate) after: Vec<&'a str>,
     pub(crate) last: Before<'a>,
     pub(crate) trailing: bool,
     // No segment is empty.
@@ -39,13 +36,12 @@ pub(crate) struct Walk<'a> {
 pub(crate) struct Content<'a> {
     pub(crate) segs: Vec<Seg<'a>>,
     pub(crate) trailing: bool,
-    pub(crate) end: Vec<CowStr<'a>>,
+    pub(crate) end: Vec<&'a str>,
 }
 
 // One more comment after a segment's comma.
-fn add_beside<'a>(seg: &mut Seg<'a>, text: CowStr<'a>) -> Result<(), NoMemory>
-    ensures value { OnOk result (seg_view seg.new ≡ add_beside (text_of text.entry) (seg_view seg.old)) }
-    ensures borrowed { OnOk result (seg_owned seg.new ≤ seg_owned seg.old + owned text.entry) }
+fn add_beside<'a>(seg: &mut Seg<'a>, text: &'a str) -> Result<(), NoMemory>
+    ensures value { OnOk result (seg_view seg.new ≡ add_beside (text.now) (seg_view seg.old)) }
 {
     if seg.suffix.is_some() {
         push(&mut seg.before, text)?;
@@ -55,10 +51,9 @@ fn add_beside<'a>(seg: &mut Seg<'a>, text: CowStr<'a>) -> Result<(), NoMemory>
     Ok(())
 }
 
-fn add_to_last<'a>(segs: &mut Vec<Seg<'a>>, text: CowStr<'a>) -> Result<(), NoMemory>
+fn add_to_last<'a>(segs: &mut Vec<Seg<'a>>, text: &'a str) -> Result<(), NoMemory>
     ensures value { OnOk result (map seg_view segs.new.items
-        ≡ to_last (text_of text.entry) (map seg_view segs.old.items)) }
-    ensures borrowed { OnOk result (segs_owned segs.new.items ≤ segs_owned segs.old.items + owned text.entry) }
+        ≡ to_last (text.now) (map seg_view segs.old.items)) }
 {
     if let Some(mut seg) = segs.pop() {
         add_beside(&mut seg, text)?;
@@ -74,8 +69,6 @@ fn put_before(seg: &mut Seg<'_>) -> Result<(), NoMemory>
     ensures taken { seg.new.suffix ≡ None }
     ensures value { OnOk result (texts seg.new.before.items
         ≡ texts seg.old.before.items ++ texts_of (option_map text_of seg.old.suffix)) }
-    ensures borrowed { OnOk result
-        (owned_in seg.new.before.items ≡ owned_in seg.old.before.items + owned_of seg.old.suffix) }
 {
     if seg.suffix.is_some() {
         if let Some(text) = seg.suffix.take() {
@@ -87,7 +80,7 @@ fn put_before(seg: &mut Seg<'_>) -> Result<(), NoMemory>
 
 // The comments after the last node stand above it once another node, or the comma, comes.
 #[inline(always)]
-fn put_above<'a>(before: &mut Vec<CowStr<'a>>, after: &mut Vec<CowStr<'a>>) -> Result<(), NoMemory>
+fn put_above<'a>(before: &mut Vec<&'a str>, after: &mut Vec<&'a str>) -> Result<(), NoMemory>
     ensures before { OnOk result (before.new.items ≡ before.old.items ++ after.old.items) }
     ensures after { OnOk result (after.new.items ≡ []) }
 {
@@ -102,7 +95,7 @@ fn put_above<'a>(before: &mut Vec<CowStr<'a>>, after: &mut Vec<CowStr<'a>>) -> R
 }
 
 #[inline(always)]
-fn put_suffix<'a>(suffix: &mut Option<CowStr<'a>>, text: CowStr<'a>)
+fn put_suffix<'a>(suffix: &mut Option<&'a str>, text: &'a str)
     ensures { suffix.new ≡ Some text.entry }
 {
     *suffix = Some(text);
@@ -133,7 +126,6 @@ impl<'a> Walk<'a> {
     #[inline(always)]
     pub(crate) fn new(alloc: Global) -> Walk<'a>
         ensures value { so_far result ≡ Some at_start }
-        ensures borrowed { walk_owned result ≡ 0 }
     {
         Walk {
             segs: Vec::new(alloc),
@@ -163,7 +155,6 @@ impl<'a> Walk<'a> {
         ensures value { OnOk result (walked self.new
             ≡ after_node (line + count_by (λ b. b == 10) text.now) (node_view node.entry) (walked self.old)) }
         ensures whole { self.new.whole ≡ self.old.whole }
-        ensures borrowed { OnOk result (walk_owned self.new ≤ walk_owned self.old + node_owned node.entry) }
     {
         self.last = Before::Node(line, text);
         self.trailing = false;
@@ -174,7 +165,6 @@ impl<'a> Walk<'a> {
 
     pub(crate) fn add_comma(&mut self, alloc: Global, line: u64) -> Result<(), NoMemory>
         ensures value { OnOk result (so_far self.new ≡ option_and_then (after_comma line) (so_far self.old)) }
-        ensures borrowed { OnOk result (walk_owned self.new ≤ walk_owned self.old) }
     {
         if self.here.nodes.is_empty() {
             self.whole = false;
@@ -190,10 +180,9 @@ impl<'a> Walk<'a> {
         Ok(())
     }
 
-    pub(crate) fn add_comment(&mut self, line: u64, text: CowStr<'a>) -> Result<(), NoMemory>
-        ensures value { OnOk result (walked self.new ≡ after_comment line (text_of text.entry) (walked self.old)) }
+    pub(crate) fn add_comment(&mut self, line: u64, text: &'a str) -> Result<(), NoMemory>
+        ensures value { OnOk result (walked self.new ≡ after_comment line (text.now) (walked self.old)) }
         ensures whole { self.new.whole ≡ self.old.whole }
-        ensures borrowed { OnOk result (walk_owned self.new ≤ walk_owned self.old + owned text.entry) }
     {
         match mem::replace(&mut self.last, Before::Nothing) {
             Before::Node(begin, token) if ends_on(begin, newlines(token), line) => {
@@ -212,7 +201,6 @@ impl<'a> Walk<'a> {
     #[inline(always)]
     pub(crate) fn finish(self) -> Result<Option<Content<'a>>, NoMemory>
         ensures value { IfOk result (λ o. option_map content_view o ≡ option_map done (so_far self.entry)) }
-        ensures borrowed { IfOk result (λ o. IfSome o (λ c. content_owned c ≤ walk_owned self.entry)) }
     {
         if !self.whole {
             return Ok(None);

@@ -8,55 +8,67 @@ ghost use Rattle.bz_tree.specs.Rows.{above, beside_part, item_parts, items_parts
 use crate::row::Part;
 use crate::stmt::{Group, Node, Seg, Stmt};
 use bz_memory::{NoMemory, push};
-use std::borrow::CowStr;
+use std::alloc::Allocator;
 
 /// Appends the parts of a statement. `Err`: memory was refused, and some of them may have been appended.
-pub fn push_parts<'s>(stmt: &'s Stmt<'_>, parts: &mut Vec<Part<'s>>) -> Result<(), NoMemory>
+pub fn push_parts<'a, A: Allocator>(
+    stmt: &Stmt<'a>,
+    parts: &mut Vec<Part<'a>, A>,
+) -> Result<(), NoMemory>
     ensures { OnOk result (map part_view parts.new.items ≡ map part_view parts.old.items ++ parts_of (view stmt.now)) }
 {
     push_above(&stmt.before, parts)?;
     push_nodes(&stmt.nodes, parts)?;
-    push_beside(&stmt.suffix, parts)
+    push_beside(stmt.suffix, parts)
 }
 
 /// Appends a part `Above` for each comment. `Err`: memory was refused, and some of them may have been appended.
-pub fn push_above<'s>(comments: &'s [CowStr<'_>], parts: &mut Vec<Part<'s>>) -> Result<(), NoMemory>
+pub fn push_above<'a, A: Allocator>(
+    comments: &[&'a str],
+    parts: &mut Vec<Part<'a>, A>,
+) -> Result<(), NoMemory>
     ensures { OnOk result (map part_view parts.new.items
         ≡ map part_view parts.old.items ++ map above (texts comments.now)) }
 {
     for comment in comments {
-        push(parts, Part::Above(comment.as_str()))?;
+        push(parts, Part::Above(*comment))?;
     }
     Ok(())
 }
 
 /// Appends a part `Beside` for the comment, if there is one. `Err`: memory was refused.
-pub fn push_beside<'s>(
-    comment: &'s Option<CowStr<'_>>,
-    parts: &mut Vec<Part<'s>>,
+pub fn push_beside<'a, A: Allocator>(
+    comment: Option<&'a str>,
+    parts: &mut Vec<Part<'a>, A>,
 ) -> Result<(), NoMemory>
     ensures { OnOk result
-        (map part_view parts.new.items ≡ map part_view parts.old.items ++ beside_part (option_map text_of comment.now)) }
+        (map part_view parts.new.items ≡ map part_view parts.old.items ++ beside_part (option_map text_of comment.entry)) }
 {
     match comment {
         None => Ok(()),
-        Some(text) => Ok(push(parts, Part::Beside(text.as_str()))?),
+        Some(text) => Ok(push(parts, Part::Beside(text))?),
     }
 }
 
 #[cycle(parts)]
-fn push_node<'s>(node: &'s Node<'_>, parts: &mut Vec<Part<'s>>) -> Result<(), NoMemory>
+fn push_node<'a, A: Allocator>(
+    node: &Node<'a>,
+    parts: &mut Vec<Part<'a>, A>,
+) -> Result<(), NoMemory>
     ensures { OnOk result
         (map part_view parts.new.items ≡ map part_view parts.old.items ++ item_parts (node_view node.now)) }
 {
     match node {
-        Node::Token(leaf) => Ok(push(parts, Part::Token(leaf.kind, leaf.text.as_str()))?),
+        Node::Token(leaf) => Ok(push(parts, Part::Token(leaf.kind, leaf.text))?),
         Node::Group(group) => push_group(group, parts),
     }
 }
 
 #[cycle(parts)]
-fn push_group<'s>(group: &'s Group<'_>, parts: &mut Vec<Part<'s>>) -> Result<(), NoMemory>
+fn push_group<'a, A: Allocator>(
+    group: &Group<'a>,
+    parts: &mut Vec<Part<'a>, A>,
+) -> Result<(), NoMemory>
     ensures { OnOk result
         (map part_view parts.new.items ≡ map part_view parts.old.items ++ item_parts (group_view group.now)) }
 {
@@ -69,7 +81,10 @@ fn push_group<'s>(group: &'s Group<'_>, parts: &mut Vec<Part<'s>>) -> Result<(),
 
 /// Appends the parts of these nodes. `Err`: memory was refused, and some of them may have been appended.
 #[cycle(parts)]
-pub fn push_nodes<'s>(nodes: &'s [Node<'_>], parts: &mut Vec<Part<'s>>) -> Result<(), NoMemory>
+pub fn push_nodes<'a, A: Allocator>(
+    nodes: &[Node<'a>],
+    parts: &mut Vec<Part<'a>, A>,
+) -> Result<(), NoMemory>
     ensures { OnOk result
         (map part_view parts.new.items
         ≡ map part_view parts.old.items ++ items_parts (items_of (nodes_view nodes.now))) }
@@ -81,7 +96,10 @@ pub fn push_nodes<'s>(nodes: &'s [Node<'_>], parts: &mut Vec<Part<'s>>) -> Resul
 }
 
 #[cycle(parts)]
-fn push_segs<'s>(segs: &'s [Seg<'_>], parts: &mut Vec<Part<'s>>) -> Result<(), NoMemory>
+fn push_segs<'a, A: Allocator>(
+    segs: &[Seg<'a>],
+    parts: &mut Vec<Part<'a>, A>,
+) -> Result<(), NoMemory>
     ensures { OnOk result
         (map part_view parts.new.items
         ≡ map part_view parts.old.items ++ segs_parts (segs_of (segs_view segs.now))) }
@@ -90,7 +108,7 @@ fn push_segs<'s>(segs: &'s [Seg<'_>], parts: &mut Vec<Part<'s>>) -> Result<(), N
         push_above(&seg.before, parts)?;
         push_nodes(&seg.nodes, parts)?;
         push(parts, Part::End)?;
-        push_beside(&seg.suffix, parts)?;
+        push_beside(seg.suffix, parts)?;
     }
     Ok(())
 }

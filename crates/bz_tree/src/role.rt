@@ -139,5 +139,5 @@ pub(crate) fn token_role(kind: Kind, text: &str) -> Role
 pub(crate) fn leaf_role(leaf: &Leaf<'_>) -> Role
     ensures { result ≡ leaf_role leaf.now.kind (text_of leaf.now.text) }
 {
-    token_role(leaf.kind, leaf.text.as_str())
+    token_role(leaf.kind, leaf.text)
 }

@@ -1,7 +1,6 @@
 //! Statements. Every text is a slice of the chunk that it was read from, or owned where a command made it.
 
 use bz_token::Kind;
-use std::borrow::CowStr;
 
 /// The kind of a bracket group.
 #[derive(Clone, Copy, Debug, PartialEq, Eq)]
@@ -28,7 +27,7 @@ pub enum GroupKind {
 #[derive(Debug, PartialEq, Eq, Drop)]
 pub struct Leaf<'a> {
     pub kind: Kind,
-    pub text: CowStr<'a>,
+    pub text: &'a str,
 }
 
 /// A node of a statement: a token, or a bracket with what stands in it.
@@ -48,7 +47,7 @@ pub struct Group<'a> {
     /// It is a tuple of one element, `(x,)`.
     pub one_comma: bool,
     /// The comments after the last segment, each on a line of its own.
-    pub end: Vec<CowStr<'a>>,
+    pub end: Vec<&'a str>,
 }
 
 /// A segment: what stands between two commas of a bracket.
@@ -56,10 +55,10 @@ pub struct Group<'a> {
 #[derive(Debug, PartialEq, Eq, Drop)]
 pub struct Seg<'a> {
     /// The comments above it.
-    pub before: Vec<CowStr<'a>>,
+    pub before: Vec<&'a str>,
     pub nodes: Vec<Node<'a>>,
     /// The comment after it, on its last line.
-    pub suffix: Option<CowStr<'a>>,
+    pub suffix: Option<&'a str>,
 }
 
 /// The class of a statement: the layout and the commands treat each class in its own way.
@@ -82,10 +81,10 @@ pub enum Class {
 #[derive(Debug, PartialEq, Eq, Drop)]
 pub struct Stmt<'a> {
     /// The comments above it.
-    pub before: Vec<CowStr<'a>>,
+    pub before: Vec<&'a str>,
     pub nodes: Vec<Node<'a>>,
     /// The comment after it, on its last line.
-    pub suffix: Option<CowStr<'a>>,
+    pub suffix: Option<&'a str>,
     pub class: Class,
     /// The line of its first token, comments not counted unless the class is Comment.
     pub start: u64,

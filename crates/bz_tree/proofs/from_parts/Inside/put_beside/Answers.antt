@@ -1,6 +1,5 @@
 use Rattle.std.proofs.Common.{◌≡◌, ◌-◌, List, Some, suc, length, refl, ap, sym, ◌∙◌, arith}
 use Rattle.std.specs.Vec.{vec_len}
-use Rattle.std.specs.declared.borrow.CowStr.{CowStr}
 use Rattle.bz_tree.specs.declared.stmt.Seg.{roll-Seg}
 use Rattle.bz_tree.specs.Tree.{Segment}
 use Rattle.bz_tree.specs.View.{texts, nodes_view}
@@ -13,7 +12,7 @@ returns-in-Some c =
     let inside = c.args.self.now in
     let text = c.args.text in
     let s = c.in-Some.seg.now in
-    let new = roll-Seg (record { before = s.before; nodes = s.nodes; suffix = Some (CowStr.Borrowed text) }) in
+    let new = roll-Seg (record { before = s.before; nodes = s.nodes; suffix = Some text }) in
     let last : suc (vec_len inside.segs - 1) ≡ length inside.segs.items = omega (arith, c.in-Some.ensures.variant.0 refl, inside.segs.ok.0) in
     ap (λ (ss : List Segment). record { segs = ss; comments = texts inside.comments.items; nodes = nodes_view inside.nodes.items })
     (last_written text.now inside.segs.items (vec_len inside.segs - 1) s new last c.in-Some.ensures.value (view-seg new ∙ sym (ap (λ (z : Segment). segment z.before z.nodes (Some text.now)) (view-seg s))))
