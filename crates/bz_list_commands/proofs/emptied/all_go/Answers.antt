@@ -51,11 +51,3 @@ returns c nodes suffix read =
     ap not (c.has_node.ensures ∙ ap (list_any is_node) (rest_seen c.args.parts.now c.loop-element.at))
     ∙ ap (λ (b : Bool). b && not there) (sym later)
     ∙ all_gone (means c.args.edit) nodes suffix (map part_view c.args.parts.now) (c.args.value + 1) c.loop-element.at g (c.in_default.ensures.none (record g.list { elements = g.others }) (beside_part suffix) g.read)
-
-pub returns-then-at-first : goal.returns-then-at-first
-returns-then-at-first c nodes suffix read =
-    let g = c.loop-element.invariant.left nodes suffix read in
-    let none : nat_lt (c.args.value + 1) c.loop-element.at ≡ false = grind (arith, nat_tests, c.if-at-first.true) in
-    let there : Bool = list_any is_node (drop c.loop-element.at (map part_view c.args.parts.now)) in
-    ap (λ (b : Bool). b && not there) (sym none)
-    ∙ all_gone (means c.args.edit) nodes suffix (map part_view c.args.parts.now) (c.args.value + 1) c.loop-element.at g (c.in_default.ensures.none (record g.list { elements = g.others }) (beside_part suffix) g.read)
