@@ -19,7 +19,6 @@ pub mod ListEdits
 pub mod ListElements
 pub mod ListWalk
 pub mod LiteralEnds
-pub mod LocalLabels
 pub mod Locals
 pub mod Mapped
 pub mod NameTexts
