@@ -1,7 +1,7 @@
 //! The list parts of a value and the elements of each, walked over among the parts of a rule: no tree and no memory.
 //! The commands on lists call these (bz_list_commands), and `set` and `comment` (bz_attribute_commands).
 
-ghost use Rattle.std.specs.Prelude.{◌≡◌, ◌≤◌, ◌<◌, ◌+◌, List, [], ◌∷◌, ◌&&◌, ◌||◌, true, false, drop, map, length, option_map, IfNone, IfSome, codes};
+ghost use Rattle.std.specs.Prelude.{◌≡◌, ◌≤◌, ◌<◌, ◌+◌, List, [], ◌&&◌, ◌||◌, true, false, drop, map, length, option_map, IfNone, IfSome};
 ghost use Rattle.std.specs.List.{list_all};
 ghost use Rattle.bz_tree.specs.Tree.{Item, Statement};
 ghost use Rattle.bz_tree.specs.Rows.{RowPart, part_view};
@@ -12,7 +12,7 @@ ghost use Rattle.bz_attribute.specs.RowPlaces.{IsRuleRow};
 ghost use Rattle.bz_attribute.specs.private.ListParts as spec;
 ghost use Rattle.bz_attribute.specs.Lists as lists;
 
-use crate::finder::{depth_after, find_argument};
+use crate::finder::find_argument;
 use crate::head_parts::{is_end, text_of};
 use crate::place::{comments_len, segment_len};
 use crate::value::is_one_list;
@@ -47,32 +47,24 @@ pub fn value_place(parts: &[Part<'_>], name: &str) -> Option<usize>
     }
 }
 
-// How many parts there are up to the bracket that closes around them, with it.
-fn close_len(parts: &[Part<'_>]) -> usize
-    ensures len { result ≡ spec.close_len 0 (map part_view parts.now) }
-    ensures within { result ≤ length parts.now }
+fn opens(part: &Part<'_>) -> bool
+    ensures { result ≡ spec.is_open (part_view part.now) }
 {
-    let mut depth: usize = 1;
-    for i in 0..parts.len() {
-        depth = depth_after(&parts[i], depth);
-        if depth == 0 {
-            return i + 1;
-        }
-    }
-    parts.len()
+    matches!(part, Part::Open(_))
 }
 
-// How many parts the item has that they begin with: a token, or brackets with what stands in them.
-pub(crate) fn item_len(parts: &[Part<'_>]) -> usize
-    ensures len { result ≡ spec.item_len (map part_view parts.now) }
-    ensures within { result ≤ length parts.now }
-    ensures some { 0 < length parts.now → 0 < result }
+// Where the item ends that begins at a place: a token, or brackets with what stands in them.
+pub(crate) fn item_end(parts: &[Part<'_>], at: usize) -> usize
+    requires { at < length parts.now }
+    ensures end { spec.ItemEnds (map part_view parts.now) at result }
+    ensures within { (at < result) × (result ≤ length parts.now) }
 {
-    match parts {
-        [] => 0,
-        [Part::Open(_), inside @ ..] => 1 + close_len(inside),
-        _ => 1,
+    if !opens(&parts[at]) {
+        return at + 1;
     }
+    let end = elements_end(parts, at + 1);
+    let close = end + comments_len(&parts[end..]);
+    parts.len().min(close + 1)
 }
 
 // An item that begins with this part may stand in a value that has list parts.
@@ -122,7 +114,7 @@ fn are_joints(parts: &[Part<'_>], from: usize) -> bool
         if !is_joint(&parts[at]) {
             return false;
         }
-        at += item_len(&parts[at..]);
+        at = item_end(parts, at);
     }
     true
 }
@@ -143,7 +135,7 @@ fn list_from(parts: &[Part<'_>], from: usize, whole: bool) -> Option<usize>
     let mut at = from;
     let mut starts = whole;
     while at < parts.len() && !is_end(&parts[at]) {
-        let end = at + item_len(&parts[at..]);
+        let end = item_end(parts, at);
         if starts && opens_list(&parts[at]) && ends_piece(&parts[end..]) {
             return Some(at + 1);
         }

@@ -7,7 +7,7 @@ ghost use Rattle.bz_attribute.specs.Elements.{OnlyList, value_parts};
 ghost use Rattle.bz_attribute.specs.Lists as lists;
 ghost use Rattle.bz_attribute.specs.private.ListParts as spec;
 
-use crate::elements::item_len;
+use crate::elements::item_end;
 use crate::place::nodes_len;
 use bz_tree::{GroupKind, Part};
 
@@ -40,7 +40,7 @@ pub(crate) fn is_one_list(parts: &[Part<'_>]) -> bool
         → result ≡ lists.is_only lists.is_list nodes }
     ensures some { result ≡ true → 0 < length parts.now }
 {
-    begins_list(parts) && ends_value(&parts[item_len(parts)..])
+    begins_list(parts) && ends_value(&parts[item_end(parts, 0)..])
 }
 
 /// Where the elements of a value begin, where it is one list.

@@ -1,7 +1,5 @@
-use Rattle.std.proofs.Common.{rules, ℕ, ◌+◌, ap, sym, ◌∙◌}
-use Rattle.bz_attribute.specs.private.ListParts.{item_len}
+use Rattle.std.proofs.Common.{rules, ℕ, sym, ◌∙◌}
 use Rattle.bz_attribute.proofs.ListWalk.{all_joints, joints_pass, no_joint, no_joints_after}
-use Rattle.bz_attribute.proofs.Slices.{rest_seen}
 use Rattle.bz_attribute.proofs.elements.are_joints.Goals as goal
 
 pub returns-then-not-is_joint : goal.returns-then-not-is_joint
@@ -14,8 +12,7 @@ loop-at-preserved c =
     record {
       within = search rules;
       joints =
-          joints_pass c.args.parts.now c.args.from at _ _ c.loop-at.invariant.joints c.loop-at-test.true (sym c.is_end.ensures ∙ c.if-not-is_end.true) (sym c.is_joint.ensures ∙ c.if-not-is_joint.false)
-          (ap (λ (n : ℕ). at + n) (c.item_len-at.ensures.len ∙ ap item_len (rest_seen c.args.parts.now at)));
+          joints_pass c.args.parts.now c.args.from at _ _ c.loop-at.invariant.joints c.loop-at-test.true (sym c.is_end.ensures ∙ c.if-not-is_end.true) (sym c.is_joint.ensures ∙ c.if-not-is_joint.false) c.item_end-at.ensures.end;
     }
 
 pub returns-else-not-is_end : goal.returns-else-not-is_end
