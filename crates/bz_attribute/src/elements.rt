@@ -33,6 +33,7 @@ pub struct Element<'a> {
 }
 
 /// Where the value of the first argument of a name begins.
+#[tactic(auto, using(crate::proofs::ListElements::value_there, crate::proofs::PlaceFound::has_none))]
 pub fn value_place(parts: &[Part<'_>], name: &str) -> Option<usize>
     ensures some { IfSome result (λ at. (s : Statement) (r : Rule) → IsRuleRow s r (map part_view parts.now)
         → IsValueAt name.now s r (map part_view parts.now) at) }
@@ -54,6 +55,7 @@ fn opens(part: &Part<'_>) -> bool
 }
 
 // Where the item ends that begins at a place: a token, or brackets with what stands in them.
+#[tactic(auto, using(crate::proofs::ItemParts::token_ended, crate::proofs::ItemParts::group_ended, crate::proofs::Slices::rest_seen))]
 pub(crate) fn item_end(parts: &[Part<'_>], at: usize) -> usize
     requires { at < length parts.now }
     ensures end { spec.ItemEnds (map part_view parts.now) at result }
@@ -104,6 +106,7 @@ fn ends_piece(parts: &[Part<'_>]) -> bool
 }
 
 // All that stands in a value at depth 0 may stand in one that has list parts.
+#[tactic(auto, using(crate::proofs::ListWalk::all_joints, crate::proofs::ListWalk::joints_pass, crate::proofs::ListWalk::no_joint))]
 fn are_joints(parts: &[Part<'_>], from: usize) -> bool
     requires { from ≤ length parts.now }
     ensures { (nodes : List Item) (after : List RowPart)
@@ -146,6 +149,7 @@ fn list_from(parts: &[Part<'_>], from: usize, whole: bool) -> Option<usize>
 }
 
 /// Where the elements of the first list part of a value begin.
+#[tactic(auto, using(crate::proofs::OnlyLists::alone_there, crate::proofs::Slices::rest_seen))]
 pub fn first_list(parts: &[Part<'_>], value: usize) -> Option<usize>
     requires { value ≤ length parts.now }
     ensures some { IfSome result (λ to. (nodes : List Item) (after : List RowPart)
@@ -202,6 +206,7 @@ fn string_in<'a>(parts: &[Part<'a>]) -> Option<&'a str>
 }
 
 /// The element that begins at a place in a list part. None: its elements end there.
+#[tactic(auto, using(crate::proofs::ListElements::none_left, crate::proofs::ListElements::element_there, crate::proofs::Slices::rest_seen))]
 pub fn next_element<'a>(parts: &[Part<'a>], at: usize) -> Option<Element<'a>>
     requires { at ≤ length parts.now }
     ensures some { IfSome result (λ e. (rest : ListRest) (after : List RowPart)
@@ -258,6 +263,7 @@ fn next_end(parts: &[Part<'_>], at: usize) -> Option<usize>
 }
 
 /// Where the elements of a list part end, which begin at a place.
+#[tactic(auto, using(crate::proofs::ValueElements::none_passed))]
 pub fn elements_end(parts: &[Part<'_>], from: usize) -> usize
     requires { from ≤ length parts.now }
     ensures elements { (rest : ListRest) (after : List RowPart)
@@ -273,6 +279,7 @@ pub fn elements_end(parts: &[Part<'_>], from: usize) -> usize
 }
 
 /// The next element of a value, from a place in a list part of it on. None: no element is left in any.
+#[tactic(auto, using(crate::proofs::ValueElements::next_here))]
 pub fn next_of_value<'a>(parts: &[Part<'a>], at: usize) -> Option<Element<'a>>
     requires { at ≤ length parts.now }
     ensures some { IfSome result (λ e. (rest : ListRest) (after : List RowPart)

@@ -75,6 +75,7 @@ fn joined_tokens<'a>(alloc: Global, bump: &'a Bump, parts: &[Part<'a>]) -> Resul
 
 /// The string that the first argument `name` of a rule is, where it is one. Most often that is the first argument of
 /// all.
+#[tactic(auto, using(crate::proofs::NameTexts::name_first, crate::proofs::NameTexts::name_later, crate::proofs::NameTexts::name_absent, crate::proofs::Slices::rest_seen))]
 pub(crate) fn name_text<'a>(parts: &[Part<'a>], args: &[Part<'a>]) -> Option<&'a str>
     ensures { (s : Statement) (r : Rule) → IsRuleRow s r (map part_view parts.now)
         → IsInCall s r (map part_view args.now)

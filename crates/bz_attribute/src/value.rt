@@ -12,6 +12,7 @@ use crate::place::nodes_len;
 use bz_tree::{GroupKind, Part};
 
 /// Where a value ends.
+#[tactic(auto, using(crate::proofs::OnlyLists::value_ended, crate::proofs::Slices::rest_seen))]
 pub fn value_end(parts: &[Part<'_>], value: usize) -> usize
     requires { value ≤ length parts.now }
     ensures end { (nodes : List Item) (after : List RowPart)
@@ -44,6 +45,7 @@ pub(crate) fn is_one_list(parts: &[Part<'_>]) -> bool
 }
 
 /// Where the elements of a value begin, where it is one list.
+#[tactic(auto, using(crate::proofs::OnlyLists::only_there, crate::proofs::Slices::rest_seen))]
 pub fn only_list(parts: &[Part<'_>], value: usize) -> Option<usize>
     requires { value ≤ length parts.now }
     ensures list { (nodes : List Item) (after : List RowPart)
