@@ -11,22 +11,16 @@ ghost use Rattle.bz_attribute.specs.private.Ends as spec;
 use crate::place::{Place, comments_len};
 use bz_tree::Part;
 
-fn is_token(part: Part<'_>) -> bool
-    ensures { result ≡ spec.is_token (part_view part.entry) }
-{
-    matches!(part, Part::Token(_, _))
-}
-
 // How many tokens they begin with.
 pub(crate) fn tokens_len(parts: &[Part<'_>]) -> usize
     ensures len { result ≡ spec.tokens_len (map part_view parts.now) }
     ensures within { result ≤ length parts.now }
 {
-    let mut count = 0;
-    while count < parts.len() && is_token(parts[count]) {
-        count += 1;
+    let mut rest = parts;
+    while let [Part::Token(_, _), after @ ..] = rest {
+        rest = after;
     }
-    count
+    parts.len() - rest.len()
 }
 
 /// Where the tokens of the kind stand among the parts of a rule: after the comments above it.

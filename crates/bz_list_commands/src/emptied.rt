@@ -32,6 +32,7 @@ fn begins_list(parts: &[Part<'_>]) -> bool
 }
 
 // The same where they go.
+#[tactic(auto, using(crate::proofs::EmptiedLists::no_list, crate::proofs::EmptiedLists::begins_some, crate::proofs::EmptiedLists::none_gone, bz_attribute::proofs::Slices::rest_seen))]
 fn all_go(edit: StringEdit<'_, '_, '_>, parts: &[Part<'_>], value: usize) -> bool
     requires { value ≤ length parts.now }
     ensures { (nodes : List Item) (suffix : Option (List ℕ))

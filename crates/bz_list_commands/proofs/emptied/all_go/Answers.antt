@@ -1,32 +1,13 @@
-use Rattle.std.proofs.Common.{◌≡◌, ◌+◌, ◌&&◌, not, true, false, Bool, map, drop, arith, length-drop, ap, sym, ◌∙◌}
+use Rattle.std.proofs.Common.{◌≡◌, ◌+◌, ◌&&◌, not, true, Bool, map, drop, arith, ap, sym, ◌∙◌}
 use Rattle.std.specs.Prelude.{nat_lt}
 use Rattle.std.specs.List.{list_any}
 use Rattle.std.proofs.lemmas.Bool.Decides.{nat_tests}
-use Rattle.std.proofs.Common.{None as Nothing}
-use Rattle.std.proofs.lemmas.List.{length-map}
 use Rattle.bz_tree.specs.Rows.{beside_part, part_view}
 use Rattle.bz_attribute.proofs.Slices.{rest_seen}
-use Rattle.bz_list_commands.specs.private.ElementEdits.{begins_list, is_node}
-use Rattle.bz_list_commands.specs.private.StringEdits.{become_all, means}
-use Rattle.bz_list_commands.proofs.EmptiedLists.{all_gone, begins_some, no_list, none_gone, one_gone, one_stays}
+use Rattle.bz_list_commands.specs.private.ElementEdits.{is_node}
+use Rattle.bz_list_commands.specs.private.StringEdits.{means}
+use Rattle.bz_list_commands.proofs.EmptiedLists.{all_gone, one_gone, one_stays}
 use Rattle.bz_list_commands.proofs.emptied.all_go.Goals as goal
-
-pub returns-then-not-begins_list : goal.returns-then-not-begins_list
-returns-then-not-begins_list c nodes suffix read =
-    sym (no_list (become_all (means c.args.edit) Nothing) nodes (beside_part suffix) (drop c.args.value (map part_view c.args.parts.now)) read (sym (c.begins_list.ensures ∙ ap begins_list (rest_seen c.args.parts.now c.args.value)) ∙ c.if-not-begins_list.true))
-
-pub loop-element-init : goal.loop-element-init
-loop-element-init c = record {
-  order = omega arith;
-  within =
-      omega (
-        arith,
-        begins_some (drop c.args.value (map part_view c.args.parts.now)) (sym (c.begins_list.ensures ∙ ap begins_list (rest_seen c.args.parts.now c.args.value)) ∙ c.if-not-begins_list.false),
-        length-drop c.args.value (map part_view c.args.parts.now),
-        length-map c.args.parts.now part_view,
-      );
-  left = λ nodes suffix read. none_gone (means c.args.edit) nodes (beside_part suffix) (map part_view c.args.parts.now) c.args.value read (sym (c.begins_list.ensures ∙ ap begins_list (rest_seen c.args.parts.now c.args.value)) ∙ c.if-not-begins_list.false);
-}
 
 pub returns-then-not-means : goal.returns-then-not-means
 returns-then-not-means c nodes suffix read =
