@@ -7,7 +7,6 @@ pub mod FinderSteps
 pub mod First
 pub mod FirstArguments
 pub mod FoundArgs
-pub mod Fresh
 pub mod Headed
 pub mod ItemParts
 pub mod KindPlaced
