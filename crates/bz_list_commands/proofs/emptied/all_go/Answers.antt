@@ -1,10 +1,7 @@
-use Rattle.std.proofs.Common.{◌≡◌, ◌+◌, ◌&&◌, not, true, Bool, map, drop, arith, ap, sym, ◌∙◌}
+use Rattle.std.proofs.Common.{is_some, ◌≡◌, ◌+◌, ◌&&◌, true, Bool, map, arith, ap, sym, ◌∙◌}
 use Rattle.std.specs.Prelude.{nat_lt}
-use Rattle.std.specs.List.{list_any}
 use Rattle.std.proofs.lemmas.Bool.Decides.{nat_tests}
 use Rattle.bz_tree.specs.Rows.{beside_part, part_view}
-use Rattle.bz_attribute.proofs.Slices.{rest_seen}
-use Rattle.bz_list_commands.specs.private.ElementEdits.{is_node}
 use Rattle.bz_list_commands.specs.private.StringEdits.{means}
 use Rattle.bz_list_commands.proofs.EmptiedLists.{all_gone, one_gone, one_stays}
 use Rattle.bz_list_commands.proofs.emptied.all_go.Goals as goal
@@ -28,7 +25,6 @@ pub returns : goal.returns
 returns c nodes suffix read =
     let g = c.loop-element.invariant.left nodes suffix read in
     let later : nat_lt (c.args.value + 1) c.loop-element.at ≡ true = grind (arith, nat_tests, c.loop-element.invariant.order, c.if-at-first.false) in
-    let there : Bool = list_any is_node (drop c.loop-element.at (map part_view c.args.parts.now)) in
-    ap not (c.has_node.ensures ∙ ap (list_any is_node) (rest_seen c.args.parts.now c.loop-element.at))
-    ∙ ap (λ (b : Bool). b && not there) (sym later)
-    ∙ all_gone (means c.args.edit) nodes suffix (map part_view c.args.parts.now) (c.args.value + 1) c.loop-element.at g (c.in_default.ensures.none (record g.list { elements = g.others }) (beside_part suffix) g.read)
+    c.is_some.ensures ∙ ap (λ (b : Bool). b && is_some c.only_list.result) (sym later)
+    ∙ all_gone (means c.args.edit) nodes (beside_part suffix) (map part_view c.args.parts.now) (c.args.value + 1) c.loop-element.at c.only_list.result g
+    (c.in_default.ensures.none (record g.list { elements = g.others }) (beside_part suffix) g.read) (c.only_list.ensures.list nodes (beside_part suffix) read)
