@@ -5,7 +5,7 @@ use Rattle.bz_tree.specs.Rows.{RowPart, part_view, segs_parts}
 use Rattle.bz_tree.specs.Tree.{segs_of}
 use Rattle.bz_attribute.specs.Effects.{string}
 use Rattle.bz_attribute.specs.Add.{new_elements}
-use Rattle.bz_list_commands.proofs.Adding.{adding_more, adding_none}
+use Rattle.bz_list_commands.proofs.Adding.{adding_ends, adding_more, adding_none}
 use Rattle.bz_list_commands.proofs.Meanings.{one_alone}
 use Rattle.bz_list_commands.proofs.add.write_missing.Goals as goal
 use Rattle.bz_list_commands.proofs.add.write_missing.Goals.{then-branch+in_ok-push_element, else-branch}
@@ -28,6 +28,10 @@ loop-word-preserved c = λ lists are.
           adding_none home lists values i c.as_bytes.result.now c.loop-word.labels c.insert.new.self _ now _ so_far h read c.in_ok-insert.ensures.ok c.in_ok-insert.ensures.home (sym c.in_ok-insert.ensures.new ∙ w.if-branch.false)
           (λ j. map part_view (w.written-is j).items)
     ]
+
+pub returns : goal.returns
+returns c = λ lists are.
+    adding_ends c.args.env.home.now lists c.args.values.now c.loop-word.word-index c.loop-word.labels _ (map part_view c.loop-word.written.items) (c.loop-word.invariant lists are) (omega (arith, c.loop-word-test.false))
 
 pub returns-in-len1 : goal.returns-in-len1
 returns-in-len1 c =
