@@ -5,11 +5,11 @@ ghost use Rattle.bz_tree.specs.Rows.{part_view};
 ghost use Rattle.bz_attribute.specs.Effects.{done, has};
 ghost use Rattle.bz_attribute.specs.RowEdits.{IsRowEdit};
 ghost use Rattle.bz_attribute.specs.Rules.{first_named};
-ghost use Rattle.bz_attribute_commands.specs.private.SetViews.{new_view};
 ghost use Rattle.bz_attribute.specs.Lists as lists;
 ghost use Rattle.bz_attribute.specs.Rules as rules;
 ghost use Rattle.bz_attribute.specs.Set as spec;
 ghost use Rattle.bz_token.specs.Common.{map_or};
+ghost use Rattle.bz_attribute_commands.specs.private.SetViews.{new_view};
 
 use crate::new_argument::{push_value, write_argument};
 use crate::same_value::is_value;
