@@ -268,7 +268,8 @@ fn rename_argument<'a>(
     parts: &[Part<'a>],
     new: &mut Parts<'a>,
 ) -> Result<Edit, NoMemory>
-    ensures { IfOk result (IsRowEdit (spec.args_after (Rename change.entry.old.now change.entry.new.now) env.entry.home.now)
+    ensures { IfOk result (IsRowEdit
+        (spec.args_after (Rename change.entry.old.now change.entry.new.now) env.entry.home.now)
         (spec.args_done (Rename change.entry.old.now change.entry.new.now) env.entry.home.now)
         (map part_view parts.now) (map part_view new.new.items)) }
 {
