@@ -12,7 +12,7 @@ use std::alloc::Global;
 pub const PIECE: usize = 8192;
 
 /// Why bytes could not be read.
-#[derive(Clone, Copy, Debug, PartialEq, Eq)]
+#[derive(Clone, Copy)]
 pub enum ReadFault {
     /// A growth of memory was refused.
     OutOfMemory(NoMemory),
