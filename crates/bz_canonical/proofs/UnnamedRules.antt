@@ -145,11 +145,11 @@ unnamed_place depth attr notes kind suffix text rest s none =
           ∙ ap (λ xs. (head_of (bytes_of (comment_lines notes)) kind ++ (codes "\n    " ++ (in_place s.xs ++ codes ","))) ++ (argument_lines (f xs) ++ (10 ∷ 41 ∷ (bytes_of (suffix_piece suffix) ++ 10 ∷ [])))) (sym first_is);
     }
 
-abbrev call_front : (depth : ℕ) (bracket argument close end : List ℕ) → bracket ≡ 40 ∷ argument → IsSegmentFront RuleCall 1 depth argument close false → close ≡ 41 ∷ end → IsGroupFront RuleCall 0 depth bracket end false
+abbrev call_front : (depth : ℕ) (bracket argument close end : List ℕ) → bracket ≡ 40 ∷ argument → IsSegmentFront RuleCall 1 depth argument close false → close ≡ 41 ∷ end → IsGroupFront RuleCall 0 (suc depth) bracket end false
 call_front depth bracket argument close end opens s closes =
     let all = begin_flat RuleCall 0 depth argument close false (segment_level RuleCall 1 0 depth argument close s) no_segs close (no_segments RuleCall depth) refl refl in
-    let g = flat_group RuleCall 0 depth argument close end 41 1 false refl all refl closes in
-    record { segs = g.segs; are = g.are; end = g.end; end_is = g.end_is; front = λ gap. ap (λ (t : List ℕ). gap_bytes gap ++ t) opens ∙ g.front gap; breaks = g.breaks }
+    let g = flat_group RuleCall 0 (suc depth) depth argument close end 41 1 false refl refl all refl closes in
+    record { segs = g.segs; below = depth; depth_is = refl; are = g.are; end = g.end; end_is = g.end_is; front = λ gap. ap (λ (t : List ℕ). gap_bytes gap ++ t) opens ∙ g.front gap; breaks = g.breaks }
 
 pub unnamed_rule : (depth : ℕ) (attr text start bracket argument close end call rest : List ℕ) → AreLinesFront text start → IsTokenFront Identifier start bracket → bracket ≡ 40 ∷ argument
     → IsSegmentFront RuleCall 1 depth argument close false → close ≡ 41 ∷ end → call ≡ take (length bracket - length end) bracket → (HasArgumentName (codes "name") call → ⊥) → (HasArgumentName attr call → ⊥)
@@ -162,7 +162,7 @@ unnamed_rule depth attr text start bracket argument close end call rest above f 
     let absent : first_named attr (segments g.segs) ≡ None =
     no_argument_name attr g.segs g.end (λ has. none (subst (HasArgumentName attr) (sym (call_is ∙ taken bracket (bytes_of (item_pieces Broken 0 Closed (group RuleCall g.segs false g.end))) end (g.front Closed))) has)) in
     record {
-      front = statement_front (suc depth) RuleClass None text start end e.middle rest e.noted above (rule_bare depth None start bracket end f (unnamed_front depth bracket call end false g call_is no_name)) e.side e.ends;
+      front = statement_front (suc depth) RuleClass None text start end e.middle rest e.noted above (rule_bare (suc depth) None start bracket end f (unnamed_front (suc depth) bracket call end false g call_is no_name)) e.side e.ends;
       head = head_of N f.token;
       inner = in_place s.xs;
       end = 41 ∷ (S ++ 10 ∷ []);

@@ -39,7 +39,7 @@ pub(crate) fn bare_statement(text: &[u8], max_depth: u8) -> Option<BareStatement
     let end = identifier(text)?;
     if let Some(member) = after(end, b'.') {
         let bracket = identifier(member)?;
-        let read = rule_call(bracket, max_depth - 1)?;
+        let read = rule_call(bracket, max_depth)?;
         return Some(BareStatement {
             class: Class::Rule,
             name: read.name,
@@ -56,7 +56,7 @@ pub(crate) fn bare_statement(text: &[u8], max_depth: u8) -> Option<BareStatement
             })
         }
         _ => {
-            let read = rule_call(end, max_depth - 1)?;
+            let read = rule_call(end, max_depth)?;
             Some(BareStatement {
                 class: Class::Rule,
                 name: read.name,

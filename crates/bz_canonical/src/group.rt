@@ -45,14 +45,17 @@ fn breaks(kind: GroupKind, one: bool, two: bool, holds: bool) -> bool
     }
 }
 
-/// What follows the group of this kind here.
+/// What follows the group of this kind here. Its segments are one bracket deeper.
 #[cycle(values)]
 #[inline(always)]
 pub(crate) fn group(kind: GroupKind, text: &[u8], level: u8, depth: u8) -> Option<Value<'_>>
     requires commas { (n : ℕ) → has_commas kind false n ≡ true }
-    requires deep { level + depth + 1 < 255 }
+    requires deep { level + depth < 255 }
     ensures { IfSome result (λ v. IsGroupFront kind level depth text.now v.rest.now v.holds) }
 {
+    if depth == 0 {
+        return None;
+    }
     let inside = after(text, opening(kind))?;
     match inside {
         [b'\n', ..] => broken_group(kind, inside, level, depth),
@@ -65,10 +68,10 @@ pub(crate) fn group(kind: GroupKind, text: &[u8], level: u8, depth: u8) -> Optio
 #[inline(always)]
 fn broken_group(kind: GroupKind, inside: &[u8], level: u8, depth: u8) -> Option<Value<'_>>
     requires commas { (n : ℕ) → has_commas kind false n ≡ true }
-    requires deep { level + depth + 1 < 255 }
+    requires deep { (0 < depth) × (level + depth < 255) }
     ensures { IfSome result (λ v. IsGroupFront kind level depth (opening kind ++ inside.now) v.rest.now v.holds) }
 {
-    let read = segments(kind, inside, level + 1, depth)?;
+    let read = segments(kind, inside, level + 1, depth - 1)?;
     let many = breaks(kind, read.one, read.two, read.holds);
     let noted = either(read.noted, many);
     let broken = either(read.ended, noted);
@@ -84,10 +87,10 @@ fn broken_group(kind: GroupKind, inside: &[u8], level: u8, depth: u8) -> Option<
 #[cycle(values)]
 #[inline(always)]
 fn flat_group(kind: GroupKind, inside: &[u8], level: u8, depth: u8) -> Option<Value<'_>>
-    requires { level + depth < 255 }
+    requires { (0 < depth) × (level + depth < 255) }
     ensures { IfSome result (λ v. IsGroupFront kind level depth (opening kind ++ inside.now) v.rest.now v.holds) }
 {
-    let read = flat_segments(kind, inside, level, depth)?;
+    let read = flat_segments(kind, inside, level, depth - 1)?;
     let broken = breaks(kind, read.one, read.two, read.holds);
     if broken {
         return None;

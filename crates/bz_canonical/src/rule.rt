@@ -19,7 +19,7 @@ pub(crate) struct RuleCall<'t> {
 /// The call of a rule here, whose name is its only argument, in place, or which has none.
 #[inline(always)]
 pub(crate) fn rule_call(text: &[u8], depth: u8) -> Option<RuleCall<'_>>
-    requires { depth < 253 }
+    requires { (0 < depth) × (depth < 254) }
     ensures { IfSome result (λ read. IsRuleCallFront depth (option_map (λ name. name.now) read.name)
         text.now read.rest.now) }
 {
@@ -50,7 +50,7 @@ fn after_only_name(text: &[u8]) -> Option<&[u8]>
 
 /// What follows the call of a rule here, no argument of which is `name`.
 fn unnamed_call(text: &[u8], depth: u8) -> Option<&[u8]>
-    requires { depth < 253 }
+    requires { depth < 254 }
     ensures { IfSome result (λ rest. IsRuleCallFront depth None text.now rest.now) }
 {
     let read = group(GroupKind::RuleCall, text, 0, depth)?;

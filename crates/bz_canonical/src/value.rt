@@ -45,33 +45,6 @@ pub(crate) fn leaf(text: &[u8]) -> Option<&[u8]>
     }
 }
 
-/// What follows the group of this kind here, an operand.
-#[cycle(values)]
-#[inline(always)]
-fn list(text: &[u8], level: u8, depth: u8) -> Option<Value<'_>>
-    requires { level + depth < 255 }
-    ensures { IfSome result (λ v. IsTermFront level depth text.now v.rest.now v.holds) }
-{
-    if depth == 0 {
-        return None;
-    }
-    let read = group(GroupKind::List, text, level, depth - 1)?;
-    Some(read)
-}
-
-#[cycle(values)]
-#[inline(always)]
-fn dict(text: &[u8], level: u8, depth: u8) -> Option<Value<'_>>
-    requires { level + depth < 255 }
-    ensures { IfSome result (λ v. IsTermFront level depth text.now v.rest.now v.holds) }
-{
-    if depth == 0 {
-        return None;
-    }
-    let read = group(GroupKind::Dict, text, level, depth - 1)?;
-    Some(read)
-}
-
 /// What follows the name here, or its call.
 #[cycle(values)]
 #[inline(always)]
@@ -82,10 +55,7 @@ fn name_or_call(text: &[u8], level: u8, depth: u8) -> Option<Value<'_>>
     let end = identifier(text)?;
     match end {
         [b'(', ..] => {
-            if depth == 0 {
-                return None;
-            }
-            let read = group(GroupKind::Call, end, level, depth - 1)?;
+            let read = group(GroupKind::Call, end, level, depth)?;
             Some(read)
         }
         _ => Some(Value {
@@ -103,8 +73,14 @@ fn term(text: &[u8], level: u8, depth: u8) -> Option<Value<'_>>
     ensures { IfSome result (λ v. IsTermFront level depth text.now v.rest.now v.holds) }
 {
     match text {
-        [b'[', ..] => list(text, level, depth),
-        [b'{', ..] => dict(text, level, depth),
+        [b'[', ..] => {
+            let read = group(GroupKind::List, text, level, depth)?;
+            Some(read)
+        }
+        [b'{', ..] => {
+            let read = group(GroupKind::Dict, text, level, depth)?;
+            Some(read)
+        }
         [b'"' | b'0'..=b'9', ..] => {
             let rest = leaf(text)?;
             Some(Value { rest, holds: false })
