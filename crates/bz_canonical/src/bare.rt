@@ -1,10 +1,10 @@
 //! A statement that stands as it would be written, without the comments above and beside it.
 
-ghost use Rattle.std.specs.Prelude.{◌≡◌, ◌<◌, ◌++◌, codes, option_map, IfSome};
+ghost use Rattle.std.specs.Prelude.{◌<◌, option_map, IfSome};
 ghost use Rattle.bz_canonical.specs.private.Statements.{IsBareFront};
 
 use crate::assignment::assigned;
-use crate::front::{after, identifier};
+use crate::front::{Word, after, after_word, identifier};
 use crate::load::loaded;
 use crate::rule::rule_call;
 use bz_tree::Class;
@@ -28,7 +28,7 @@ pub(crate) fn bare_statement(text: &[u8], max_depth: u8) -> Option<BareStatement
     if max_depth == 0 {
         return None;
     }
-    if let Some(inside) = after_load(text) {
+    if let Some(inside) = after_word(text, Word::Load) {
         let rest = loaded(inside)?;
         return Some(BareStatement {
             class: Class::Load,
@@ -63,16 +63,5 @@ pub(crate) fn bare_statement(text: &[u8], max_depth: u8) -> Option<BareStatement
                 rest: read.rest,
             })
         }
-    }
-}
-
-/// What follows the word of a load and its bracket.
-#[inline(always)]
-fn after_load(text: &[u8]) -> Option<&[u8]>
-    ensures { IfSome result (λ inside. text.now ≡ codes "load(" ++ inside.now) }
-{
-    match text {
-        [b'l', b'o', b'a', b'd', b'(', inside @ ..] => Some(inside),
-        _ => None,
     }
 }

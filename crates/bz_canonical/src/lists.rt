@@ -5,7 +5,7 @@ ghost use Rattle.bz_layout.specs.Pieces.{indent};
 ghost use Rattle.bz_canonical.specs.private.Segments.{IsBesideFront};
 ghost use Rattle.bz_canonical.specs.private.Rewritten.{AreElementsRead, IsElementRead, IsLast, IsListRead, IsStringRead, between, closing, element_written, spelling};
 
-use crate::front::{after, after_comma, before, line, single_string, string};
+use crate::front::{Word, after, after_word, before, line, single_string, string};
 use crate::notes::{AfterNotes, beside, notes};
 use crate::value::either;
 use bz_memory::{NoMemory, extend_from_slice, push};
@@ -228,7 +228,7 @@ fn after_others(text: &[u8], one: bool) -> Option<&[u8]>
     ensures { IfSome result (λ rest. text.now ≡ between one ++ rest.now) }
 {
     if one {
-        return after_comma(text);
+        return after_word(text, Word::Comma);
     }
     Some(text)
 }

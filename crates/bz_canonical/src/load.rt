@@ -5,7 +5,7 @@ ghost use Rattle.bz_tree.specs.declared.stmt.GroupKind.TheVariants.{Load};
 ghost use Rattle.bz_canonical.specs.private.Segments.{IsSegmentFront};
 ghost use Rattle.bz_canonical.specs.private.Statements.{IsLoadFront};
 
-use crate::front::{after, after_comma, string};
+use crate::front::{Word, after, after_word, string};
 use crate::segments::after_keyword;
 
 /// What follows the names that are loaded here, in place, and their closing bracket.
@@ -14,7 +14,7 @@ pub(crate) fn loaded(inside: &[u8]) -> Option<&[u8]>
 {
     let mut rest = string(inside)?;
     for _ in 0..inside.len() {
-        let Some(next) = after_comma(rest) else {
+        let Some(next) = after_word(rest, Word::Comma) else {
             break;
         };
         rest = loaded_name(next)?;

@@ -6,7 +6,7 @@ ghost use Rattle.bz_token.specs.declared.token.Kind.TheVariants.{Comment};
 ghost use Rattle.bz_canonical.specs.private.Fronts.{IsTokenFront};
 ghost use Rattle.bz_canonical.specs.private.Segments.{AreLinesFront, AreNotesFront, IsBesideFront};
 
-use crate::front::{after, after_spaces, comment, line};
+use crate::front::{Word, after, after_word, comment, line};
 
 /// What follows comments.
 #[derive(Clone, Copy)]
@@ -87,7 +87,7 @@ pub(crate) fn beside(text: &[u8]) -> Option<AfterNotes<'_>>
 {
     match text {
         [b' ', ..] => {
-            let inner = after_spaces(text)?;
+            let inner = after_word(text, Word::Spaces)?;
             let rest = comment(inner)?;
             Some(AfterNotes { rest, some: true })
         }

@@ -4,7 +4,7 @@
 ghost use Rattle.std.specs.Prelude.{◌≡◌, ◌<◌, ℕ, List, Bool, length, option_map, IfOk, IfSome, true, false};
 ghost use Rattle.bz_canonical.specs.private.Rewritten.{AreArgumentsRead, AreOthersRead, AreRead, IsArgumentRead, IsHeadRead, ArePlacedRead, IsPending, IsValueEnd, Puts, pending, put_ends};
 
-use crate::front::{after_equals, before, identifier, line};
+use crate::front::{Word, after_word, before, identifier, line};
 use crate::lists::{after_value, put_list};
 use crate::notes::notes;
 use crate::segments::segments;
@@ -57,7 +57,7 @@ pub(crate) fn argument_head<'t>(text: &'t [u8], attr: &[u8]) -> Option<ArgumentH
     let above = notes(text, 1);
     let inner = line(above.rest, 1)?;
     let equals = identifier(inner)?;
-    let value = after_equals(equals)?;
+    let value = after_word(equals, Word::Equals)?;
     let keyword = before(inner, equals.len())?;
     Some(ArgumentHead {
         value,

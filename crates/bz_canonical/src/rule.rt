@@ -5,7 +5,7 @@ ghost use Rattle.bz_layout.specs.Pieces.{indent};
 ghost use Rattle.bz_canonical.specs.Canonical.{HasArgumentName};
 ghost use Rattle.bz_canonical.specs.private.Statements.{IsRuleCallFront};
 
-use crate::front::{after, after_name, before, simple_string};
+use crate::front::{Word, after, after_word, before, simple_string};
 use crate::group::group;
 use bz_tree::GroupKind;
 
@@ -44,7 +44,7 @@ fn after_only_name(text: &[u8]) -> Option<&[u8]>
     ensures { IfSome result (λ value. text.now ≡ 40 ∷ (codes "name" ++ (codes " = " ++ value.now))) }
 {
     let inside = after(text, b'(')?;
-    let value = after_name(inside)?;
+    let value = after_word(inside, Word::Name)?;
     Some(value)
 }
 

@@ -6,7 +6,7 @@ ghost use Rattle.bz_canonical.specs.private.Chains.{IsTermFront};
 ghost use Rattle.bz_canonical.specs.private.Fronts.{IsTokenFront};
 ghost use Rattle.bz_canonical.specs.private.Values.{AreNodesFront, IsValueFront};
 
-use crate::front::{after_plus, identifier, number, string};
+use crate::front::{Word, after_word, identifier, number, string};
 use crate::group::group;
 use bz_tree::GroupKind;
 
@@ -130,7 +130,7 @@ fn sum(text: &[u8], level: u8, depth: u8) -> Option<Value<'_>>
     for _ in 0..text.len() {
         let read = term(next, level, depth)?;
         holds = either(holds, read.holds);
-        let Some(operand) = after_plus(read.rest) else {
+        let Some(operand) = after_word(read.rest, Word::Plus) else {
             return Some(Value {
                 rest: read.rest,
                 holds,
