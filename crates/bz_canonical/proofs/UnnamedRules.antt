@@ -191,12 +191,13 @@ unnamed_chunk depth attr text argument close rest chunk head inner end laid star
     ∙ (λ i. record { before = begins i ++ (codes "\n    " ++ (middle i ++ codes ",")); lines = []; after = 10 ∷ ends i }) in
     canonical_chunk depth attr RuleClass None (Some place) chunk chunk text rest rest r.front chunk_is chunk_is (subst (HasPlace depth attr r.front.s) (sym same) r.has)
 
-pub canonical_of : (depth : ℕ) (attr text argument close rest chunk head inner end laid : List ℕ) (start : ℕ) → IsUnnamedRule depth attr text argument close rest → chunk ≡ take (length text - length rest) text
+pub canonical_of : (text argument close rest chunk head inner end laid : List ℕ) (start : ℕ) → chunk ≡ take (length text - length rest) text
     → head ≡ take (length text - length argument) text → inner ≡ take (length argument - length close) argument → end ≡ take (length close - length rest) close
     → laid ≡ (head ++ (codes "\n    " ++ (inner ++ codes ","))) ++ (10 ∷ end) → start ≡ length (head ++ (codes "\n    " ++ (inner ++ codes ",")))
     → (told : Option CanonicalChunk) → IfSome told (λ found. (found.class ≡ RuleClass) × (found.name ≡ None)) → IfSome told (λ found. (found.chunk.now ≡ chunk) × (found.written.now ≡ chunk))
     → IfSome told (λ found. option_map between found.place ≡ Some (record { before = take start laid; lines = []; after = drop start laid }))
-    → IfSome told (λ found. IsCanonical depth attr found.class (option_map (λ name. name.now) found.name) (option_map between found.place) found.chunk.now found.written.now text)
-canonical_of depth attr text argument close rest chunk head inner end laid start r chunk_is head_is inner_is end_is laid_is start_is None rule same place = tt
-canonical_of depth attr text argument close rest chunk head inner end laid start r chunk_is head_is inner_is end_is laid_is start_is (Some found) rule same place =
+    → IfSome told (λ found. (depth : ℕ) (attr : List ℕ) → IsUnnamedRule depth attr text argument close rest
+    → IsCanonical depth attr found.class (option_map (λ name. name.now) found.name) (option_map between found.place) found.chunk.now found.written.now text)
+canonical_of text argument close rest chunk head inner end laid start chunk_is head_is inner_is end_is laid_is start_is None rule same place = tt
+canonical_of text argument close rest chunk head inner end laid start chunk_is head_is inner_is end_is laid_is start_is (Some found) rule same place = λ depth attr r.
     rw (rule.0, rule.1, place, same.0, same.1) (unnamed_chunk depth attr text argument close rest chunk head inner end laid start _ r chunk_is head_is inner_is end_is laid_is start_is refl)

@@ -1,6 +1,6 @@
 //! An assignment that stands as it would be written.
 
-ghost use Rattle.std.specs.Prelude.{◌≡◌, ◌<◌, ◌++◌, codes, IfSome};
+ghost use Rattle.std.specs.Prelude.{◌<◌, IfSome};
 ghost use Rattle.bz_canonical.specs.private.Statements.{IsAssignedFront};
 
 use crate::front::{Word, after_word};

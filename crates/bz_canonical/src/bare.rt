@@ -12,10 +12,10 @@ use bz_tree::Class;
 /// A statement without its comments, and what follows it.
 #[derive(Clone, Copy)]
 pub(crate) struct BareStatement<'t> {
+    pub(crate) rest: &'t [u8],
     pub(crate) class: Class,
     /// The name of a rule. None: it is no rule, or has no name.
     pub(crate) name: Option<&'t [u8]>,
-    pub(crate) rest: &'t [u8],
 }
 
 /// The load, rule or assignment here.

@@ -1,6 +1,6 @@
 //! Lists of strings as they would be written, where they stand otherwise.
 
-ghost use Rattle.std.specs.Prelude.{◌≡◌, ◌∷◌, ◌++◌, [], ℕ, Bool, List, IfOk, IfSome, IsTrue, OnOk, true, false};
+ghost use Rattle.std.specs.Prelude.{◌≡◌, ◌∷◌, ◌++◌, ℕ, Bool, List, IfOk, IfSome, IsTrue, OnOk, true, false};
 ghost use Rattle.bz_layout.specs.Pieces.{indent};
 ghost use Rattle.bz_canonical.specs.private.Segments.{IsBesideFront};
 ghost use Rattle.bz_canonical.specs.private.Rewritten.{AreElementsRead, IsElementRead, IsLast, IsListRead, IsStringRead, between, closing, element_written, spelling};

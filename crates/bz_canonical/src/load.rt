@@ -1,6 +1,6 @@
 //! A load statement that stands as it would be written.
 
-ghost use Rattle.std.specs.Prelude.{◌≡◌, ◌++◌, codes, IfSome, false};
+ghost use Rattle.std.specs.Prelude.{IfSome, false};
 ghost use Rattle.bz_tree.specs.declared.stmt.GroupKind.TheVariants.{Load};
 ghost use Rattle.bz_canonical.specs.private.Segments.{IsSegmentFront};
 ghost use Rattle.bz_canonical.specs.private.Statements.{IsLoadFront};

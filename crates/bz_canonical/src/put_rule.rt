@@ -1,6 +1,6 @@
 //! A rule as it would be written, where lists of strings in it stand otherwise.
 
-ghost use Rattle.std.specs.Prelude.{◌≡◌, ◌+◌, ◌<◌, ◌-◌, codes, length, take, option_map, if◌then◌else◌, IfOk, IfSome, bytes_eq, true, false};
+ghost use Rattle.std.specs.Prelude.{◌+◌, ◌<◌, ◌-◌, codes, length, take, option_map, if◌then◌else◌, IfOk, IfSome, bytes_eq, true, false};
 ghost use Rattle.bz_canonical.specs.private.Rewritten.{IsRuleEnd, IsRuleHead, IsRulePlace, IsRuleRead, put_ends};
 
 use crate::front::{Word, after, after_word, before, identifier, line, simple_string};

@@ -1,7 +1,6 @@
 //! The call of a rule that stands as it would be written.
 
-ghost use Rattle.std.specs.Prelude.{◌≡◌, ◌<◌, ◌∷◌, ◌++◌, codes, option_map, IfSome, IfNone, IsFalse, Some, None, ℕ, List, [], false, bytes_eq};
-ghost use Rattle.bz_layout.specs.Pieces.{indent};
+ghost use Rattle.std.specs.Prelude.{◌≡◌, ◌<◌, ◌∷◌, ◌++◌, codes, option_map, IfSome, IfNone, IsFalse, Some, None, ℕ, List, [], false};
 ghost use Rattle.bz_canonical.specs.Canonical.{HasArgumentName};
 ghost use Rattle.bz_canonical.specs.private.Statements.{IsRuleCallFront};
 
