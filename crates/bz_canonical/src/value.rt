@@ -111,10 +111,7 @@ pub(crate) fn nodes(text: &[u8], level: u8, depth: u8) -> Option<Value<'_>>
     // Most values are a string alone.
     match lone_string(text) {
         Some(rest) => Some(Value { rest, holds: false }),
-        None => {
-            let read = sum(text, level, depth)?;
-            Some(read)
-        }
+        None => sum(text, level, depth),
     }
 }
 
