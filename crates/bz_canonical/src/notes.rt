@@ -49,7 +49,8 @@ fn read_notes(text: &[u8], level: u8) -> AfterNotes<'_>
 
 /// What follows the comment on the next line.
 fn note(text: &[u8], level: u8) -> Option<&[u8]>
-    ensures { IfSome result (λ rest. (inner : List ℕ) × (text.now ≡ 10 ∷ (indent level ++ inner)) × IsTokenFront Comment inner rest.now) }
+    ensures { IfSome result (λ rest. (inner : List ℕ) × (text.now ≡ 10 ∷ (indent level ++ inner))
+        × IsTokenFront Comment inner rest.now) }
 {
     let inner = line(text, level)?;
     let rest = comment(inner)?;

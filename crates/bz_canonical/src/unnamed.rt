@@ -131,7 +131,8 @@ impl Parts<'_> {
     /// Writes the rule with its argument on a line of its own. So much is written before the place after it.
     fn put(self, written: &mut Vec<u8>) -> Result<usize, NoMemory>
         ensures text { OnOk result (written.new.items
-            ≡ (self.entry.head.now ++ (codes "\n    " ++ (self.entry.argument.now ++ codes ","))) ++ (10 ∷ self.entry.end.now)) }
+            ≡ (self.entry.head.now ++ (codes "\n    " ++ (self.entry.argument.now ++ codes ",")))
+            ++ (10 ∷ self.entry.end.now)) }
         ensures start { IfOk result (λ start. start
             ≡ length (self.entry.head.now ++ (codes "\n    " ++ (self.entry.argument.now ++ codes ",")))) }
     {

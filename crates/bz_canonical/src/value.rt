@@ -45,23 +45,15 @@ pub(crate) fn leaf(text: &[u8]) -> Option<&[u8]>
     }
 }
 
-/// What follows the name here, or its call.
-#[cycle(values)]
+/// What follows the string here, where no operator may follow it.
 #[inline(always)]
-fn name_or_call(text: &[u8], level: u8, depth: u8) -> Option<Value<'_>>
-    requires { level + depth < 255 }
-    ensures { IfSome result (λ v. IsTermFront level depth text.now v.rest.now v.holds) }
+fn lone_string(text: &[u8]) -> Option<&[u8]>
+    ensures { IfSome result (λ rest. IsTokenFront String text.now rest.now) }
 {
-    let end = identifier(text)?;
-    match end {
-        [b'(', ..] => {
-            let read = group(GroupKind::Call, end, level, depth)?;
-            Some(read)
-        }
-        _ => Some(Value {
-            rest: end,
-            holds: false,
-        }),
+    let rest = string(text)?;
+    match rest {
+        [b' ', ..] => None,
+        _ => Some(rest),
     }
 }
 
@@ -89,15 +81,23 @@ fn term(text: &[u8], level: u8, depth: u8) -> Option<Value<'_>>
     }
 }
 
-/// What follows the string here, where no operator may follow it.
+/// What follows the name here, or its call.
+#[cycle(values)]
 #[inline(always)]
-fn lone_string(text: &[u8]) -> Option<&[u8]>
-    ensures { IfSome result (λ rest. IsTokenFront String text.now rest.now) }
+fn name_or_call(text: &[u8], level: u8, depth: u8) -> Option<Value<'_>>
+    requires { level + depth < 255 }
+    ensures { IfSome result (λ v. IsTermFront level depth text.now v.rest.now v.holds) }
 {
-    let rest = string(text)?;
-    match rest {
-        [b' ', ..] => None,
-        _ => Some(rest),
+    let end = identifier(text)?;
+    match end {
+        [b'(', ..] => {
+            let read = group(GroupKind::Call, end, level, depth)?;
+            Some(read)
+        }
+        _ => Some(Value {
+            rest: end,
+            holds: false,
+        }),
     }
 }
 
@@ -111,7 +111,10 @@ pub(crate) fn nodes(text: &[u8], level: u8, depth: u8) -> Option<Value<'_>>
     // Most values are a string alone.
     match lone_string(text) {
         Some(rest) => Some(Value { rest, holds: false }),
-        None => sum(text, level, depth),
+        None => {
+            let read = sum(text, level, depth)?;
+            Some(read)
+        }
     }
 }
 
