@@ -58,8 +58,8 @@ pub(crate) fn group(kind: GroupKind, text: &[u8], level: u8, depth: u8) -> Optio
     }
     let inside = after(text, opening(kind))?;
     match inside {
-        [b'\n', ..] => broken_group(kind, inside, level, depth),
-        _ => flat_group(kind, inside, level, depth),
+        [b'\n', ..] => broken_group(kind, inside, level, depth - 1),
+        _ => flat_group(kind, inside, level, depth - 1),
     }
 }
 
@@ -68,10 +68,10 @@ pub(crate) fn group(kind: GroupKind, text: &[u8], level: u8, depth: u8) -> Optio
 #[inline(always)]
 fn broken_group(kind: GroupKind, inside: &[u8], level: u8, depth: u8) -> Option<Value<'_>>
     requires commas { (n : ℕ) → has_commas kind false n ≡ true }
-    requires deep { (0 < depth) × (level + depth < 255) }
-    ensures { IfSome result (λ v. IsGroupFront kind level depth (opening kind ++ inside.now) v.rest.now v.holds) }
+    requires deep { level + depth + 1 < 255 }
+    ensures { IfSome result (λ v. IsGroupFront kind level (depth + 1) (opening kind ++ inside.now) v.rest.now v.holds) }
 {
-    let read = segments(kind, inside, level + 1, depth - 1)?;
+    let read = segments(kind, inside, level + 1, depth)?;
     let many = breaks(kind, read.one, read.two, read.holds);
     let noted = either(read.noted, many);
     let broken = either(read.ended, noted);
@@ -87,10 +87,10 @@ fn broken_group(kind: GroupKind, inside: &[u8], level: u8, depth: u8) -> Option<
 #[cycle(values)]
 #[inline(always)]
 fn flat_group(kind: GroupKind, inside: &[u8], level: u8, depth: u8) -> Option<Value<'_>>
-    requires { (0 < depth) × (level + depth < 255) }
-    ensures { IfSome result (λ v. IsGroupFront kind level depth (opening kind ++ inside.now) v.rest.now v.holds) }
+    requires { level + depth < 255 }
+    ensures { IfSome result (λ v. IsGroupFront kind level (depth + 1) (opening kind ++ inside.now) v.rest.now v.holds) }
 {
-    let read = flat_segments(kind, inside, level, depth - 1)?;
+    let read = flat_segments(kind, inside, level, depth)?;
     let broken = breaks(kind, read.one, read.two, read.holds);
     if broken {
         return None;

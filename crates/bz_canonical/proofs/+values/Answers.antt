@@ -1,4 +1,4 @@
-use Rattle.std.proofs.Common.{true, false, ◌+◌, ◌-◌, arith, ◌∙◌, ◌||◌, ◌++◌, refl, sym, subst, ap}
+use Rattle.std.proofs.Common.{true, false, ◌+◌, arith, ◌∙◌, ◌||◌, ◌++◌, refl, sym, subst, ap}
 use Rattle.std.specs.Prelude.{codes}
 use Rattle.bz_canonical.specs.private.Values.{AreNodesFront}
 use Rattle.bz_canonical.specs.private.Segments.{Continues, ContinuesFlat, IsSegmentFront}
@@ -60,14 +60,14 @@ pub group::broken_group-returns : goal.group::broken_group-returns
 group::broken_group-returns m c =
     let read = c.in_ok-read.ensures in
     let many = four_or c.in_ok-read.read.ended c.in_ok-read.read.noted _ _ ∙ sym (c.either-broken.ensures ∙ ap (λ b. c.in_ok-read.read.ended || b) (c.either-noted.ensures ∙ ap (λ b. c.in_ok-read.read.noted || b) (c.breaks-many.ensures read.0 read.1 read.2))) ∙ c.if-not-broken.false in
-    broken_group c.args.kind c.args.level c.args.depth (c.args.depth - 1) c.args.inside.now read.3 c.in_ok-read.read.rest.now c.in_ok-end.end.now c.in_ok-rest.rest.now c.closing.result read.0 c.in_ok-read.read.holds c.in_ok-read.read.noted c.in_ok-read.read.ended
-    (omega (arith, c.requires.deep.0)) c.closing.ensures c.requires.commas read.4 read.5 many c.in_ok-end.ensures c.in_ok-rest.ensures
+    broken_group c.args.kind c.args.level (c.args.depth + 1) c.args.depth c.args.inside.now read.3 c.in_ok-read.read.rest.now c.in_ok-end.end.now c.in_ok-rest.rest.now c.closing.result read.0 c.in_ok-read.read.holds c.in_ok-read.read.noted c.in_ok-read.read.ended
+    (omega arith) c.closing.ensures c.requires.commas read.4 read.5 many c.in_ok-end.ensures c.in_ok-rest.ensures
 
 pub group::flat_group-returns : goal.group::flat_group-returns
 group::flat_group-returns m c =
     let read = c.in_ok-read.ensures in
-    flat_group c.args.kind c.args.level c.args.depth (c.args.depth - 1) c.args.inside.now c.in_ok-read.read.rest.now c.in_ok-rest.rest.now c.closing.result read.0 c.in_ok-read.read.holds
-    (omega (arith, c.requires.0)) c.closing.ensures read.3 (sym (c.breaks-broken.ensures read.0 read.1 read.2) ∙ c.if-broken.false) c.in_ok-rest.ensures
+    flat_group c.args.kind c.args.level (c.args.depth + 1) c.args.depth c.args.inside.now c.in_ok-read.read.rest.now c.in_ok-rest.rest.now c.closing.result read.0 c.in_ok-read.read.holds
+    (omega arith) c.closing.ensures read.3 (sym (c.breaks-broken.ensures read.0 read.1 read.2) ∙ c.if-broken.false) c.in_ok-rest.ensures
 
 pub segments::flat_segments-returns-then-is_some : goal.segments::flat_segments-returns-then-is_some
 segments::flat_segments-returns-then-is_some m c =

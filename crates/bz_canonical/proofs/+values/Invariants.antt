@@ -22,10 +22,10 @@ abbrev pub decreases-group::group : goal.decreases-group::group
 decreases-group::group l = 9 * l.depth + 2
 
 abbrev pub decreases-group::broken_group : goal.decreases-group::broken_group
-decreases-group::broken_group l = 9 * l.depth + 1
+decreases-group::broken_group l = 9 * l.depth + 10
 
 abbrev pub decreases-group::flat_group : goal.decreases-group::flat_group
-decreases-group::flat_group l = 9 * l.depth + 1
+decreases-group::flat_group l = 9 * l.depth + 10
 
 abbrev pub decreases-segments::segments : goal.decreases-segments::segments
 decreases-segments::segments l = 9 * l.depth + 9
