@@ -82,6 +82,7 @@ pub(crate) fn string(text: &[u8]) -> Option<&[u8]>
 }
 
 /// What follows the identifier here.
+#[tactic(auto, using(crate::proofs::Tokens::word_front))]
 #[inline(always)]
 pub(crate) fn identifier(text: &[u8]) -> Option<&[u8]>
     ensures { IfSome result (λ rest. IsTokenFront Identifier text.now rest.now) }
@@ -91,6 +92,7 @@ pub(crate) fn identifier(text: &[u8]) -> Option<&[u8]>
 }
 
 /// What follows the integer here.
+#[tactic(auto, using(crate::proofs::Tokens::word_front))]
 pub(crate) fn number(text: &[u8]) -> Option<&[u8]>
     ensures { IfSome result (λ rest. IsTokenFront Integer text.now rest.now) }
 {

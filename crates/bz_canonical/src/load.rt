@@ -24,6 +24,7 @@ pub(crate) fn loaded(inside: &[u8]) -> Option<&[u8]>
 }
 
 /// What follows the string here, or the name, equals sign and string.
+#[tactic(auto, using(crate::proofs::BareStatements::loaded_string, crate::proofs::BareStatements::renamed_string))]
 fn loaded_name(text: &[u8]) -> Option<&[u8]>
     ensures { IfSome result (λ rest. IsSegmentFront Load 0 0 text.now rest.now false) }
 {

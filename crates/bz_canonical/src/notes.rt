@@ -17,6 +17,7 @@ pub(crate) struct AfterNotes<'t> {
 }
 
 /// What follows the comments here, each on a line of its own at this level.
+#[tactic(auto, using(crate::proofs::GroupSegments::begin_notes, crate::proofs::GroupSegments::finish_notes))]
 #[inline(always)]
 pub(crate) fn notes(text: &[u8], level: u8) -> AfterNotes<'_>
     ensures { AreNotesFront level text.now result.rest.now result.some }
@@ -31,6 +32,7 @@ pub(crate) fn notes(text: &[u8], level: u8) -> AfterNotes<'_>
     read_notes(text, level)
 }
 
+#[tactic(auto, using(crate::proofs::GroupSegments::begin_notes, crate::proofs::GroupSegments::finish_notes))]
 #[inline(never)]
 fn read_notes(text: &[u8], level: u8) -> AfterNotes<'_>
     ensures { AreNotesFront level text.now result.rest.now result.some }
@@ -58,6 +60,7 @@ fn note(text: &[u8], level: u8) -> Option<&[u8]>
 }
 
 /// What follows the comments above a statement.
+#[tactic(auto, using(crate::proofs::GroupSegments::begin_lines, crate::proofs::GroupSegments::finish_lines))]
 pub(crate) fn lines(text: &[u8]) -> &[u8]
     ensures { AreLinesFront text.now result.now }
 {
@@ -82,6 +85,7 @@ fn note_line(text: &[u8]) -> Option<&[u8]>
 }
 
 /// What follows the comment that stands beside a segment, or the segment, where there is none.
+#[tactic(auto, using(crate::proofs::GroupSegments::one_beside))]
 #[inline(always)]
 pub(crate) fn beside(text: &[u8]) -> Option<AfterNotes<'_>>
     ensures { IfSome result (λ read. IsBesideFront text.now read.rest.now read.some) }

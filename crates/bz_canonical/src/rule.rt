@@ -75,6 +75,7 @@ pub(crate) fn has_argument_name(text: &[u8], name: &[u8]) -> bool
 }
 
 /// The text begins with this name and an equals sign.
+#[tactic(auto, using(crate::proofs::RuleCalls::begins_so))]
 #[inline(always)]
 fn begins_argument(text: &[u8], name: &[u8]) -> bool
     ensures { IsFalse result → (after : List ℕ) → text.now ≡ name.now ++ (codes " =" ++ after) → ⊥ }
