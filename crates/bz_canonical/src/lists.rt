@@ -206,6 +206,7 @@ fn element_on_lines(text: &[u8]) -> Option<ReadElement<'_>>
 }
 
 /// The string in place here.
+#[tactic(auto, using(crate::proofs::ElementLists::place_read))]
 #[inline(always)]
 fn element_in_place(text: &[u8], one: bool) -> Option<ReadElement<'_>>
     ensures { IfSome result (IsElementRead false one text.now) }

@@ -25,6 +25,7 @@ pub(crate) fn either(a: bool, b: bool) -> bool
 }
 
 /// What follows the string, number or name here.
+#[tactic(auto, using(crate::proofs::Operands::string_value, crate::proofs::Operands::name_value, crate::proofs::Operands::number_value))]
 #[inline(always)]
 pub(crate) fn leaf(text: &[u8]) -> Option<&[u8]>
     ensures { IfSome result (λ rest. (level depth : ℕ) → IsValueFront level depth text.now rest.now false) }
@@ -82,6 +83,7 @@ fn term(text: &[u8], level: u8, depth: u8) -> Option<Value<'_>>
 }
 
 /// What follows the name here, or its call.
+#[tactic(auto, using(crate::proofs::Chained::call_term))]
 #[cycle(values)]
 #[inline(always)]
 fn name_or_call(text: &[u8], level: u8, depth: u8) -> Option<Value<'_>>
@@ -102,6 +104,7 @@ fn name_or_call(text: &[u8], level: u8, depth: u8) -> Option<Value<'_>>
 }
 
 /// What follows the value here.
+#[tactic(auto, using(crate::proofs::Operands::string_value, crate::proofs::Chained::value_nodes))]
 #[cycle(values)]
 #[inline(always)]
 pub(crate) fn nodes(text: &[u8], level: u8, depth: u8) -> Option<Value<'_>>

@@ -3,8 +3,8 @@ use Rattle.std.specs.Prelude.{codes}
 use Rattle.bz_canonical.specs.private.Values.{AreNodesFront}
 use Rattle.bz_canonical.specs.private.Segments.{Continues, ContinuesFlat, IsSegmentFront}
 use Rattle.bz_canonical.proofs.GroupSegments.{begin, more, finish, begin_flat, more_flat, finish_flat, none_flat, element_segment, positional_segment, keyword_segment, entry_segment, first_of_more, second_of_more, four_or, in_place_front}
-use Rattle.bz_canonical.proofs.Operands.{list_value, dict_value, name_value, string_value, broken_group, flat_group}
-use Rattle.bz_canonical.proofs.Chained.{Chains, begin_chain, more_chain, finish_chain, value_nodes, value_term, call_term}
+use Rattle.bz_canonical.proofs.Operands.{list_value, dict_value, name_value, broken_group, flat_group}
+use Rattle.bz_canonical.proofs.Chained.{Chains, begin_chain, more_chain, finish_chain, value_term}
 use Rattle.bz_canonical.proofs.+values.Goals as goal
 
 pub segments::segments-loop-init : goal.segments::segments-loop-init
@@ -121,17 +121,9 @@ value::term-returns-in_ok-read-in-123 m c =
     let read = c.in_ok-read-in-123.read in
     value_term c.args.level c.args.depth c.args.text.now read.rest.now read.holds (dict_value c.args.level c.args.depth c.args.text.now read.rest.now read.holds c.in_ok-read-in-123.ensures)
 
-pub value::name_or_call-returns-in_ok-read-in-40 : goal.value::name_or_call-returns-in_ok-read-in-40
-value::name_or_call-returns-in_ok-read-in-40 m c =
-    call_term c.args.level c.args.depth c.args.text.now c.in_ok-end.end.now c.in_ok-read-in-40.read.rest.now c.in_ok-read-in-40.read.holds c.in_ok-end.ensures c.in_ok-read-in-40.ensures
-
 pub value::name_or_call-returns-in_default : goal.value::name_or_call-returns-in_default
 value::name_or_call-returns-in_default m c =
     value_term c.args.level c.args.depth c.args.text.now c.in_ok-end.end.now false (name_value c.args.text.now c.in_ok-end.end.now c.in_ok-end.ensures c.args.level c.args.depth)
-
-pub value::nodes-returns-in-Some : goal.value::nodes-returns-in-Some
-value::nodes-returns-in-Some m c =
-    value_nodes c.args.level c.args.depth c.args.text.now c.in-Some.rest.now false (string_value c.args.text.now c.in-Some.rest.now c.in-Some.ensures c.args.level c.args.depth)
 
 pub value::term-returns-in_ok-rest-in-34 : goal.value::term-returns-in_ok-rest-in-34
 value::term-returns-in_ok-rest-in-34 m c =
