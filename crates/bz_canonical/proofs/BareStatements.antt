@@ -223,3 +223,5 @@ assigned_with depth text end value rest o h f is word v = record {
 
 pub assigned_bare : (depth : ℕ) (text end rest : List ℕ) → IsTokenFront Identifier text end → IsAssignedFront depth end rest → IsBareFront depth Assign None text rest
 assigned_bare depth text end rest f a = assigned_with depth text end a.value rest (assign_operator a.adds) a.holds f a.front (assign_word a.adds) a.nodes
+
+pub ruleset bare_fronts = (assigned_bare, dotted_bare, load_bare, rule_bare)

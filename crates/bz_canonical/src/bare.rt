@@ -19,7 +19,7 @@ pub(crate) struct BareStatement<'t> {
 }
 
 /// The load, rule or assignment here.
-#[tactic(auto, using(crate::proofs::BareStatements::assigned_bare, crate::proofs::BareStatements::dotted_bare, crate::proofs::BareStatements::load_bare, crate::proofs::BareStatements::rule_bare,))]
+#[tactic(auto, using(crate::proofs::BareStatements::bare_fronts))]
 #[inline(always)]
 pub(crate) fn bare_statement(text: &[u8], max_depth: u8) -> Option<BareStatement<'_>>
     requires { max_depth < 254 }

@@ -25,7 +25,7 @@ pub(crate) fn either(a: bool, b: bool) -> bool
 }
 
 /// What follows the string, number or name here.
-#[tactic(auto, using(crate::proofs::Operands::string_value, crate::proofs::Operands::name_value, crate::proofs::Operands::number_value))]
+#[tactic(auto, using(crate::proofs::Operands::leaf_values))]
 #[inline(always)]
 pub(crate) fn leaf(text: &[u8]) -> Option<&[u8]>
     ensures { IfSome result (λ rest. (level depth : ℕ) → IsValueFront level depth text.now rest.now false) }
