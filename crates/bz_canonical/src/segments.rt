@@ -7,7 +7,7 @@ ghost use Rattle.bz_canonical.specs.private.Fronts.{IsTokenFront};
 ghost use Rattle.bz_canonical.specs.private.Segments.{AreFlatFront, AreNotesFront, AreSegmentsFront, IsSegmentFront};
 ghost use Rattle.bz_canonical.specs.private.Values.{IsValueFront};
 
-use crate::front::{after, after_colon, after_comma, after_equals, identifier, line};
+use crate::front::{Word, after, after_word, identifier, line};
 use crate::group::closing;
 use crate::notes::{beside, notes};
 use crate::value::{Value, either, leaf, nodes};
@@ -94,7 +94,7 @@ pub(crate) fn flat_segments(
     let mut two = false;
     let mut holds = first.holds;
     for _ in 0..text.len() {
-        let Some(next) = after_comma(rest) else {
+        let Some(next) = after_word(rest, Word::Comma) else {
             return Some(in_place(rest, true, two, holds));
         };
         let read = segment(kind, next, level, depth)?;
@@ -145,7 +145,7 @@ pub(crate) fn named_segment(kind: GroupKind, text: &[u8], level: u8, depth: u8) 
     match kind {
         GroupKind::Dict => {
             let colon = leaf(text)?;
-            let value = after_colon(colon)?;
+            let value = after_word(colon, Word::Colon)?;
             let read = nodes(value, level, depth)?;
             Some(read)
         }
@@ -179,6 +179,6 @@ pub(crate) fn after_keyword(text: &[u8]) -> Option<&[u8]>
     ensures { IfSome result (λ rest. IsTokenFront Identifier text.now (codes " = " ++ rest.now)) }
 {
     let equals = identifier(text)?;
-    let rest = after_equals(equals)?;
+    let rest = after_word(equals, Word::Equals)?;
     Some(rest)
 }

@@ -1,11 +1,10 @@
-use Rattle.std.proofs.Common.{◌≡◌, true, false, ◌+◌, ◌-◌, arith, ◌∙◌, ◌||◌, ◌++◌, refl, sym, subst, ap}
+use Rattle.std.proofs.Common.{true, false, ◌+◌, arith, ◌∙◌, ◌||◌, ◌++◌, refl, sym, subst, ap}
 use Rattle.std.specs.Prelude.{codes}
-use Rattle.bz_canonical.specs.private.Chains.{IsTermFront}
 use Rattle.bz_canonical.specs.private.Values.{AreNodesFront}
 use Rattle.bz_canonical.specs.private.Segments.{Continues, ContinuesFlat, IsSegmentFront}
 use Rattle.bz_canonical.proofs.GroupSegments.{begin, more, finish, begin_flat, more_flat, finish_flat, none_flat, element_segment, positional_segment, keyword_segment, entry_segment, first_of_more, second_of_more, four_or, in_place_front}
-use Rattle.bz_canonical.proofs.Operands.{list_value, dict_value, name_value, string_value, broken_group, flat_group}
-use Rattle.bz_canonical.proofs.Chained.{Chains, begin_chain, more_chain, finish_chain, value_nodes, value_term, call_term}
+use Rattle.bz_canonical.proofs.Operands.{list_value, dict_value, name_value, broken_group, flat_group}
+use Rattle.bz_canonical.proofs.Chained.{Chains, begin_chain, more_chain, finish_chain, value_term}
 use Rattle.bz_canonical.proofs.+values.Goals as goal
 
 pub segments::segments-loop-init : goal.segments::segments-loop-init
@@ -61,14 +60,14 @@ pub group::broken_group-returns : goal.group::broken_group-returns
 group::broken_group-returns m c =
     let read = c.in_ok-read.ensures in
     let many = four_or c.in_ok-read.read.ended c.in_ok-read.read.noted _ _ ∙ sym (c.either-broken.ensures ∙ ap (λ b. c.in_ok-read.read.ended || b) (c.either-noted.ensures ∙ ap (λ b. c.in_ok-read.read.noted || b) (c.breaks-many.ensures read.0 read.1 read.2))) ∙ c.if-not-broken.false in
-    broken_group c.args.kind c.args.level c.args.depth c.args.inside.now read.3 c.in_ok-read.read.rest.now c.in_ok-end.end.now c.in_ok-rest.rest.now c.closing.result read.0 c.in_ok-read.read.holds c.in_ok-read.read.noted c.in_ok-read.read.ended
-    c.closing.ensures c.requires.commas read.4 read.5 many c.in_ok-end.ensures c.in_ok-rest.ensures
+    broken_group c.args.kind c.args.level (c.args.depth + 1) c.args.depth c.args.inside.now read.3 c.in_ok-read.read.rest.now c.in_ok-end.end.now c.in_ok-rest.rest.now c.closing.result read.0 c.in_ok-read.read.holds c.in_ok-read.read.noted c.in_ok-read.read.ended
+    (omega arith) c.closing.ensures c.requires.commas read.4 read.5 many c.in_ok-end.ensures c.in_ok-rest.ensures
 
 pub group::flat_group-returns : goal.group::flat_group-returns
 group::flat_group-returns m c =
     let read = c.in_ok-read.ensures in
-    flat_group c.args.kind c.args.level c.args.depth c.args.inside.now c.in_ok-read.read.rest.now c.in_ok-rest.rest.now c.closing.result read.0 c.in_ok-read.read.holds
-    c.closing.ensures read.3 (sym (c.breaks-broken.ensures read.0 read.1 read.2) ∙ c.if-broken.false) c.in_ok-rest.ensures
+    flat_group c.args.kind c.args.level (c.args.depth + 1) c.args.depth c.args.inside.now c.in_ok-read.read.rest.now c.in_ok-rest.rest.now c.closing.result read.0 c.in_ok-read.read.holds
+    (omega arith) c.closing.ensures read.3 (sym (c.breaks-broken.ensures read.0 read.1 read.2) ∙ c.if-broken.false) c.in_ok-rest.ensures
 
 pub segments::flat_segments-returns-then-is_some : goal.segments::flat_segments-returns-then-is_some
 segments::flat_segments-returns-then-is_some m c =
@@ -112,33 +111,19 @@ segments::named_segment-returns-in_ok-read-in-None m c =
     positional_segment c.args.kind c.args.level c.args.depth c.args.text.now c.in_ok-read-in-None.read.rest.now c.in_ok-read-in-None.read.holds
     (sym c.is_call.ensures ∙ c.if-not-is_call.false) c.in_ok-read-in-None.ensures
 
-pub value::list-returns : goal.value::list-returns
-value::list-returns m c =
-    let deeper : c.args.depth - 1 + 1 ≡ c.args.depth = omega (arith, c.if-depth-eq0.false) in
-    subst (λ d. IsTermFront c.args.level d c.args.text.now c.in_ok-read.read.rest.now c.in_ok-read.read.holds) deeper
-    (value_term c.args.level (c.args.depth - 1 + 1) c.args.text.now c.in_ok-read.read.rest.now c.in_ok-read.read.holds
-    (list_value c.args.level (c.args.depth - 1) c.args.text.now c.in_ok-read.read.rest.now c.in_ok-read.read.holds c.in_ok-read.ensures))
+pub value::term-returns-in_ok-read-in-91 : goal.value::term-returns-in_ok-read-in-91
+value::term-returns-in_ok-read-in-91 m c =
+    let read = c.in_ok-read-in-91.read in
+    value_term c.args.level c.args.depth c.args.text.now read.rest.now read.holds (list_value c.args.level c.args.depth c.args.text.now read.rest.now read.holds c.in_ok-read-in-91.ensures)
 
-pub value::dict-returns : goal.value::dict-returns
-value::dict-returns m c =
-    let deeper : c.args.depth - 1 + 1 ≡ c.args.depth = omega (arith, c.if-depth-eq0.false) in
-    subst (λ d. IsTermFront c.args.level d c.args.text.now c.in_ok-read.read.rest.now c.in_ok-read.read.holds) deeper
-    (value_term c.args.level (c.args.depth - 1 + 1) c.args.text.now c.in_ok-read.read.rest.now c.in_ok-read.read.holds
-    (dict_value c.args.level (c.args.depth - 1) c.args.text.now c.in_ok-read.read.rest.now c.in_ok-read.read.holds c.in_ok-read.ensures))
-
-pub value::name_or_call-returns-in_ok-read-in-40 : goal.value::name_or_call-returns-in_ok-read-in-40
-value::name_or_call-returns-in_ok-read-in-40 m c =
-    let deeper : c.args.depth - 1 + 1 ≡ c.args.depth = omega (arith, c.if-depth-eq0.false) in
-    subst (λ d. IsTermFront c.args.level d c.args.text.now c.in_ok-read-in-40.read.rest.now c.in_ok-read-in-40.read.holds) deeper
-    (call_term c.args.level (c.args.depth - 1) c.args.text.now c.in_ok-end.end.now c.in_ok-read-in-40.read.rest.now c.in_ok-read-in-40.read.holds c.in_ok-end.ensures c.in_ok-read-in-40.ensures)
+pub value::term-returns-in_ok-read-in-123 : goal.value::term-returns-in_ok-read-in-123
+value::term-returns-in_ok-read-in-123 m c =
+    let read = c.in_ok-read-in-123.read in
+    value_term c.args.level c.args.depth c.args.text.now read.rest.now read.holds (dict_value c.args.level c.args.depth c.args.text.now read.rest.now read.holds c.in_ok-read-in-123.ensures)
 
 pub value::name_or_call-returns-in_default : goal.value::name_or_call-returns-in_default
 value::name_or_call-returns-in_default m c =
     value_term c.args.level c.args.depth c.args.text.now c.in_ok-end.end.now false (name_value c.args.text.now c.in_ok-end.end.now c.in_ok-end.ensures c.args.level c.args.depth)
-
-pub value::nodes-returns-in-Some : goal.value::nodes-returns-in-Some
-value::nodes-returns-in-Some m c =
-    value_nodes c.args.level c.args.depth c.args.text.now c.in-Some.rest.now false (string_value c.args.text.now c.in-Some.rest.now c.in-Some.ensures c.args.level c.args.depth)
 
 pub value::term-returns-in_ok-rest-in-34 : goal.value::term-returns-in_ok-rest-in-34
 value::term-returns-in_ok-rest-in-34 m c =

@@ -11,9 +11,9 @@ use Rattle.bz_canonical.proofs.put_arguments.put_arguments.Goals as goal
 
 pub returns : goal.returns
 returns c = λ text begun p.
-    let depth = c.args.depth in
-    let attr = c.args.attr.now in
-    let start = c.args.start in
+    let depth = c.args.asked.depth in
+    let attr = c.args.asked.attr.now in
+    let start = c.args.from in
     let placed = c.in-Some.placed in
     let later = c.in-Some-2.later in
     let last = c.in-Some-segments.last in
