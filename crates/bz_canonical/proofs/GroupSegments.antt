@@ -1,5 +1,5 @@
 -- Segments of a group, one more of them.
-use Rattle.std.proofs.Common.{◌≡◌, ◌≤◌, ℕ, ◌+◌, List, [], ◌∷◌, ◌++◌, Bool, true, false, ◌||◌, refl, sym, ap, ◌∙◌, arith, append_assoc, append-nil, subst}
+use Rattle.std.proofs.Common.{◌≡◌, ◌≤◌, ℕ, ◌+◌, List, [], ◌∷◌, ◌++◌, Bool, true, false, ◌||◌, refl, sym, ap, ◌∙◌, arith, append_assoc, append-nil}
 use Rattle.std.specs.Prelude.{codes, nat_le, Option, Some, None, is_some, max}
 use Rattle.std.proofs.lemmas.Bool.Decides.{nat_tests}
 use Rattle.bz_token.specs.declared.token.Kind.TheVariants.{Identifier, Comment, Newline, Operator}
@@ -195,11 +195,6 @@ finish_flat kind first level depth text rest n h so =
       bare = all.bare;
     }
 
-pub in_place_front : (kind : GroupKind) (level depth : ℕ) (text rest end : List ℕ) (n : ℕ) (h k : Bool) → end ≡ rest → k ≡ h → AreFlatFront kind true level depth text rest n h
-    → AreFlatFront kind true level depth text end n k
-in_place_front kind level depth text rest end n h k same held f =
-    subst (λ t. AreFlatFront kind true level depth text t n k) (sym same) (subst (λ b. AreFlatFront kind true level depth text rest n b) (sym held) f)
-
 -- comments
 
 abbrev pub ContinuesNotes : ℕ → List ℕ → List ℕ → Bool → Type 0
@@ -382,9 +377,6 @@ entry_segment level depth text colon rest value h k eq v = record {
     front : (gap : Gap) → gap_bytes gap ++ text ≡ bytes_of (items_pieces Broken level (Some Dict) gap Start (item k.x (item (leaf Operator (codes ":")) (item v.x v.xs)))) ++ rest
     front gap = k.front gap ∙ ap (λ (t : List ℕ). bytes_of (item_pieces Broken level gap k.x) ++ t) (eq ∙ ap (λ (t : List ℕ). 58 ∷ t) (value_is gap))
         ∙ by gap (edge_after (Some Dict) Start k.x) (k.is.leaves (Some Dict) Start)
-
-pub first_of_more : (n : ℕ) → true ≡ nat_le 1 (n + 1)
-first_of_more n = grind (arith, nat_tests)
 
 pub second_of_more : (n : ℕ) → nat_le 1 n ≡ nat_le 2 (n + 1)
 second_of_more n = grind (arith, nat_tests)
