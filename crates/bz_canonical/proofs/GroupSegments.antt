@@ -378,5 +378,8 @@ entry_segment level depth text colon rest value h k eq v = record {
     front gap = k.front gap ∙ ap (λ (t : List ℕ). bytes_of (item_pieces Broken level gap k.x) ++ t) (eq ∙ ap (λ (t : List ℕ). 58 ∷ t) (value_is gap))
         ∙ by gap (edge_after (Some Dict) Start k.x) (k.is.leaves (Some Dict) Start)
 
+pub first_of_more : (n : ℕ) → true ≡ nat_le 1 (n + 1)
+first_of_more n = grind (arith, nat_tests)
+
 pub second_of_more : (n : ℕ) → nat_le 1 n ≡ nat_le 2 (n + 1)
 second_of_more n = grind (arith, nat_tests)

@@ -32,14 +32,16 @@ pub(crate) fn closing(kind: GroupKind) -> u8
     }
 }
 
-/// Whether a group of so many segments without comments stands on lines. `holds`: one of them holds a group on lines.
-fn breaks(kind: GroupKind, count: usize, holds: bool) -> bool
-    ensures { result ≡ (breaks_by_count kind count || (nat_le 2 count && holds)) }
+/// Whether a group without comments stands on lines, by whether it has one segment, has two, and one of them holds a
+/// group on lines.
+fn breaks(kind: GroupKind, one: bool, two: bool, holds: bool) -> bool
+    ensures { (n : ℕ) → one ≡ nat_le 1 n → two ≡ nat_le 2 n
+        → result ≡ (breaks_by_count kind n || (nat_le 2 n && holds)) }
 {
     match kind {
-        GroupKind::List | GroupKind::RuleCall => count >= 2,
-        GroupKind::Dict => count >= 1,
-        _ => count >= 2 && holds,
+        GroupKind::List | GroupKind::RuleCall => two,
+        GroupKind::Dict => one,
+        _ => two && holds,
     }
 }
 
@@ -67,7 +69,7 @@ fn broken_group(kind: GroupKind, inside: &[u8], level: u8, depth: u8) -> Option<
     ensures { IfSome result (λ v. IsGroupFront kind level depth (opening kind ++ inside.now) v.rest.now v.holds) }
 {
     let read = segments(kind, inside, level + 1, depth)?;
-    let many = breaks(kind, read.count, read.holds);
+    let many = breaks(kind, read.count >= 1, read.count >= 2, read.holds);
     let noted = either(read.noted, many);
     let broken = either(read.ended, noted);
     if !broken {
@@ -86,7 +88,7 @@ fn flat_group(kind: GroupKind, inside: &[u8], level: u8, depth: u8) -> Option<Va
     ensures { IfSome result (λ v. IsGroupFront kind level depth (opening kind ++ inside.now) v.rest.now v.holds) }
 {
     let read = flat_segments(kind, inside, level, depth)?;
-    let broken = breaks(kind, read.count, read.holds);
+    let broken = breaks(kind, read.one, read.two, read.holds);
     if broken {
         return None;
     }

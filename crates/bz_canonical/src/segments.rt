@@ -65,8 +65,10 @@ pub(crate) fn segments(kind: GroupKind, text: &[u8], level: u8, depth: u8) -> Op
 #[derive(Clone, Copy)]
 pub(crate) struct AfterFlat<'t> {
     pub(crate) rest: &'t [u8],
-    /// There are so many.
-    pub(crate) count: usize,
+    /// There is one at least.
+    pub(crate) one: bool,
+    /// There are two at least.
+    pub(crate) two: bool,
     /// One of them holds a group on lines of its own.
     pub(crate) holds: bool,
 }
@@ -81,30 +83,34 @@ pub(crate) fn flat_segments(
     depth: u8,
 ) -> Option<AfterFlat<'_>>
     requires { level + depth < 255 }
-    ensures { IfSome result (λ read.
-        AreFlatFront kind true level depth text.now read.rest.now read.count read.holds) }
+    ensures { IfSome result (λ read. (n : ℕ) × (read.one ≡ nat_le 1 n) × (read.two ≡ nat_le 2 n)
+        × AreFlatFront kind true level depth text.now read.rest.now n read.holds) }
 {
     if after(text, closing(kind)).is_some() {
         return Some(AfterFlat {
             rest: text,
-            count: 0,
+            one: false,
+            two: false,
             holds: false,
         });
     }
     let first = segment(kind, text, level, depth)?;
     let mut rest = first.rest;
+    let mut two = false;
     let mut holds = first.holds;
-    for others in 0..text.len() {
+    for _ in 0..text.len() {
         let Some(next) = after_comma(rest) else {
             return Some(AfterFlat {
                 rest,
-                count: others + 1,
+                one: true,
+                two,
                 holds,
             });
         };
         let read = segment(kind, next, level, depth)?;
         rest = read.rest;
         holds = either(holds, read.holds);
+        two = true;
     }
     None
 }

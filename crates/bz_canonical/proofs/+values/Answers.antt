@@ -3,7 +3,7 @@ use Rattle.std.specs.Prelude.{codes}
 use Rattle.bz_canonical.specs.private.Chains.{IsTermFront}
 use Rattle.bz_canonical.specs.private.Values.{AreNodesFront}
 use Rattle.bz_canonical.specs.private.Segments.{Continues, ContinuesFlat, IsSegmentFront}
-use Rattle.bz_canonical.proofs.GroupSegments.{begin, more, finish, begin_flat, more_flat, finish_flat, none_flat, element_segment, positional_segment, keyword_segment, entry_segment, four_or}
+use Rattle.bz_canonical.proofs.GroupSegments.{begin, more, finish, begin_flat, more_flat, finish_flat, none_flat, element_segment, positional_segment, keyword_segment, entry_segment, first_of_more, second_of_more, four_or}
 use Rattle.bz_canonical.proofs.Operands.{list_value, dict_value, name_value, string_value, broken_group, flat_group}
 use Rattle.bz_canonical.proofs.Chained.{Chains, begin_chain, more_chain, finish_chain, value_nodes, value_term, call_term}
 use Rattle.bz_canonical.proofs.+values.Goals as goal
@@ -40,34 +40,39 @@ segments::segments-returns-in_default m c =
     let l = c.loop-count in
     (l.rest.now, finish c.args.kind c.args.level c.args.depth c.args.text.now l.rest.now l.count l.holds l.noted l.invariant, c.notes-above.ensures)
 
-pub segments::flat_segments-loop-others-init : goal.segments::flat_segments-loop-others-init
-segments::flat_segments-loop-others-init m c = begin_flat c.args.kind c.args.level c.args.depth c.args.text.now c.in_ok-first.first.rest.now c.in_ok-first.first.holds c.in_ok-first.ensures
+pub segments::flat_segments-loop-init : goal.segments::flat_segments-loop-init
+segments::flat_segments-loop-init m c = (1, refl, refl, begin_flat c.args.kind c.args.level c.args.depth c.args.text.now c.in_ok-first.first.rest.now c.in_ok-first.first.holds c.in_ok-first.ensures)
 
-pub segments::flat_segments-loop-others-preserved : goal.segments::flat_segments-loop-others-preserved
-segments::flat_segments-loop-others-preserved m c =
-    let l = c.loop-others in
-    subst (λ b. ContinuesFlat c.args.kind true c.args.level c.args.depth c.args.text.now c.in_ok-read.read.rest.now (l.others + 1 + 1) b) (sym c.either-holds.ensures)
-    (more_flat c.args.kind true c.args.level c.args.depth c.args.text.now l.rest.now c.in-Some.next.now c.in_ok-read.read.rest.now (l.others + 1) l.holds c.in_ok-read.read.holds l.invariant c.in-Some.ensures c.in_ok-read.ensures)
+pub segments::flat_segments-loop-preserved : goal.segments::flat_segments-loop-preserved
+segments::flat_segments-loop-preserved m c =
+    let i = c.loop.invariant in
+    let on = more_flat c.args.kind true c.args.level c.args.depth c.args.text.now c.loop.rest.now c.in-Some.next.now c.in_ok-read.read.rest.now i.0 c.loop.holds c.in_ok-read.read.holds i.3 c.in-Some.ensures c.in_ok-read.ensures in (
+      i.0 + 1,
+      first_of_more i.0,
+      i.1 ∙ second_of_more i.0,
+      subst (λ b. ContinuesFlat c.args.kind true c.args.level c.args.depth c.args.text.now c.in_ok-read.read.rest.now (i.0 + 1) b) (sym c.either-holds.ensures) on,
+    )
 
 pub group::broken_group-returns : goal.group::broken_group-returns
 group::broken_group-returns m c =
     let read = c.in_ok-read.ensures in
-    let many = four_or c.in_ok-read.read.ended c.in_ok-read.read.noted _ _ ∙ sym (c.either-broken.ensures ∙ ap (λ b. c.in_ok-read.read.ended || b) (c.either-noted.ensures ∙ ap (λ b. c.in_ok-read.read.noted || b) c.breaks-many.ensures)) ∙ c.if-not-broken.false in
+    let many = four_or c.in_ok-read.read.ended c.in_ok-read.read.noted _ _ ∙ sym (c.either-broken.ensures ∙ ap (λ b. c.in_ok-read.read.ended || b) (c.either-noted.ensures ∙ ap (λ b. c.in_ok-read.read.noted || b) (c.breaks-many.ensures c.in_ok-read.read.count refl refl))) ∙ c.if-not-broken.false in
     broken_group c.args.kind c.args.level c.args.depth c.args.inside.now read.0 c.in_ok-read.read.rest.now c.in_ok-end.end.now c.in_ok-rest.rest.now c.closing.result c.in_ok-read.read.count c.in_ok-read.read.holds c.in_ok-read.read.noted c.in_ok-read.read.ended
     c.closing.ensures c.requires.commas read.1 read.2 many c.in_ok-end.ensures c.in_ok-rest.ensures
 
 pub group::flat_group-returns : goal.group::flat_group-returns
 group::flat_group-returns m c =
-    flat_group c.args.kind c.args.level c.args.depth c.args.inside.now c.in_ok-read.read.rest.now c.in_ok-rest.rest.now c.closing.result c.in_ok-read.read.count c.in_ok-read.read.holds
-    c.closing.ensures c.in_ok-read.ensures (sym c.breaks-broken.ensures ∙ c.if-broken.false) c.in_ok-rest.ensures
+    let read = c.in_ok-read.ensures in
+    flat_group c.args.kind c.args.level c.args.depth c.args.inside.now c.in_ok-read.read.rest.now c.in_ok-rest.rest.now c.closing.result read.0 c.in_ok-read.read.holds
+    c.closing.ensures read.3 (sym (c.breaks-broken.ensures read.0 read.1 read.2) ∙ c.if-broken.false) c.in_ok-rest.ensures
 
 pub segments::flat_segments-returns-then-is_some : goal.segments::flat_segments-returns-then-is_some
-segments::flat_segments-returns-then-is_some m c = none_flat c.args.kind c.args.level c.args.depth c.args.text.now
+segments::flat_segments-returns-then-is_some m c = (0, refl, refl, none_flat c.args.kind c.args.level c.args.depth c.args.text.now)
 
 pub segments::flat_segments-returns-in_default : goal.segments::flat_segments-returns-in_default
 segments::flat_segments-returns-in_default m c =
-    let l = c.loop-others in
-    finish_flat c.args.kind true c.args.level c.args.depth c.args.text.now l.rest.now (l.others + 1) l.holds l.invariant
+    let i = c.loop.invariant in
+    (i.0, i.1, i.2, finish_flat c.args.kind true c.args.level c.args.depth c.args.text.now c.loop.rest.now i.0 c.loop.holds i.3)
 
 pub segments::segment-returns-in_ok-read-in-List : goal.segments::segment-returns-in_ok-read-in-List
 segments::segment-returns-in_ok-read-in-List m c =

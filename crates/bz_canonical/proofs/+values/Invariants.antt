@@ -1,4 +1,5 @@
-use Rattle.std.proofs.Common.{ℕ, ◌+◌, ◌*◌, List, Bool, true, ◌||◌}
+use Rattle.std.proofs.Common.{◌≡◌, ℕ, ◌+◌, ◌*◌, List, Bool, true, ◌||◌}
+use Rattle.std.specs.Prelude.{nat_le}
 use Rattle.bz_canonical.specs.private.Segments.{Continues, ContinuesFlat}
 use Rattle.bz_canonical.specs.private.Chains.{IsTermFront}
 use Rattle.bz_canonical.proofs.Chained.{Chains}
@@ -47,8 +48,8 @@ decreases-segments::named_segment l = 9 * l.depth + 4
 abbrev pub invariant-segments::segments-loop-count : goal.invariant-segments::segments-loop-count
 invariant-segments::segments-loop-count l = Continues l.kind l.level l.depth l.text l.rest l.count l.holds l.noted
 
-abbrev pub invariant-segments::flat_segments-loop-others : goal.invariant-segments::flat_segments-loop-others
-invariant-segments::flat_segments-loop-others l = ContinuesFlat l.kind true l.level l.depth l.text l.rest (l.others + 1) l.holds
+abbrev pub invariant-segments::flat_segments-loop : goal.invariant-segments::flat_segments-loop
+invariant-segments::flat_segments-loop l = (n : ℕ) × (true ≡ nat_le 1 n) × (l.two ≡ nat_le 2 n) × ContinuesFlat l.kind true l.level l.depth l.text l.rest n l.holds
 
 abbrev pub invariant-value::sum-loop : goal.invariant-value::sum-loop
 invariant-value::sum-loop l = (rest : List ℕ) (k : Bool) → IsTermFront l.level l.depth l.next rest k → Chains l.level l.depth l.text rest (l.holds || k)
