@@ -64,11 +64,11 @@ pub(crate) fn segments(kind: GroupKind, text: &[u8], level: u8, depth: u8) -> Op
 /// What follows segments in place.
 #[derive(Clone, Copy)]
 pub(crate) struct AfterFlat<'t> {
-    pub(crate) rest: &'t [u8],
     /// There is one at least.
     pub(crate) one: bool,
     /// There are two at least.
     pub(crate) two: bool,
+    pub(crate) rest: &'t [u8],
     /// One of them holds a group on lines of its own.
     pub(crate) holds: bool,
 }
