@@ -4,9 +4,10 @@ ghost use Rattle.std.specs.Prelude.{◌≡◌, ◌∷◌, ◌++◌, ◌≤◌, �
 ghost use Rattle.std.specs.List.{prefix_len};
 ghost use Rattle.bz_token.specs.declared.token.Kind.TheVariants.{Comment, Identifier, Integer, String};
 ghost use Rattle.bz_layout.specs.Pieces.{indent};
-ghost use Rattle.bz_canonical.specs.private.Fronts.{IsQuotedFront, IsTokenFront, is_simple, word_bytes};
+ghost use Rattle.bz_canonical.specs.private.Fronts.{IsQuotedFront, IsTokenFront, word_bytes};
 ghost use Rattle.bz_canonical.specs.private.Rewritten.{IsSingleFront, is_plain_inside};
 
+use crate::simple::simple_len;
 use bz_token::{comment_len, identifier_len, integer_len, string_len};
 
 /// What follows this byte.
@@ -114,19 +115,6 @@ pub(crate) fn comment(text: &[u8]) -> Option<&[u8]>
 pub(crate) struct SimpleString<'t> {
     pub(crate) inner: &'t [u8],
     pub(crate) rest: &'t [u8],
-}
-
-fn is_simple(b: u8) -> bool
-    ensures { result ≡ is_simple b }
-{
-    b != b'"' && b != b'\\' && b != b'\n' && b != b'\r' && b != b'\t'
-}
-
-fn simple_len(bytes: &[u8]) -> usize
-    ensures len { result ≡ prefix_len is_simple bytes.now }
-    ensures within { result ≤ length bytes.now }
-{
-    bytes.iter().take_while(|b| is_simple(**b)).count()
 }
 
 /// The string in double quotes here, whose value stands as it is.

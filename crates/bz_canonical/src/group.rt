@@ -72,7 +72,7 @@ fn broken_group(kind: GroupKind, inside: &[u8], level: u8, depth: u8) -> Option<
     ensures { IfSome result (λ v. IsGroupFront kind level (depth + 1) (opening kind ++ inside.now) v.rest.now v.holds) }
 {
     let read = segments(kind, inside, level + 1, depth)?;
-    let many = breaks(kind, read.one, read.two, read.holds);
+    let many = breaks(kind, read.count >= 1, read.count >= 2, read.holds);
     let noted = either(read.noted, many);
     let broken = either(read.ended, noted);
     if !broken {

@@ -321,7 +321,7 @@ pub(crate) fn put_arguments<'t>(
     let Some(last) = segments(GroupKind::RuleCall, later.at.rest, 1, asked.depth) else {
         return Ok(None);
     };
-    let more = either(later.one, last.one);
+    let more = either(later.one, last.count > 0);
     let some = either(placed.one, more);
     Ok(Some(PutArguments {
         at: Pending {

@@ -39,8 +39,8 @@ decreases-segments::segment l = 9 * l.depth + 8
 abbrev pub decreases-segments::named_segment : goal.decreases-segments::named_segment
 decreases-segments::named_segment l = 9 * l.depth + 7
 
-abbrev pub invariant-segments::segments-loop : goal.invariant-segments::segments-loop
-invariant-segments::segments-loop l = (n : ℕ) × (l.one ≡ nat_le 1 n) × (l.two ≡ nat_le 2 n) × Continues l.kind l.level l.depth l.text l.rest n l.holds l.noted
+abbrev pub invariant-segments::segments-loop-count : goal.invariant-segments::segments-loop-count
+invariant-segments::segments-loop-count l = Continues l.kind l.level l.depth l.text l.rest l.count l.holds l.noted
 
 abbrev pub invariant-segments::flat_segments-loop : goal.invariant-segments::flat_segments-loop
 invariant-segments::flat_segments-loop l = (n : ℕ) × (true ≡ nat_le 1 n) × (l.two ≡ nat_le 2 n) × ContinuesFlat l.kind true l.level l.depth l.text l.rest n l.holds
