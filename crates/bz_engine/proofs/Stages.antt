@@ -158,5 +158,5 @@ read_alone v l w x mid same is progress there =
 pub passed_over : (old new : SessionValue) (before after : List ℕ) (first : First) → IsFirstNext old new before after first
     → ((next : NextChunk) → first ≢ Edited next) → new.progress ≡ old.progress
 passed_over old new before after (Edited next) is other = absurd (other next refl)
-passed_over old new before after Short is other = is.1
+passed_over old new before after Short is other = is.0
 passed_over old new before after Other is other = is.0

@@ -56,7 +56,7 @@ returns-in_err-read_more-in-Short-clause-finds g c =
     let there = ap the_view c.self-inside.view_is ∙ c.self.view_is in
     let short = subst (IsFirstNext l w c.loop-next.text.items c.edit_ahead.new.text.items) c.in-Short.is c.in_ok-next.ensures.first in
     let at : Progress → SessionValue = λ p. record l { progress = p } in
-    let is = there ∙ c.edit_ahead.ensures.same ∙ ap at short.1 ∙ inv.same in
+    let is = there ∙ c.edit_ahead.ensures.same ∙ ap at short.0 ∙ inv.same in
     let fault = c.from_residual-in_err-read_more-in-Short in
     let p = err_from_is_err_and fault.result fault.ensures.1 in
     finds_then _ _ _ _ _ _ _ _ _ _ _ _ g.met.S.Source.gave_more inv.finds
@@ -73,7 +73,7 @@ returns-then-not-branch-clause-finds g c =
     let there = ap the_view c.self-inside.view_is ∙ c.self.view_is in
     let short = subst (IsFirstNext l w c.loop-next.text.items c.edit_ahead.new.text.items) c.in-Short.is c.in_ok-next.ensures.first in
     let at : Progress → SessionValue = λ p. record l { progress = p } in
-    let is = there ∙ c.edit_ahead.ensures.same ∙ ap at short.1 ∙ inv.same in
+    let is = there ∙ c.edit_ahead.ensures.same ∙ ap at short.0 ∙ inv.same in
     finds_then _ _ _ _ _ _ _ _ _ _ _ _ g.met.S.Source.gave_more inv.finds
     (finds_then _ _ _ _ c.in_ok-read_more-in-Short.field-0 _ _ _ _ _ _ _ g.met.S.Source.gave_more
     (subst (λ x. Finds g.S.Source.gave g.S.Source.failures x.options x.progress.line c.loop-next.source c.read_more.new.source x.ahead c.read_more.new.ahead (Ok c.in_ok-read_more-in-Short.field-0))
@@ -91,15 +91,15 @@ loop-next-preserved g c =
     let there = ap the_view c.self-inside.view_is ∙ c.self.view_is in
     let short = subst (IsFirstNext l w c.loop-next.text.items c.edit_ahead.new.text.items) c.in-Short.is c.in_ok-next.ensures.first in
     let at : Progress → SessionValue = λ p. record l { progress = p } in
-    let is = there ∙ c.edit_ahead.ensures.same ∙ ap at short.1 ∙ inv.same in
-    let alone = read_alone v l w _ mid inv.same c.edit_ahead.ensures.same short.1 there in
+    let is = there ∙ c.edit_ahead.ensures.same ∙ ap at short.0 ∙ inv.same in
+    let alone = read_alone v l w _ mid inv.same c.edit_ahead.ensures.same short.0 there in
     let before : SessionValue = record v { ahead = l.ahead } in
     let found = subst (λ x. Finds g.S.Source.gave g.S.Source.failures x.options x.progress.line c.loop-next.source c.read_more.new.source x.ahead mid (Ok c.in_ok-read_more-in-Short.field-0))
     is c.in_ok-read_more-in-Short.ensures.finds in
     record {
       finds = finds_found _ _ _ _ _ _ _ _ _ _ (finds_then _ _ _ _ _ _ _ _ _ _ _ _ g.met.S.Source.gave_more inv.finds found);
       same = alone;
-      text = short.2 ∙ inv.text;
+      text = short.1 ∙ inv.text;
       take = subst CanTake (sym alone) (take_read before mid v.options.max_reads found.read.0 (subst CanTake inv.same inv.take) found.read.2 c.in_ok-read_more-in-Short.ensures.few);
     }
 
@@ -110,7 +110,7 @@ returns-in_default-clause-finds g c =
     let inv = c.loop-next.invariant in
     let first = c.in_ok-next.ensures.first in
     let same : w.progress ≡ l.progress = elim c.in_default.branch [
-      | in_default-via-in-Short+else-may_read b ↦ (subst (IsFirstNext l w c.loop-next.text.items c.edit_ahead.new.text.items) b.in-Short.is first).1
+      | in_default-via-in-Short+else-may_read b ↦ (subst (IsFirstNext l w c.loop-next.text.items c.edit_ahead.new.text.items) b.in-Short.is first).0
       | in_default-via-in_default b ↦ passed_over l w _ _ c.in_ok-next.field-0 first b.in_default.not-Edited
     ] in
     let at : Progress → SessionValue = λ p. record l { progress = p } in
