@@ -322,9 +322,6 @@ few_left n ahead within ends few = elim (cases_lt (n + 8192) (length ahead.bytes
   | inr fits ↦ omega (arith, length-drop n ahead.bytes)
 ]
 
-pub few_bytes : (ahead : Ahead) → length ahead.bytes ≤ 8192 → IsFewAfter ahead
-few_bytes ahead few n more = absurd (omega (arith, few, more))
-
 -- what is sure to be too long stays so
 too_long_read : (max n : ℕ) (old new : Ahead) (pieces : List (List ℕ)) → IsReadOn max old new pieces → IsTooLong n old → IsTooLong n new
 too_long_read max n old new pieces read long rest may =

@@ -2,12 +2,12 @@
 //! (`session.rt`) has an `Ahead`. It calls `read_where_open` where the text seems to end before its first chunk, and
 //! `next_chunk` where the chunk has to be found line by line.
 
-ghost use Rattle.std.specs.Prelude.{◌≡◌, ◌≢◌, ℕ, ◌+◌, ◌<◌, ◌≤◌, ◌⊎◌, true, false, List, [], length, take, drop, IfOk, OnOk, OnErr, IfSome, IfNone, IsErrOf, IsTrue, IsUtf8};
+ghost use Rattle.std.specs.Prelude.{◌≡◌, ◌≢◌, ℕ, ◌+◌, ◌<◌, ◌≤◌, true, false, List, [], length, take, drop, IfOk, OnOk, OnErr, IfSome, IfNone, IsErrOf, IsTrue, IsUtf8};
 ghost use Rattle.std.specs.Str.{IsCharBoundary, IsValidUpTo};
 ghost use Rattle.bz_devices.specs.Device.{Rises};
 ghost use Rattle.bz_token.specs.Cuts.{IsBlock};
 ghost use Rattle.bz_token.specs.CutterState.{IsAfter, IsAtBlock};
-ghost use Rattle.bz_devices.specs.Ahead.{IsReadOn, AreNeeded, IsNextChunk, IsTooLong, IsUncertain, IsFewAfter};
+ghost use Rattle.bz_devices.specs.Ahead.{IsReadOn, IsNextChunk, IsFewAfter};
 ghost use Rattle.bz_devices.specs.Search.{Searches};
 ghost use Rattle.bz_devices.specs.private.AheadSteps.{IsOpen, IsLine, IsLineAt, IsBegun, GoesOn, EndsAt, IsEnd};
 ghost use Rattle.std.specs.List.{concat};
