@@ -259,7 +259,7 @@ fn line_end(bytes: &[u8]) -> Option<usize>
 
 /// Reads on until the line that begins after the first `from` bytes has its newline, or the input has ended. Answers
 /// where the line ends. The bytes before `from` are lines of the next chunk, which goes on after them (`begun`): so
-/// before each read all bytes ahead belong to that chunk. `few` and `bound` say that no more than needed was read so far.
+/// before each read all bytes ahead belong to that chunk. `few` and `bound` say that no more was read than was needed.
 fn read_line<S: Source>(
     ahead: &mut Ahead,
     source: &mut S,
@@ -290,7 +290,7 @@ fn read_line<S: Source>(
     }
 }
 
-/// Whether the chunk ends with its block, after the first `end` bytes. `ends_chunk` asks where the cutter, which has read
+/// Whether the chunk ends with its block, after the first `end` bytes. `ends_chunk` asks where the cutter, which read
 /// these bytes (`after`), said of their last line that it stands in a block (`at_block`), so that what follows decides
 /// (`block`). `made`, `few` and `bound` are what `chunk_end` keeps of the bytes ahead.
 fn ends_block<S: Source>(

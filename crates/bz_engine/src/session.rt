@@ -252,8 +252,8 @@ impl Session {
         text
     }
 
-    /// The script on the next chunk; none where the input has ended. Where the bytes ahead seem to end before the chunk,
-    /// more is read first: to look at the front of a chunk would be in vain.
+    /// The script on the next chunk; none where the input has ended. Where the bytes ahead seem to end before the
+    /// chunk, more is read first: to look at the front of a chunk would be in vain.
     fn edit_next<S: Source>(
         &mut self,
         source: &mut S,
@@ -271,8 +271,8 @@ impl Session {
         self.edit_or_find(source, text)
     }
 
-    /// The script on the next chunk. Most chunks end in the text ahead: then nothing is read, and the walk that finds the
-    /// end makes the tokens. Where the text ends before its chunk, more is read once, and the walk begins again.
+    /// The script on the next chunk. Most chunks end in the text ahead: then nothing is read, and the walk that finds
+    /// the end makes the tokens. Where the text ends before its chunk, more is read once, and the walk begins again.
     fn edit_or_find<S: Source>(
         &mut self,
         source: &mut S,
