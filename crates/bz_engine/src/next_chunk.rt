@@ -30,7 +30,7 @@ pub(crate) struct NextChunk {
 pub(crate) enum First {
     /// The script was run on it, and it is not yet taken.
     Edited(NextChunk),
-    /// Nothing: all that is ahead is a part of it.
+    /// Nothing: the text ahead ends before it does.
     Short,
     /// Nothing: it is to be found in another way.
     Other,
@@ -64,8 +64,8 @@ pub(crate) fn edit_first(
     }
     let chunk = match first_chunk(script.bump, text_ahead, progress.line, script.max_depth)? {
         Front::Chunk(chunk) => chunk,
-        Front::Short if text_ahead.len() == ahead.bytes().len() => return Ok(First::Short),
-        _ => return Ok(First::Other),
+        Front::Short => return Ok(First::Short),
+        Front::Other => return Ok(First::Other),
     };
     let len = chunk.text.len();
     if len as u64 > script.max_statement {

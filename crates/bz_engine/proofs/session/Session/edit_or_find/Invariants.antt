@@ -1,9 +1,9 @@
-use Rattle.std.proofs.Common.{◌≡◌, ◌≤◌, true, length}
+use Rattle.std.proofs.Common.{◌≡◌}
 use Rattle.std.specs.Prelude.{if◌then◌else◌}
 use Rattle.bz_engine.specs.SessionValue.{SessionValue}
 use Rattle.bz_engine.specs.private.NextChunks.{CanTake}
 use Rattle.bz_engine.proofs.Finds.{Found}
-use Rattle.bz_engine.proofs.session.Session.edit_next.Given as goal
+use Rattle.bz_engine.proofs.session.Session.edit_or_find.Given as goal
 
 -- reads were made, and nothing else
 abbrev pub invariant-loop-next : goal.invariant-loop-next
@@ -12,7 +12,6 @@ invariant-loop-next g l = record {
   same : (let after : SessionValue = record l.initial.self { ahead = l.self.ahead } in l.self ≡ after);
   text : l.text.items ≡ l.initial.text.items;
   take : CanTake l.self;
-  few : l.may_read ≡ true → length l.self.ahead.bytes ≤ 8192;
 }
 
 abbrev pub decreases-loop-next : goal.decreases-loop-next
