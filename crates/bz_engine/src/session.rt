@@ -3,7 +3,7 @@
 //! and writes its text. It begins with `Stopped`: after a fault the session is of no use.
 
 ghost use Rattle.bz_memory.specs.NoMemory.{no_memory};
-ghost use Rattle.std.specs.Prelude.{◌≡◌, ◌≢◌, ℕ, ◌+◌, ◌<◌, ◌≤◌, ◌^◌, false, List, [], length, take, drop, IfOk, OnOk, OnErr, IfSome, IfNone, IsTrue};
+ghost use Rattle.std.specs.Prelude.{◌≡◌, ◌≢◌, ℕ, ◌+◌, ◌<◌, ◌≤◌, ◌^◌, false, List, [], ◌∷◌, length, take, drop, IfOk, OnOk, OnErr, IfSome, IfNone, IsTrue};
 ghost use Rattle.bz_devices.specs.Device.{Rises};
 ghost use Rattle.bz_passes.specs.Exchange.{Fits};
 ghost use Rattle.bz_devices.specs.Ahead.{IsReadOn, IsNextChunk, IsFewAfter};
@@ -213,6 +213,10 @@ impl Session {
             (writer W.took W.failures sink.old sink.new) self.old self.new result }
         ensures stops { OnErr result (self.new.stage ≡ Stopped) }
     {
+        if self.is_at_empty_line() {
+            self.pass_empty_line();
+            return Ok(Step::More);
+        }
         // After a fault what is kept is of no use.
         self.stage = SessionState::Stopped;
         let mut text = self.take_text();
@@ -232,6 +236,27 @@ impl Session {
                 Ok(self.end_at(End::FirstFailure))
             }
         }
+    }
+
+    /// Whether the next chunk is an empty line, and not too long: nothing is written of it.
+    fn is_at_empty_line(&self) -> bool
+        ensures { IsTrue result → (rest : List ℕ) × (self.now.ahead.bytes ≡ 10 ∷ rest)
+            × (0 < self.now.options.max_statement) }
+    {
+        0 < self.options.max_statement && begins_with_newline(self.ahead.bytes())
+    }
+
+    /// The empty line ahead is taken.
+    fn pass_empty_line(&mut self)
+        requires going { self.old.stage ≡ Going }
+        requires some { 0 < length self.old.ahead.bytes }
+        ensures { self.new ≡ record self.old {
+          progress = record self.old.progress { line = self.old.progress.line + 1 };
+          ahead = record self.old.ahead { bytes = drop 1 self.old.ahead.bytes };
+        } }
+    {
+        self.progress.line += 1;
+        self.ahead.take(1);
     }
 
     /// The session has ended in this way. `advance` calls it with what is kept in place for each pass and command: so
@@ -391,6 +416,12 @@ impl Session {
             Err(Failed) => Err(RunFault::WriteFailed),
         }
     }
+}
+
+fn begins_with_newline(bytes: &[u8]) -> bool
+    ensures { IsTrue result → (rest : List ℕ) × (bytes.now ≡ 10 ∷ rest) }
+{
+    matches!(bytes, [b'\n', ..])
 }
 
 /// What a run is to do with each chunk.
