@@ -1,5 +1,5 @@
 -- The statement whose parts begin with a kind and the call of a rule is that rule, and no other statement is one.
-use Rattle.std.proofs.Common.{◌≡◌, ℕ, Bool, true, false, ◌&&◌, ◌||◌, List, [], ◌∷◌, ◌++◌, map, refl, sym, ◌∙◌, ap, append_assoc, Option, None, Some, if◌then◌else◌, bytes_eq}
+use Rattle.std.proofs.Common.{◌≡◌, ℕ, Bool, true, false, ◌&&◌, ◌||◌, List, [], ◌∷◌, ◌++◌, map, refl, sym, ◌∙◌, ap, arith, drop, length, append_assoc, Option, None, Some, if◌then◌else◌, bytes_eq}
 use Rattle.std.specs.Prelude.{codes}
 use Rattle.std.proofs.lemmas.Bool.{false≢true, and_parts}
 use Rattle.bz_token.specs.declared.token.Kind.TheVariants.{Identifier, Operator}
@@ -13,7 +13,11 @@ use Rattle.bz_attribute.specs.Rules.{Rule, rule_of, call_at, kind_text, dotted}
 use Rattle.bz_attribute.specs.private.HeadParts.{after_comments, after_tokens, token_texts, in_call, IsInCall}
 use Rattle.bz_attribute.proofs.Calls.{rule_from_end, no_call, is_rule_call}
 use Rattle.bz_attribute.proofs.RuleNodes.{rule_nodes}
-use Rattle.bz_attribute.proofs.RuleParts.{rule_dotted, with_last}
+use Rattle.bz_attribute.specs.private.Ends.{above_len}
+use Rattle.bz_attribute.proofs.Lengths.{above_passed, none_above}
+use Rattle.bz_attribute.proofs.RuleParts.{AreTokens, rule_dotted, tokens, tokens_long, with_last}
+use Rattle.std.proofs.lemmas.List.{length-map}
+use Rattle.std.proofs.Math.Seq.{drop-append_seam}
 use Rattle.bz_token.specs.Common.{is_empty}
 use Rattle.std.specs.List.{list_any}
 use Rattle.bz_token.proofs.Classes.{same_bytes}
@@ -103,38 +107,20 @@ called false (group k segs one_comma end ∷ xs) h =
     let two = and_parts (is_call_kind k) (is_empty xs) h in
     record { kind = []; k = k; segs = segs; one_comma = one_comma; end = end; are = ap (λ (ys : List Item). group k segs one_comma end ∷ ys) (nothing_is xs two.1); dots = refl }
 
--- a kind is tokens alone
-abbrev AreTokens : List Item → Type 0
-AreTokens [] = Unit {0}
-AreTokens (leaf kind text ∷ xs) = AreTokens xs
-AreTokens (group k segs one_comma end ∷ xs) = ⊥
-
-tokens : (b : Bool) (kind : List Item) → dotted b kind ≡ true → AreTokens kind
-tokens b [] h = tt
-tokens true (leaf Identifier text ∷ xs) h = tokens false xs h
-tokens true (leaf _ text ∷ xs) h = absurd (false≢true h)
-tokens true (group k segs one_comma end ∷ xs) h = absurd (false≢true h)
-tokens false (leaf kind text ∷ xs) h = tokens true xs (and_parts _ (dotted true xs) h).1
-tokens false (group k segs one_comma end ∷ xs) h = absurd (false≢true h)
-
-tokens_passed : (kind : List Item) (k : GroupKind) (rest : List RowPart) → AreTokens kind → after_tokens (items_parts (items_of kind) ++ opening k ∷ rest) ≡ opening k ∷ rest
-tokens_passed [] k rest h = refl
-tokens_passed (leaf kind text ∷ xs) k rest h = tokens_passed xs k rest h
-tokens_passed (group l segs one_comma end ∷ xs) k rest h = absurd h
-
 texts_joined : (kind : List Item) (k : GroupKind) (rest : List RowPart) → AreTokens kind → token_texts (items_parts (items_of kind) ++ opening k ∷ rest) ≡ kind_text kind
 texts_joined [] k rest h = refl
 texts_joined (leaf kind text ∷ xs) k rest h = ap (λ (ts : List ℕ). text ++ ts) (texts_joined xs k rest h)
 texts_joined (group l segs one_comma end ∷ xs) k rest h = absurd h
 
-comments_passed : (texts : List (List ℕ)) (ps : List RowPart) → after_comments (map above texts ++ ps) ≡ after_comments ps
-comments_passed [] ps = refl
-comments_passed (text ∷ texts) ps = comments_passed texts ps
+comments_dropped : (texts : List (List ℕ)) (kind : List Item) (k : GroupKind) (rest : List RowPart) → after_comments (map above texts ++ (items_parts (items_of kind) ++ opening k ∷ rest)) ≡ items_parts (items_of kind) ++ opening k ∷ rest
+comments_dropped texts kind k rest =
+    let ps : List RowPart = items_parts (items_of kind) ++ opening k ∷ rest in
+    let long : above_len (map above texts ++ ps) ≡ length (map above texts) = omega (arith, above_passed texts ps, none_above kind k rest, length-map texts above) in
+    ap (λ (n : ℕ). drop n (map above texts ++ ps)) long ∙ drop-append_seam (map above texts) ps
 
-no_comments : (kind : List Item) (k : GroupKind) (rest : List RowPart) → after_comments (items_parts (items_of kind) ++ opening k ∷ rest) ≡ items_parts (items_of kind) ++ opening k ∷ rest
-no_comments [] k rest = refl
-no_comments (leaf kind text ∷ xs) k rest = refl
-no_comments (group l segs one_comma end ∷ xs) k rest = refl
+tokens_dropped : (kind : List Item) (k : GroupKind) (rest : List RowPart) → AreTokens kind → after_tokens (items_parts (items_of kind) ++ opening k ∷ rest) ≡ opening k ∷ rest
+tokens_dropped kind k rest h =
+    ap (λ (n : ℕ). drop n (items_parts (items_of kind) ++ opening k ∷ rest)) (tokens_long kind k rest h) ∙ drop-append_seam (items_parts (items_of kind)) (opening k ∷ rest)
 
 -- what stands after the bracket that opens
 abbrev inside : (s : Statement) → IsCalled true s.nodes → List RowPart
@@ -143,14 +129,14 @@ inside s c = (segs_parts c.segs ++ (map above c.end ++ closing c.one_comma ∷ [
 begin : (s : Statement) (c : IsCalled true s.nodes) → after_comments (parts_of s) ≡ items_parts (items_of c.kind) ++ opening c.k ∷ inside s c
 begin s c =
     let call : List RowPart = item_parts (group c.k c.segs c.one_comma c.end) in
-    comments_passed s.before (items_parts (items_of s.nodes) ++ beside_part s.suffix)
-    ∙ ap (λ (nodes : List Item). after_comments (items_parts (items_of nodes) ++ beside_part s.suffix)) c.are
-    ∙ ap (λ (ps : List RowPart). after_comments (ps ++ beside_part s.suffix)) (with_last c.kind (group c.k c.segs c.one_comma c.end))
-    ∙ ap after_comments (append_assoc (items_parts (items_of c.kind)) call (beside_part s.suffix))
-    ∙ no_comments c.kind c.k (inside s c)
+    ap (λ (ps : List RowPart). after_comments (map above s.before ++ ps))
+    (ap (λ (nodes : List Item). items_parts (items_of nodes) ++ beside_part s.suffix) c.are
+    ∙ ap (λ (ps : List RowPart). ps ++ beside_part s.suffix) (with_last c.kind (group c.k c.segs c.one_comma c.end))
+    ∙ append_assoc (items_parts (items_of c.kind)) call (beside_part s.suffix))
+    ∙ comments_dropped s.before c.kind c.k (inside s c)
 
 open_at : (s : Statement) (c : IsCalled true s.nodes) → in_call (after_tokens (after_comments (parts_of s))) ≡ in_call (opening c.k ∷ inside s c)
-open_at s c = ap (λ (ps : List RowPart). in_call (after_tokens ps)) (begin s c) ∙ ap in_call (tokens_passed c.kind c.k (inside s c) (tokens true c.kind c.dots))
+open_at s c = ap (λ (ps : List RowPart). in_call (after_tokens ps)) (begin s c) ∙ ap in_call (tokens_dropped c.kind c.k (inside s c) (tokens true c.kind c.dots))
 
 opened : (k : GroupKind) (rest qs : List RowPart) → in_call (opening k ∷ rest) ≡ Some qs → (k ≡ RuleCall) × (rest ≡ qs)
 opened RuleCall rest qs h = (refl, cc)

@@ -1,40 +1,18 @@
 -- The place of the kind among the parts of its rule.
-use Rattle.std.proofs.Common.{◌≡◌, ℕ, ◌+◌, List, [], ◌∷◌, ◌++◌, Bool, true, false, length, map, take, drop, refl, ap, sym, ◌∙◌, arith, append_assoc, length-append}
-use Rattle.std.specs.List.{list_all, prefix_len}
-use Rattle.std.proofs.lemmas.Bool.{false≢true, and_parts}
+use Rattle.std.proofs.Common.{◌≡◌, ℕ, ◌+◌, List, [], ◌∷◌, ◌++◌, true, length, map, take, drop, refl, ap, sym, ◌∙◌, arith, append_assoc, length-append}
 use Rattle.std.proofs.lemmas.List.{length-map, map-append}
 use Rattle.std.proofs.Math.Seq.{drop-append_seam, take-append_seam}
-use Rattle.bz_token.specs.declared.token.Kind.TheVariants.{Identifier}
 use Rattle.bz_tree.specs.declared.stmt.GroupKind.TheVariants.{RuleCall}
-use Rattle.bz_tree.specs.Tree.{Item, leaf, group, Statement, items_of, segs_of}
+use Rattle.bz_tree.specs.Tree.{Statement, items_of, segs_of}
 use Rattle.bz_tree.specs.Rows.{RowPart, opening, above, items_parts, segs_parts, parts_of}
 use Rattle.bz_attribute.specs.KindPlaces.{IsKindPlace}
-use Rattle.bz_attribute.specs.Rules.{Rule, dotted}
+use Rattle.bz_attribute.specs.Rules.{Rule}
 use Rattle.bz_attribute.specs.Effects.{nodes_of}
 use Rattle.bz_attribute.specs.RowPlaces.{IsRuleRow}
-use Rattle.bz_attribute.specs.private.Ends.{above_len, is_token}
-use Rattle.bz_attribute.proofs.Lengths.{above_passed}
+use Rattle.bz_attribute.specs.private.Ends.{above_len, tokens_len}
+use Rattle.bz_attribute.proofs.Lengths.{above_passed, none_above}
 use Rattle.bz_attribute.proofs.RuleNodes.{rule_nodes}
-use Rattle.bz_attribute.proofs.RuleParts.{after_args, parts_cut, rule_dotted}
-
-stops : (p : RowPart → Bool) (xs ys : List RowPart) → list_all p xs ≡ true → prefix_len p ys ≡ 0 → prefix_len p (xs ++ ys) ≡ length xs
-stops p [] ys all none = none
-stops p (x ∷ xs) ys all none =
-    let both : (p x ≡ true) × (list_all p xs ≡ true) = and_parts (p x) (list_all p xs) all in
-    rw both.0 (omega (arith, stops p xs ys both.1 none))
-
-all_tokens : (b : Bool) (kind : List Item) → dotted b kind ≡ true → list_all is_token (items_parts (items_of kind)) ≡ true
-all_tokens b [] h = refl
-all_tokens true (leaf Identifier text ∷ xs) h = all_tokens false xs h
-all_tokens true (leaf _ text ∷ xs) h = absurd (false≢true h)
-all_tokens true (group k segs one_comma end ∷ xs) h = absurd (false≢true h)
-all_tokens false (leaf k text ∷ xs) h = all_tokens true xs (and_parts _ (dotted true xs) h).1
-all_tokens false (group k segs one_comma end ∷ xs) h = absurd (false≢true h)
-
-none_above : (kind : List Item) (rest : List RowPart) → above_len (items_parts (items_of kind) ++ opening RuleCall ∷ rest) ≡ 0
-none_above [] rest = refl
-none_above (leaf k text ∷ xs) rest = refl
-none_above (group k segs one_comma end ∷ xs) rest = refl
+use Rattle.bz_attribute.proofs.RuleParts.{after_args, parts_cut, rule_dotted, tokens, tokens_long}
 
 -- the parts from the call on
 abbrev call_parts : Statement → Rule → List RowPart
@@ -46,7 +24,7 @@ in_three s r nodes =
     ≡ map above s.before ++ (items_parts (items_of r.kind) ++ call_parts s r) = simp append_assoc in
     parts_cut s r nodes ∙ moved
 
-pub kind_at : (s : Statement) (r : Rule) (ps : List RowPart) (from to : ℕ) → IsRuleRow s r ps → from ≡ above_len ps → to ≡ from + prefix_len is_token (drop from ps) → IsKindPlace s r ps from to
+pub kind_at : (s : Statement) (r : Rule) (ps : List RowPart) (from to : ℕ) → IsRuleRow s r ps → from ≡ above_len ps → to ≡ from + tokens_len (drop from ps) → IsKindPlace s r ps from to
 kind_at s r ps from to h from_is to_is =
     let comments : List RowPart = map above s.before in
     let kind : List RowPart = items_parts (items_of r.kind) in
@@ -55,9 +33,9 @@ kind_at s r ps from to h from_is to_is =
     let all : ps ≡ comments ++ (kind ++ call) = h.are ∙ in_three s r nodes in
     let joined : comments ++ (kind ++ call) ≡ (comments ++ kind) ++ call = sym (append_assoc comments kind call) in
     let starts : from ≡ length comments =
-    omega (arith, from_is ∙ ap above_len all ∙ above_passed s.before (kind ++ call), none_above r.kind (segs_parts (segs_of r.args) ++ after_args s r), length-map s.before above) in
+    omega (arith, from_is ∙ ap above_len all ∙ above_passed s.before (kind ++ call), none_above r.kind RuleCall (segs_parts (segs_of r.args) ++ after_args s r), length-map s.before above) in
     let dropped : drop from ps ≡ kind ++ call = (λ i. drop (starts i) (all i)) ∙ drop-append_seam comments (kind ++ call) in
-    let long : prefix_len is_token (drop from ps) ≡ length kind = ap (prefix_len is_token) dropped ∙ stops is_token kind call (all_tokens true r.kind (rule_dotted [] s.nodes r h.rule)) refl in
+    let long : tokens_len (drop from ps) ≡ length kind = ap tokens_len dropped ∙ tokens_long r.kind RuleCall _ (tokens true r.kind (rule_dotted [] s.nodes r h.rule)) in
     let ends : to ≡ length (comments ++ kind) = omega (arith, to_is, long, starts, length-append comments kind) in
     let taken : take from ps ≡ comments = (λ i. take (starts i) (all i)) ∙ take-append_seam comments (kind ++ call) in
     let left : drop to ps ≡ call = (λ i. drop (ends i) ((all ∙ joined) i)) ∙ drop-append_seam (comments ++ kind) call in

@@ -1,7 +1,7 @@
 -- Where a segment ends: lengths of its comments and nodes, by its parts.
 use Rattle.std.proofs.Common.{◌≡◌, ℕ, zero, suc, ◌+◌, List, [], ◌∷◌, ◌++◌, map, length, refl, ap, ◌∙◌, arith, append_assoc, length-append, Option, Some, None}
 use Rattle.bz_tree.specs.declared.stmt.GroupKind.{GroupKind}
-use Rattle.bz_tree.specs.Tree.{Item, leaf, group, Items, no_items, item, Segs, no_segs, seg}
+use Rattle.bz_tree.specs.Tree.{Item, leaf, group, Items, no_items, item, Segs, no_segs, seg, items_of}
 use Rattle.bz_tree.specs.Rows.{RowPart, opening, closing, segment_end, above, beside_part, item_parts, items_parts, segs_parts}
 use Rattle.bz_attribute.specs.private.Ends.{above_len, nodes_len}
 
@@ -59,6 +59,11 @@ nodes_ended xs rest = pass_items 0 xs (segment_end ∷ rest) ∙ omega arith
 pub above_passed : (texts : List (List ℕ)) (rest : List RowPart) → above_len (map above texts ++ rest) ≡ length texts + above_len rest
 above_passed [] rest = omega arith
 above_passed (text ∷ texts) rest = omega (arith, above_passed texts rest)
+
+pub none_above : (xs : List Item) (k : GroupKind) (rest : List RowPart) → above_len (items_parts (items_of xs) ++ opening k ∷ rest) ≡ 0
+none_above [] k rest = refl
+none_above (leaf kind text ∷ xs) k rest = refl
+none_above (group l segs one_comma end ∷ xs) k rest = refl
 
 pub no_more_above : (xs : Items) (rest : List RowPart) → above_len (items_parts xs ++ segment_end ∷ rest) ≡ 0
 no_more_above no_items rest = refl

@@ -7,7 +7,6 @@ pub mod FinderSteps
 pub mod First
 pub mod FirstArguments
 pub mod FoundArgs
-pub mod Fresh
 pub mod Headed
 pub mod ItemParts
 pub mod KindPlaced
@@ -19,7 +18,6 @@ pub mod ListEdits
 pub mod ListElements
 pub mod ListWalk
 pub mod LiteralEnds
-pub mod LocalLabels
 pub mod Locals
 pub mod Mapped
 pub mod NameTexts

@@ -5,19 +5,19 @@ use Rattle.std.specs.Prelude.{Option, Some, None, IfSome, IfNone, Result, Ok, Er
 use Rattle.bz_tree.specs.declared.row.Part.{Part}
 use Rattle.bz_tree.specs.declared.stmt.GroupKind.TheVariants.{List as ListKind}
 use Rattle.bz_tree.specs.Tree.{Item, leaf, group, Segs, Segment, items_of, segments}
-use Rattle.bz_tree.specs.Rows.{RowPart, part_view, opening, closing, segment_end, above, item_parts, items_parts, segs_parts}
+use Rattle.bz_tree.specs.Rows.{RowPart, part_view, item_parts, items_parts}
 use Rattle.bz_attribute.specs.Comment.{edit_element_from}
 use Rattle.bz_attribute.specs.Effects.{edit_first}
-use Rattle.bz_attribute.specs.Elements.{HasNoList, IsListIn, ListRest, edit_element_in, edit_in, edit_one_in, found_rest, list_item, lists_in, rest_parts, value_parts}
+use Rattle.bz_attribute.specs.Elements.{HasNoList, IsListIn, ListRest, edit_element_in, edit_in, edit_one_in, found_rest, list_item, lists_in, value_parts}
 use Rattle.bz_attribute.specs.Lists.{edit_from, edit_list, edit_one_from, is_list, parts_from}
 use Rattle.bz_attribute.specs.Lists as lists
 use Rattle.bz_attribute.specs.private.HeadParts.{is_end}
-use Rattle.bz_attribute.specs.private.ListParts.{HasJoints, HasWalked, IsWalked, KeepsOthers, ends_piece, is_joint, is_plus, item_len, opens_list}
-use Rattle.bz_attribute.proofs.ItemParts.{item_at, none_after, none_at, piece_told}
+use Rattle.bz_attribute.specs.private.ListParts.{HasJoints, HasWalked, IsWalked, ItemEnds, KeepsOthers, ends_piece, is_joint, is_plus, opens_list}
+use Rattle.bz_attribute.proofs.ItemParts.{item_at, none_after, none_at, opened, piece_told, rest_of}
 use Rattle.bz_tree.proofs.FromParts.{segs_back}
 
 pub joints_pass : (ps : List Part) (from at end : ℕ) (d : Part) → HasJoints (map part_view ps) from at → at < length ps → is_end (part_view (get_or ps at d)) ≡ false → is_joint (part_view (get_or ps at d)) ≡ true
-    → end ≡ at + item_len (drop at (map part_view ps)) → HasJoints (map part_view ps) from end
+    → ItemEnds (map part_view ps) at end → HasJoints (map part_view ps) from end
 joints_pass ps from at end d w h more joint end_is = λ nodes after read.
     let j = w nodes after read in
     let i = item_at j.back after ps at d j.read h more in
@@ -49,7 +49,7 @@ joined_long (y ∷ front) x =
     omega (arith, joined_long front x, length-append (item_parts y) (items_parts (items_of (front ++ x ∷ []))), length-append (item_parts y) (items_parts (items_of front)))
 
 pub walk_passes : (whole start next : Bool) (ps : List Part) (from at end : ℕ) (d : Part) → HasWalked whole start (map part_view ps) from at → at < length ps → is_end (part_view (get_or ps at d)) ≡ false
-    → start && opens_list (part_view (get_or ps at d)) && ends_piece (drop end (map part_view ps)) ≡ false → next ≡ is_plus (part_view (get_or ps at d)) → end ≡ at + item_len (drop at (map part_view ps))
+    → start && opens_list (part_view (get_or ps at d)) && ends_piece (drop end (map part_view ps)) ≡ false → next ≡ is_plus (part_view (get_or ps at d)) → ItemEnds (map part_view ps) at end
     → HasWalked whole next (map part_view ps) from end
 walk_passes whole start next ps from at end d w h more none plus end_is = λ nodes after read.
     let k = w nodes after read in
@@ -60,7 +60,7 @@ walk_passes whole start next ps from at end d w h more none plus end_is = λ nod
       front = k.front ++ i.x ∷ [];
       back = i.xs;
       are = k.are ∙ ap (λ (ys : List Item). k.front ++ ys) i.are ∙ sym (append_assoc k.front (i.x ∷ []) i.xs);
-      place = omega (arith, end_is, i.long, k.place, joined_long k.front i.x);
+      place = omega (arith, i.long end end_is, k.place, joined_long k.front i.x);
       read = i.next end end_is;
       lists = k.lists ∙ ap (parts_from start) i.are ∙ rw no_part (ap (λ (b : Bool). parts_from b i.xs) (sym is_next));
       others = λ e keeps.
@@ -126,15 +126,6 @@ list_is (group ListKind segs one_comma end) h = record { segs = segs; one_comma 
 list_is (group _ segs one_comma end) h = absurd cc
 list_is (leaf kind text) h = absurd cc
 
-abbrev pub rest_of : Segs → Bool → List (List ℕ) → List Item → ListRest
-rest_of segs one_comma end xs = record { elements = segments segs; end = end; one_comma = one_comma; items = xs }
-
-pub opened : (segs : Segs) (one_comma : Bool) (end : List (List ℕ)) (xs : List Item) (after : List RowPart)
-    → value_parts (group ListKind segs one_comma end ∷ xs) after ≡ opening ListKind ∷ rest_parts (rest_of segs one_comma end xs) after
-opened segs one_comma end xs after =
-    let moved : ((segs_parts segs ++ (map above end ++ closing one_comma ∷ [])) ++ items_parts (items_of xs)) ++ segment_end ∷ after ≡ segs_parts segs ++ (map above end ++ closing one_comma ∷ value_parts xs after) = simp append_assoc in
-    ap (λ (ps : List RowPart). opening ListKind ∷ ps) (moved ∙ ap (λ (ss : Segs). segs_parts ss ++ (map above end ++ closing one_comma ∷ value_parts xs after)) (sym (segs_back segs)))
-
 pub found_here : (p : Segment → Bool) (f : Segment → Segment) (segs : Segs) (one_comma : Bool) (end : List (List ℕ)) (xs : List Item) → lists.ends xs ≡ true
     → edit_element_from p f true (group ListKind segs one_comma end ∷ xs) ≡ list_item (found_rest p f (rest_of segs one_comma end xs)) ∷ (found_rest p f (rest_of segs one_comma end xs)).items
 found_here p f segs one_comma end xs ends =
@@ -159,7 +150,7 @@ here whole nodes after ps from at xs segs one_comma end w back ends joined =
       list = list;
       are = w.are ∙ ap (λ (ys : List Item). w.front ++ ys) (back ∙ ap (λ (y : Item). y ∷ xs) (sym same));
       begins = omega (arith, w.place);
-      read = ap (λ (n : ℕ). drop n ps) (omega arith) ∙ sym (drop-drop 1 at ps) ∙ ap (drop 1) (w.read ∙ ap (λ (ys : List Item). value_parts ys after) back ∙ opened segs one_comma end xs after);
+      read = ap (λ (n : ℕ). drop n ps) (omega arith) ∙ sym (drop-drop 1 at ps) ∙ ap (drop 1) (w.read ∙ ap (λ (ys : List Item). value_parts ys after) back ∙ opened ListKind segs one_comma end xs after);
       lists = all_lists whole nodes joined ∙ w.lists ∙ ap (parts_from true) back ∙ rw part refl;
       ends = ends;
       edit = λ f. all_edited whole f nodes joined ∙ w.others (edit_from f) (keeps_all f) ∙ ap (λ (ys : List Item). w.front ++ ys) (ap (edit_from f true) back ∙ rw part refl);
@@ -170,7 +161,7 @@ here whole nodes after ps from at xs segs one_comma end w back ends joined =
     }
 
 pub list_here : (whole start : Bool) (ps : List Part) (from at end : ℕ) (d : Part) (nodes : List Item) (after : List RowPart) → HasWalked whole start (map part_view ps) from at → at < length ps → is_end (part_view (get_or ps at d)) ≡ false
-    → start ≡ true → opens_list (part_view (get_or ps at d)) ≡ true → ends_piece (drop end (map part_view ps)) ≡ true → end ≡ at + item_len (drop at (map part_view ps))
+    → start ≡ true → opens_list (part_view (get_or ps at d)) ≡ true → ends_piece (drop end (map part_view ps)) ≡ true → ItemEnds (map part_view ps) at end
     → drop from (map part_view ps) ≡ value_parts nodes after → Joined whole nodes → IsListIn whole nodes after (map part_view ps) from (at + 1)
 list_here whole start ps from at end d nodes after w h more starts opens piece end_is read joined =
     let k = subst (λ (b : Bool). IsWalked whole b nodes after (map part_view ps) from at) starts (w nodes after read) in

@@ -1,5 +1,5 @@
 -- A value that is one list, and its end, by its parts.
-use Rattle.std.proofs.Common.{◌≡◌, ℕ, ◌+◌, List, [], ◌∷◌, ◌++◌, Bool, true, false, ◌&&◌, length, drop, refl, ap, sym, ◌∙◌, append_assoc, drop-drop}
+use Rattle.std.proofs.Common.{◌≡◌, ℕ, ◌+◌, List, [], ◌∷◌, ◌++◌, Bool, true, false, ◌&&◌, length, drop, refl, ap, sym, ◌∙◌, arith, append_assoc, drop-drop}
 use Rattle.std.proofs.lemmas.Bool.{false≢true}
 use Rattle.std.proofs.Math.Seq.{drop-append_seam}
 use Rattle.bz_tree.specs.declared.stmt.GroupKind.TheVariants.{List as ListKind}
@@ -8,10 +8,10 @@ use Rattle.bz_tree.specs.Rows.{RowPart, segment_end, item_parts, items_parts}
 use Rattle.bz_attribute.specs.Elements.{IsListIn, IsOnlyList, list_item, value_parts}
 use Rattle.bz_attribute.specs.Lists.{is_list, is_only}
 use Rattle.bz_attribute.specs.private.Ends.{nodes_len}
-use Rattle.bz_attribute.specs.private.ListParts.{begins_list, ends_value, item_len}
-use Rattle.bz_attribute.proofs.ItemParts.{item_long}
+use Rattle.bz_attribute.specs.private.ListParts.{ItemEnds, begins_list, ends_value}
+use Rattle.bz_attribute.proofs.ItemParts.{opened, rest_of}
 use Rattle.bz_attribute.proofs.Lengths.{nodes_ended}
-use Rattle.bz_attribute.proofs.ListWalk.{found_here, opened, rest_of}
+use Rattle.bz_attribute.proofs.ListWalk.{found_here}
 use Rattle.bz_tree.proofs.FromParts.{segs_back}
 
 pub value_ended : (nodes : List Item) (after ps : List RowPart) (value end : ℕ) → drop value ps ≡ value_parts nodes after → end ≡ value + nodes_len 0 (drop value ps) → drop end ps ≡ segment_end ∷ after
@@ -38,12 +38,12 @@ both_told : (x : Item) (xs : List Item) → is_list x && is_nil xs ≡ is_only i
 both_told x [] = elim (is_list x) as (λ b. b && true ≡ b) [ true ↦ refl | false ↦ refl ]
 both_told x (y ∷ xs) = elim (is_list x) as (λ b. b && false ≡ false) [ true ↦ refl | false ↦ refl ]
 
-pub only_told : (nodes : List Item) (after qs : List RowPart) → qs ≡ value_parts nodes after → begins_list qs && ends_value (drop (item_len qs) qs) ≡ is_only is_list nodes
-only_told [] after qs are = ap (λ (ps : List RowPart). begins_list ps && ends_value (drop (item_len ps) ps)) are
-only_told (x ∷ xs) after qs are =
+pub only_told : (nodes : List Item) (after qs : List RowPart) (end : ℕ) → qs ≡ value_parts nodes after → ItemEnds qs 0 end → begins_list qs && ends_value (drop end qs) ≡ is_only is_list nodes
+only_told [] after qs end are ends = ap (λ (ps : List RowPart). begins_list ps && ends_value (drop end qs)) are
+only_told (x ∷ xs) after qs end are ends =
     let cut : qs ≡ item_parts x ++ value_parts xs after = are ∙ append_assoc (item_parts x) (items_parts (items_of xs)) (segment_end ∷ after) in
-    let long : item_len qs ≡ length (item_parts x) = ap item_len cut ∙ item_long x (value_parts xs after) in
-    let left : drop (item_len qs) qs ≡ value_parts xs after = (λ i. drop (long i) (cut i)) ∙ drop-append_seam (item_parts x) (value_parts xs after) in
+    let long : end ≡ length (item_parts x) = omega (arith, ends x xs after are) in
+    let left : drop end qs ≡ value_parts xs after = (λ i. drop (long i) (cut i)) ∙ drop-append_seam (item_parts x) (value_parts xs after) in
     (λ i. (ap begins_list are ∙ begins_told x xs after) i && (ap ends_value left ∙ ends_told xs after) i) ∙ both_told x xs
 
 pub only_there : (nodes : List Item) (after ps : List RowPart) (value to : ℕ) → drop value ps ≡ value_parts nodes after → to ≡ value + 1 → is_only is_list nodes ≡ true → IsOnlyList nodes after ps to
@@ -52,7 +52,7 @@ only_there (leaf kind text ∷ []) after ps value to read to_is is = absurd (fal
 only_there (group ListKind segs one_comma end ∷ []) after ps value to read to_is is = record {
   list = rest_of segs one_comma end [];
   are = ap (λ (ss : Segs). group ListKind ss one_comma end ∷ []) (sym (segs_back segs));
-  read = ap (λ (n : ℕ). drop n ps) to_is ∙ sym (drop-drop 1 value ps) ∙ ap (drop 1) (read ∙ opened segs one_comma end [] after);
+  read = ap (λ (n : ℕ). drop n ps) to_is ∙ sym (drop-drop 1 value ps) ∙ ap (drop 1) (read ∙ opened ListKind segs one_comma end [] after);
 }
 only_there (group _ segs one_comma end ∷ []) after ps value to read to_is is = absurd (false≢true is)
 only_there (x ∷ y ∷ xs) after ps value to read to_is is = absurd (false≢true is)
@@ -68,7 +68,7 @@ alone_there (group ListKind segs one_comma end ∷ []) after ps value to read to
       list = rest_of segs one_comma end [];
       are = same;
       begins = to_is;
-      read = ap (λ (n : ℕ). drop n ps) to_is ∙ sym (drop-drop 1 value ps) ∙ ap (drop 1) (read ∙ opened segs one_comma end [] after);
+      read = ap (λ (n : ℕ). drop n ps) to_is ∙ sym (drop-drop 1 value ps) ∙ ap (drop 1) (read ∙ opened ListKind segs one_comma end [] after);
       lists = refl;
       ends = refl;
       edit = λ f. refl;

@@ -1,12 +1,14 @@
 -- The parts of a rule: before its arguments, of these, and after them.
-use Rattle.std.proofs.Common.{◌≡◌, ℕ, ◌+◌, List, [], ◌∷◌, ◌++◌, Bool, true, false, if◌then◌else◌, Some, None, length, map, option_map, refl, ap, sym, ◌∙◌, append_assoc, append-nil}
+use Rattle.std.proofs.Common.{◌≡◌, ℕ, ◌+◌, List, [], ◌∷◌, ◌++◌, Bool, true, false, if◌then◌else◌, Some, None, length, map, option_map, refl, ap, sym, ◌∙◌, arith, append_assoc, append-nil}
 use Rattle.std.proofs.lemmas.Bool.{false≢true, and_parts}
 use Rattle.bz_token.specs.declared.token.Kind.TheVariants.{Identifier}
+use Rattle.bz_tree.specs.declared.stmt.GroupKind.{GroupKind}
 use Rattle.bz_tree.specs.declared.stmt.GroupKind.TheVariants.{RuleCall}
 use Rattle.bz_tree.specs.Tree.{Item, leaf, group, Statement, items_of, segs_of, segments}
 use Rattle.bz_tree.specs.Rows.{RowPart, a_token, opening, closing, above, beside_part, item_parts, items_parts, segs_parts, parts_of}
 use Rattle.bz_attribute.specs.Rules.{Rule, rule_of, rule_from, call_at, dotted}
 use Rattle.bz_attribute.specs.Effects.{nodes_of}
+use Rattle.bz_attribute.specs.private.Ends.{tokens_len}
 use Rattle.bz_attribute.proofs.RuleNodes.{rule_nodes}
 use Rattle.bz_attribute.specs.Finder.{find_from}
 use Rattle.bz_attribute.proofs.Passed.{IsPassed, join, first, nothing, pass_above, alone}
@@ -52,13 +54,28 @@ rule_dotted kind [] r h = absurd cc
 rule_dotted kind (x ∷ []) r h = call_dotted kind x r h
 rule_dotted kind (x ∷ y ∷ xs) r h = rule_dotted (kind ++ x ∷ []) (y ∷ xs) r h
 
-kind_passed : (name : List ℕ) (b : Bool) (kind : List Item) (rest : List RowPart) → dotted b kind ≡ true → IsPassed name 0 false (items_parts (items_of kind)) 0 false rest
-kind_passed name b [] rest h = nothing _
-kind_passed name true (leaf Identifier text ∷ xs) rest h = first name 0 0 false (a_token Identifier text) (items_parts (items_of xs)) rest (kind_passed name false xs rest h)
-kind_passed name true (leaf _ text ∷ xs) rest h = absurd (false≢true h)
-kind_passed name true (group k segs one_comma end ∷ xs) rest h = absurd (false≢true h)
-kind_passed name false (leaf k text ∷ xs) rest h = first name 0 0 false (a_token k text) (items_parts (items_of xs)) rest (kind_passed name true xs rest (and_parts _ (dotted true xs) h).1)
-kind_passed name false (group k segs one_comma end ∷ xs) rest h = absurd (false≢true h)
+abbrev pub AreTokens : List Item → Type 0
+AreTokens [] = Unit {0}
+AreTokens (leaf kind text ∷ xs) = AreTokens xs
+AreTokens (group k segs one_comma end ∷ xs) = ⊥
+
+pub tokens : (b : Bool) (kind : List Item) → dotted b kind ≡ true → AreTokens kind
+tokens b [] h = tt
+tokens true (leaf Identifier text ∷ xs) h = tokens false xs h
+tokens true (leaf _ text ∷ xs) h = absurd (false≢true h)
+tokens true (group k segs one_comma end ∷ xs) h = absurd (false≢true h)
+tokens false (leaf kind text ∷ xs) h = tokens true xs (and_parts _ (dotted true xs) h).1
+tokens false (group k segs one_comma end ∷ xs) h = absurd (false≢true h)
+
+pub tokens_long : (kind : List Item) (k : GroupKind) (rest : List RowPart) → AreTokens kind → tokens_len (items_parts (items_of kind) ++ opening k ∷ rest) ≡ length (items_parts (items_of kind))
+tokens_long [] k rest h = refl
+tokens_long (leaf kind text ∷ xs) k rest h = omega (arith, tokens_long xs k rest h)
+tokens_long (group l segs one_comma end ∷ xs) k rest h = absurd h
+
+kind_passed : (name : List ℕ) (kind : List Item) (rest : List RowPart) → AreTokens kind → IsPassed name 0 false (items_parts (items_of kind)) 0 false rest
+kind_passed name [] rest h = nothing _
+kind_passed name (leaf k text ∷ xs) rest h = first name 0 0 false (a_token k text) (items_parts (items_of xs)) rest (kind_passed name xs rest h)
+kind_passed name (group k segs one_comma end ∷ xs) rest h = absurd h
 
 call_opens : (name : List ℕ) (rest : List RowPart) → IsPassed name 0 false (opening RuleCall ∷ []) 1 true rest
 call_opens name rest = alone name 0 (opening RuleCall) rest
@@ -70,4 +87,4 @@ head_passed name s r is =
     let kind : List RowPart = items_parts (items_of r.kind) in
     ap (find_from name 0 false) (parts_cut s r (rule_nodes [] s.nodes r is))
     ∙ join name 0 0 1 false false true (map above s.before) (kind ++ opening RuleCall ∷ []) rest (pass_above name 0 s.before ((kind ++ opening RuleCall ∷ []) ++ rest))
-    (join name 0 0 1 false false true kind (opening RuleCall ∷ []) rest (kind_passed name true r.kind ((opening RuleCall ∷ []) ++ rest) (rule_dotted [] s.nodes r is)) (call_opens name rest))
+    (join name 0 0 1 false false true kind (opening RuleCall ∷ []) rest (kind_passed name r.kind ((opening RuleCall ∷ []) ++ rest) (tokens true r.kind (rule_dotted [] s.nodes r is))) (call_opens name rest))

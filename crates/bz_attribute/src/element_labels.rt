@@ -54,6 +54,7 @@ pub fn labels_of<'s>(
     }
 }
 
+#[tactic(auto, using(crate::proofs::LabelsFound::none_labelled))]
 fn labels_from<'s>(
     alloc: Global,
     home: &'s Package,

@@ -1,7 +1,7 @@
 //! The list parts of a value and the elements of each, walked over among the parts of a rule: no tree and no memory.
 //! The commands on lists call these (bz_list_commands), and `set` and `comment` (bz_attribute_commands).
 
-ghost use Rattle.std.specs.Prelude.{◌≡◌, ◌≤◌, ◌<◌, ◌+◌, List, [], ◌∷◌, ◌&&◌, ◌||◌, true, false, drop, map, length, option_map, IfNone, IfSome, codes};
+ghost use Rattle.std.specs.Prelude.{◌≡◌, ◌≤◌, ◌<◌, ◌+◌, List, [], ◌&&◌, ◌||◌, true, false, drop, map, length, option_map, IfNone, IfSome};
 ghost use Rattle.std.specs.List.{list_all};
 ghost use Rattle.bz_tree.specs.Tree.{Item, Statement};
 ghost use Rattle.bz_tree.specs.Rows.{RowPart, part_view};
@@ -12,7 +12,7 @@ ghost use Rattle.bz_attribute.specs.RowPlaces.{IsRuleRow};
 ghost use Rattle.bz_attribute.specs.private.ListParts as spec;
 ghost use Rattle.bz_attribute.specs.Lists as lists;
 
-use crate::finder::{depth_after, find_argument};
+use crate::finder::find_argument;
 use crate::head_parts::{is_end, text_of};
 use crate::place::{comments_len, segment_len};
 use crate::value::is_one_list;
@@ -33,6 +33,7 @@ pub struct Element<'a> {
 }
 
 /// Where the value of the first argument of a name begins.
+#[tactic(auto, using(crate::proofs::ListElements::value_there, crate::proofs::PlaceFound::has_none))]
 pub fn value_place(parts: &[Part<'_>], name: &str) -> Option<usize>
     ensures some { IfSome result (λ at. (s : Statement) (r : Rule) → IsRuleRow s r (map part_view parts.now)
         → IsValueAt name.now s r (map part_view parts.now) at) }
@@ -47,32 +48,25 @@ pub fn value_place(parts: &[Part<'_>], name: &str) -> Option<usize>
     }
 }
 
-// How many parts there are up to the bracket that closes around them, with it.
-fn close_len(parts: &[Part<'_>]) -> usize
-    ensures len { result ≡ spec.close_len 0 (map part_view parts.now) }
-    ensures within { result ≤ length parts.now }
+fn opens(part: &Part<'_>) -> bool
+    ensures { result ≡ spec.is_open (part_view part.now) }
 {
-    let mut depth: usize = 1;
-    for i in 0..parts.len() {
-        depth = depth_after(&parts[i], depth);
-        if depth == 0 {
-            return i + 1;
-        }
-    }
-    parts.len()
+    matches!(part, Part::Open(_))
 }
 
-// How many parts the item has that they begin with: a token, or brackets with what stands in them.
-pub(crate) fn item_len(parts: &[Part<'_>]) -> usize
-    ensures len { result ≡ spec.item_len (map part_view parts.now) }
-    ensures within { result ≤ length parts.now }
-    ensures some { 0 < length parts.now → 0 < result }
+// Where the item ends that begins at a place: a token, or brackets with what stands in them.
+#[tactic(auto, using(crate::proofs::ItemParts::token_ended, crate::proofs::ItemParts::group_ended, crate::proofs::Slices::rest_seen))]
+pub(crate) fn item_end(parts: &[Part<'_>], at: usize) -> usize
+    requires { at < length parts.now }
+    ensures end { spec.ItemEnds (map part_view parts.now) at result }
+    ensures within { (at < result) × (result ≤ length parts.now) }
 {
-    match parts {
-        [] => 0,
-        [Part::Open(_), inside @ ..] => 1 + close_len(inside),
-        _ => 1,
+    if !opens(&parts[at]) {
+        return at + 1;
     }
+    let end = elements_end(parts, at + 1);
+    let close = end + comments_len(&parts[end..]);
+    parts.len().min(close + 1)
 }
 
 // An item that begins with this part may stand in a value that has list parts.
@@ -112,6 +106,7 @@ fn ends_piece(parts: &[Part<'_>]) -> bool
 }
 
 // All that stands in a value at depth 0 may stand in one that has list parts.
+#[tactic(auto, using(crate::proofs::ListWalk::all_joints, crate::proofs::ListWalk::joints_pass, crate::proofs::ListWalk::no_joint))]
 fn are_joints(parts: &[Part<'_>], from: usize) -> bool
     requires { from ≤ length parts.now }
     ensures { (nodes : List Item) (after : List RowPart)
@@ -122,7 +117,7 @@ fn are_joints(parts: &[Part<'_>], from: usize) -> bool
         if !is_joint(&parts[at]) {
             return false;
         }
-        at += item_len(&parts[at..]);
+        at = item_end(parts, at);
     }
     true
 }
@@ -143,7 +138,7 @@ fn list_from(parts: &[Part<'_>], from: usize, whole: bool) -> Option<usize>
     let mut at = from;
     let mut starts = whole;
     while at < parts.len() && !is_end(&parts[at]) {
-        let end = at + item_len(&parts[at..]);
+        let end = item_end(parts, at);
         if starts && opens_list(&parts[at]) && ends_piece(&parts[end..]) {
             return Some(at + 1);
         }
@@ -154,6 +149,7 @@ fn list_from(parts: &[Part<'_>], from: usize, whole: bool) -> Option<usize>
 }
 
 /// Where the elements of the first list part of a value begin.
+#[tactic(auto, using(crate::proofs::OnlyLists::alone_there, crate::proofs::Slices::rest_seen))]
 pub fn first_list(parts: &[Part<'_>], value: usize) -> Option<usize>
     requires { value ≤ length parts.now }
     ensures some { IfSome result (λ to. (nodes : List Item) (after : List RowPart)
@@ -210,6 +206,7 @@ fn string_in<'a>(parts: &[Part<'a>]) -> Option<&'a str>
 }
 
 /// The element that begins at a place in a list part. None: its elements end there.
+#[tactic(auto, using(crate::proofs::ListElements::none_left, crate::proofs::ListElements::element_there, crate::proofs::Slices::rest_seen))]
 pub fn next_element<'a>(parts: &[Part<'a>], at: usize) -> Option<Element<'a>>
     requires { at ≤ length parts.now }
     ensures some { IfSome result (λ e. (rest : ListRest) (after : List RowPart)
@@ -266,6 +263,7 @@ fn next_end(parts: &[Part<'_>], at: usize) -> Option<usize>
 }
 
 /// Where the elements of a list part end, which begin at a place.
+#[tactic(auto, using(crate::proofs::ValueElements::none_passed))]
 pub fn elements_end(parts: &[Part<'_>], from: usize) -> usize
     requires { from ≤ length parts.now }
     ensures elements { (rest : ListRest) (after : List RowPart)
@@ -281,6 +279,7 @@ pub fn elements_end(parts: &[Part<'_>], from: usize) -> usize
 }
 
 /// The next element of a value, from a place in a list part of it on. None: no element is left in any.
+#[tactic(auto, using(crate::proofs::ValueElements::next_here))]
 pub fn next_of_value<'a>(parts: &[Part<'a>], at: usize) -> Option<Element<'a>>
     requires { at ≤ length parts.now }
     ensures some { IfSome result (λ e. (rest : ListRest) (after : List RowPart)

@@ -1,14 +1,12 @@
 //! Which elements equal a word.
 
-ghost use Rattle.std.specs.Prelude.{◌≡◌, IsTrue, IfSome, IfNone, None, Some, false, true};
+ghost use Rattle.std.specs.Prelude.{◌≡◌, IsTrue, IfSome, IfNone, None, Some, false};
 ghost use Rattle.bz_tree.specs.View.{seg_view};
 ghost use Rattle.bz_attribute.specs.Rules.{string_value};
 ghost use Rattle.bz_attribute.specs.Lists as spec;
 ghost use Rattle.bz_command.specs.Values as values;
 ghost use Rattle.bz_command.specs.private.ByteSteps.{left, is_good};
 ghost use Rattle.bz_token.specs.Common.{map_or};
-ghost use Rattle.std.specs.Str.{bytes_eq};
-ghost use Rattle.bz_command.specs.Labels as labels;
 
 use crate::apart::literal_apart;
 use crate::rule::only_text;
@@ -33,15 +31,7 @@ pub fn text_equals(home: &Package, text: &str, word: &str) -> bool
         return false;
     }
     match value_of(text) {
-        Some(Bytes::Plain(value)) if are_local(value, word.as_bytes()) => value == word.as_bytes(),
         Some(value) => same_label(home, value, Bytes::Plain(word.as_bytes())),
         None => false,
     }
-}
-
-// Both are targets of the package itself: no label in full is made.
-fn are_local(value: &[u8], word: &[u8]) -> bool
-    ensures { result ≡ true → (home : labels.Package) → spec.same home value.now word.now ≡ bytes_eq value.now word.now }
-{
-    value.starts_with(b":") && word.starts_with(b":")
 }

@@ -26,7 +26,7 @@ fn begins_with(parts: &[Part<'_>], name: &str) -> bool
 
 // How many brackets are open after a part.
 #[inline(always)]
-pub(crate) fn depth_after(part: &Part<'_>, depth: usize) -> usize
+fn depth_after(part: &Part<'_>, depth: usize) -> usize
     requires { depth + 1 < 2 ^ 64 }
     ensures { result ≡ spec.depth_after (part_view part.now) depth }
 {

@@ -33,6 +33,7 @@ pub struct Head<'a> {
 impl<'a> Head<'a> {
     /// The head of the rule that a row is of; none of what is no rule. A kind of one identifier and a name without
     /// escapes are slices of the row. `Err`: memory was refused.
+    #[tactic(auto, using(crate::proofs::Headed::other_class))]
     pub fn of_row(
         alloc: Global,
         bump: &'a Bump,
@@ -48,6 +49,7 @@ impl<'a> Head<'a> {
     }
 
     /// The head of the rule of these parts, on these lines. `Err`: memory was refused.
+    #[tactic(auto, using(crate::proofs::Headed::no_head))]
     pub fn of_parts(
         alloc: Global,
         bump: &'a Bump,

@@ -12,6 +12,7 @@ ghost use Rattle.bz_command.specs.Values.{value_of};
 
 use crate::finder::find_argument;
 use crate::place::comments_len;
+use crate::row_kind::tokens_len;
 use bumpalo::Bump;
 use bz_command::{plain_text, read_value};
 use bz_memory::{NoMemory, alloc_str, push_str};
@@ -20,6 +21,7 @@ use bz_tree::{GroupKind, Part};
 use std::alloc::Global;
 
 /// The parts after the comments above them.
+#[tactic(auto, using(crate::proofs::Slices::rest_seen))]
 pub(crate) fn after_comments<'p, 'a>(parts: &'p [Part<'a>]) -> &'p [Part<'a>]
     ensures { map part_view result.now ≡ spec.after_comments (map part_view parts.now) }
 {
@@ -27,14 +29,11 @@ pub(crate) fn after_comments<'p, 'a>(parts: &'p [Part<'a>]) -> &'p [Part<'a>]
 }
 
 // The parts after the tokens with which they begin.
+#[tactic(auto, using(crate::proofs::Slices::rest_seen))]
 fn after_tokens<'p, 'a>(parts: &'p [Part<'a>]) -> &'p [Part<'a>]
     ensures { map part_view result.now ≡ spec.after_tokens (map part_view parts.now) }
 {
-    let mut rest = parts;
-    while let [Part::Token(_, _), after @ ..] = rest {
-        rest = after;
-    }
-    rest
+    &parts[tokens_len(parts)..]
 }
 
 /// The parts within the call of a rule, which opens after the tokens with which these begin.
@@ -76,6 +75,7 @@ fn joined_tokens<'a>(alloc: Global, bump: &'a Bump, parts: &[Part<'a>]) -> Resul
 
 /// The string that the first argument `name` of a rule is, where it is one. Most often that is the first argument of
 /// all.
+#[tactic(auto, using(crate::proofs::NameTexts::name_first, crate::proofs::NameTexts::name_later, crate::proofs::NameTexts::name_absent, crate::proofs::Slices::rest_seen))]
 pub(crate) fn name_text<'a>(parts: &[Part<'a>], args: &[Part<'a>]) -> Option<&'a str>
     ensures { (s : Statement) (r : Rule) → IsRuleRow s r (map part_view parts.now)
         → IsInCall s r (map part_view args.now)

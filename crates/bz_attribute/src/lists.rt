@@ -14,6 +14,7 @@ pub fn is_list(node: &Node<'_>) -> bool
 }
 
 /// The elements of a list; of what is no group, none.
+#[tactic(auto, using(crate::proofs::Views::elements_group))]
 pub fn elements_at<'n, 'a>(node: &'n Node<'a>) -> &'n [Seg<'a>]
     ensures { segs_view result.now ≡ elements (node_view node.now) }
 {

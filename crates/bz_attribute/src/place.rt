@@ -78,6 +78,7 @@ pub(crate) fn segment_len(parts: &[Part<'_>]) -> usize
 }
 
 #[inline(never)]
+#[tactic(auto, using(crate::proofs::Slices::rest_seen))]
 fn long_segment_len(parts: &[Part<'_>]) -> usize
     ensures len { result ≡ spec.segment_len (map part_view parts.now) }
     ensures within { result ≤ length parts.now }
@@ -93,6 +94,7 @@ fn is_above(part: Part<'_>) -> bool
 }
 
 // How many parts stand before the comments with which they end.
+#[tactic(auto, using(crate::proofs::EndsBack::last_plain_at, crate::proofs::EndsBack::all_comments))]
 pub(crate) fn comments_begin(parts: &[Part<'_>]) -> usize
     ensures begin { result ≡ spec.plain_len (map part_view parts.now) }
     ensures within { result ≤ length parts.now }
@@ -124,6 +126,7 @@ fn besides(parts: &[Part<'_>]) -> usize
 }
 
 // How many parts of a rule there are up to the end of its last argument, with the comment beside that.
+#[tactic(auto, using(crate::proofs::EndsBack::no_stop))]
 fn arguments_end(parts: &[Part<'_>]) -> usize
     ensures end { result ≡ spec.arguments_end (map part_view parts.now) }
     ensures within { result ≤ length parts.now }
@@ -178,6 +181,7 @@ fn arguments_begin(parts: &[Part<'_>]) -> usize
 }
 
 /// Where all arguments of a rule stand among its parts.
+#[tactic(auto, using(crate::proofs::PlaceFound::all_ordered))]
 pub fn all_arguments(parts: &[Part<'_>]) -> Place
     ensures within { (result.from ≤ result.to) × (result.to ≤ length parts.now) }
     ensures place { (s : Statement) (r : Rule) → IsRuleRow s r (map part_view parts.now)

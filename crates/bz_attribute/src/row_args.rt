@@ -14,6 +14,7 @@ use std::alloc::Global;
 use std::borrow::CowStr;
 
 // The segments of a node; of a token, none.
+#[tactic(auto, using(crate::proofs::Views::elements_group))]
 fn segments_of<'a>(alloc: Global, node: Node<'a>) -> Vec<Seg<'a>>
     ensures { segs_view result.items ≡ elements (node_view node.entry) }
 {
@@ -36,6 +37,7 @@ fn in_list<'a>(alloc: Global, parts: &[Part<'a>]) -> Result<Vec<Part<'a>>, NoMem
 }
 
 /// The arguments whose parts these are. `Err`: memory was refused.
+#[tactic(auto, using(crate::proofs::RowArgs::last_node, crate::proofs::RowArgs::list_of_args, crate::proofs::RowArgs::listed, crate::proofs::RowArgs::no_node, crate::proofs::RowArgs::none_read, crate::proofs::Views::segments_of))]
 pub fn read_arguments<'a>(alloc: Global, parts: &[Part<'a>]) -> Result<Vec<Seg<'a>>, NoMemory>
     ensures { IfOk result (λ args. (ss : List Segment) → map part_view parts.now ≡ segs_parts (segs_of ss)
         → segs_view args.items ≡ ss) }

@@ -1,7 +1,6 @@
 //! Where the kind of a rule stands among its parts.
 
 ghost use Rattle.std.specs.Prelude.{◌≡◌, ◌≤◌, map, length};
-ghost use Rattle.std.specs.List.{prefix_len};
 ghost use Rattle.bz_tree.specs.Tree.{Statement};
 ghost use Rattle.bz_tree.specs.Rows.{part_view};
 ghost use Rattle.bz_attribute.specs.KindPlaces.{IsKindPlace};
@@ -12,17 +11,16 @@ ghost use Rattle.bz_attribute.specs.private.Ends as spec;
 use crate::place::{Place, comments_len};
 use bz_tree::Part;
 
-fn is_token(part: Part<'_>) -> bool
-    ensures { result ≡ spec.is_token (part_view part.entry) }
-{
-    matches!(part, Part::Token(_, _))
-}
-
 // How many tokens they begin with.
-fn tokens_len(parts: &[Part<'_>]) -> usize
-    ensures { result ≡ prefix_len (λ part. spec.is_token (part_view part)) parts.now }
+pub(crate) fn tokens_len(parts: &[Part<'_>]) -> usize
+    ensures len { result ≡ spec.tokens_len (map part_view parts.now) }
+    ensures within { result ≤ length parts.now }
 {
-    parts.iter().take_while(|part| is_token(**part)).count()
+    let mut rest = parts;
+    while let [Part::Token(_, _), after @ ..] = rest {
+        rest = after;
+    }
+    parts.len() - rest.len()
 }
 
 /// Where the tokens of the kind stand among the parts of a rule: after the comments above it.

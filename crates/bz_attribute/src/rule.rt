@@ -8,6 +8,7 @@ use bz_token::Kind;
 use bz_tree::{GroupKind, Node, Seg};
 
 /// Whether nodes are those of a rule.
+#[tactic(auto, using(crate::proofs::Calls::group_call, crate::proofs::Calls::rule_with_call, crate::proofs::Calls::rule_without_call, crate::proofs::Views::view_of_group))]
 pub fn is_rule(nodes: &[Node<'_>]) -> bool
     ensures { result ≡ is_some (spec.rule_of (nodes_view nodes.now)) }
 {

@@ -7,11 +7,12 @@ ghost use Rattle.bz_attribute.specs.Elements.{OnlyList, value_parts};
 ghost use Rattle.bz_attribute.specs.Lists as lists;
 ghost use Rattle.bz_attribute.specs.private.ListParts as spec;
 
-use crate::elements::item_len;
+use crate::elements::item_end;
 use crate::place::nodes_len;
 use bz_tree::{GroupKind, Part};
 
 /// Where a value ends.
+#[tactic(auto, using(crate::proofs::OnlyLists::value_ended, crate::proofs::Slices::rest_seen))]
 pub fn value_end(parts: &[Part<'_>], value: usize) -> usize
     requires { value ≤ length parts.now }
     ensures end { (nodes : List Item) (after : List RowPart)
@@ -40,10 +41,11 @@ pub(crate) fn is_one_list(parts: &[Part<'_>]) -> bool
         → result ≡ lists.is_only lists.is_list nodes }
     ensures some { result ≡ true → 0 < length parts.now }
 {
-    begins_list(parts) && ends_value(&parts[item_len(parts)..])
+    begins_list(parts) && ends_value(&parts[item_end(parts, 0)..])
 }
 
 /// Where the elements of a value begin, where it is one list.
+#[tactic(auto, using(crate::proofs::OnlyLists::only_there, crate::proofs::Slices::rest_seen))]
 pub fn only_list(parts: &[Part<'_>], value: usize) -> Option<usize>
     requires { value ≤ length parts.now }
     ensures list { (nodes : List Item) (after : List RowPart)

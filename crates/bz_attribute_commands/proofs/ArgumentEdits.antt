@@ -1,5 +1,5 @@
 -- The first argument of a name among the parts of its rule, also with one comment line more.
-use Rattle.std.proofs.Common.{◌≡◌, ℕ, ◌+◌, List, [], ◌∷◌, ◌++◌, Bool, true, false, ◌||◌, if◌then◌else◌, Option, Some, None, length, map, take, drop, option_map, refl, ap, sym, ◌∙◌, arith, append_assoc, length-append, Result, Ok, Err, IfOk}
+use Rattle.std.proofs.Common.{◌≡◌, ℕ, ◌+◌, List, [], ◌∷◌, ◌++◌, Bool, true, false, ◌||◌, if◌then◌else◌, Option, Some, None, length, map, take, drop, option_map, refl, ap, sym, ◌∙◌, arith, append_assoc, length-append}
 use Rattle.std.specs.Prelude.{drop}
 use Rattle.std.specs.List.{list_any}
 use Rattle.std.proofs.lemmas.List.{map-append}
@@ -115,8 +115,3 @@ absent_note name args h = rw h refl
 
 pub there_note : (name : List ℕ) (args : List Segment) → has name args ≡ true → is_absent name args ≡ None
 there_note name args h = rw h refl
-
--- what a result promises, in other words
-pub in_other_words : {T E : Type 0} (r : Result T E) (P Q : T → Type 0) → ((t : T) → P t → Q t) → IfOk r P → IfOk r Q
-in_other_words (Ok t) P Q f h = f t h
-in_other_words (Err e) P Q f h = tt

@@ -1,4 +1,3 @@
-pub mod ArgumentLines
 pub mod ArgumentEdits
 pub mod CommentEdits
 pub mod KindWritten

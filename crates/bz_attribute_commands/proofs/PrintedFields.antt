@@ -17,7 +17,6 @@ use Rattle.bz_attribute_commands.specs.Print.{field_name, fields_of, line_of, pr
 use Rattle.bz_attribute_commands.specs.private.PrintSteps.{HasPrinted, HasPrintedArgument, IsRuleOf}
 use Rattle.bz_attribute.specs.Effects.{done}
 use Rattle.bz_token.specs.Common.{map_or}
-use Rattle.std.specs.Option.{option_or}
 
 same_rule : (o : Option Rule) (x y : Rule) → o ≡ Some x → o ≡ Some y → x ≡ y
 same_rule o x y one other = let both : Some x ≡ Some y = sym one ∙ other in cc
@@ -67,10 +66,6 @@ no_fields (field ∷ fields) h = absurd (omega (arith, h))
 pub some_fields : (fields : List Field) → 1 ≤ length fields → fields ≡ fields_of fields
 some_fields [] h = absurd (omega (arith, h))
 some_fields (field ∷ fields) h = refl
-
-pub no_more : (told : Option Note) → told ≡ option_or told None
-no_more None = refl
-no_more (Some note) = refl
 
 abbrev done_with : List ℕ → Option Note → Done
 done_with line note = record { changed = false; line = Some line; note = note }

@@ -1,14 +1,10 @@
 -- Whether a value is the new one already, by its parts.
-use Rattle.std.proofs.Common.{◌≡◌, ℕ, ◌+◌, ◌<◌, ◌≤◌, List, [], ◌∷◌, Bool, true, false, ◌&&◌, Option, Some, None, length, get_or, drop, refl, ap, sym, ◌∙◌, option_and_then}
-use Rattle.std.specs.Prelude.{IfNone, IfSome, is_some, not, option_map}
-use Rattle.std.proofs.lemmas.Bool.{false≢true}
-use Rattle.std.proofs.lemmas.List.{drop_all, drop_more}
+use Rattle.std.proofs.Common.{◌≡◌, ℕ, ◌+◌, ◌<◌, List, [], ◌∷◌, Bool, true, ◌&&◌, Option, length, get_or, drop, refl, ap, sym, ◌∙◌, option_and_then}
+use Rattle.std.proofs.lemmas.List.{drop_more}
 use Rattle.bz_token.specs.declared.token.Kind.TheVariants.{Identifier, Integer, String}
 use Rattle.bz_tree.specs.Tree.{Item, Segment, leaf, group}
 use Rattle.bz_tree.specs.Rows.{RowPart}
-use Rattle.bz_attribute.specs.declared.elements.Element.{Element}
 use Rattle.bz_attribute.specs.Elements.{IsElementOf, IsOnlyList, ListRest, rest_parts, value_parts}
-use Rattle.bz_attribute.specs.Lists.{is_list, is_only}
 use Rattle.bz_attribute.specs.Rules.{elements, is_text, string_value}
 use Rattle.bz_attribute.specs.Set as spec
 use Rattle.bz_attribute.proofs.Views.{segments_of}
@@ -46,20 +42,10 @@ ident_told name (leaf _ text ∷ y ∷ xs) after = refl
 ident_told name (group k segs one_comma end ∷ []) after = refl
 ident_told name (group k segs one_comma end ∷ y ∷ xs) after = refl
 
--- a list of strings
-pub no_list : (words : List (List ℕ)) (nodes : List Item) → is_only is_list nodes ≡ false → false ≡ spec.is_value (spec.NewStrings words) nodes
-no_list words [] h = refl
-no_list words (x ∷ []) h = ap (λ (b : Bool). b && spec.are_strings words (elements x)) (sym h)
-no_list words (x ∷ y ∷ xs) h = refl
-
 pub in_list : (words : List (List ℕ)) (nodes : List Item) (after ps : List RowPart) (to : ℕ) (b : Bool) → IsOnlyList nodes after ps to
     → ((l : ListRest) (after : List RowPart) → drop to ps ≡ rest_parts l after → b ≡ spec.are_strings words l.elements) → b ≡ spec.is_value (spec.NewStrings words) nodes
 in_list words nodes after ps to b only told =
     told only.list after only.read ∙ ap (spec.are_strings words) (sym (segments_of only.list.elements)) ∙ sym (ap (spec.is_value (spec.NewStrings words)) only.are)
-
--- one by one
-pub match_begins : (words : List (List ℕ)) (ps : List RowPart) (from : ℕ) → HasMatched words 0 ps from from
-match_begins words ps from = λ l after read. record { left = l; read = read; same = refl }
 
 abbrev HasElement : List RowPart → ℕ → ℕ → ℕ → Option (List ℕ) → Type 0
 HasElement ps at token to string = (rest : ListRest) (after : List RowPart) → drop at ps ≡ rest_parts rest after → IsElementOf rest after ps at token to string
@@ -77,30 +63,3 @@ match_more words word d i ps from at token to string matched next h at_word is =
     let m = matched l after read in
     let e = next m.left after m.read in
     record { left = record m.left { elements = e.others }; read = e.read; same = m.same ∙ next_match words word d i e.element e.others m.left.elements string true h at_word e.are (ap (option_and_then value_of) (sym e.text)) is }
-
-pub match_fails : (words : List (List ℕ)) (word d : List ℕ) (i : ℕ) (ps : List RowPart) (from at token to : ℕ) (string : Option (List ℕ)) → HasMatched words i ps from at → HasElement ps at token to string → i < length words → word ≡ get_or words i d
-    → false ≡ is_text word (option_and_then value_of string) → (l : ListRest) (after : List RowPart) → drop from ps ≡ rest_parts l after → false ≡ spec.are_strings words l.elements
-match_fails words word d i ps from at token to string matched next h at_word is l after read =
-    let m = matched l after read in
-    let e = next m.left after m.read in
-    sym (m.same ∙ next_match words word d i e.element e.others m.left.elements string false h at_word e.are (ap (option_and_then value_of) (sym e.text)) is)
-
--- no element is left
-pub too_few : (words : List (List ℕ)) (word d : List ℕ) (i : ℕ) (ps : List RowPart) (from at : ℕ) → HasMatched words i ps from at → ((l : ListRest) (after : List RowPart) → drop at ps ≡ rest_parts l after → l.elements ≡ []) → i < length words
-    → word ≡ get_or words i d → (l : ListRest) (after : List RowPart) → drop from ps ≡ rest_parts l after → false ≡ spec.are_strings words l.elements
-too_few words word d i ps from at matched none h at_word l after read =
-    let m = matched l after read in
-    sym (m.same ∙ (λ j. spec.are_strings (drop_more words i d h j) (none m.left after m.read j)))
-
--- no word is left
-pub words_end : (words : List (List ℕ)) (i : ℕ) (ps : List RowPart) (from at : ℕ) (next : Option Element) (b : Bool) → HasMatched words i ps from at → length words ≤ i
-    → IfSome next (λ e. HasElement ps at e.token e.to (option_map (λ text. text.now) e.string)) → IfNone next ((m : ListRest) (after : List RowPart) → drop at ps ≡ rest_parts m after → m.elements ≡ []) → is_some next ≡ not b
-    → (l : ListRest) (after : List RowPart) → drop from ps ≡ rest_parts l after → b ≡ spec.are_strings words l.elements
-words_end words i ps from at None false matched h some none is l after read = absurd (false≢true is)
-words_end words i ps from at None true matched h some none is l after read =
-    let m = matched l after read in
-    sym (m.same ∙ (λ j. spec.are_strings (drop_all i words h j) (none m.left after m.read j)))
-words_end words i ps from at (Some e) false matched h some none is l after read =
-    let m = matched l after read in
-    sym (m.same ∙ (λ j. spec.are_strings (drop_all i words h j) ((some m.left after m.read).are j)))
-words_end words i ps from at (Some e) true matched h some none is l after read = absurd (false≢true (sym is))

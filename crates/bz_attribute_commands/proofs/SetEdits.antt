@@ -1,20 +1,18 @@
 -- What `set` makes of a rule: another value of its first argument of a name, or a new argument.
-use Rattle.std.proofs.Common.{◌≡◌, ℕ, List, [], ◌∷◌, ◌++◌, Bool, false, not, if◌then◌else◌, Option, Some, None, is_some, take, drop, refl, ap, sym, ◌∙◌}
+use Rattle.std.proofs.Common.{◌≡◌, ℕ, List, [], ◌∷◌, ◌++◌, Bool, true, false, not, if◌then◌else◌, Option, Some, None, is_some, take, drop, refl, ap, sym, ◌∙◌}
 use Rattle.std.specs.Prelude.{option_to_list}
 use Rattle.bz_tree.specs.Tree.{Item, Segment, Statement, items_of, segs_of}
 use Rattle.bz_tree.specs.Rows.{RowPart, items_parts, parts_of, segment_end, segs_parts}
 use Rattle.bz_attribute.specs.Effects.{argument, done, edit_first, has, with_args}
 use Rattle.bz_attribute.specs.Elements.{IsValueAt, OnlyList}
 use Rattle.bz_attribute.specs.Lists.{with_value, is_list, is_only}
-use Rattle.bz_attribute.specs.RowEdits.{IsRowEdit, replaced_at}
+use Rattle.bz_attribute.specs.RowEdits.{replaced_at}
 use Rattle.bz_attribute.specs.RowPlaces.{IsLocal, IsPlaceOf, IsRuleRow, alone}
-use Rattle.bz_attribute.specs.Rules.{Rule, first_named, is_named, value}
+use Rattle.bz_attribute.specs.Rules.{Rule, first_named, is_named, rule_of, value}
 use Rattle.bz_attribute.specs.Set.{New, is_value, new_of, new_value, set, set_if_absent, set_in, sets}
-use Rattle.bz_attribute.specs.declared.edit.Edit.{Edit}
 use Rattle.bz_attribute.specs.declared.place.Place.{Place}
 use Rattle.bz_attribute.proofs.EditedAt.{none_first, with_args_at}
 use Rattle.bz_attribute.proofs.Locals.{edits_one, is_there, kept_first}
-use Rattle.bz_attribute_commands.specs.private.SetViews.{IsAdded}
 use Rattle.bz_token.specs.Common.{map_or}
 
 -- a new argument
@@ -38,21 +36,13 @@ set_absent attr words args none =
     ∙ sym (ap (λ (b : Bool). if b then edit_first (is_named attr) (λ a. set_in (new_of attr words (first_named attr args)) a ∷ []) args else more (first_named attr args)) none
     ∙ ap more (none_first attr args none))
 
-pub set_added : (attr : List ℕ) (words : List (List ℕ)) (ps new : List RowPart) (e : Edit) → ((s : Statement) (r : Rule) → IsRuleRow s r ps → has attr r.args ≡ false) → IsAdded attr words ps new e
-    → IsRowEdit (set attr words) (λ args. done None (sets attr words (first_named attr args))) ps new e
-set_added attr words ps new e none a = record {
-  within = a.within;
-  parts = λ s r h changed. a.parts s r h (none s r h) ∙ ap parts_of (with_args_at (set_if_absent attr words) (set attr words) s r h.rule (set_absent attr words r.args (none s r h)));
-  done = λ s r h. a.done ∙ sym (ap (λ (o : Option Segment). done None (sets attr words o)) (none_first attr r.args (none s r h)));
-}
+pub set_added : (attr : List ℕ) (words : List (List ℕ)) (s : Statement) (r : Rule) (ps new : List RowPart) (place : Place) → rule_of s.nodes ≡ Some r → has attr r.args ≡ false → IsPlaceOf attr s r ps place.from place.to
+    → new ≡ segs_parts (segs_of (argument attr (new_value (new_of attr words None)) ∷ [])) → replaced_at place new ps ≡ parts_of (with_args (set attr words) s)
+set_added attr words s r ps new place rule none at written =
+    argument_added attr words s r ps new place none at written ∙ ap parts_of (with_args_at (set_if_absent attr words) (set attr words) s r rule (set_absent attr words r.args none))
 
-pub absent_added : (attr : List ℕ) (words : List (List ℕ)) (ps new : List RowPart) (e : Edit) → ((s : Statement) (r : Rule) → IsRuleRow s r ps → has attr r.args ≡ false) → IsAdded attr words ps new e
-    → IsRowEdit (set_if_absent attr words) (λ args. done None (not (has attr args))) ps new e
-absent_added attr words ps new e none a = record {
-  within = a.within;
-  parts = λ s r h changed. a.parts s r h (none s r h);
-  done = λ s r h. a.done ∙ sym (ap (λ (b : Bool). done None (not b)) (none s r h));
-}
+pub none_told : (attr : List ℕ) (words : List (List ℕ)) (args : List Segment) → has attr args ≡ false → done None true ≡ done None (sets attr words (first_named attr args))
+none_told attr words args none = sym (ap (λ (o : Option Segment). done None (sets attr words o)) (none_first attr args none))
 
 -- what was tested of the value that is there
 list_known : (nodes : List Item) (after ps : List RowPart) (o : Option ℕ) → OnlyList nodes after ps o → is_only is_list nodes ≡ is_some o

@@ -2,11 +2,10 @@
 //! (`answer.rt`) calls `print_name` for a rule that it does not read.
 
 ghost use Rattle.std.specs.Prelude.{◌≡◌, ◌++◌, ◌∷◌, [], map, option_map, is_some, IfOk, IfSome, IsTrue, OnOk, string_bytes, false, true, Some};
-ghost use Rattle.std.specs.Fmt.{decimal};
 ghost use Rattle.std.specs.List.{list_all};
 ghost use Rattle.bz_tree.specs.Tree.{Statement};
 ghost use Rattle.bz_tree.specs.Rows.{part_view};
-ghost use Rattle.bz_tree.specs.View.{nodes_view, seg_view, segs_view};
+ghost use Rattle.bz_tree.specs.View.{nodes_view, segs_view};
 ghost use Rattle.bz_command.specs.declared.arguments.Field.TheVariants.{ValueOf};
 ghost use Rattle.bz_attribute.specs.Heads.{IsHeadOf};
 ghost use Rattle.bz_attribute.specs.RowPlaces.{IsRuleRow};

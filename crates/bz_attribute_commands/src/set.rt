@@ -5,11 +5,11 @@ ghost use Rattle.bz_tree.specs.Rows.{part_view};
 ghost use Rattle.bz_attribute.specs.Effects.{done, has};
 ghost use Rattle.bz_attribute.specs.RowEdits.{IsRowEdit};
 ghost use Rattle.bz_attribute.specs.Rules.{first_named};
-ghost use Rattle.bz_attribute_commands.specs.private.SetViews.{IsAdded, new_view};
 ghost use Rattle.bz_attribute.specs.Lists as lists;
 ghost use Rattle.bz_attribute.specs.Rules as rules;
 ghost use Rattle.bz_attribute.specs.Set as spec;
 ghost use Rattle.bz_token.specs.Common.{map_or};
+ghost use Rattle.bz_attribute_commands.specs.private.SetViews.{new_view};
 
 use crate::new_argument::{push_value, write_argument};
 use crate::same_value::is_value;
@@ -47,7 +47,8 @@ pub fn set<'a>(
         (map part_view parts.now) (map part_view written.new.items)) }
 {
     let Some(value) = value_place(parts, attr) else {
-        return add_argument(alloc, attr, words, parts, written);
+        write_argument(alloc, attr, words, written)?;
+        return Ok(Edit::at(new_place(parts)));
     };
     let list = only_list(parts, value);
     let new = new_of(attr, words, list.is_some());
@@ -75,22 +76,11 @@ pub fn set_if_absent<'a>(
 {
     match find_argument(parts, attr) {
         Some(_) => Ok(Edit::none(Done::quiet(false))),
-        None => add_argument(alloc, attr, words, parts, written),
+        None => {
+            write_argument(alloc, attr, words, written)?;
+            Ok(Edit::at(new_place(parts)))
+        }
     }
-}
-
-// Adds an argument to a rule that has none of the name.
-fn add_argument<'a>(
-    alloc: Global,
-    attr: &str,
-    words: &[Text],
-    parts: &[Part<'a>],
-    written: &mut Parts<'a>,
-) -> Result<Edit, NoMemory>
-    ensures { IfOk result (IsAdded attr.now words.now (map part_view parts.now) (map part_view written.new.items)) }
-{
-    write_argument(alloc, attr, words, written)?;
-    Ok(Edit::at(new_place(parts)))
 }
 
 // What the words stand for, where the attribute is one list or not.

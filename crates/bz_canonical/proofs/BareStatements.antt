@@ -1,5 +1,5 @@
 -- A statement without its comments, by what was read of it.
-use Rattle.std.proofs.Common.{◌≡◌, ℕ, suc, List, [], ◌∷◌, ◌++◌, Bool, true, false, ◌||◌, ◌&&◌, refl, sym, ap, ◌∙◌, arith, append_assoc, append-nil, subst}
+use Rattle.std.proofs.Common.{◌≡◌, ◌<◌, ℕ, List, [], ◌∷◌, ◌++◌, Bool, true, false, ◌||◌, ◌&&◌, refl, sym, ap, ◌∙◌, arith, append_assoc, append-nil, subst}
 use Rattle.bz_attribute.proofs.Calls.{no_dots}
 use Rattle.std.specs.Prelude.{codes, if◌then◌else◌, Option, None, map, nat_le, ◌≤◌, bytes_eq}
 use Rattle.std.proofs.lemmas.Bool.{false≢true}
@@ -63,7 +63,7 @@ assign_text false = refl
 
 -- a rule of one word
 abbrev pub rule_bare : (depth : ℕ) (name : Option (List ℕ)) (text bracket rest : List ℕ) → IsTokenFront Identifier text bracket → IsRuleCallFront depth name bracket rest
-    → IsBareFront (suc depth) Rule name text rest
+    → IsBareFront depth Rule name text rest
 rule_bare depth name text bracket rest f c = record {
   nodes = leaf Identifier f.token ∷ group RuleCall c.group.segs false c.group.end ∷ [];
   some = refl;
@@ -73,7 +73,7 @@ rule_bare depth name text bracket rest f c = record {
   class_is = refl;
   other = refl;
   grammar = IsStatement.expression (IsExpr.last_test (IsTest.plain (IsChain.single (IsTerm.primary (IsPrimary.operand (IsOperand.ident refl) (AreSuffixes.suffix (IsSuffix.call refl c.group.are.grammar) AreSuffixes.no_suffix))))));
-  depth_fits = most _ _ (suc depth) (omega arith) (most _ _ (suc depth) (omega (arith, c.group.are.depth_fits)) (omega arith));
+  depth_fits = most _ _ depth (omega arith) (most _ _ depth (omega (arith, c.group.are.depth_fits, c.group.depth_is)) (omega arith));
   stays = ap (λ ss. leaf Identifier f.token ∷ group RuleCall ss false c.group.end ∷ []) c.group.are.stays;
   front = f.front ∙ ap (λ (t : List ℕ). f.token ++ t) (c.group.front Closed) ∙ by (item_pieces Broken 0 Closed (group RuleCall c.group.segs false c.group.end));
   named = c.named;
@@ -86,7 +86,7 @@ rule_bare depth name text bracket rest f c = record {
 
 -- a rule of two words with a dot between them
 pub dotted_bare : (depth : ℕ) (name : Option (List ℕ)) (text end member bracket rest : List ℕ) → IsTokenFront Identifier text end → end ≡ 46 ∷ member → IsTokenFront Identifier member bracket
-    → IsRuleCallFront depth name bracket rest → IsBareFront (suc depth) Rule name text rest
+    → IsRuleCallFront depth name bracket rest → IsBareFront depth Rule name text rest
 dotted_bare depth name text end member bracket rest f dot g c = record {
   nodes = leaf Identifier f.token ∷ leaf Operator (codes ".") ∷ leaf Identifier g.token ∷ group RuleCall c.group.segs false c.group.end ∷ [];
   some = refl;
@@ -96,7 +96,7 @@ dotted_bare depth name text end member bracket rest f dot g c = record {
   class_is = refl;
   other = refl;
   grammar = IsStatement.expression (IsExpr.last_test (IsTest.plain (IsChain.single (IsTerm.primary (IsPrimary.operand (IsOperand.ident refl) (AreSuffixes.member refl refl (AreSuffixes.suffix (IsSuffix.call refl c.group.are.grammar) AreSuffixes.no_suffix)))))));
-  depth_fits = most _ _ (suc depth) (omega arith) (most _ _ (suc depth) (omega arith) (most _ _ (suc depth) (omega arith) (most _ _ (suc depth) (omega (arith, c.group.are.depth_fits)) (omega arith))));
+  depth_fits = most _ _ depth (omega arith) (most _ _ depth (omega arith) (most _ _ depth (omega arith) (most _ _ depth (omega (arith, c.group.are.depth_fits, c.group.depth_is)) (omega arith))));
   stays = ap (λ ss. leaf Identifier f.token ∷ leaf Operator (codes ".") ∷ leaf Identifier g.token ∷ group RuleCall ss false c.group.end ∷ []) c.group.are.stays;
   front = f.front ∙ ap (λ (t : List ℕ). f.token ++ t) (dot ∙ ap (λ (t : List ℕ). 46 ∷ t) (g.front ∙ ap (λ (t : List ℕ). g.token ++ t) (c.group.front Closed)))
       ∙ by (item_pieces Broken 0 Closed (group RuleCall c.group.segs false c.group.end));
@@ -120,10 +120,10 @@ renamed_string text equals rest value f eq s =
     named_segment LoadGroup 0 0 text equals rest value false f eq (value_nodes 0 0 value rest false (string_value value rest s 0 0)) (IsLoadArg.renamed refl refl (IsString.string refl))
 
 -- a load
-pub load_bare : (depth : ℕ) (text inside rest : List ℕ) → text ≡ codes "load(" ++ inside → IsLoadFront inside rest → IsBareFront (suc depth) Load None text rest
-load_bare depth text inside rest is l =
+pub load_bare : (depth : ℕ) (text inside rest : List ℕ) → 0 < depth → text ≡ codes "load(" ++ inside → IsLoadFront inside rest → IsBareFront depth Load None text rest
+load_bare depth text inside rest deep is l =
     let all = begin_flat LoadGroup 0 0 inside l.middle false (loaded_string inside l.middle l.file) l.names.segs l.end l.names.are l.names.bare l.names.front in
-    let g = flat_group LoadGroup 0 0 inside l.end rest 41 _ _ refl all (few _ _ l.names.breaks) l.ends in
+    let g = flat_group LoadGroup 0 1 0 inside l.end rest 41 _ _ refl refl all (few _ _ l.names.breaks) l.ends in
     record {
       nodes = leaf Keyword (codes "load") ∷ group LoadGroup g.segs false [] ∷ [];
       some = refl;
@@ -133,7 +133,7 @@ load_bare depth text inside rest is l =
       class_is = refl;
       other = refl;
       grammar = IsStatement.load_statement (IsLoad.load refl (IsString.string refl) l.names.are.grammar);
-      depth_fits = most _ _ (suc depth) (omega arith) (most _ _ (suc depth) (omega (arith, g.are.depth_fits)) (omega arith));
+      depth_fits = most _ _ depth (omega arith) (most _ _ depth (omega (arith, g.are.depth_fits)) (omega arith));
       stays = ap (λ ss. leaf Keyword (codes "load") ∷ group LoadGroup ss false [] ∷ []) g.are.stays;
       front = is ∙ ap (λ (t : List ℕ). codes "load" ++ t) (g.front Closed) ∙ by (item_pieces Broken 0 Closed (group LoadGroup g.segs false []));
       named = refl;
@@ -223,3 +223,5 @@ assigned_with depth text end value rest o h f is word v = record {
 
 pub assigned_bare : (depth : ℕ) (text end rest : List ℕ) → IsTokenFront Identifier text end → IsAssignedFront depth end rest → IsBareFront depth Assign None text rest
 assigned_bare depth text end rest f a = assigned_with depth text end a.value rest (assign_operator a.adds) a.holds f a.front (assign_word a.adds) a.nodes
+
+pub ruleset bare_fronts = (assigned_bare, dotted_bare, load_bare, rule_bare)

@@ -1,5 +1,5 @@
 -- A chain of operands with ` + ` between them, from its end.
-use Rattle.std.proofs.Common.{◌≡◌, ℕ, ◌+◌, List, ◌∷◌, ◌++◌, Bool, true, false, ◌||◌, refl, sym, ap, ◌∙◌, arith, append_assoc, append-nil, subst}
+use Rattle.std.proofs.Common.{◌≡◌, ℕ, List, ◌∷◌, ◌++◌, Bool, true, false, ◌||◌, refl, sym, ap, ◌∙◌, arith, append_assoc, append-nil, subst}
 use Rattle.std.specs.Prelude.{codes, Some, None, Option}
 use Rattle.std.proofs.lemmas.Bool.{false≢true}
 use Rattle.bz_token.specs.declared.token.Kind.TheVariants.{Identifier, Operator}
@@ -64,7 +64,7 @@ value_term level depth text rest h v = record {
     by within first gap e is ys next = rw (is, bytes_append (item_pieces Broken level gap v.x) (items_pieces Broken level within first EdgeOperand ys)) (simp append_assoc)
 
 -- a call of a name
-pub call_term : (level depth : ℕ) (text bracket rest : List ℕ) (h : Bool) → IsTokenFront Identifier text bracket → IsGroupFront Call level depth bracket rest h → IsTermFront level (depth + 1) text rest h
+pub call_term : (level depth : ℕ) (text bracket rest : List ℕ) (h : Bool) → IsTokenFront Identifier text bracket → IsGroupFront Call level depth bracket rest h → IsTermFront level depth text rest h
 call_term level depth text bracket rest h f g = record {
   head = leaf Identifier f.token;
   with = λ ys. item call ys;
@@ -74,7 +74,7 @@ call_term level depth text bracket rest h f g = record {
   joins = λ ys. refl;
   no_for = λ ys none. none;
   apart = refl;
-  depth_fits = λ ys few. most _ _ (depth + 1) (omega arith) (most _ _ (depth + 1) (omega (arith, g.are.depth_fits)) few);
+  depth_fits = λ ys few. most _ _ depth (omega arith) (most _ _ depth (omega (arith, g.are.depth_fits, g.depth_is)) few);
   stays = λ ys same. ap (λ ss. item (leaf Identifier f.token) (item (group Call ss false g.end) (spelled_items ys))) g.are.stays ∙ ap (λ zs. item (leaf Identifier f.token) (item call zs)) same;
   front = λ within first left ys next is.
       ap (λ (t : List ℕ). gap_bytes (gap_before first left (leaf Identifier f.token)) ++ t) (f.front ∙ ap (λ (t : List ℕ). f.token ++ t)

@@ -1,5 +1,5 @@
 -- Segments of a group, one more of them.
-use Rattle.std.proofs.Common.{◌≡◌, ◌≤◌, ℕ, ◌+◌, List, [], ◌∷◌, ◌++◌, Bool, true, false, ◌||◌, refl, sym, ap, ◌∙◌, arith, append_assoc, append-nil, subst}
+use Rattle.std.proofs.Common.{◌≡◌, ◌≤◌, ℕ, ◌+◌, List, [], ◌∷◌, ◌++◌, Bool, true, false, ◌||◌, refl, sym, ap, ◌∙◌, arith, append_assoc, append-nil}
 use Rattle.std.specs.Prelude.{codes, nat_le, Option, Some, None, is_some, max}
 use Rattle.std.proofs.lemmas.Bool.Decides.{nat_tests}
 use Rattle.bz_token.specs.declared.token.Kind.TheVariants.{Identifier, Comment, Newline, Operator}
@@ -194,11 +194,6 @@ finish_flat kind first level depth text rest n h so =
       breaks = all.breaks ∙ or_no h;
       bare = all.bare;
     }
-
-pub in_place_front : (kind : GroupKind) (level depth : ℕ) (text rest end : List ℕ) (n : ℕ) (h k : Bool) → end ≡ rest → k ≡ h → AreFlatFront kind true level depth text rest n h
-    → AreFlatFront kind true level depth text end n k
-in_place_front kind level depth text rest end n h k same held f =
-    subst (λ t. AreFlatFront kind true level depth text t n k) (sym same) (subst (λ b. AreFlatFront kind true level depth text rest n b) (sym held) f)
 
 -- comments
 

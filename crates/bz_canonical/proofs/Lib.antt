@@ -21,3 +21,4 @@ pub mod PutRules
 pub mod AddedLines
 pub mod CommentedLines
 pub mod UnnamedRules
+pub mod SimpleBlocks

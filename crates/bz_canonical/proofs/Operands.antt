@@ -1,5 +1,5 @@
 -- Operands and groups by what was read of them.
-use Rattle.std.proofs.Common.{◌≡◌, ℕ, ◌+◌, List, [], ◌∷◌, ◌++◌, Bool, true, false, ◌||◌, ◌&&◌, refl, sym, ap, ◌∙◌, arith, append_assoc}
+use Rattle.std.proofs.Common.{◌≡◌, ℕ, suc, ◌+◌, List, [], ◌∷◌, ◌++◌, Bool, true, false, ◌||◌, ◌&&◌, refl, sym, ap, ◌∙◌, arith, append_assoc}
 use Rattle.std.specs.Prelude.{if◌then◌else◌, nat_le}
 use Rattle.std.proofs.lemmas.Bool.{false≢true}
 use Rattle.bz_token.specs.declared.token.Kind.{Kind}
@@ -88,18 +88,22 @@ number_value text rest f level depth = record {
   breaks = refl;
 }
 
+pub ruleset leaf_values = (string_value, name_value, number_value)
+
 -- whether a group is broken, by what was counted
 pub broken_by : (kind : GroupKind) (segs : Segs) (end : List (List ℕ)) (n : ℕ) (h c e : Bool) → is_filled end ≡ e → have_comments segs ≡ c → count segs ≡ n → segs_hold segs ≡ h
     → is_broken kind segs end (segs_hold segs) ≡ (e || c || breaks_by_count kind n || (nat_le 2 n && h))
 broken_by kind segs end n h c e ends notes many holds = rw (ends, notes, many, holds) refl
 
 -- a group on lines
-abbrev pub broken_group : (kind : GroupKind) (level depth : ℕ) (inside middle below after rest : List ℕ) (z n : ℕ) (h c e : Bool) → closing kind ≡ z ∷ []
-    → ((n : ℕ) → has_commas kind false n ≡ true) → AreSegmentsFront kind (level + 1) depth inside middle n h c → AreNotesFront (level + 1) middle below e
-    → (e || c || breaks_by_count kind n || (nat_le 2 n && h)) ≡ true → below ≡ 10 ∷ (indent level ++ after) → after ≡ z ∷ rest
+abbrev pub broken_group : (kind : GroupKind) (level depth below : ℕ) (inside middle end after rest : List ℕ) (z n : ℕ) (h c e : Bool) → suc below ≡ depth → closing kind ≡ z ∷ []
+    → ((n : ℕ) → has_commas kind false n ≡ true) → AreSegmentsFront kind (level + 1) below inside middle n h c → AreNotesFront (level + 1) middle end e
+    → (e || c || breaks_by_count kind n || (nat_le 2 n && h)) ≡ true → end ≡ 10 ∷ (indent level ++ after) → after ≡ z ∷ rest
     → IsGroupFront kind level depth (opening kind ++ inside) rest true
-broken_group kind level depth inside middle below after rest z n h c e closes commas s notes many line ends = record {
+broken_group kind level depth below inside middle end after rest z n h c e deeper closes commas s notes many line ends = record {
   segs = s.segs;
+  below = below;
+  depth_is = deeper;
   are = s.are;
   end = notes.notes;
   end_is = notes.are;
@@ -123,11 +127,13 @@ broken_group kind level depth inside middle below after rest z n h c e closes co
     by gap b e1 k e2 o e3 A = rw (e1, e2, e3) (body (broken_segs Broken (level + 1) kind true s.segs) (comments (level + 1) notes.notes) (gap_bytes gap))
 
 -- a group in place
-abbrev pub flat_group : (kind : GroupKind) (level depth : ℕ) (inside end rest : List ℕ) (z n : ℕ) (h : Bool) → closing kind ≡ z ∷ []
-    → AreFlatFront kind true level depth inside end n h → (breaks_by_count kind n || (nat_le 2 n && h)) ≡ false → end ≡ z ∷ rest
+abbrev pub flat_group : (kind : GroupKind) (level depth below : ℕ) (inside end rest : List ℕ) (z n : ℕ) (h : Bool) → suc below ≡ depth → closing kind ≡ z ∷ []
+    → AreFlatFront kind true level below inside end n h → (breaks_by_count kind n || (nat_le 2 n && h)) ≡ false → end ≡ z ∷ rest
     → IsGroupFront kind level depth (opening kind ++ inside) rest h
-flat_group kind level depth inside end rest z n h closes s few ends = record {
+flat_group kind level depth below inside end rest z n h deeper closes s few ends = record {
   segs = s.segs;
+  below = below;
+  depth_is = deeper;
   are = s.are;
   end = [];
   end_is = refl;
@@ -151,7 +157,7 @@ absurd_of : {A : Type 0} → false ≡ true → A
 absurd_of h = absurd (false≢true h)
 
 -- a list or a dict as an operand
-pub list_value : (level depth : ℕ) (text rest : List ℕ) (h : Bool) → IsGroupFront ListKind level depth text rest h → IsValueFront level (depth + 1) text rest h
+pub list_value : (level depth : ℕ) (text rest : List ℕ) (h : Bool) → IsGroupFront ListKind level depth text rest h → IsValueFront level depth text rest h
 list_value level depth text rest h g = record {
   x = group ListKind g.segs false g.end;
   is = record {
@@ -161,7 +167,7 @@ list_value level depth text rest h g = record {
     no_comma = refl;
     no_for = refl;
     apart = refl;
-    depth_fits = omega (arith, g.are.depth_fits);
+    depth_fits = omega (arith, g.are.depth_fits, g.depth_is);
     stays = ap (λ s. group ListKind s false g.end) g.are.stays;
     leaves = λ within left. refl;
     after = refl;
@@ -170,7 +176,7 @@ list_value level depth text rest h g = record {
   breaks = g.breaks;
 }
 
-pub dict_value : (level depth : ℕ) (text rest : List ℕ) (h : Bool) → IsGroupFront Dict level depth text rest h → IsValueFront level (depth + 1) text rest h
+pub dict_value : (level depth : ℕ) (text rest : List ℕ) (h : Bool) → IsGroupFront Dict level depth text rest h → IsValueFront level depth text rest h
 dict_value level depth text rest h g = record {
   x = group Dict g.segs false g.end;
   is = record {
@@ -180,7 +186,7 @@ dict_value level depth text rest h g = record {
     no_comma = refl;
     no_for = refl;
     apart = refl;
-    depth_fits = omega (arith, g.are.depth_fits);
+    depth_fits = omega (arith, g.are.depth_fits, g.depth_is);
     stays = ap (λ s. group Dict s false g.end) g.are.stays;
     leaves = λ within left. refl;
     after = refl;

@@ -1,5 +1,5 @@
 -- The call of a rule by what was read of it.
-use Rattle.std.proofs.Common.{◌≡◌, ℕ, ◌-◌, List, [], ◌∷◌, ◌++◌, Bool, true, false, refl, sym, ap, ◌∙◌, append_assoc, subst, length, take, option_and_then}
+use Rattle.std.proofs.Common.{◌≡◌, ℕ, ◌-◌, ◌<◌, arith, List, [], ◌∷◌, ◌++◌, Bool, true, false, refl, sym, ap, ◌∙◌, append_assoc, subst, length, take, option_and_then}
 use Rattle.std.specs.Prelude.{bytes_eq, codes, Some, None, if◌then◌else◌}
 use Rattle.std.proofs.lemmas.Bool.{false≢true}
 use Rattle.std.proofs.Math.Seq.{take-append_seam}
@@ -33,15 +33,15 @@ unfolding keywords
 name_text = refl
 
 -- the only argument is the name, in place
-pub only_named_front : (depth : ℕ) (text start last rest name : List ℕ) → text ≡ 40 ∷ (codes "name" ++ (codes " = " ++ start)) → IsQuotedFront start name last → last ≡ 41 ∷ rest → IsRuleCallFront depth (Some name) text rest
-only_named_front depth text start last rest name is q closes =
+pub only_named_front : (depth : ℕ) (text start last rest name : List ℕ) → 0 < depth → text ≡ 40 ∷ (codes "name" ++ (codes " = " ++ start)) → IsQuotedFront start name last → last ≡ 41 ∷ rest → IsRuleCallFront depth (Some name) text rest
+only_named_front depth text start last rest name deep is q closes =
     let first : List ℕ = codes "name" ++ (codes " = " ++ start) in
     let string : IsTokenFront String start last = record { token = 34 ∷ (name ++ 34 ∷ []); is = q.is; stays = refl; front = q.front } in
     let ident : IsTokenFront Identifier first (codes " = " ++ start) = record { token = codes "name"; is = name_text; stays = refl; front = refl } in
-    let arg = keyword_segment RuleCall 0 depth first (codes " = " ++ start) last start false refl ident refl (value_nodes 0 depth start last false (string_value start last string 0 depth)) in
-    let all = begin_flat RuleCall 0 depth first last false arg no_segs last (no_segments RuleCall depth) refl refl in
+    let arg = keyword_segment RuleCall 0 (depth - 1) first (codes " = " ++ start) last start false refl ident refl (value_nodes 0 (depth - 1) start last false (string_value start last string 0 (depth - 1))) in
+    let all = begin_flat RuleCall 0 (depth - 1) first last false arg no_segs last (no_segments RuleCall (depth - 1)) refl refl in
     subst (λ t. IsRuleCallFront depth (Some name) t rest) (sym is)
-    (record { holds = false; group = flat_group RuleCall 0 depth first last rest 41 1 false refl all refl closes; named = q.value })
+    (record { holds = false; group = flat_group RuleCall 0 depth (depth - 1) first last rest 41 1 false (omega arith) refl all refl closes; named = q.value })
 
 -- no argument has a name that does not stand in the text
 

@@ -18,12 +18,15 @@ token_front kind text rest n is stays back = record {
 }
 
 -- the letters, digits and underscores at the front
-pub word_text : (kind : Kind) (text : List ℕ) (n : ℕ) → 0 < n → n ≡ word_length kind text → is_text kind (take n text) ≡ true
+word_text : (kind : Kind) (text : List ℕ) (n : ℕ) → 0 < n → n ≡ word_length kind text → is_text kind (take n text) ≡ true
 word_text kind text n some len = by (is_text kind (front_word text)) refl len
   where
     by : (t : Bool) → is_text kind (front_word text) ≡ t → n ≡ (if t then prefix_len is_word_byte text else 0) → is_text kind (take n text) ≡ true
     by true e is = ap (λ k. is_text kind (take k text)) is ∙ e
     by false e is = absurd (omega (arith, some, is))
+
+pub word_front : (kind : Kind) (text rest : List ℕ) (n : ℕ) → 0 < n → n ≡ word_length kind text → respell kind (take n text) ≡ take n text → rest ≡ drop n text → IsTokenFront kind text rest
+word_front kind text rest n some len stays back = token_front kind text rest n (word_text kind text n some len) stays back
 
 -- a string in double quotes is written as it is
 pub quoted_stays : (text inside : List ℕ) (n : ℕ) → 0 < n → text ≡ 34 ∷ inside → respell String (take n text) ≡ take n text

@@ -145,11 +145,11 @@ unnamed_place depth attr notes kind suffix text rest s none =
           ∙ ap (λ xs. (head_of (bytes_of (comment_lines notes)) kind ++ (codes "\n    " ++ (in_place s.xs ++ codes ","))) ++ (argument_lines (f xs) ++ (10 ∷ 41 ∷ (bytes_of (suffix_piece suffix) ++ 10 ∷ [])))) (sym first_is);
     }
 
-abbrev call_front : (depth : ℕ) (bracket argument close end : List ℕ) → bracket ≡ 40 ∷ argument → IsSegmentFront RuleCall 1 depth argument close false → close ≡ 41 ∷ end → IsGroupFront RuleCall 0 depth bracket end false
+abbrev call_front : (depth : ℕ) (bracket argument close end : List ℕ) → bracket ≡ 40 ∷ argument → IsSegmentFront RuleCall 1 depth argument close false → close ≡ 41 ∷ end → IsGroupFront RuleCall 0 (suc depth) bracket end false
 call_front depth bracket argument close end opens s closes =
     let all = begin_flat RuleCall 0 depth argument close false (segment_level RuleCall 1 0 depth argument close s) no_segs close (no_segments RuleCall depth) refl refl in
-    let g = flat_group RuleCall 0 depth argument close end 41 1 false refl all refl closes in
-    record { segs = g.segs; are = g.are; end = g.end; end_is = g.end_is; front = λ gap. ap (λ (t : List ℕ). gap_bytes gap ++ t) opens ∙ g.front gap; breaks = g.breaks }
+    let g = flat_group RuleCall 0 (suc depth) depth argument close end 41 1 false refl refl all refl closes in
+    record { segs = g.segs; below = depth; depth_is = refl; are = g.are; end = g.end; end_is = g.end_is; front = λ gap. ap (λ (t : List ℕ). gap_bytes gap ++ t) opens ∙ g.front gap; breaks = g.breaks }
 
 pub unnamed_rule : (depth : ℕ) (attr text start bracket argument close end call rest : List ℕ) → AreLinesFront text start → IsTokenFront Identifier start bracket → bracket ≡ 40 ∷ argument
     → IsSegmentFront RuleCall 1 depth argument close false → close ≡ 41 ∷ end → call ≡ take (length bracket - length end) bracket → (HasArgumentName (codes "name") call → ⊥) → (HasArgumentName attr call → ⊥)
@@ -162,7 +162,7 @@ unnamed_rule depth attr text start bracket argument close end call rest above f 
     let absent : first_named attr (segments g.segs) ≡ None =
     no_argument_name attr g.segs g.end (λ has. none (subst (HasArgumentName attr) (sym (call_is ∙ taken bracket (bytes_of (item_pieces Broken 0 Closed (group RuleCall g.segs false g.end))) end (g.front Closed))) has)) in
     record {
-      front = statement_front (suc depth) RuleClass None text start end e.middle rest e.noted above (rule_bare depth None start bracket end f (unnamed_front depth bracket call end false g call_is no_name)) e.side e.ends;
+      front = statement_front (suc depth) RuleClass None text start end e.middle rest e.noted above (rule_bare (suc depth) None start bracket end f (unnamed_front (suc depth) bracket call end false g call_is no_name)) e.side e.ends;
       head = head_of N f.token;
       inner = in_place s.xs;
       end = 41 ∷ (S ++ 10 ∷ []);
@@ -191,12 +191,13 @@ unnamed_chunk depth attr text argument close rest chunk head inner end laid star
     ∙ (λ i. record { before = begins i ++ (codes "\n    " ++ (middle i ++ codes ",")); lines = []; after = 10 ∷ ends i }) in
     canonical_chunk depth attr RuleClass None (Some place) chunk chunk text rest rest r.front chunk_is chunk_is (subst (HasPlace depth attr r.front.s) (sym same) r.has)
 
-pub canonical_of : (depth : ℕ) (attr text argument close rest chunk head inner end laid : List ℕ) (start : ℕ) → IsUnnamedRule depth attr text argument close rest → chunk ≡ take (length text - length rest) text
+pub canonical_of : (text argument close rest chunk head inner end laid : List ℕ) (start : ℕ) → chunk ≡ take (length text - length rest) text
     → head ≡ take (length text - length argument) text → inner ≡ take (length argument - length close) argument → end ≡ take (length close - length rest) close
     → laid ≡ (head ++ (codes "\n    " ++ (inner ++ codes ","))) ++ (10 ∷ end) → start ≡ length (head ++ (codes "\n    " ++ (inner ++ codes ",")))
     → (told : Option CanonicalChunk) → IfSome told (λ found. (found.class ≡ RuleClass) × (found.name ≡ None)) → IfSome told (λ found. (found.chunk.now ≡ chunk) × (found.written.now ≡ chunk))
     → IfSome told (λ found. option_map between found.place ≡ Some (record { before = take start laid; lines = []; after = drop start laid }))
-    → IfSome told (λ found. IsCanonical depth attr found.class (option_map (λ name. name.now) found.name) (option_map between found.place) found.chunk.now found.written.now text)
-canonical_of depth attr text argument close rest chunk head inner end laid start r chunk_is head_is inner_is end_is laid_is start_is None rule same place = tt
-canonical_of depth attr text argument close rest chunk head inner end laid start r chunk_is head_is inner_is end_is laid_is start_is (Some found) rule same place =
+    → IfSome told (λ found. (depth : ℕ) (attr : List ℕ) → IsUnnamedRule depth attr text argument close rest
+    → IsCanonical depth attr found.class (option_map (λ name. name.now) found.name) (option_map between found.place) found.chunk.now found.written.now text)
+canonical_of text argument close rest chunk head inner end laid start chunk_is head_is inner_is end_is laid_is start_is None rule same place = tt
+canonical_of text argument close rest chunk head inner end laid start chunk_is head_is inner_is end_is laid_is start_is (Some found) rule same place = λ depth attr r.
     rw (rule.0, rule.1, place, same.0, same.1) (unnamed_chunk depth attr text argument close rest chunk head inner end laid start _ r chunk_is head_is inner_is end_is laid_is start_is refl)

@@ -1,9 +1,9 @@
 //! An assignment that stands as it would be written.
 
-ghost use Rattle.std.specs.Prelude.{◌≡◌, ◌<◌, ◌++◌, codes, IfSome};
+ghost use Rattle.std.specs.Prelude.{◌<◌, IfSome};
 ghost use Rattle.bz_canonical.specs.private.Statements.{IsAssignedFront};
 
-use crate::front::after_equals;
+use crate::front::{Word, after_word};
 use crate::value::nodes;
 
 /// What follows the assignment to a name that ends here.
@@ -17,7 +17,7 @@ pub(crate) fn assigned(text: &[u8], depth: u8) -> Option<&[u8]>
             Some(read.rest)
         }
         _ => {
-            let value = after_equals(text)?;
+            let value = after_word(text, Word::Equals)?;
             let read = nodes(value, 0, depth)?;
             Some(read.rest)
         }

@@ -1,10 +1,10 @@
 //! A statement that stands as it would be written, without the comments above and beside it.
 
-ghost use Rattle.std.specs.Prelude.{◌≡◌, ◌<◌, ◌++◌, codes, option_map, IfSome};
+ghost use Rattle.std.specs.Prelude.{◌<◌, option_map, IfSome};
 ghost use Rattle.bz_canonical.specs.private.Statements.{IsBareFront};
 
 use crate::assignment::assigned;
-use crate::front::{after, identifier};
+use crate::front::{Word, after, after_word, identifier};
 use crate::load::loaded;
 use crate::rule::rule_call;
 use bz_tree::Class;
@@ -12,13 +12,14 @@ use bz_tree::Class;
 /// A statement without its comments, and what follows it.
 #[derive(Clone, Copy)]
 pub(crate) struct BareStatement<'t> {
+    pub(crate) rest: &'t [u8],
     pub(crate) class: Class,
     /// The name of a rule. None: it is no rule, or has no name.
     pub(crate) name: Option<&'t [u8]>,
-    pub(crate) rest: &'t [u8],
 }
 
 /// The load, rule or assignment here.
+#[tactic(auto, using(crate::proofs::BareStatements::bare_fronts))]
 #[inline(always)]
 pub(crate) fn bare_statement(text: &[u8], max_depth: u8) -> Option<BareStatement<'_>>
     requires { max_depth < 254 }
@@ -28,7 +29,7 @@ pub(crate) fn bare_statement(text: &[u8], max_depth: u8) -> Option<BareStatement
     if max_depth == 0 {
         return None;
     }
-    if let Some(inside) = after_load(text) {
+    if let Some(inside) = after_word(text, Word::Load) {
         let rest = loaded(inside)?;
         return Some(BareStatement {
             class: Class::Load,
@@ -39,7 +40,7 @@ pub(crate) fn bare_statement(text: &[u8], max_depth: u8) -> Option<BareStatement
     let end = identifier(text)?;
     if let Some(member) = after(end, b'.') {
         let bracket = identifier(member)?;
-        let read = rule_call(bracket, max_depth - 1)?;
+        let read = rule_call(bracket, max_depth)?;
         return Some(BareStatement {
             class: Class::Rule,
             name: read.name,
@@ -56,23 +57,12 @@ pub(crate) fn bare_statement(text: &[u8], max_depth: u8) -> Option<BareStatement
             })
         }
         _ => {
-            let read = rule_call(end, max_depth - 1)?;
+            let read = rule_call(end, max_depth)?;
             Some(BareStatement {
                 class: Class::Rule,
                 name: read.name,
                 rest: read.rest,
             })
         }
-    }
-}
-
-/// What follows the word of a load and its bracket.
-#[inline(always)]
-fn after_load(text: &[u8]) -> Option<&[u8]>
-    ensures { IfSome result (λ inside. text.now ≡ codes "load(" ++ inside.now) }
-{
-    match text {
-        [b'l', b'o', b'a', b'd', b'(', inside @ ..] => Some(inside),
-        _ => None,
     }
 }

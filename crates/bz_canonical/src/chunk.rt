@@ -57,8 +57,13 @@ pub fn canonical<'t>(
     if let Some(head) = rule_head(text.as_bytes()) {
         return rule_chunk(text, head, attr, max_depth, written);
     }
-    match unnamed_rule(text.as_bytes(), attr.as_bytes(), max_depth) {
-        Some(rule) => unnamed_chunk(text, rule, attr, max_depth, written),
+    match unnamed_rule(text, attr, max_depth) {
+        Some(rule) => {
+            let Some(found) = unnamed_chunk(text, rule, written)? else {
+                return Ok(None);
+            };
+            Ok(Some(found))
+        }
         None => Ok(other_chunk(text, max_depth)),
     }
 }

@@ -1,12 +1,13 @@
 //! What stands at the front of a text: a byte, a word, a token, the beginning of a line.
 
-ghost use Rattle.std.specs.Prelude.{◌≡◌, ◌∷◌, ◌++◌, ◌≤◌, ◌<◌, ◌-◌, length, drop, take, codes, IfSome};
+ghost use Rattle.std.specs.Prelude.{◌≡◌, ◌∷◌, ◌++◌, ◌≤◌, ◌<◌, ◌-◌, length, drop, take, IfSome};
 ghost use Rattle.std.specs.List.{prefix_len};
 ghost use Rattle.bz_token.specs.declared.token.Kind.TheVariants.{Comment, Identifier, Integer, String};
 ghost use Rattle.bz_layout.specs.Pieces.{indent};
-ghost use Rattle.bz_canonical.specs.private.Fronts.{IsQuotedFront, IsTokenFront, is_simple};
+ghost use Rattle.bz_canonical.specs.private.Fronts.{IsQuotedFront, IsTokenFront, word_bytes};
 ghost use Rattle.bz_canonical.specs.private.Rewritten.{IsSingleFront, is_plain_inside};
 
+use crate::simple::simple_len;
 use bz_token::{comment_len, identifier_len, integer_len, string_len};
 
 /// What follows this byte.
@@ -16,6 +17,35 @@ pub(crate) fn after(text: &[u8], byte: u8) -> Option<&[u8]>
 {
     match text {
         [first, rest @ ..] if *first == byte => Some(rest),
+        _ => None,
+    }
+}
+
+/// Bytes that stand so in each text.
+#[derive(Clone, Copy)]
+pub(crate) enum Word {
+    Plus,
+    Equals,
+    Comma,
+    Colon,
+    Spaces,
+    Load,
+    Name,
+}
+
+/// What follows this word.
+#[inline(always)]
+pub(crate) fn after_word(text: &[u8], word: Word) -> Option<&[u8]>
+    ensures { IfSome result (λ rest. text.now ≡ word_bytes word ++ rest.now) }
+{
+    match (word, text) {
+        (Word::Plus, [b' ', b'+', b' ', rest @ ..])
+        | (Word::Equals, [b' ', b'=', b' ', rest @ ..])
+        | (Word::Comma, [b',', b' ', rest @ ..])
+        | (Word::Colon, [b':', b' ', rest @ ..])
+        | (Word::Spaces, [b' ', b' ', rest @ ..])
+        | (Word::Load, [b'l', b'o', b'a', b'd', b'(', rest @ ..])
+        | (Word::Name, [b'n', b'a', b'm', b'e', b' ', b'=', b' ', rest @ ..]) => Some(rest),
         _ => None,
     }
 }
@@ -53,6 +83,7 @@ pub(crate) fn string(text: &[u8]) -> Option<&[u8]>
 }
 
 /// What follows the identifier here.
+#[tactic(auto, using(crate::proofs::Tokens::word_front))]
 #[inline(always)]
 pub(crate) fn identifier(text: &[u8]) -> Option<&[u8]>
     ensures { IfSome result (λ rest. IsTokenFront Identifier text.now rest.now) }
@@ -62,6 +93,7 @@ pub(crate) fn identifier(text: &[u8]) -> Option<&[u8]>
 }
 
 /// What follows the integer here.
+#[tactic(auto, using(crate::proofs::Tokens::word_front))]
 pub(crate) fn number(text: &[u8]) -> Option<&[u8]>
     ensures { IfSome result (λ rest. IsTokenFront Integer text.now rest.now) }
 {
@@ -83,19 +115,6 @@ pub(crate) fn comment(text: &[u8]) -> Option<&[u8]>
 pub(crate) struct SimpleString<'t> {
     pub(crate) inner: &'t [u8],
     pub(crate) rest: &'t [u8],
-}
-
-fn is_simple(b: u8) -> bool
-    ensures { result ≡ is_simple b }
-{
-    b != b'"' && b != b'\\' && b != b'\n' && b != b'\r' && b != b'\t'
-}
-
-fn simple_len(bytes: &[u8]) -> usize
-    ensures len { result ≡ prefix_len is_simple bytes.now }
-    ensures within { result ≤ length bytes.now }
-{
-    bytes.iter().take_while(|b| is_simple(**b)).count()
 }
 
 /// The string in double quotes here, whose value stands as it is.
@@ -131,17 +150,6 @@ pub(crate) fn single_string(text: &[u8]) -> Option<SimpleString<'_>>
     Some(SimpleString { inner, rest })
 }
 
-/// What follows the name of the attribute `name` and its equals sign.
-#[inline(always)]
-pub(crate) fn after_name(text: &[u8]) -> Option<&[u8]>
-    ensures { IfSome result (λ rest. text.now ≡ codes "name" ++ (codes " = " ++ rest.now)) }
-{
-    match text {
-        [b'n', b'a', b'm', b'e', b' ', b'=', b' ', rest @ ..] => Some(rest),
-        _ => None,
-    }
-}
-
 // Four spaces, looked at as one word.
 const FOUR_SPACES: u32 = 0x2020_2020;
 
@@ -156,60 +164,6 @@ fn spaces(text: &[u8]) -> Option<&[u8]>
             }
             Some(rest)
         }
-        _ => None,
-    }
-}
-
-/// What follows a plus sign between spaces.
-#[inline(always)]
-pub(crate) fn after_plus(text: &[u8]) -> Option<&[u8]>
-    ensures { IfSome result (λ rest. text.now ≡ codes " + " ++ rest.now) }
-{
-    match text {
-        [b' ', b'+', b' ', rest @ ..] => Some(rest),
-        _ => None,
-    }
-}
-
-/// What follows two spaces.
-pub(crate) fn after_spaces(text: &[u8]) -> Option<&[u8]>
-    ensures { IfSome result (λ rest. text.now ≡ 32 ∷ 32 ∷ rest.now) }
-{
-    match text {
-        [b' ', b' ', rest @ ..] => Some(rest),
-        _ => None,
-    }
-}
-
-/// What follows a comma and a space.
-#[inline(always)]
-pub(crate) fn after_comma(text: &[u8]) -> Option<&[u8]>
-    ensures { IfSome result (λ rest. text.now ≡ codes ", " ++ rest.now) }
-{
-    match text {
-        [b',', b' ', rest @ ..] => Some(rest),
-        _ => None,
-    }
-}
-
-/// What follows a colon and a space.
-#[inline(always)]
-pub(crate) fn after_colon(text: &[u8]) -> Option<&[u8]>
-    ensures { IfSome result (λ rest. text.now ≡ codes ": " ++ rest.now) }
-{
-    match text {
-        [b':', b' ', rest @ ..] => Some(rest),
-        _ => None,
-    }
-}
-
-/// What follows an equals sign between spaces.
-#[inline(always)]
-pub(crate) fn after_equals(text: &[u8]) -> Option<&[u8]>
-    ensures { IfSome result (λ rest. text.now ≡ codes " = " ++ rest.now) }
-{
-    match text {
-        [b' ', b'=', b' ', rest @ ..] => Some(rest),
         _ => None,
     }
 }

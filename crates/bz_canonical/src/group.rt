@@ -45,18 +45,21 @@ fn breaks(kind: GroupKind, one: bool, two: bool, holds: bool) -> bool
     }
 }
 
-/// What follows the group of this kind here.
+/// What follows the group of this kind here. Its segments are one bracket deeper.
 #[cycle(values)]
 #[inline(always)]
 pub(crate) fn group(kind: GroupKind, text: &[u8], level: u8, depth: u8) -> Option<Value<'_>>
     requires commas { (n : ℕ) → has_commas kind false n ≡ true }
-    requires deep { level + depth + 1 < 255 }
+    requires deep { level + depth < 255 }
     ensures { IfSome result (λ v. IsGroupFront kind level depth text.now v.rest.now v.holds) }
 {
+    if depth == 0 {
+        return None;
+    }
     let inside = after(text, opening(kind))?;
     match inside {
-        [b'\n', ..] => broken_group(kind, inside, level, depth),
-        _ => flat_group(kind, inside, level, depth),
+        [b'\n', ..] => broken_group(kind, inside, level, depth - 1),
+        _ => flat_group(kind, inside, level, depth - 1),
     }
 }
 
@@ -66,10 +69,10 @@ pub(crate) fn group(kind: GroupKind, text: &[u8], level: u8, depth: u8) -> Optio
 fn broken_group(kind: GroupKind, inside: &[u8], level: u8, depth: u8) -> Option<Value<'_>>
     requires commas { (n : ℕ) → has_commas kind false n ≡ true }
     requires deep { level + depth + 1 < 255 }
-    ensures { IfSome result (λ v. IsGroupFront kind level depth (opening kind ++ inside.now) v.rest.now v.holds) }
+    ensures { IfSome result (λ v. IsGroupFront kind level (depth + 1) (opening kind ++ inside.now) v.rest.now v.holds) }
 {
     let read = segments(kind, inside, level + 1, depth)?;
-    let many = breaks(kind, read.one, read.two, read.holds);
+    let many = breaks(kind, read.count >= 1, read.count >= 2, read.holds);
     let noted = either(read.noted, many);
     let broken = either(read.ended, noted);
     if !broken {
@@ -85,7 +88,7 @@ fn broken_group(kind: GroupKind, inside: &[u8], level: u8, depth: u8) -> Option<
 #[inline(always)]
 fn flat_group(kind: GroupKind, inside: &[u8], level: u8, depth: u8) -> Option<Value<'_>>
     requires { level + depth < 255 }
-    ensures { IfSome result (λ v. IsGroupFront kind level depth (opening kind ++ inside.now) v.rest.now v.holds) }
+    ensures { IfSome result (λ v. IsGroupFront kind level (depth + 1) (opening kind ++ inside.now) v.rest.now v.holds) }
 {
     let read = flat_segments(kind, inside, level, depth)?;
     let broken = breaks(kind, read.one, read.two, read.holds);

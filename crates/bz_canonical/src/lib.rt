@@ -21,6 +21,7 @@ mod put_rule;
 mod rewrite;
 mod rule;
 mod segments;
+mod simple;
 mod statement;
 mod unnamed;
 mod value;

@@ -1,11 +1,11 @@
 //! Lists of strings as they would be written, where they stand otherwise.
 
-ghost use Rattle.std.specs.Prelude.{◌≡◌, ◌∷◌, ◌++◌, [], ℕ, Bool, List, IfOk, IfSome, IsTrue, OnOk, true, false};
+ghost use Rattle.std.specs.Prelude.{◌≡◌, ◌∷◌, ◌++◌, ℕ, Bool, List, IfOk, IfSome, IsTrue, OnOk, true, false};
 ghost use Rattle.bz_layout.specs.Pieces.{indent};
 ghost use Rattle.bz_canonical.specs.private.Segments.{IsBesideFront};
 ghost use Rattle.bz_canonical.specs.private.Rewritten.{AreElementsRead, IsElementRead, IsLast, IsListRead, IsStringRead, between, closing, element_written, spelling};
 
-use crate::front::{after, after_comma, before, line, single_string, string};
+use crate::front::{Word, after, after_word, before, line, single_string, string};
 use crate::notes::{AfterNotes, beside, notes};
 use crate::value::either;
 use bz_memory::{NoMemory, extend_from_slice, push};
@@ -206,6 +206,7 @@ fn element_on_lines(text: &[u8]) -> Option<ReadElement<'_>>
 }
 
 /// The string in place here.
+#[tactic(auto, using(crate::proofs::ElementLists::place_read))]
 #[inline(always)]
 fn element_in_place(text: &[u8], one: bool) -> Option<ReadElement<'_>>
     ensures { IfSome result (IsElementRead false one text.now) }
@@ -228,7 +229,7 @@ fn after_others(text: &[u8], one: bool) -> Option<&[u8]>
     ensures { IfSome result (λ rest. text.now ≡ between one ++ rest.now) }
 {
     if one {
-        return after_comma(text);
+        return after_word(text, Word::Comma);
     }
     Some(text)
 }

@@ -1,11 +1,11 @@
 //! A load statement that stands as it would be written.
 
-ghost use Rattle.std.specs.Prelude.{◌≡◌, ◌++◌, codes, IfSome, false};
+ghost use Rattle.std.specs.Prelude.{IfSome, false};
 ghost use Rattle.bz_tree.specs.declared.stmt.GroupKind.TheVariants.{Load};
 ghost use Rattle.bz_canonical.specs.private.Segments.{IsSegmentFront};
 ghost use Rattle.bz_canonical.specs.private.Statements.{IsLoadFront};
 
-use crate::front::{after, after_comma, string};
+use crate::front::{Word, after, after_word, string};
 use crate::segments::after_keyword;
 
 /// What follows the names that are loaded here, in place, and their closing bracket.
@@ -14,7 +14,7 @@ pub(crate) fn loaded(inside: &[u8]) -> Option<&[u8]>
 {
     let mut rest = string(inside)?;
     for _ in 0..inside.len() {
-        let Some(next) = after_comma(rest) else {
+        let Some(next) = after_word(rest, Word::Comma) else {
             break;
         };
         rest = loaded_name(next)?;
@@ -24,6 +24,7 @@ pub(crate) fn loaded(inside: &[u8]) -> Option<&[u8]>
 }
 
 /// What follows the string here, or the name, equals sign and string.
+#[tactic(auto, using(crate::proofs::BareStatements::loaded_string, crate::proofs::BareStatements::renamed_string))]
 fn loaded_name(text: &[u8]) -> Option<&[u8]>
     ensures { IfSome result (λ rest. IsSegmentFront Load 0 0 text.now rest.now false) }
 {

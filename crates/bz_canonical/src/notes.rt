@@ -6,7 +6,7 @@ ghost use Rattle.bz_token.specs.declared.token.Kind.TheVariants.{Comment};
 ghost use Rattle.bz_canonical.specs.private.Fronts.{IsTokenFront};
 ghost use Rattle.bz_canonical.specs.private.Segments.{AreLinesFront, AreNotesFront, IsBesideFront};
 
-use crate::front::{after, after_spaces, comment, line};
+use crate::front::{Word, after, after_word, comment, line};
 
 /// What follows comments.
 #[derive(Clone, Copy)]
@@ -17,6 +17,7 @@ pub(crate) struct AfterNotes<'t> {
 }
 
 /// What follows the comments here, each on a line of its own at this level.
+#[tactic(auto, using(crate::proofs::GroupSegments::begin_notes, crate::proofs::GroupSegments::finish_notes))]
 #[inline(always)]
 pub(crate) fn notes(text: &[u8], level: u8) -> AfterNotes<'_>
     ensures { AreNotesFront level text.now result.rest.now result.some }
@@ -31,6 +32,7 @@ pub(crate) fn notes(text: &[u8], level: u8) -> AfterNotes<'_>
     read_notes(text, level)
 }
 
+#[tactic(auto, using(crate::proofs::GroupSegments::begin_notes, crate::proofs::GroupSegments::finish_notes))]
 #[inline(never)]
 fn read_notes(text: &[u8], level: u8) -> AfterNotes<'_>
     ensures { AreNotesFront level text.now result.rest.now result.some }
@@ -49,7 +51,8 @@ fn read_notes(text: &[u8], level: u8) -> AfterNotes<'_>
 
 /// What follows the comment on the next line.
 fn note(text: &[u8], level: u8) -> Option<&[u8]>
-    ensures { IfSome result (λ rest. (inner : List ℕ) × (text.now ≡ 10 ∷ (indent level ++ inner)) × IsTokenFront Comment inner rest.now) }
+    ensures { IfSome result (λ rest. (inner : List ℕ) × (text.now ≡ 10 ∷ (indent level ++ inner))
+        × IsTokenFront Comment inner rest.now) }
 {
     let inner = line(text, level)?;
     let rest = comment(inner)?;
@@ -57,6 +60,7 @@ fn note(text: &[u8], level: u8) -> Option<&[u8]>
 }
 
 /// What follows the comments above a statement.
+#[tactic(auto, using(crate::proofs::GroupSegments::begin_lines, crate::proofs::GroupSegments::finish_lines))]
 pub(crate) fn lines(text: &[u8]) -> &[u8]
     ensures { AreLinesFront text.now result.now }
 {
@@ -81,13 +85,14 @@ fn note_line(text: &[u8]) -> Option<&[u8]>
 }
 
 /// What follows the comment that stands beside a segment, or the segment, where there is none.
+#[tactic(auto, using(crate::proofs::GroupSegments::one_beside))]
 #[inline(always)]
 pub(crate) fn beside(text: &[u8]) -> Option<AfterNotes<'_>>
     ensures { IfSome result (λ read. IsBesideFront text.now read.rest.now read.some) }
 {
     match text {
         [b' ', ..] => {
-            let inner = after_spaces(text)?;
+            let inner = after_word(text, Word::Spaces)?;
             let rest = comment(inner)?;
             Some(AfterNotes { rest, some: true })
         }

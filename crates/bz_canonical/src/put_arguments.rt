@@ -4,13 +4,23 @@
 ghost use Rattle.std.specs.Prelude.{◌≡◌, ◌<◌, ℕ, List, Bool, length, option_map, IfOk, IfSome, true, false};
 ghost use Rattle.bz_canonical.specs.private.Rewritten.{AreArgumentsRead, AreOthersRead, AreRead, IsArgumentRead, IsHeadRead, ArePlacedRead, IsPending, IsValueEnd, Puts, pending, put_ends};
 
-use crate::front::{after_equals, before, identifier, line};
+use crate::front::{Word, after_word, before, identifier, line};
 use crate::lists::{after_value, put_list};
 use crate::notes::notes;
 use crate::segments::segments;
 use crate::value::{either, nodes};
 use bz_memory::{NoMemory, extend_from_slice};
 use bz_tree::GroupKind;
+
+/// None: it is not known what would be written.
+type Told<T> = Result<Option<T>, NoMemory>;
+
+/// The attribute that is asked for, and how many brackets may be open in the value of an argument.
+#[derive(Clone, Copy)]
+pub(crate) struct Asked<'c> {
+    pub(crate) attr: &'c [u8],
+    pub(crate) depth: u8,
+}
 
 /// The lines of an argument, or of none.
 #[derive(Clone, Copy)]
@@ -57,7 +67,7 @@ pub(crate) fn argument_head<'t>(text: &'t [u8], attr: &[u8]) -> Option<ArgumentH
     let above = notes(text, 1);
     let inner = line(above.rest, 1)?;
     let equals = identifier(inner)?;
-    let value = after_equals(equals)?;
+    let value = after_word(equals, Word::Equals)?;
     let keyword = before(inner, equals.len())?;
     Some(ArgumentHead {
         value,
@@ -84,7 +94,7 @@ fn put_argument<'t>(
     value: &'t [u8],
     depth: u8,
     written: &mut Vec<u8>,
-) -> Result<Option<Pending<'t>>, NoMemory>
+) -> Told<Pending<'t>>
     requires { depth < 254 }
     ensures { IfOk result (λ told. IfSome told (λ next. (attr : List ℕ) (named : Bool)
         → IsHeadRead attr at.entry.rest.now value.now named
@@ -96,7 +106,15 @@ fn put_argument<'t>(
             from: at.from,
             rest,
         })),
-        None => put_list_argument(at, value, depth, written),
+        None => {
+            if depth == 0 {
+                return Ok(None);
+            }
+            let Some(next) = put_list_argument(at, value, written)? else {
+                return Ok(None);
+            };
+            Ok(Some(next))
+        }
     }
 }
 
@@ -105,17 +123,13 @@ fn put_argument<'t>(
 fn put_list_argument<'t>(
     at: Pending<'t>,
     value: &'t [u8],
-    depth: u8,
     written: &mut Vec<u8>,
-) -> Result<Option<Pending<'t>>, NoMemory>
-    ensures { IfOk result (λ told. IfSome told (λ next. (attr : List ℕ) (named : Bool)
-        → IsHeadRead attr at.entry.rest.now value.now named
+) -> Told<Pending<'t>>
+    ensures { IfOk result (λ told. IfSome told (λ next. (depth : ℕ) (attr : List ℕ) (named : Bool)
+        → 0 < depth → IsHeadRead attr at.entry.rest.now value.now named
         → Puts written.old.items (pending at.entry) written.new.items (pending next)
         (λ begun w. IsArgumentRead depth attr at.entry.rest.now next.rest.now w named))) }
 {
-    if depth == 0 {
-        return Ok(None);
-    }
     let Some(front) = before(at.from, value.len()) else {
         return Ok(None);
     };
@@ -143,23 +157,19 @@ struct PutOthers<'t> {
 }
 
 /// Passes the arguments here up to the first of the name, or to the last that has one.
-fn put_others<'t>(
-    start: Pending<'t>,
-    attr: &[u8],
-    depth: u8,
-    written: &mut Vec<u8>,
-) -> Result<Option<PutOthers<'t>>, NoMemory>
-    requires { depth < 254 }
+fn put_others<'t>(from: Pending<'t>, asked: Asked<'_>, written: &mut Vec<u8>) -> Told<PutOthers<'t>>
+    requires { asked.depth < 254 }
     ensures passed { IfOk result (λ told. IfSome told (λ read.
-        Puts written.old.items (pending start.entry) written.new.items (pending read.at)
-        (λ begun w. AreOthersRead depth attr.now start.entry.rest.now read.at.rest.now w read.one))) }
+        Puts written.old.items (pending from.entry) written.new.items (pending read.at)
+        (λ begun w. AreOthersRead asked.entry.depth asked.entry.attr.now from.entry.rest.now read.at.rest.now w
+        read.one))) }
     ensures named { IfOk result (λ told. IfSome told (λ read. IfSome read.named (λ value.
-        IsHeadRead attr.now read.at.rest.now value.now true))) }
+        IsHeadRead asked.entry.attr.now read.at.rest.now value.now true))) }
 {
-    let mut at = start;
+    let mut at = from;
     let mut one = false;
-    for _ in 0..start.rest.len() {
-        let Some(head) = argument_head(at.rest, attr) else {
+    for _ in 0..from.rest.len() {
+        let Some(head) = argument_head(at.rest, asked.attr) else {
             return Ok(Some(PutOthers {
                 at,
                 one,
@@ -173,7 +183,7 @@ fn put_others<'t>(
                 named: Some(head.value),
             }));
         }
-        let Some(next) = put_argument(at, head.value, depth, written)? else {
+        let Some(next) = put_argument(at, head.value, asked.depth, written)? else {
             return Ok(None);
         };
         at = next;
@@ -205,19 +215,14 @@ struct PutPlaced<'t> {
 }
 
 /// Passes the arguments here up to the first of the name and with it, or to the last that has one.
-fn put_placed<'t>(
-    start: Pending<'t>,
-    attr: &[u8],
-    depth: u8,
-    written: &mut Vec<u8>,
-) -> Result<Option<PutPlaced<'t>>, NoMemory>
-    requires { depth < 254 }
+fn put_placed<'t>(from: Pending<'t>, asked: Asked<'_>, written: &mut Vec<u8>) -> Told<PutPlaced<'t>>
+    requires { asked.depth < 254 }
     ensures { IfOk result (λ told. IfSome told (λ read.
-        Puts written.old.items (pending start.entry) written.new.items (pending read.at)
-        (λ begun w. ArePlacedRead depth attr.now start.entry.rest.now read.at.rest.now begun w read.one
-        (put_ends read.place) read.named))) }
+        Puts written.old.items (pending from.entry) written.new.items (pending read.at)
+        (λ begun w. ArePlacedRead asked.entry.depth asked.entry.attr.now from.entry.rest.now read.at.rest.now begun w
+        read.one (put_ends read.place) read.named))) }
 {
-    let Some(others) = put_others(start, attr, depth, written)? else {
+    let Some(others) = put_others(from, asked, written)? else {
         return Ok(None);
     };
     let Some(len) = written_len(others.at, written) else {
@@ -231,7 +236,7 @@ fn put_placed<'t>(
             one: others.one,
         })),
         Some(value) => {
-            let Some(at) = put_argument(others.at, value, depth, written)? else {
+            let Some(at) = put_argument(others.at, value, asked.depth, written)? else {
                 return Ok(None);
             };
             let Some(end) = written_len(at, written) else {
@@ -262,11 +267,7 @@ fn place_between<'t>(from: Pending<'t>, start: usize, to: Pending<'t>, end: usiz
 }
 
 /// Passes the arguments here, which follow the one of the name.
-fn put_later<'t>(
-    placed: PutPlaced<'t>,
-    depth: u8,
-    written: &mut Vec<u8>,
-) -> Result<Option<PutOthers<'t>>, NoMemory>
+fn put_later<'t>(placed: PutPlaced<'t>, depth: u8, written: &mut Vec<u8>) -> Told<PutOthers<'t>>
     requires { depth < 254 }
     ensures { IfOk result (λ told. IfSome told (λ read.
         Puts written.old.items (pending placed.entry.at) written.new.items (pending read.at)
@@ -279,7 +280,11 @@ fn put_later<'t>(
             named: None,
         }));
     }
-    let Some(later) = put_others(placed.at, b"".as_slice(), depth, written)? else {
+    let none = Asked {
+        attr: b"".as_slice(),
+        depth,
+    };
+    let Some(later) = put_others(placed.at, none, written)? else {
         return Ok(None);
     };
     Ok(Some(later))
@@ -297,27 +302,26 @@ pub(crate) struct PutArguments<'t> {
 
 /// Passes the arguments here, with the comments after them.
 pub(crate) fn put_arguments<'t>(
-    start: Pending<'t>,
-    attr: &[u8],
-    depth: u8,
+    from: Pending<'t>,
+    asked: Asked<'_>,
     written: &mut Vec<u8>,
-) -> Result<Option<PutArguments<'t>>, NoMemory>
-    requires { depth < 254 }
+) -> Told<PutArguments<'t>>
+    requires { asked.depth < 254 }
     ensures { IfOk result (λ told. IfSome told (λ read.
-        Puts written.old.items (pending start.entry) written.new.items (pending read.at)
-        (λ begun w. AreArgumentsRead depth attr.now start.entry.rest.now read.at.rest.now begun w read.some
-        (option_map put_ends read.place)))) }
+        Puts written.old.items (pending from.entry) written.new.items (pending read.at)
+        (λ begun w. AreArgumentsRead asked.entry.depth asked.entry.attr.now from.entry.rest.now read.at.rest.now begun
+        w read.some (option_map put_ends read.place)))) }
 {
-    let Some(placed) = put_placed(start, attr, depth, written)? else {
+    let Some(placed) = put_placed(from, asked, written)? else {
         return Ok(None);
     };
-    let Some(later) = put_later(placed, depth, written)? else {
+    let Some(later) = put_later(placed, asked.depth, written)? else {
         return Ok(None);
     };
-    let Some(last) = segments(GroupKind::RuleCall, later.at.rest, 1, depth) else {
+    let Some(last) = segments(GroupKind::RuleCall, later.at.rest, 1, asked.depth) else {
         return Ok(None);
     };
-    let more = either(later.one, last.one);
+    let more = either(later.one, last.count > 0);
     let some = either(placed.one, more);
     Ok(Some(PutArguments {
         at: Pending {

@@ -1,11 +1,11 @@
 //! A rule as it would be written, where lists of strings in it stand otherwise.
 
-ghost use Rattle.std.specs.Prelude.{◌≡◌, ◌+◌, ◌<◌, ◌-◌, codes, length, take, option_map, if◌then◌else◌, IfOk, IfSome, bytes_eq, true, false};
+ghost use Rattle.std.specs.Prelude.{◌+◌, ◌<◌, ◌-◌, codes, length, take, option_map, if◌then◌else◌, IfOk, IfSome, bytes_eq, true, false};
 ghost use Rattle.bz_canonical.specs.private.Rewritten.{IsRuleEnd, IsRuleHead, IsRulePlace, IsRuleRead, put_ends};
 
-use crate::front::{after, after_name, before, identifier, line, simple_string};
+use crate::front::{Word, after, after_word, before, identifier, line, simple_string};
 use crate::notes::{beside, lines};
-use crate::put_arguments::{Lines, Pending, PutPlace, put_arguments};
+use crate::put_arguments::{Asked, Lines, Pending, PutPlace, put_arguments};
 use bz_memory::{NoMemory, extend_from_slice};
 
 /// A rule, and what follows it.
@@ -38,7 +38,7 @@ pub(crate) fn put_rule<'t>(
         from: text,
         rest: head.rest,
     };
-    let Some(read) = put_arguments(start, attr, depth, written)? else {
+    let Some(read) = put_arguments(start, Asked { attr, depth }, written)? else {
         return Ok(None);
     };
     if !read.some {
@@ -85,7 +85,7 @@ pub(crate) fn rule_head(text: &[u8]) -> Option<RuleHead<'_>>
     let bracket = identifier(start)?;
     let inside = after(bracket, b'(')?;
     let first = line(inside, 1)?;
-    let value = after_name(first)?;
+    let value = after_word(first, Word::Name)?;
     let name = simple_string(value)?;
     let rest = after(name.rest, b',')?;
     Some(RuleHead {

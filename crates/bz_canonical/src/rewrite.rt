@@ -77,6 +77,7 @@ fn written_of<'t>(chunk: &'t str, buffer: &'t [u8], as_is: bool) -> Option<&'t s
 }
 
 /// The place of an argument: its lines in the text, and what stands before and after it in what is written.
+#[inline(never)]
 fn place_in_both<'t>(
     text: &'t str,
     written: &'t str,

@@ -1,11 +1,10 @@
 //! The call of a rule that stands as it would be written.
 
-ghost use Rattle.std.specs.Prelude.{◌≡◌, ◌<◌, ◌∷◌, ◌++◌, codes, option_map, IfSome, IfNone, IsFalse, Some, None, ℕ, List, [], false, bytes_eq};
-ghost use Rattle.bz_layout.specs.Pieces.{indent};
+ghost use Rattle.std.specs.Prelude.{◌≡◌, ◌<◌, ◌∷◌, ◌++◌, codes, option_map, IfSome, IfNone, IsFalse, Some, None, ℕ, List, [], false};
 ghost use Rattle.bz_canonical.specs.Canonical.{HasArgumentName};
 ghost use Rattle.bz_canonical.specs.private.Statements.{IsRuleCallFront};
 
-use crate::front::{after, after_name, before, simple_string};
+use crate::front::{Word, after, after_word, before, simple_string};
 use crate::group::group;
 use bz_tree::GroupKind;
 
@@ -19,7 +18,7 @@ pub(crate) struct RuleCall<'t> {
 /// The call of a rule here, whose name is its only argument, in place, or which has none.
 #[inline(always)]
 pub(crate) fn rule_call(text: &[u8], depth: u8) -> Option<RuleCall<'_>>
-    requires { depth < 253 }
+    requires { (0 < depth) × (depth < 254) }
     ensures { IfSome result (λ read. IsRuleCallFront depth (option_map (λ name. name.now) read.name)
         text.now read.rest.now) }
 {
@@ -44,13 +43,13 @@ fn after_only_name(text: &[u8]) -> Option<&[u8]>
     ensures { IfSome result (λ value. text.now ≡ 40 ∷ (codes "name" ++ (codes " = " ++ value.now))) }
 {
     let inside = after(text, b'(')?;
-    let value = after_name(inside)?;
+    let value = after_word(inside, Word::Name)?;
     Some(value)
 }
 
 /// What follows the call of a rule here, no argument of which is `name`.
 fn unnamed_call(text: &[u8], depth: u8) -> Option<&[u8]>
-    requires { depth < 253 }
+    requires { depth < 254 }
     ensures { IfSome result (λ rest. IsRuleCallFront depth None text.now rest.now) }
 {
     let read = group(GroupKind::RuleCall, text, 0, depth)?;
@@ -76,6 +75,7 @@ pub(crate) fn has_argument_name(text: &[u8], name: &[u8]) -> bool
 }
 
 /// The text begins with this name and an equals sign.
+#[tactic(auto, using(crate::proofs::RuleCalls::begins_so))]
 #[inline(always)]
 fn begins_argument(text: &[u8], name: &[u8]) -> bool
     ensures { IsFalse result → (after : List ℕ) → text.now ≡ name.now ++ (codes " =" ++ after) → ⊥ }

@@ -7,20 +7,18 @@ ghost use Rattle.bz_canonical.specs.private.Fronts.{IsTokenFront};
 ghost use Rattle.bz_canonical.specs.private.Segments.{AreFlatFront, AreNotesFront, AreSegmentsFront, IsSegmentFront};
 ghost use Rattle.bz_canonical.specs.private.Values.{IsValueFront};
 
-use crate::front::{after, after_colon, after_comma, after_equals, identifier, line};
+use crate::front::{Word, after, after_word, identifier, line};
 use crate::group::closing;
 use crate::notes::{beside, notes};
 use crate::value::{Value, either, leaf, nodes};
 use bz_tree::GroupKind;
 
-/// What follows segments.
+/// What follows segments on lines.
 #[derive(Clone, Copy)]
-pub(crate) struct AfterSegments<'t> {
+pub(crate) struct AfterLines<'t> {
     pub(crate) rest: &'t [u8],
-    /// There is one at least.
-    pub(crate) one: bool,
-    /// There are two at least.
-    pub(crate) two: bool,
+    /// There are so many.
+    pub(crate) count: usize,
     /// One of them holds a group on lines of its own.
     pub(crate) holds: bool,
     /// A comment stands above one or beside one.
@@ -32,29 +30,21 @@ pub(crate) struct AfterSegments<'t> {
 /// What follows the segments here, each on lines of its own and with its comma, and the comments after them.
 #[cycle(values)]
 #[inline(never)]
-pub(crate) fn segments(
-    kind: GroupKind,
-    text: &[u8],
-    level: u8,
-    depth: u8,
-) -> Option<AfterSegments<'_>>
+pub(crate) fn segments(kind: GroupKind, text: &[u8], level: u8, depth: u8) -> Option<AfterLines<'_>>
     requires { level + depth < 255 }
-    ensures { IfSome result (λ read. (n : ℕ) × (read.one ≡ nat_le 1 n) × (read.two ≡ nat_le 2 n) × (middle : List ℕ)
-        × AreSegmentsFront kind level depth text.now middle n read.holds read.noted
+    ensures { IfSome result (λ read. (middle : List ℕ)
+        × AreSegmentsFront kind level depth text.now middle read.count read.holds read.noted
         × AreNotesFront level middle read.rest.now read.ended) }
 {
     let mut rest = text;
-    let mut one = false;
-    let mut two = false;
     let mut holds = false;
     let mut noted = false;
-    for _ in 0..text.len() {
+    for count in 0..text.len() {
         let above = notes(rest, level);
         let Some(inner) = line(above.rest, level) else {
-            return Some(AfterSegments {
+            return Some(AfterLines {
                 rest: above.rest,
-                one,
-                two,
+                count,
                 holds,
                 noted,
                 ended: above.some,
@@ -67,10 +57,20 @@ pub(crate) fn segments(
         holds = either(holds, read.holds);
         let about = either(above.some, side.some);
         noted = either(noted, about);
-        two = one;
-        one = true;
     }
     None
+}
+
+/// What follows segments in place.
+#[derive(Clone, Copy)]
+pub(crate) struct AfterFlat<'t> {
+    /// There is one at least.
+    pub(crate) one: bool,
+    /// There are two at least.
+    pub(crate) two: bool,
+    pub(crate) rest: &'t [u8],
+    /// One of them holds a group on lines of its own.
+    pub(crate) holds: bool,
 }
 
 /// What follows the segments here in place.
@@ -81,21 +81,31 @@ pub(crate) fn flat_segments(
     text: &[u8],
     level: u8,
     depth: u8,
-) -> Option<AfterSegments<'_>>
+) -> Option<AfterFlat<'_>>
     requires { level + depth < 255 }
     ensures { IfSome result (λ read. (n : ℕ) × (read.one ≡ nat_le 1 n) × (read.two ≡ nat_le 2 n)
         × AreFlatFront kind true level depth text.now read.rest.now n read.holds) }
 {
     if after(text, closing(kind)).is_some() {
-        return Some(in_place(text, false, false, false));
+        return Some(AfterFlat {
+            rest: text,
+            one: false,
+            two: false,
+            holds: false,
+        });
     }
     let first = segment(kind, text, level, depth)?;
     let mut rest = first.rest;
     let mut two = false;
     let mut holds = first.holds;
     for _ in 0..text.len() {
-        let Some(next) = after_comma(rest) else {
-            return Some(in_place(rest, true, two, holds));
+        let Some(next) = after_word(rest, Word::Comma) else {
+            return Some(AfterFlat {
+                rest,
+                one: true,
+                two,
+                holds,
+            });
         };
         let read = segment(kind, next, level, depth)?;
         rest = read.rest;
@@ -103,20 +113,6 @@ pub(crate) fn flat_segments(
         two = true;
     }
     None
-}
-
-fn in_place(rest: &[u8], one: bool, two: bool, holds: bool) -> AfterSegments<'_>
-    ensures rest { result.rest.now ≡ rest.now }
-    ensures counted { (result.one ≡ one) × (result.two ≡ two) × (result.holds ≡ holds) }
-{
-    AfterSegments {
-        rest,
-        one,
-        two,
-        holds,
-        noted: false,
-        ended: false,
-    }
 }
 
 /// What follows the segment here, of a group of this kind.
@@ -145,7 +141,7 @@ pub(crate) fn named_segment(kind: GroupKind, text: &[u8], level: u8, depth: u8) 
     match kind {
         GroupKind::Dict => {
             let colon = leaf(text)?;
-            let value = after_colon(colon)?;
+            let value = after_word(colon, Word::Colon)?;
             let read = nodes(value, level, depth)?;
             Some(read)
         }
@@ -179,6 +175,6 @@ pub(crate) fn after_keyword(text: &[u8]) -> Option<&[u8]>
     ensures { IfSome result (λ rest. IsTokenFront Identifier text.now (codes " = " ++ rest.now)) }
 {
     let equals = identifier(text)?;
-    let rest = after_equals(equals)?;
+    let rest = after_word(equals, Word::Equals)?;
     Some(rest)
 }

@@ -1,6 +1,6 @@
 //! A statement that stands as it would be written, with its comments.
 
-ghost use Rattle.std.specs.Prelude.{◌≡◌, ◌-◌, ◌<◌, length, option_map, take, IfSome};
+ghost use Rattle.std.specs.Prelude.{◌<◌, option_map, IfSome};
 ghost use Rattle.bz_canonical.specs.private.Statements.{IsStatementFront};
 
 use crate::bare::bare_statement;

@@ -1,6 +1,6 @@
 //! A rule without a name whose only argument stands in place.
 
-ghost use Rattle.std.specs.Prelude.{◌≡◌, ◌+◌, ◌<◌, ◌-◌, ◌∷◌, ◌++◌, codes, length, take, option_map, drop, IfOk, IfSome, OnOk, [], false, None, Some};
+ghost use Rattle.std.specs.Prelude.{◌≡◌, ◌<◌, ◌-◌, ◌∷◌, ◌++◌, ℕ, List, codes, length, take, option_map, drop, IfOk, IfSome, OnOk, [], false, None, Some};
 ghost use Rattle.bz_tree.specs.declared.stmt.Class.TheVariants.{Rule as RuleClass};
 ghost use Rattle.bz_tree.specs.declared.stmt.GroupKind.TheVariants.{RuleCall};
 ghost use Rattle.bz_canonical.specs.Canonical.{IsCanonical, between};
@@ -28,11 +28,7 @@ pub(crate) struct UnnamedRule<'t> {
 }
 
 /// The rule here, whose argument is neither `name` nor has the name that is asked for.
-pub(crate) fn unnamed_rule<'t>(
-    text: &'t [u8],
-    attr: &[u8],
-    max_depth: u8,
-) -> Option<UnnamedRule<'t>>
+pub(crate) fn unnamed_rule<'t>(text: &'t str, attr: &str, max_depth: u8) -> Option<UnnamedRule<'t>>
     requires { max_depth < 254 }
     ensures { IfSome result (λ rule. IsUnnamedRule max_depth attr.now text.now rule.argument.now rule.close.now
         rule.rest.now) }
@@ -41,13 +37,14 @@ pub(crate) fn unnamed_rule<'t>(
         return None;
     }
     let depth = max_depth.checked_sub(1)?;
-    let start = lines(text);
+    let start = lines(text.as_bytes());
     let bracket = identifier(start)?;
     let argument = after(bracket, b'(')?;
     let close = only_argument(argument, depth)?;
     let end = after(close, b')')?;
     let call = before(bracket, end.len())?;
-    if has_argument_name(call, b"name".as_slice()) || has_argument_name(call, attr) {
+    let sought = attr.as_bytes();
+    if has_argument_name(call, b"name".as_slice()) || has_argument_name(call, sought) {
         return None;
     }
     let rest = statement_end(end)?;
@@ -83,14 +80,12 @@ fn statement_end(text: &[u8]) -> Option<&[u8]>
 pub(crate) fn unnamed_chunk<'t>(
     text: &'t str,
     rule: UnnamedRule<'t>,
-    attr: &str,
-    max_depth: u8,
     written: &'t mut Vec<u8>,
 ) -> Result<Option<CanonicalChunk<'t>>, NoMemory>
-    requires { IsUnnamedRule max_depth attr.now text.now rule.argument.now rule.close.now rule.rest.now }
-    ensures { IfOk result (λ told. IfSome told (λ found. IsCanonical max_depth attr.now found.class
-        (option_map (λ name. name.now) found.name) (option_map between found.place)
-        found.chunk.now found.written.now text.now)) }
+    ensures { IfOk result (λ told. IfSome told (λ found. (depth : ℕ) (attr : List ℕ)
+        → IsUnnamedRule depth attr text.now rule.entry.argument.now rule.entry.close.now rule.entry.rest.now
+        → IsCanonical depth attr found.class (option_map (λ name. name.now) found.name)
+        (option_map between found.place) found.chunk.now found.written.now text.now)) }
 {
     let Some(parts) = parts_of(text, rule) else {
         return Ok(None);
@@ -136,7 +131,8 @@ impl Parts<'_> {
     /// Writes the rule with its argument on a line of its own. So much is written before the place after it.
     fn put(self, written: &mut Vec<u8>) -> Result<usize, NoMemory>
         ensures text { OnOk result (written.new.items
-            ≡ (self.entry.head.now ++ (codes "\n    " ++ (self.entry.argument.now ++ codes ","))) ++ (10 ∷ self.entry.end.now)) }
+            ≡ (self.entry.head.now ++ (codes "\n    " ++ (self.entry.argument.now ++ codes ",")))
+            ++ (10 ∷ self.entry.end.now)) }
         ensures start { IfOk result (λ start. start
             ≡ length (self.entry.head.now ++ (codes "\n    " ++ (self.entry.argument.now ++ codes ",")))) }
     {

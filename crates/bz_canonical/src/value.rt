@@ -1,12 +1,12 @@
 //! Values that stand as they would be written: operands, calls of names, and sums of them.
 
-ghost use Rattle.std.specs.Prelude.{◌≡◌, ◌+◌, ◌<◌, ◌∷◌, ◌||◌, ℕ, IfSome, false};
+ghost use Rattle.std.specs.Prelude.{◌≡◌, ◌+◌, ◌<◌, ◌||◌, ℕ, IfSome, false};
 ghost use Rattle.bz_token.specs.declared.token.Kind.TheVariants.{String};
 ghost use Rattle.bz_canonical.specs.private.Chains.{IsTermFront};
 ghost use Rattle.bz_canonical.specs.private.Fronts.{IsTokenFront};
 ghost use Rattle.bz_canonical.specs.private.Values.{AreNodesFront, IsValueFront};
 
-use crate::front::{after_plus, identifier, number, string};
+use crate::front::{Word, after_word, identifier, number, string};
 use crate::group::group;
 use bz_tree::GroupKind;
 
@@ -25,6 +25,7 @@ pub(crate) fn either(a: bool, b: bool) -> bool
 }
 
 /// What follows the string, number or name here.
+#[tactic(auto, using(crate::proofs::Operands::leaf_values))]
 #[inline(always)]
 pub(crate) fn leaf(text: &[u8]) -> Option<&[u8]>
     ensures { IfSome result (λ rest. (level depth : ℕ) → IsValueFront level depth text.now rest.now false) }
@@ -45,74 +46,6 @@ pub(crate) fn leaf(text: &[u8]) -> Option<&[u8]>
     }
 }
 
-/// What follows the group of this kind here, an operand.
-#[cycle(values)]
-#[inline(always)]
-fn list(text: &[u8], level: u8, depth: u8) -> Option<Value<'_>>
-    requires { level + depth < 255 }
-    ensures { IfSome result (λ v. IsTermFront level depth text.now v.rest.now v.holds) }
-{
-    if depth == 0 {
-        return None;
-    }
-    let read = group(GroupKind::List, text, level, depth - 1)?;
-    Some(read)
-}
-
-#[cycle(values)]
-#[inline(always)]
-fn dict(text: &[u8], level: u8, depth: u8) -> Option<Value<'_>>
-    requires { level + depth < 255 }
-    ensures { IfSome result (λ v. IsTermFront level depth text.now v.rest.now v.holds) }
-{
-    if depth == 0 {
-        return None;
-    }
-    let read = group(GroupKind::Dict, text, level, depth - 1)?;
-    Some(read)
-}
-
-/// What follows the name here, or its call.
-#[cycle(values)]
-#[inline(always)]
-fn name_or_call(text: &[u8], level: u8, depth: u8) -> Option<Value<'_>>
-    requires { level + depth < 255 }
-    ensures { IfSome result (λ v. IsTermFront level depth text.now v.rest.now v.holds) }
-{
-    let end = identifier(text)?;
-    match end {
-        [b'(', ..] => {
-            if depth == 0 {
-                return None;
-            }
-            let read = group(GroupKind::Call, end, level, depth - 1)?;
-            Some(read)
-        }
-        _ => Some(Value {
-            rest: end,
-            holds: false,
-        }),
-    }
-}
-
-/// What follows the operand or call here.
-#[cycle(values)]
-#[inline(always)]
-fn term(text: &[u8], level: u8, depth: u8) -> Option<Value<'_>>
-    requires { level + depth < 255 }
-    ensures { IfSome result (λ v. IsTermFront level depth text.now v.rest.now v.holds) }
-{
-    match text {
-        [b'[', ..] => list(text, level, depth),
-        [b'{', ..] => dict(text, level, depth),
-        [b'"' | b'0'..=b'9', ..] => {
-            let rest = leaf(text)?;
-            Some(Value { rest, holds: false })
-        }
-        _ => name_or_call(text, level, depth),
-    }
-}
-
 /// What follows the string here, where no operator may follow it.
 #[inline(always)]
 fn lone_string(text: &[u8]) -> Option<&[u8]>
@@ -125,7 +58,53 @@ fn lone_string(text: &[u8]) -> Option<&[u8]>
     }
 }
 
+/// What follows the operand or call here.
+#[cycle(values)]
+#[inline(always)]
+fn term(text: &[u8], level: u8, depth: u8) -> Option<Value<'_>>
+    requires { level + depth < 255 }
+    ensures { IfSome result (λ v. IsTermFront level depth text.now v.rest.now v.holds) }
+{
+    match text {
+        [b'[', ..] => {
+            let read = group(GroupKind::List, text, level, depth)?;
+            Some(read)
+        }
+        [b'{', ..] => {
+            let read = group(GroupKind::Dict, text, level, depth)?;
+            Some(read)
+        }
+        [b'"' | b'0'..=b'9', ..] => {
+            let rest = leaf(text)?;
+            Some(Value { rest, holds: false })
+        }
+        _ => name_or_call(text, level, depth),
+    }
+}
+
+/// What follows the name here, or its call.
+#[tactic(auto, using(crate::proofs::Chained::call_term))]
+#[cycle(values)]
+#[inline(always)]
+fn name_or_call(text: &[u8], level: u8, depth: u8) -> Option<Value<'_>>
+    requires { level + depth < 255 }
+    ensures { IfSome result (λ v. IsTermFront level depth text.now v.rest.now v.holds) }
+{
+    let end = identifier(text)?;
+    match end {
+        [b'(', ..] => {
+            let read = group(GroupKind::Call, end, level, depth)?;
+            Some(read)
+        }
+        _ => Some(Value {
+            rest: end,
+            holds: false,
+        }),
+    }
+}
+
 /// What follows the value here.
+#[tactic(auto, using(crate::proofs::Operands::string_value, crate::proofs::Chained::value_nodes))]
 #[cycle(values)]
 #[inline(always)]
 pub(crate) fn nodes(text: &[u8], level: u8, depth: u8) -> Option<Value<'_>>
@@ -154,7 +133,7 @@ fn sum(text: &[u8], level: u8, depth: u8) -> Option<Value<'_>>
     for _ in 0..text.len() {
         let read = term(next, level, depth)?;
         holds = either(holds, read.holds);
-        let Some(operand) = after_plus(read.rest) else {
+        let Some(operand) = after_word(read.rest, Word::Plus) else {
             return Some(Value {
                 rest: read.rest,
                 holds,

@@ -322,9 +322,6 @@ few_left n ahead within ends few = elim (cases_lt (n + 8192) (length ahead.bytes
   | inr fits ↦ omega (arith, length-drop n ahead.bytes)
 ]
 
-pub few_bytes : (ahead : Ahead) → length ahead.bytes ≤ 8192 → IsFewAfter ahead
-few_bytes ahead few n more = absurd (omega (arith, few, more))
-
 -- what is sure to be too long stays so
 too_long_read : (max n : ℕ) (old new : Ahead) (pieces : List (List ℕ)) → IsReadOn max old new pieces → IsTooLong n old → IsTooLong n new
 too_long_read max n old new pieces read long rest may =
@@ -348,20 +345,6 @@ few_read max e old new pieces read few within begun is n more =
 pub few_block : (max e : ℕ) (old new : Ahead) (pieces : List (List ℕ)) → IsReadOn max old new pieces → length (concat pieces) + (length old.bytes - e) ≤ 8192 → e ≤ length old.bytes → IsBlock (take e old.bytes) → IsFewAfter new
 few_block max e old new pieces read few within block n more =
     too_long_read max n old new pieces read (too_long_block n e old (omega (arith, more, few, within, ap length read.bytes, length-append old.bytes (concat pieces))) within block)
-
--- all that is ahead is a part of the chunk
-pub part_begun : (ahead : Ahead) → IsPart ahead.bytes → IsBegun ahead (length ahead.bytes)
-part_begun ahead part =
-    let bytes = ahead.bytes in
-    let all : take (length bytes) bytes ≡ bytes = grind (arith, common_steps) in
-    let none : drop (length bytes) bytes ≡ [] = grind (arith, common_steps) in
-    record {
-      last = λ some. subst (λ l. chunks l ≡ l ∷ []) (sym all) (part.last some);
-      longer = λ rest may some. subst (λ l. IsLonger l (drop (length bytes) bytes ++ rest)) (sym all) (subst (λ l. IsLonger bytes (l ++ rest)) (sym none) (part.longer rest (subst (λ l. 0 < length (l ++ rest)) none some)));
-    }
-
-pub none_after : (bytes : List ℕ) → IsOpen (drop (length bytes) bytes)
-none_after bytes rest = let none : drop (length bytes) bytes ≡ [] = grind (arith, common_steps) in rw none refl
 
 pub chunk_end : (ahead : Ahead) (n : ℕ) → 0 < n → n ≤ length ahead.bytes → length (drop n ahead.bytes) ≤ 8192 → EndsAt ahead n → IsEnd ahead n
 chunk_end ahead n some within left ends = record { within = within; left = left; ends = λ _. ends; none = λ zero. absurd (omega arith) }

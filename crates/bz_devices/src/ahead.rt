@@ -1,13 +1,13 @@
 //! The input's next chunk: where it ends, reading no further than is needed to know it. A session of bz_engine
-//! (`session.rt`) has an `Ahead`. It calls `read_on` where the text ends too early to know the first chunk, and
+//! (`session.rt`) has an `Ahead`. It calls `read_where_open` where the text seems to end before its first chunk, and
 //! `next_chunk` where the chunk has to be found line by line.
 
-ghost use Rattle.std.specs.Prelude.{◌≡◌, ◌≢◌, ℕ, ◌+◌, ◌<◌, ◌≤◌, ◌⊎◌, true, false, List, [], length, take, drop, IfOk, OnOk, OnErr, IfSome, IfNone, IsErrOf, IsTrue, IsUtf8};
+ghost use Rattle.std.specs.Prelude.{◌≡◌, ◌≢◌, ℕ, ◌+◌, ◌<◌, ◌≤◌, true, false, List, [], length, take, drop, IfOk, OnOk, OnErr, IfSome, IfNone, IsErrOf, IsTrue, IsUtf8};
 ghost use Rattle.std.specs.Str.{IsCharBoundary, IsValidUpTo};
 ghost use Rattle.bz_devices.specs.Device.{Rises};
-ghost use Rattle.bz_token.specs.Cuts.{IsBlock, IsPart};
+ghost use Rattle.bz_token.specs.Cuts.{IsBlock};
 ghost use Rattle.bz_token.specs.CutterState.{IsAfter, IsAtBlock};
-ghost use Rattle.bz_devices.specs.Ahead.{IsReadOn, AreNeeded, IsNextChunk, IsTooLong, IsUncertain, IsFewAfter};
+ghost use Rattle.bz_devices.specs.Ahead.{IsReadOn, IsNextChunk, IsFewAfter};
 ghost use Rattle.bz_devices.specs.Search.{Searches};
 ghost use Rattle.bz_devices.specs.private.AheadSteps.{IsOpen, IsLine, IsLineAt, IsBegun, GoesOn, EndsAt, IsEnd};
 ghost use Rattle.std.specs.List.{concat};
@@ -202,28 +202,47 @@ fn drop_front(bytes: &mut Vec<u8>, n: usize)
     bytes.truncate(left);
 }
 
-/// Reads once, where all that is ahead is a part of the next chunk; answers whether it did. It does not after the end of
-/// the input, nor where the chunk is sure to be too long.
-pub fn read_on<S: Source>(
+/// Reads once, where no chunk ends in the bytes ahead whatever follows them; answers whether it did. It does not after
+/// the end of the input, nor where the chunk is sure to be too long.
+pub fn read_where_open<S: Source>(
     ahead: &mut Ahead,
     source: &mut S,
     limits: Limits,
 ) -> Result<bool, ChunkFault>
     requires made { ahead.old.reads ≤ limits.reads }
-    requires part { IsPart ahead.old.bytes }
-    requires few { length ahead.old.bytes ≤ 8192 }
+    requires few { IsFewAfter ahead.old }
     requires bound { length ahead.old.bytes ≤ limits.statement + 8192 }
     ensures searches { Searches S.gave S.failures limits source.old source.new ahead.old ahead.new result }
     ensures fitting { result ≢ Err ChunkFault.StatementTooLong }
     ensures one { result ≡ Ok true → ahead.new.reads ≡ ahead.old.reads + 1 }
-    ensures idle { result ≡ Ok false
-        → (ahead.new ≡ ahead.old) × (IsTrue ahead.old.ended ⊎ IsTooLong limits.statement ahead.old) }
+    ensures idle { result ≡ Ok false → ahead.new ≡ ahead.old }
 {
     if ahead.is_ended() || ahead.bytes().len() as u64 > limits.statement {
         return Ok(false);
     }
+    let Some(_line) = open_line(ahead) else {
+        return Ok(false);
+    };
     ahead.read(source, PIECE, limits.reads)?;
     Ok(true)
+}
+
+/// Where the line begins that no newline ends, where all lines before it are a part of the next chunk.
+fn open_line(ahead: &Ahead) -> Option<usize>
+    ensures within { IfSome result (λ n. n ≤ length ahead.now.bytes) }
+    ensures begun { IfSome result (IsBegun ahead.now) }
+    ensures open { IfSome result (λ n. IsOpen (drop n ahead.now.bytes)) }
+{
+    let mut cutter = Cutter::new();
+    let mut end = 0;
+    while let Some(n) = line_end(&ahead.bytes()[end..]) {
+        let next = end + n;
+        match cutter.line(&ahead.bytes()[end..next]) {
+            Cut::More => end = next,
+            Cut::Whole | Cut::Block => return None,
+        }
+    }
+    Some(end)
 }
 
 /// Where the first line ends, after its newline.
@@ -238,8 +257,9 @@ fn line_end(bytes: &[u8]) -> Option<usize>
     }
 }
 
-/// Reads on until the line that begins after the first `from` bytes has its newline, or the input
-/// has ended. Answers where the line ends. Before each read all bytes ahead belong to its chunk.
+/// Reads on until the line that begins after the first `from` bytes has its newline, or the input has ended. Answers
+/// where the line ends. The bytes before `from` are lines of the next chunk, which goes on after them (`begun`): so
+/// before each read all bytes ahead belong to that chunk. `few` and `bound` say that no more was read than was needed.
 fn read_line<S: Source>(
     ahead: &mut Ahead,
     source: &mut S,
@@ -270,7 +290,7 @@ fn read_line<S: Source>(
     }
 }
 
-/// Whether the chunk ends with its block, after the first `end` bytes. `ends_chunk` asks where the cutter, which has read
+/// Whether the chunk ends with its block, after the first `end` bytes. `ends_chunk` asks where the cutter, which read
 /// these bytes (`after`), said of their last line that it stands in a block (`at_block`), so that what follows decides
 /// (`block`). `made`, `few` and `bound` are what `chunk_end` keeps of the bytes ahead.
 fn ends_block<S: Source>(
@@ -299,6 +319,7 @@ fn ends_block<S: Source>(
                 if end as u64 > limits.statement {
                     return Err(ChunkFault::StatementTooLong);
                 }
+                // After a chunk no more than a piece may be ahead: what stands after the block is counted.
                 let most = PIECE - (ahead.bytes().len() - end);
                 ahead.read(source, most, limits.reads)?;
             }
@@ -306,7 +327,7 @@ fn ends_block<S: Source>(
     }
 }
 
-/// Whether the chunk ends with the line that ends after the first `end` bytes.
+/// Whether the chunk ends with the line from `from` to `end`. The cutter has read the lines before it (`goes_on`).
 fn ends_chunk<S: Source>(
     cutter: &mut Cutter,
     ahead: &mut Ahead,

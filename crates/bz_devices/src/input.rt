@@ -8,11 +8,12 @@ use crate::device::{Failed, Source};
 use bz_memory::{NoMemory, lengthen};
 use std::alloc::Global;
 
-/// The greatest number of bytes that one read asks for.
+/// The greatest number of bytes that one read asks for, as many as readers of std ask for. Contracts write it as 8192:
+/// a read is made only where the next chunk is open, so that after a chunk no more bytes than these are ahead.
 pub const PIECE: usize = 8192;
 
 /// Why bytes could not be read.
-#[derive(Clone, Copy, Debug, PartialEq, Eq)]
+#[derive(Clone, Copy)]
 pub enum ReadFault {
     /// A growth of memory was refused.
     OutOfMemory(NoMemory),

@@ -1,7 +1,7 @@
 //! What the search for the next chunk keeps to.
 
 /// What the search for the next chunk keeps to.
-#[derive(Clone, Copy, Debug, PartialEq, Eq)]
+#[derive(Clone, Copy)]
 pub struct Limits {
     /// The most bytes of a chunk.
     pub statement: u64,

@@ -14,7 +14,7 @@ use Rattle.bz_engine.specs.declared.run_fault.RunFault.TheVariants.{OutOfMemory,
 use Rattle.bz_engine.specs.private.ChunkFaults.{fault_at}
 use Rattle.bz_engine.specs.private.Finds.{Finds}
 
-no_err : {T E : Type 0} (x : T) (e : E) → (let r : Result T E = Ok x in r) ≢ Err e
+pub no_err : {T E : Type 0} (x : T) (e : E) → (let r : Result T E = Ok x in r) ≢ Err e
 no_err x e h = cc
 
 other_type : {A B E : Type 0} (e f : E) → (let r : Result A E = Err e in r) ≡ Err f → (let r : Result B E = Err e in r) ≡ Err f
@@ -29,7 +29,7 @@ module _ {S : Type 0} (gave : S → List (List ℕ) → S → Type 0) (failures 
   Found source after old new = Finds gave failures options line source after old new (let r : Result (Unit {0}) RunFault = Ok tt in r)
 
   -- a chunk, or that there is none, is no fault
-  pub finds_ok : {T : Type 0} (x : T) (source after : S) (old new : Ahead)
+  unfoldable pub finds_ok : {T : Type 0} (x : T) (source after : S) (old new : Ahead)
       → ((pieces : List (List ℕ)) × gave source pieces after × IsReadOn options.max_reads old new pieces × AreNeeded options.max_statement old.bytes pieces)
       → length new.bytes ≤ options.max_statement + 8192 → failures after ≡ failures source
       → Finds gave failures options line source after old new (let r : Result T RunFault = Ok x in r)
@@ -45,7 +45,7 @@ module _ {S : Type 0} (gave : S → List (List ℕ) → S → Type 0) (failures 
     runs = (no_err x Stopped, no_err x WriteFailed);
   }
 
-  pub finds_nothing : {T : Type 0} (x : T) (source : S) (ahead : Ahead) → gave source [] source → ahead.reads ≤ options.max_reads
+  unfoldable pub finds_nothing : {T : Type 0} (x : T) (source : S) (ahead : Ahead) → gave source [] source → ahead.reads ≤ options.max_reads
       → length ahead.bytes ≤ options.max_statement + 8192
       → Finds gave failures options line source source ahead ahead (let r : Result T RunFault = Ok x in r)
   finds_nothing x source ahead none made bound = finds_ok x source source ahead ahead ([], none, read_nothing options.max_reads ahead made, tt) bound refl

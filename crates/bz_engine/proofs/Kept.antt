@@ -4,7 +4,6 @@ use Rattle.std.specs.Prelude.{Option, Result, Ok, OnErr}
 use Rattle.std.proofs.lemmas.Bool.{false≢true}
 use Rattle.std.proofs.lemmas.List.{length-take-le}
 use Rattle.bz_devices.specs.Ahead.{Ahead, IsReadOn, IsNextChunk, IsFewAfter}
-use Rattle.bz_devices.proofs.ChunkAhead.{few_bytes}
 use Rattle.bz_devices.proofs.ReadOn.{read_nothing}
 use Rattle.bz_passes.specs.Exchange.{Fits}
 use Rattle.bz_engine.specs.declared.session.SessionState.{SessionState}
@@ -87,9 +86,6 @@ lines_ahead v take made limit = small v.progress.line (length v.ahead.bytes) v.a
 -- more was read where all that is ahead is a part of the next chunk
 pub take_read : (v : SessionValue) (mid : Ahead) (max_reads : ℕ) (read : List (List ℕ)) → CanTake v → IsReadOn max_reads v.ahead mid read → IsFewAfter mid → CanTake (record v { ahead = mid })
 take_read v mid max_reads read take on few = record { fits = take.fits; few = few; lines = lines_read v mid max_reads read take.lines on }
-
-pub take_ready : (v : SessionValue) → IsReady v → CanTake v
-take_ready v ready = record { fits = ready.fits; few = few_bytes v.ahead ready.few; lines = ready.lines }
 
 -- nothing was read
 pub unread : (v w : SessionValue) (mid : Ahead) → v ≡ w → IsSession v → v.ahead ≡ mid → IsReadOn w.options.max_reads w.ahead mid []

@@ -1,9 +1,11 @@
 -- What a step did: it took a chunk, came to the end, or left a fault.
-use Rattle.std.proofs.Common.{◌≡◌, ◌≢◌, ℕ, ◌≤◌, List, [], ◌∷◌, ◌++◌, length, take, drop, refl, sym, ◌∙◌, ap, subst, inl}
+use Rattle.std.proofs.Common.{◌≡◌, ◌≢◌, ℕ, ◌+◌, ◌<◌, ◌≤◌, List, [], ◌∷◌, ◌++◌, length, take, drop, refl, sym, ◌∙◌, ap, subst, arith, inl}
 use Rattle.std.specs.Prelude.{IsTrue, Option, Result, Ok, Err}
+use Rattle.std.proofs.Math.Seq.{take-length}
 use Rattle.bz_devices.specs.Device.{Rises}
 use Rattle.bz_devices.specs.Ahead.{IsReadOn, AreNeeded, IsTooLong}
 use Rattle.bz_devices.proofs.ChunkAhead.{next_fits, nothing_fits}
+use Rattle.bz_devices.proofs.ReadOn.{read_nothing}
 use Rattle.bz_devices.proofs.PassedOn.{err_is}
 use Rattle.bz_engine.specs.declared.edit.Edited.TheVariants.{Done, Faulty, Failed}
 use Rattle.bz_engine.specs.declared.next_chunk.NextChunk.{NextChunk}
@@ -18,11 +20,13 @@ use Rattle.bz_engine.specs.declared.session.SessionState.TheVariants.{Going, End
 use Rattle.bz_engine.specs.declared.session.Step.{Step}
 use Rattle.bz_engine.specs.declared.session.Step.TheVariants as step
 use Rattle.bz_engine.specs.Progress.{Progress}
-use Rattle.bz_engine.specs.SessionValue.{SessionValue, IsSameRun, HasDone, HasEnded}
+use Rattle.bz_engine.specs.SessionValue.{SessionValue, IsSameRun, IsReady, HasDone, HasEnded}
 use Rattle.bz_engine.specs.SessionSteps.{Reader, Writer, reader, writer, AddsOne, EndsRun, IsCutShort, Tells, IsLeftByFault, Did, Steps}
 use Rattle.bz_engine.specs.private.Finds.{Finds}
 use Rattle.bz_engine.specs.private.NextChunks.{IsNextEdited}
 use Rattle.bz_engine.proofs.Advances.{chunk_done, chunk_faulty, chunk_failed, write_cut, restaged, take_some, take_few}
+use Rattle.bz_engine.proofs.BlankLines.{newline_edited}
+use Rattle.bz_engine.proofs.Finds.{finds_ok, finds_nothing}
 use Rattle.bz_engine.proofs.Runs.{reads_for}
 use Rattle.bz_engine.proofs.Sessions.{ended_whole, reads_are, read_within}
 
@@ -255,6 +259,25 @@ module _ {S W T : Type 0} (gave : S → List (List ℕ) → S → Type 0) (reads
   step_ended old v e new x answer source after sink nothing is at finds over =
       subst (λ s. Steps (reader gave reads_failed source after) (writer took writes_failed sink sink) old new (Ok s)) (sym is)
       (step_on old v e new x step.End source after sink sink [] nothing refl (λ _. refl) at finds over)
+
+-- an empty line was taken, of which nothing is written
+pub step_at_empty_line : {S W : Type 0} (gave : S → List (List ℕ) → S → Type 0) (reads_failed : S → ℕ) (took : W → List ℕ → W → Type 0) (writes_failed : W → ℕ)
+    → (v new : SessionValue) (source : S) (sink : W) (rest : List ℕ) → gave source [] source → took sink [] sink
+    → v.stage ≡ Going → IsReady v → v.ahead.reads ≤ v.options.max_reads → v.ahead.bytes ≡ 10 ∷ rest → 0 < v.options.max_statement
+    → (let after : SessionValue = record v { progress = record v.progress { line = v.progress.line + 1 }; ahead = record v.ahead { bytes = drop 1 v.ahead.bytes } } in new ≡ after)
+    → Steps (reader gave reads_failed source source) (writer took writes_failed sink sink) v new (Ok step.More)
+unfolding finds_nothing finds_ok
+step_at_empty_line gave reads_failed took writes_failed v new source sink rest unread unwritten going ready made begins some is =
+    let stopped : SessionValue = record v { stage = Stopped } in
+    let passed : Progress = record v.progress { line = v.progress.line + 1 } in
+    let done : SessionValue = record stopped { progress = passed } in
+    let taken : SessionValue = record done { ahead = record v.ahead { bytes = drop 1 v.ahead.bytes } } in
+    let goes : SessionState → SessionValue = λ stage. record taken { stage = stage } in
+    let next : IsNextEdited stopped done [] [] (record { len = 1; edited = Done }) =
+    newline_edited _ _ v.ahead v.progress passed [] rest v.ahead.bytes (λ n more. absurd (omega (arith, ready.few, more))) (length v.ahead.bytes, omega arith, sym (take-length v.ahead.bytes)) begins some refl in
+    step_on {T = ℕ} gave reads_failed took writes_failed v stopped done new 0 step.More source source sink sink [] unwritten refl (λ other. absurd (other refl)) refl
+    (finds_nothing gave reads_failed v.options v.progress.line 0 source v.ahead unread made (omega (arith, ready.few)))
+    (adds_one v stopped done taken new [] [] _ [] refl (read_nothing v.options.max_reads v.ahead made) tt next refl refl refl refl (is ∙ ap goes going))
 
 -- what a step did, where its answer is known
 pub did_as : {source : Reader} {sink : Writer} {old new : SessionValue} {result : Result Step RunFault} (s : Steps source sink old new result) (answer : Result Step RunFault)

@@ -1,5 +1,5 @@
 -- Stages and answers that differ, and what a session keeps from one call to the next.
-use Rattle.std.proofs.Common.{◌≡◌, ◌≢◌, refl, ℕ, ◌+◌, ◌≤◌, Bool, true, false, List, ◌++◌, length, take, arith, sym, ◌∙◌, ap, subst}
+use Rattle.std.proofs.Common.{◌≡◌, ◌≢◌, refl, ℕ, ◌+◌, ◌≤◌, Bool, true, false, List, ◌++◌, take, sym, ◌∙◌, ap, subst}
 use Rattle.std.specs.Prelude.{Result, Err, OnOk, IfOk}
 use Rattle.std.proofs.lemmas.Bool.{false≢true}
 use Rattle.bz_devices.proofs.PassedOn.{err_is}
@@ -91,15 +91,6 @@ with_ahead v w is =
     let at : Ahead → SessionValue = λ a. record v { ahead = a; progress = w.progress } in
     is ∙ ap at (sym (ap (λ x. x.ahead) is))
 
-pub few_ahead : (v w : SessionValue) → (let after : SessionValue = record v { progress = w.progress } in w ≡ after) → length v.ahead.bytes ≤ 8192
-    → length w.ahead.bytes ≤ v.options.max_statement + 8192
-few_ahead v w is few =
-    let most : ℕ = v.options.max_statement in
-    subst (λ a. length a.bytes ≤ most + 8192) (sym (ap (λ x. x.ahead) is)) (more (length v.ahead.bytes) most few)
-  where
-    more : (n most : ℕ) → n ≤ 8192 → n ≤ most + 8192
-    more n most h = omega arith
-
 -- more was read
 pub with_more : (v e i : SessionValue) (mid : Ahead) → i ≡ e → (let after : SessionValue = record v { progress = e.progress } in e ≡ after)
     → (let read : SessionValue = record i { ahead = mid } in let both : SessionValue = record v { ahead = mid; progress = i.progress } in read ≡ both)
@@ -158,5 +149,5 @@ read_alone v l w x mid same is progress there =
 pub passed_over : (old new : SessionValue) (before after : List ℕ) (first : First) → IsFirstNext old new before after first
     → ((next : NextChunk) → first ≢ Edited next) → new.progress ≡ old.progress
 passed_over old new before after (Edited next) is other = absurd (other next refl)
-passed_over old new before after Short is other = is.1
+passed_over old new before after Short is other = is.0
 passed_over old new before after Other is other = is.0

@@ -1,4 +1,7 @@
-//! When to see whether it is known what would be written of a chunk: seldom, where of one after another it was not.
+//! Guesses of the next chunk. When to see whether it is known what would be written of it: seldom, where of one after
+//! another it was not. And whether it seems to end after the bytes ahead. No contract hangs on a guess.
+
+use memchr::memrchr;
 
 // After eight looks in vain one after another, chunks are passed over before the next: 7 of them, and then more after
 // each further look in vain, up to 63.
@@ -8,7 +11,7 @@ const SHORTEST_PAUSE: u8 = 7;
 
 const LONGEST_PAUSE: u8 = 63;
 
-/// The looks that were had of chunks. No contract hangs on them.
+/// The looks that were had of chunks, and of the bytes ahead.
 #[derive(Clone, Copy)]
 pub(crate) struct Looks {
     /// How many were in vain one after another, up to eight.
@@ -17,6 +20,10 @@ pub(crate) struct Looks {
     pause: u8,
     /// So many chunks come before the next look.
     before_next: u8,
+    /// How many bytes were ahead of the last chunk.
+    ahead: usize,
+    /// Where fewer bytes than these are ahead, they seem to end before their chunk.
+    open: usize,
 }
 
 impl Looks {
@@ -26,6 +33,8 @@ impl Looks {
             in_vain: 0,
             pause: SHORTEST_PAUSE,
             before_next: 0,
+            ahead: 0,
+            open: 1,
         }
     }
 
@@ -54,6 +63,29 @@ impl Looks {
         self.in_vain = 0;
         self.pause = SHORTEST_PAUSE;
     }
+
+    /// Whether the bytes ahead seem to end before their first chunk. Where their end is seen, it is seen anew only once
+    /// more were read.
+    pub(crate) fn is_likely_short(&mut self, bytes: &[u8]) -> bool {
+        if bytes.len() > self.ahead {
+            self.open = open_len(bytes);
+        }
+        self.ahead = bytes.len();
+        bytes.len() < self.open
+    }
+}
+
+/// How many bytes follow the last newline that an empty line or a closing bracket follows: where fewer are left, all
+/// chunks that are sure to end are taken. Where there is none, no number of these bytes is enough.
+fn open_len(bytes: &[u8]) -> usize {
+    let mut front = bytes;
+    while let Some(at) = memrchr(b'\n', front) {
+        if matches!(bytes.get(at + 1), Some(b'\n' | b')')) {
+            return bytes.len() - at - 1;
+        }
+        front = &bytes[..at];
+    }
+    bytes.len() + 1
 }
 
 /// Twice as long, and one.

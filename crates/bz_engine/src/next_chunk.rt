@@ -1,6 +1,6 @@
 //! The script on the chunk that is found next.
 
-ghost use Rattle.std.specs.Prelude.{◌≡◌, ℕ, ◌+◌, ◌<◌, ◌≤◌, ◌^◌, ◌∷◌, List, length, map, IfOk, OnOk, IsTrue};
+ghost use Rattle.std.specs.Prelude.{◌≡◌, ◌+◌, ◌<◌, ◌≤◌, ◌^◌, length, map, IfOk, OnOk};
 ghost use Rattle.bz_token.specs.Places.{placed};
 ghost use Rattle.bz_token.specs.Reading.{AreTokensOf};
 ghost use Rattle.bz_devices.specs.Ahead.{IsFewAfter};
@@ -30,7 +30,7 @@ pub(crate) struct NextChunk {
 pub(crate) enum First {
     /// The script was run on it, and it is not yet taken.
     Edited(NextChunk),
-    /// Nothing: all that is ahead is a part of it.
+    /// Nothing: the text ahead ends before it does.
     Short,
     /// Nothing: it is to be found in another way.
     Other,
@@ -52,20 +52,13 @@ pub(crate) fn edit_first(
         progress.old progress.new text.old.items text.new.items) }
 {
     let text_ahead = ahead.text();
-    if begins_blank(text_ahead) && 0 < script.max_statement {
-        progress.line += 1;
-        return Ok(First::Edited(NextChunk {
-            len: 1,
-            edited: Edited::Done,
-        }));
-    }
     if let Some(next) = edit_canonical(ahead, script, progress, text)? {
         return Ok(First::Edited(next));
     }
     let chunk = match first_chunk(script.bump, text_ahead, progress.line, script.max_depth)? {
         Front::Chunk(chunk) => chunk,
-        Front::Short if text_ahead.len() == ahead.bytes().len() => return Ok(First::Short),
-        _ => return Ok(First::Other),
+        Front::Short => return Ok(First::Short),
+        Front::Other => return Ok(First::Other),
     };
     let len = chunk.text.len();
     if len as u64 > script.max_statement {
@@ -73,13 +66,6 @@ pub(crate) fn edit_first(
     }
     let edited = edit_tokens(script, chunk.text, chunk.tokens, progress, text)?;
     Ok(First::Edited(NextChunk { len, edited }))
-}
-
-/// Whether the text begins with an empty line, which is a chunk.
-fn begins_blank(text: &str) -> bool
-    ensures { IsTrue result → (rest : List ℕ) × (text.now ≡ 10 ∷ rest) }
-{
-    matches!(text.as_bytes(), [b'\n', ..])
 }
 
 /// The script on the chunk that has these tokens.

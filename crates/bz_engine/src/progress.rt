@@ -32,9 +32,9 @@ pub(crate) struct Progress {
     pub(crate) last: Option<Class>,
     /// The line on which the next chunk begins, from 1.
     pub(crate) line: u64,
-    /// When to see whether it is known what would be written of the next chunk. Contracts do not see it.
+    /// Guesses of the next chunk. Contracts do not see them.
     pub(crate) looks: Looks,
-    /// Contracts do not see it either.
+    /// Contracts do not see this either.
     pub(crate) spare: Spare,
     /// A buffer for what is written of a chunk. Contracts do not see it either.
     pub(crate) written: Vec<u8>,
@@ -122,6 +122,13 @@ impl Progress {
         ensures { self.new ≡ self.old }
     {
         self.looks.succeed();
+    }
+
+    /// Whether the bytes ahead seem to end before their first chunk.
+    pub(crate) fn is_likely_short(&mut self, ahead: &[u8]) -> bool
+        ensures { self.new ≡ self.old }
+    {
+        self.looks.is_likely_short(ahead)
     }
 }
 

@@ -3,8 +3,7 @@
 //! and writes its text. It begins with `Stopped`: after a fault the session is of no use.
 
 ghost use Rattle.bz_memory.specs.NoMemory.{no_memory};
-ghost use Rattle.std.specs.Prelude.{◌≡◌, ◌≢◌, ℕ, ◌+◌, ◌<◌, ◌≤◌, ◌^◌, false, List, [], length, take, drop, IfOk, OnOk, OnErr, IfSome, IfNone, IsTrue};
-ghost use Rattle.bz_token.specs.Cuts.{IsPart};
+ghost use Rattle.std.specs.Prelude.{◌≡◌, ◌≢◌, ℕ, ◌+◌, ◌<◌, ◌≤◌, ◌^◌, false, List, [], ◌∷◌, length, take, drop, IfOk, OnOk, OnErr, IfSome, IfNone, IsTrue};
 ghost use Rattle.bz_devices.specs.Device.{Rises};
 ghost use Rattle.bz_passes.specs.Exchange.{Fits};
 ghost use Rattle.bz_devices.specs.Ahead.{IsReadOn, IsNextChunk, IsFewAfter};
@@ -30,7 +29,7 @@ use crate::spare::Spare;
 use crate::telling::{report_of_all, report_of_fault, report_of_one};
 use bumpalo::Bump;
 use bz_command::Pass;
-use bz_devices::ahead::{Ahead, ChunkFault, next_chunk, read_on};
+use bz_devices::ahead::{Ahead, ChunkFault, next_chunk, read_where_open};
 use bz_devices::device::{Failed, Sink, Source};
 use bz_devices::limits::Limits;
 use bz_devices::output::write_all;
@@ -214,6 +213,10 @@ impl Session {
             (writer W.took W.failures sink.old sink.new) self.old self.new result }
         ensures stops { OnErr result (self.new.stage ≡ Stopped) }
     {
+        if self.is_at_empty_line() {
+            self.pass_empty_line();
+            return Ok(Step::More);
+        }
         // After a fault what is kept is of no use.
         self.stage = SessionState::Stopped;
         let mut text = self.take_text();
@@ -233,6 +236,27 @@ impl Session {
                 Ok(self.end_at(End::FirstFailure))
             }
         }
+    }
+
+    /// Whether the next chunk is an empty line, and not too long: nothing is written of it.
+    fn is_at_empty_line(&self) -> bool
+        ensures { IsTrue result → (rest : List ℕ) × (self.now.ahead.bytes ≡ 10 ∷ rest)
+            × (0 < self.now.options.max_statement) }
+    {
+        0 < self.options.max_statement && begins_with_newline(self.ahead.bytes())
+    }
+
+    /// The empty line ahead is taken.
+    fn pass_empty_line(&mut self)
+        requires going { self.old.stage ≡ Going }
+        requires some { 0 < length self.old.ahead.bytes }
+        ensures { self.new ≡ record self.old {
+          progress = record self.old.progress { line = self.old.progress.line + 1 };
+          ahead = record self.old.ahead { bytes = drop 1 self.old.ahead.bytes };
+        } }
+    {
+        self.progress.line += 1;
+        self.ahead.take(1);
     }
 
     /// The session has ended in this way. `advance` calls it with what is kept in place for each pass and command: so
@@ -256,9 +280,8 @@ impl Session {
         text
     }
 
-    /// The script on the next chunk; none where the input has ended. Most chunks end in the text ahead: then nothing
-    /// is read, and the walk that finds the end makes the tokens. Where the text ends before its chunk, more is read
-    /// once, and the walk begins again.
+    /// The script on the next chunk; none where the input has ended. Where the bytes ahead seem to end before the
+    /// chunk, more is read first: to look at the front of a chunk would be in vain.
     fn edit_next<S: Source>(
         &mut self,
         source: &mut S,
@@ -267,6 +290,26 @@ impl Session {
         requires ready { IsReady self.old }
         requires made { self.old.ahead.reads ≤ self.old.options.max_reads }
         requires stopped { self.old.stage ≡ Stopped }
+        ensures same { self.new ≡ record self.old { ahead = self.new.ahead; progress = self.new.progress } }
+        ensures finds { FindsNext S.gave S.failures source.old source.new self.old self.new result }
+        ensures fits { OnOk result (Fits self.new.progress.kept self.new.passes) }
+        ensures next { IfOk result (IsNext self.old self.new text.old.items text.new.items) }
+    {
+        read_short(&mut self.progress, &mut self.ahead, source, self.options)?;
+        self.edit_or_find(source, text)
+    }
+
+    /// The script on the next chunk. Most chunks end in the text ahead: then nothing is read, and the walk that finds
+    /// the end makes the tokens. Where the text ends before its chunk, more is read once, and the walk begins again.
+    fn edit_or_find<S: Source>(
+        &mut self,
+        source: &mut S,
+        text: &mut Vec<u8>,
+    ) -> Result<Option<NextChunk>, RunFault>
+        requires ready { CanTake self.old }
+        requires made { self.old.ahead.reads ≤ self.old.options.max_reads }
+        requires stopped { self.old.stage ≡ Stopped }
+        requires bound { length self.old.ahead.bytes ≤ self.old.options.max_statement + 8192 }
         ensures same { self.new ≡ record self.old { ahead = self.new.ahead; progress = self.new.progress } }
         ensures finds { FindsNext S.gave S.failures source.old source.new self.old self.new result }
         ensures fits { OnOk result (Fits self.new.progress.kept self.new.passes) }
@@ -375,6 +418,12 @@ impl Session {
     }
 }
 
+fn begins_with_newline(bytes: &[u8]) -> bool
+    ensures { IsTrue result → (rest : List ℕ) × (bytes.now ≡ 10 ∷ rest) }
+{
+    matches!(bytes, [b'\n', ..])
+}
+
 /// What a run is to do with each chunk.
 fn script_run<'a>(
     alloc: Global,
@@ -434,16 +483,37 @@ fn find_chunk<S: Source>(
     }
 }
 
-/// Reads once, where all that is ahead is a part of the next chunk; answers whether it did.
+/// Reads once, where the bytes ahead seem to end before their first chunk, and none is sure to end in them.
+fn read_short<S: Source>(
+    progress: &mut Progress,
+    ahead: &mut Ahead,
+    source: &mut S,
+    options: Options,
+) -> Result<(), RunFault>
+    requires made { ahead.old.reads ≤ options.max_reads }
+    requires few { IsFewAfter ahead.old }
+    requires bound { length ahead.old.bytes ≤ options.max_statement + 8192 }
+    ensures same { progress.new ≡ progress.old }
+    ensures finds { Finds S.gave S.failures options progress.old.line source.old source.new ahead.old ahead.new result }
+    ensures few { OnOk result (IsFewAfter ahead.new) }
+{
+    if progress.is_likely_short(ahead.bytes()) {
+        let line = progress.line;
+        read_more(ahead, source, Search { options, line })?;
+    }
+    Ok(())
+}
+
+/// Reads once, where no chunk is sure to end in the bytes ahead; answers whether it did.
 fn read_more<S: Source>(ahead: &mut Ahead, source: &mut S, search: Search) -> Result<bool, RunFault>
     requires made { ahead.old.reads ≤ search.options.max_reads }
-    requires part { IsPart ahead.old.bytes }
-    requires few { length ahead.old.bytes ≤ 8192 }
+    requires few { IsFewAfter ahead.old }
+    requires bound { length ahead.old.bytes ≤ search.options.max_statement + 8192 }
     ensures finds { Finds S.gave S.failures search.options search.line source.old source.new ahead.old ahead.new result }
     ensures few { OnOk result (IsFewAfter ahead.new) }
     ensures fitting { (at : ℕ) → result ≢ Err (RunFault.StatementTooLong at) }
 {
-    match read_on(ahead, source, search.limits()) {
+    match read_where_open(ahead, source, search.limits()) {
         Ok(read) => Ok(read),
         Err(fault) => Err(fault_at(fault, search.line)),
     }

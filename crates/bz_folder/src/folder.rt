@@ -6,7 +6,7 @@ ghost use Rattle.bz_folder.specs.Files.{Event, Make, Write, SetMode, Rename, Rem
 use bz_devices::device::{Failed, Source};
 
 /// Why a file was not opened.
-#[derive(Clone, Copy, Debug, PartialEq, Eq)]
+#[derive(Clone, Copy)]
 pub enum CannotOpen {
     /// There is no such file.
     Absent,
@@ -15,7 +15,7 @@ pub enum CannotOpen {
 }
 
 /// What a file is opened for.
-#[derive(Clone, Copy, Debug, PartialEq, Eq)]
+#[derive(Clone, Copy, PartialEq, Eq)]
 pub enum Purpose {
     /// It is read, and stays.
     Read,

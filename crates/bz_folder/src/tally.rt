@@ -2,7 +2,7 @@
 
 /// How many calls of each kind succeeded, how many bytes were written, and how many calls failed.
 /// Each count stays at its greatest value.
-#[derive(Clone, Copy, Debug, PartialEq, Eq)]
+#[derive(Clone, Copy)]
 pub struct Tally {
     pub makes: u64,
     pub writes: u64,

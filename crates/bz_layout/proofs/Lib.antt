@@ -1,4 +1,3 @@
-pub mod Kept
 pub mod Pieces
 pub mod Quotes
 pub mod Rules

@@ -1,35 +1,11 @@
 -- Bytes of pieces, and indents.
-use Rattle.std.proofs.Common.{◌≡◌, codes, ℕ, zero, suc, ◌+◌, ◌-◌, ◌*◌, ◌<◌, ◌≤◌, List, [], ◌∷◌, ◌++◌, length, take, refl, ap, sym, ◌∙◌, arith, append_assoc, append-nil}
+use Rattle.std.proofs.Common.{◌≡◌, codes, ℕ, zero, suc, ◌+◌, ◌*◌, ◌≤◌, List, [], ◌∷◌, ◌++◌, length, take, refl, ap, ◌∙◌, arith, append_assoc}
+use Rattle.std.proofs.Math.Seq.{take-append-add}
 use Rattle.bz_layout.specs.Pieces.{Piece, bytes_of, indent}
 
 pub bytes_append : (ps qs : List Piece) → bytes_of (ps ++ qs) ≡ bytes_of ps ++ bytes_of qs
 bytes_append [] qs = refl
 bytes_append (p ∷ ps) qs = rw (bytes_append ps qs) (simp append_assoc)
-
-indent_step : (n i : ℕ) → i < n → indent (n - i) ≡ codes "    " ++ indent (n - (i + 1))
-indent_step n i h =
-    let e : n - i ≡ suc (n - (i + 1)) = omega arith in
-    ap indent e
-
--- one level more is put, and none is left
-pub indent_put : (before one : List ℕ) (n i : ℕ) → i < n → one ≡ before ++ codes "    " → one ++ indent (n - (i + 1)) ≡ before ++ indent (n - i)
-indent_put before one n i h is =
-    ap (λ (t : List ℕ). t ++ indent (n - (i + 1))) is
-    ∙ append_assoc before (codes "    ") (indent (n - (i + 1)))
-    ∙ ap (λ (t : List ℕ). before ++ t) (sym (indent_step n i h))
-
-pub indent_end : (now all : List ℕ) (n i : ℕ) → n ≤ i → now ++ indent (n - i) ≡ all → now ≡ all
-indent_end now all n i h is =
-    let none : n - i ≡ zero = omega arith in
-    sym (append-nil now) ∙ rw none at is
-
-take_after : (a b : List ℕ) (k : ℕ) → take (length a + k) (a ++ b) ≡ a ++ take k b
-take_after [] b k =
-    let none : 0 + k ≡ k = omega arith in
-    ap (λ (n : ℕ). take n b) none
-take_after (x ∷ a) b k =
-    let next : suc (length a) + k ≡ suc (length a + k) = omega arith in
-    ap (λ (n : ℕ). take n (x ∷ a ++ b)) next ∙ ap (λ (t : List ℕ). x ∷ t) (take_after a b k)
 
 -- a newline with a long indent, cut to a level
 line_at : (level : ℕ) → level ≤ 4 → take (1 + 4 * level) (codes "\n                ") ≡ 10 ∷ indent level
@@ -43,4 +19,4 @@ line_at (suc (suc (suc (suc (suc n))))) h = absurd (omega (arith, h))
 pub line_cut : (before all : List ℕ) (level : ℕ) → level ≤ 4 → all ≡ before ++ codes "\n                " → take (length before + 1 + 4 * level) all ≡ before ++ (10 ∷ indent level)
 line_cut before all level h is =
     let k : length before + 1 + 4 * level ≡ length before + (1 + 4 * level) = omega arith in
-    rw (is, k) (take_after before (codes "\n                ") (1 + 4 * level) ∙ ap (λ (t : List ℕ). before ++ t) (line_at level h))
+    rw (is, k) (take-append-add before (codes "\n                ") (1 + 4 * level) ∙ ap (λ (t : List ℕ). before ++ t) (line_at level h))

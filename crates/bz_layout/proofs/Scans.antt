@@ -1,5 +1,6 @@
 -- The walk backwards over parts marks each bracket as the tree says.
 use Rattle.std.proofs.Common.{◌≡◌, ℕ, suc, List, [], ◌∷◌, ◌++◌, map, Bool, true, false, ◌||◌, is_some, nat_le, Option, Some, None, refl, ap, sym, ◌∙◌, append_assoc, arith}
+use Rattle.std.proofs.Math.Bool.{or_assoc, or_comm, or-false}
 use Rattle.std.proofs.lemmas.Bool.Decides.{nat_tests}
 use Rattle.bz_tree.specs.declared.stmt.GroupKind.{GroupKind}
 use Rattle.bz_tree.specs.declared.stmt.GroupKind.TheVariants.{Call, RuleCall, Load, Paren, List as ListKind, Index, Dict, ListComp, DictComp}
@@ -43,24 +44,6 @@ in_segs comments holds n i = record { one_comma = i.one_comma; comments = commen
 
 abbrev seen : Segs → Scan → Scan
 seen ss s = record { marks = segs_marks ss ++ s.marks; here = in_segs (have_comments ss) (segs_hold ss) (add ss s.here.segs) s.here; outer = s.outer }
-
-or_assoc : (a b c : Bool) → (a || (b || c)) ≡ ((a || b) || c)
-or_assoc true b c = refl
-or_assoc false b c = refl
-
-or_four : (a b c d : Bool) → (a || (b || (c || d))) ≡ (((a || b) || c) || d)
-or_four true b c d = refl
-or_four false b c d = or_assoc b c d
-
-or_false : (a : Bool) → (a || false) ≡ a
-or_false true = refl
-or_false false = refl
-
-or_comm : (a b : Bool) → (a || b) ≡ (b || a)
-or_comm true true = refl
-or_comm true false = refl
-or_comm false true = refl
-or_comm false false = refl
 
 -- at most two segments are counted, which is enough
 two_of : (n : ℕ) → nat_le 2 (suc (suc n)) ≡ true
@@ -107,7 +90,7 @@ commas ListComp one ss = refl
 commas DictComp one ss = refl
 
 breaks_as : (kind : GroupKind) (ss : Segs) (end : List (List ℕ)) → breaks_with kind (have_comments ss || (is_filled end || false)) (add ss 0) (segs_hold ss || false) ≡ is_broken kind ss end (segs_hold ss)
-breaks_as kind ss end = rw (or_false (is_filled end), or_comm (have_comments ss) (is_filled end), or_false (segs_hold ss), counts kind ss, add_two ss) refl
+breaks_as kind ss end = rw (or-false (is_filled end), or_comm (have_comments ss) (is_filled end), or-false (segs_hold ss), counts kind ss, add_two ss) refl
 
 abbrev pub inside_of : Bool → Segs → List (List ℕ) → Contents
 inside_of one ss end = in_segs (have_comments ss) (segs_hold ss) (add ss 0) (in_segs (is_filled end) false 0 (closed one))
@@ -117,7 +100,7 @@ marked kind ss end one = rw (breaks_as kind ss end, commas kind one ss) refl
 
 -- one after the other
 found_both : (a c : List BracketForm) (b d : Bool) (s : Scan) → found a b (found c d s) ≡ found (a ++ c) (b || d) s
-found_both a c b d s = rw (append_assoc a c s.marks, or_assoc b d s.here.holds) refl
+found_both a c b d s = rw (append_assoc a c s.marks, ← or_assoc b d s.here.holds) refl
 
 pub scan_above : (comments : List (List ℕ)) (rest : List RowPart) → scan (map above comments ++ rest) ≡ record { marks = (scan rest).marks; here = in_segs (is_filled comments) false (scan rest).here.segs (scan rest).here; outer = (scan rest).outer }
 scan_above [] rest = refl
@@ -134,7 +117,7 @@ group_found kind segs one end s =
     let marks = segs_marks segs ++ s.marks in
     let mark = mark_as (is_broken kind segs end (segs_hold segs)) kind segs one in
     let same = ap (λ (m : BracketForm). below m (m.broken || inside.holds) marks (s.here ∷ s.outer)) (marked kind segs end one) in
-    same ∙ ap (λ (b : Bool). below mark (mark.broken || b) marks (s.here ∷ s.outer)) (or_false (segs_hold segs))
+    same ∙ ap (λ (b : Bool). below mark (mark.broken || b) marks (s.here ∷ s.outer)) (or-false (segs_hold segs))
 
 seg_seen : (before : List (List ℕ)) (nodes : Items) (suffix : Option (List ℕ)) (ss : Segs) (s : Scan) →
     record {
@@ -142,7 +125,7 @@ seg_seen : (before : List (List ℕ)) (nodes : Items) (suffix : Option (List ℕ
       here = in_segs (is_filled before) false (one_more (add ss s.here.segs)) (holding (items_hold nodes) (in_segs (is_some suffix) false (one_more (add ss s.here.segs)) (in_segs (have_comments ss) (segs_hold ss) (add ss s.here.segs) s.here)));
       outer = s.outer;
     } ≡ seen (seg before nodes suffix ss) s
-seg_seen before nodes suffix ss s = rw (append_assoc (items_marks nodes) (segs_marks ss) s.marks, or_four (is_filled before) (is_some suffix) (have_comments ss) s.here.comments, or_assoc (items_hold nodes) (segs_hold ss) s.here.holds) refl
+seg_seen before nodes suffix ss s = rw (append_assoc (items_marks nodes) (segs_marks ss) s.marks, ← or_assoc (is_filled before) (is_some suffix) (have_comments ss || s.here.comments), ← or_assoc (is_filled before || is_some suffix) (have_comments ss) s.here.comments, ← or_assoc (items_hold nodes) (segs_hold ss) s.here.holds) refl
 
 mutual
   pub scan_item : (x : Item) (rest : List RowPart) → scan (item_parts x ++ rest) ≡ found (item_marks x) (holds_broken x) (scan rest)

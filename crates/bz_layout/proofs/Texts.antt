@@ -1,9 +1,8 @@
 -- The text of parts is that of their statement, or of their nodes.
-use Rattle.std.proofs.Common.{◌≡◌, codes, ℕ, suc, ◌+◌, ◌<◌, List, [], ◌∷◌, ◌++◌, Bor, length, get_or, drop, drop-cons, add-one, map, true, false, Option, Some, None, refl, ap, sym, ◌∙◌, append_assoc, append-nil, inl, inr}
+use Rattle.std.proofs.Common.{◌≡◌, codes, ℕ, List, [], ◌∷◌, ◌++◌, map, true, false, Option, Some, None, refl, ap, sym, ◌∙◌, append_assoc, append-nil, inl, inr}
 use Rattle.std.proofs.lemmas.Bool.{cases_Bool}
 use Rattle.bz_tree.specs.Tree.{Item, leaf, group, Items, no_items, item, Statement, items_of}
-use Rattle.bz_tree.specs.Rows.{RowPart, above, beside_part, items_parts, parts_of, part_view}
-use Rattle.bz_tree.specs.declared.row.Part.{Part}
+use Rattle.bz_tree.specs.Rows.{RowPart, above, beside_part, items_parts, parts_of}
 use Rattle.bz_tree.specs.declared.stmt.Class.{Class}
 use Rattle.bz_tree.specs.declared.stmt.GroupKind.{GroupKind}
 use Rattle.bz_token.specs.declared.token.Kind.TheVariants.{Newline}
@@ -80,25 +79,6 @@ comments_laid t now s ps class is text parts same = text ∙ sym (rw is refl) �
 
 pub lines_laid : (t now : List ℕ) (s : Statement) (ps : List RowPart) (class : Class) → is_comment class ≡ false → now ≡ lines_text t ps → ps ≡ parts_of s → class ≡ s.class → now ≡ t ++ layout_text s
 lines_laid t now s ps class is text parts same = text ∙ sym (rw is refl) ∙ row_laid t s ps class parts same
-
--- the comments that are still to be written: one less after a part above, none after any other
-pub comment_put : (before one two : List ℕ) (parts : List Part) (k : ℕ) (d : Part) (comment : Bor (List ℕ)) → k < length parts → get_or parts k d ≡ Part.Above comment → one ≡ before ++ comment.now → two ≡ one ++ codes "\n" → two ++ bytes_of (comment_lines (leading (map part_view (drop (k + 1) parts)))) ≡ before ++ bytes_of (comment_lines (leading (map part_view (drop k parts))))
-comment_put before one two parts k d comment h is first second =
-    let later = bytes_of (comment_lines (leading (map part_view (drop (suc k) parts)))) in
-    rw (drop-cons parts k d, is, add-one k, second, first) (append_assoc (before ++ comment.now) (codes "\n") later ∙ append_assoc before comment.now (codes "\n" ++ later))
-
-leads_none : (p : Part) (rest : List RowPart) → ((comment : Bor (List ℕ)) → p ≡ Part.Above comment → ⊥) → leading (part_view p ∷ rest) ≡ []
-leads_none (Part.Token kind text) rest other = refl
-leads_none (Part.Open kind) rest other = refl
-leads_none (Part.Close one_comma) rest other = refl
-leads_none Part.End rest other = refl
-leads_none (Part.Above comment) rest other = absurd (other comment refl)
-leads_none (Part.Beside text) rest other = refl
-
-pub comments_end : (out all : List ℕ) (parts : List Part) (k : ℕ) (d : Part) → k < length parts → ((comment : Bor (List ℕ)) → get_or parts k d ≡ Part.Above comment → ⊥) → out ++ bytes_of (comment_lines (leading (map part_view (drop k parts)))) ≡ all → out ≡ all
-comments_end out all parts k d h other is =
-    let none : leading (map part_view (drop k parts)) ≡ [] = rw (drop-cons parts k d) (leads_none (get_or parts k d) (map part_view (drop (suc k) parts)) other) in
-    sym (append-nil out) ∙ rw none at is
 
 -- what was written is the line, below the comments above it
 pub line_row : (before text now : List ℕ) (ps : List RowPart) (ms : List BracketForm) (first last : Laid) → text ≡ before ++ bytes_of (comment_lines (leading ps)) → ms ≡ (scan ps).marks → first ≡ start text ms None → last ≡ run ps first → now ≡ last.text ++ codes "\n" → now ≡ lines_text before ps

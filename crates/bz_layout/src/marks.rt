@@ -26,13 +26,13 @@ const FIRST_CAPACITY: usize = 16;
 // What stands in a bracket, or at the top, after a part.
 #[derive(Clone, Copy)]
 pub(crate) struct Contents {
-    pub(crate) one_comma: bool,
+    one_comma: bool,
     // It has comments.
-    pub(crate) comments: bool,
+    comments: bool,
     // A segment of it holds a broken bracket.
-    pub(crate) holds: bool,
+    holds: bool,
     // The number of its segments, at most 2.
-    pub(crate) segs: u8,
+    segs: u8,
 }
 
 #[derive(Drop)]

@@ -1,7 +1,7 @@
 -- What `add` writes, value by value, and what it makes of a rule.
 use Rattle.std.proofs.Common.{◌≡◌, ℕ, ◌+◌, ◌-◌, ◌<◌, ◌≤◌, List, [], ◌∷◌, ◌++◌, Bool, true, false, not, if◌then◌else◌, Option, Some, None, length, get_or, map, take, drop, refl, ap, sym, ◌∙◌, arith, append_assoc, append-nil, length-append, take-add}
 use Rattle.std.specs.Prelude.{codes, option_to_list}
-use Rattle.std.proofs.lemmas.List.{drop_all}
+use Rattle.std.proofs.lemmas.List.{drop_all, drop_more, map-append, take_more}
 use Rattle.bz_token.specs.declared.token.Kind.TheVariants.{Identifier, Operator}
 use Rattle.bz_tree.specs.declared.stmt.GroupKind.TheVariants.{List as ListKind}
 use Rattle.bz_tree.specs.Rows.{RowPart, a_token, above, beside_part, closing, opening, items_parts, parts_of, segment_end, segs_parts}
@@ -20,15 +20,26 @@ use Rattle.bz_attribute.specs.declared.done.Done.{Done}
 use Rattle.bz_attribute.specs.declared.done.Note.TheVariants.{NotAList}
 use Rattle.bz_attribute.specs.declared.place.Place.{Place}
 use Rattle.bz_attribute.proofs.EditedAt.{none_first, segs_join, with_args_at}
-use Rattle.bz_attribute.proofs.Fresh.{fresh_step}
 use Rattle.bz_attribute.proofs.ListEdits.{appended}
 use Rattle.bz_list_commands.specs.private.AddSteps.{IsAdding, Knows}
 use Rattle.bz_list_commands.proofs.Known.{knows_fresh, knows_more}
-use Rattle.bz_attribute.proofs.Locals.{is_there}
-use Rattle.bz_list_commands.proofs.Named.{put_local}
+use Rattle.bz_attribute.proofs.Locals.{edit_same, edits_one, is_there}
 use Rattle.bz_token.specs.Common.{is_empty}
 
 -- value by value
+fresh_step : (home : Package) (lists : List (List Segment)) (values : List (List ℕ)) (i : ℕ) (w d : List ℕ) (new added : List Segment) → i < length values → w ≡ get_or values i d
+    → added ≡ new ++ map string (if is_fresh home lists (take i values) w then w ∷ [] else [])
+    → added ++ map string (fresh home lists (take (i + 1) values) (drop (i + 1) values)) ≡ new ++ map string (fresh home lists (take i values) (drop i values))
+fresh_step home lists values i w d new added h at made =
+    let one : List (List ℕ) = if is_fresh home lists (take i values) w then w ∷ [] else [] in
+    let later : List (List ℕ) = fresh home lists (take (i + 1) values) (drop (i + 1) values) in
+    let here : drop i values ≡ w ∷ drop (i + 1) values = drop_more values i d h ∙ ap (λ (z : List ℕ). z ∷ drop (i + 1) values) (sym at) in
+    let read : take (i + 1) values ≡ take i values ++ w ∷ [] = take_more values i d h ∙ ap (λ (z : List ℕ). take i values ++ z ∷ []) (sym at) in
+    ap (λ (z : List Segment). z ++ map string later) made
+    ∙ append_assoc new (map string one) (map string later)
+    ∙ ap (λ (z : List Segment). new ++ z) (sym (map-append string one later))
+    ∙ ap (λ (z : List (List ℕ)). new ++ map string z) (ap (λ (e : List (List ℕ)). one ++ fresh home lists e (drop (i + 1) values)) read ∙ sym (ap (fresh home lists (take i values)) here))
+
 pub adding_begins : (home : Package) (lists : List (List Segment)) (values : List (List ℕ)) (set : LabelSet) (before : List RowPart) → Knows home lists values 0 set → IsAdding home lists values 0 set before before
 adding_begins home lists values set before knows = record { made = []; parts = sym (append-nil before); knows = knows; added = refl }
 
@@ -96,6 +107,12 @@ none_new (s ∷ ss) ps is h = absurd (omega (arith, ap length is, h, segment_som
 pub some_new : (ss : List Segment) (ps : List RowPart) → ps ≡ segs_parts (segs_of ss) → 1 ≤ length ps → not (is_empty ss) ≡ true
 some_new [] ps is h = absurd (omega (arith, ap length is, h))
 some_new (s ∷ ss) ps is h = refl
+
+-- an edit of the first argument of a name that adds others where there is none looks at that argument alone
+pub put_local : (name : List ℕ) (edit : Segment → List Segment) (new : List Segment) → IsLocal name (λ args. if has name args then edit_first (is_named name) edit args else args ++ new)
+put_local name edit new =
+    edits_one name (λ args. if has name args then edit_first (is_named name) edit args else args ++ new) new edit (λ args h. rw h refl)
+    (λ args a h. ap (λ (b : Bool). if b then edit_first (is_named name) edit args else args ++ new) (is_there name args a h) ∙ edit_same name edit (edit a) args a h refl)
 
 -- an argument that is new to a rule
 pub put_new : (name : List ℕ) (f : List Segment → List Segment) (s : Statement) (r : Rule) (ps new : List RowPart) (place : Place) → IsLocal name f → has name r.args ≡ false → IsPlaceOf name s r ps place.from place.to → new ≡ segs_parts (segs_of (f []))

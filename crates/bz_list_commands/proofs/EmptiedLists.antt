@@ -1,18 +1,17 @@
 -- A list that loses all its elements, told by its parts.
-use Rattle.std.proofs.Common.{◌≡◌, ℕ, ◌+◌, ◌≤◌, ◌<◌, List, [], ◌∷◌, ◌++◌, Bool, true, false, ◌&&◌, not, if◌then◌else◌, Option, Some, None, length, map, drop, refl, ap, sym, ◌∙◌, arith, append_assoc, append-nil}
+use Rattle.std.proofs.Common.{◌≡◌, ℕ, ◌+◌, ◌≤◌, ◌<◌, List, [], ◌∷◌, ◌++◌, Bool, true, false, ◌&&◌, not, if◌then◌else◌, Option, Some, None, is_some, subst, length, map, drop, refl, ap, sym, ◌∙◌, arith, append_assoc, append-nil}
 use Rattle.std.specs.Prelude.{nat_lt}
-use Rattle.std.specs.List.{list_any}
 use Rattle.std.proofs.lemmas.Bool.{false≢true}
 use Rattle.std.proofs.lemmas.Bool.Decides.{nat_tests}
 use Rattle.std.proofs.lemmas.Grind.{flat_map-append}
 use Rattle.bz_tree.specs.declared.stmt.GroupKind.TheVariants.{List as ListKind}
 use Rattle.bz_tree.specs.Tree.{Item, leaf, group, Segment, Segs, items_of, segments, segs_of}
-use Rattle.bz_tree.specs.Rows.{RowPart, above, beside_part, closing, opening, segment_end, item_parts, items_parts, segs_parts}
-use Rattle.bz_attribute.specs.Elements.{IsElementOf, ListRest, list_item, rest_parts, value_parts}
+use Rattle.bz_tree.specs.Rows.{RowPart, above, closing, opening, segment_end, items_parts, segs_parts}
+use Rattle.bz_attribute.specs.Elements.{IsElementOf, OnlyList, ListRest, list_item, rest_parts, value_parts}
 use Rattle.bz_attribute.specs.Effects.{loses_all}
 use Rattle.bz_attribute.proofs.Views.{segments_of}
 use Rattle.bz_list_commands.specs.private.StringEdits.{become, become_all}
-use Rattle.bz_list_commands.specs.private.ElementEdits.{begins_list, is_node}
+use Rattle.bz_list_commands.specs.private.ElementEdits.{begins_list}
 use Rattle.bz_list_commands.proofs.ElementEdits.{after_them}
 use Rattle.bz_token.specs.Common.{is_empty}
 use Rattle.bz_attribute.proofs.LabelsFound.{and_false}
@@ -120,37 +119,23 @@ one_stays p nodes after ps first at token to string g e is =
     ap f (g.elements ∙ ap (λ (zs : List Segment). g.front ++ zs) e.are) ∙ flat_map-append (become p None) g.front (s ∷ e.others) ∙ (λ i. g.gone i ++ (stays i ++ f e.others)) in
     ap (loses_all f) g.are ∙ stays_in f g.list g.list.items (ap is_empty left)
 
--- what stands after the elements has a node exactly where the value goes on
-no_nodes : (texts : List (List ℕ)) (ps : List RowPart) → list_any is_node (map above texts ++ ps) ≡ list_any is_node ps
-no_nodes [] ps = refl
-no_nodes (text ∷ texts) ps = no_nodes texts ps
+-- the value is this list, and nothing else, where that is told
+by_only : (f : List Segment → List Segment) (list : ListRest) (items : List Item) (after ps : List RowPart) (o : Option ℕ) (b : Bool) → OnlyList (list_item list ∷ items) after ps o → (not (is_empty list.elements) && is_empty (f list.elements)) ≡ b
+    → (b && is_some o) ≡ loses_all f (list_item list ∷ items)
+by_only f list [] after ps None b only is = absurd (false≢true (sym only))
+by_only f list [] after ps (Some to) b only is = and_true b ∙ sym (alone f list ∙ is)
+by_only f list (x ∷ xs) after ps None b only is = and_false b
+by_only f list (x ∷ xs) after ps (Some to) b only is = let both : list_item list ∷ x ∷ xs ≡ list_item only.list ∷ [] = only.are in absurd cc
 
-none_beside : (suffix : Option (List ℕ)) → list_any is_node (beside_part suffix) ≡ false
-none_beside None = refl
-none_beside (Some text) = refl
-
-has_node : (x : Item) (ps : List RowPart) → list_any is_node (item_parts x ++ ps) ≡ true
-has_node (leaf k text) ps = refl
-has_node (group k segs one_comma end) ps = refl
-
-by_items : (f : List Segment → List Segment) (list : ListRest) (items : List Item) (suffix : Option (List ℕ)) (b : Bool) → (not (is_empty list.elements) && is_empty (f list.elements)) ≡ b
-    → (b && not (list_any is_node (value_parts items (beside_part suffix)))) ≡ loses_all f (list_item list ∷ items)
-by_items f list [] suffix b is = ap (λ (c : Bool). b && not c) (none_beside suffix) ∙ and_true b ∙ sym (alone f list ∙ is)
-by_items f list (x ∷ xs) suffix b is =
-    ap (λ (c : Bool). b && not c) (ap (list_any is_node) (append_assoc (item_parts x) (items_parts (items_of xs)) (segment_end ∷ beside_part suffix)) ∙ has_node x (items_parts (items_of xs) ++ segment_end ∷ beside_part suffix)) ∙ and_false b
-
-pub all_gone : (p : Option (List ℕ) → Bool) (nodes : List Item) (suffix : Option (List ℕ)) (ps : List RowPart) (first at : ℕ) → (g : AreGone p nodes (beside_part suffix) ps first at) → g.others ≡ []
-    → (nat_lt first at && not (list_any is_node (drop at ps))) ≡ loses_all (become_all p None) nodes
-all_gone p nodes suffix ps first at g none =
+pub all_gone : (p : Option (List ℕ) → Bool) (nodes : List Item) (after ps : List RowPart) (first at : ℕ) (o : Option ℕ) → (g : AreGone p nodes after ps first at) → g.others ≡ [] → OnlyList nodes after ps o
+    → (nat_lt first at && is_some o) ≡ loses_all (become_all p None) nodes
+all_gone p nodes after ps first at o g none only =
     let f : List Segment → List Segment = become_all p None in
     let list : ListRest = g.list in
     let front : list.elements ≡ g.front = g.elements ∙ ap (λ (zs : List Segment). g.front ++ zs) none ∙ append-nil g.front in
     let lost : (not (is_empty list.elements) && is_empty (f list.elements)) ≡ nat_lt first at =
     (λ i. not (is_empty (front i)) && is_empty (f (front i))) ∙ ap (λ (zs : List Segment). not (is_empty g.front) && is_empty zs) g.gone ∙ and_true (not (is_empty g.front)) ∙ sym g.some in
-    let rest : list_any is_node (drop at ps) ≡ list_any is_node (value_parts list.items (beside_part suffix)) =
-    ap (list_any is_node) (g.read ∙ ap (λ (zs : List Segment). rest_parts (record list { elements = zs }) (beside_part suffix)) none)
-    ∙ no_nodes list.end (closing list.one_comma ∷ value_parts list.items (beside_part suffix)) in
-    ap (λ (c : Bool). nat_lt first at && not c) rest ∙ by_items f list list.items suffix (nat_lt first at) lost ∙ sym (ap (loses_all f) g.are)
+    by_only f list list.items after ps o (nat_lt first at) (subst (λ (xs : List Item). OnlyList xs after ps o) g.are only) lost ∙ sym (ap (loses_all f) g.are)
 
 pub begins_some : (ps : List RowPart) → begins_list ps ≡ true → 1 ≤ length ps
 begins_some [] h = absurd (false≢true h)

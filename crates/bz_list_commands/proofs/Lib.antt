@@ -6,7 +6,6 @@ pub mod EmptiedLists
 pub mod Known
 pub mod Meanings
 pub mod MovedRules
-pub mod Named
 pub mod OneValue
 pub mod PlaceEdits
 pub mod WrittenParts

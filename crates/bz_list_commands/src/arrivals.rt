@@ -63,6 +63,7 @@ fn arrives<'s>(
 }
 
 /// Where the elements stand that arrive, each with its comments.
+#[tactic(auto, using(crate::proofs::Arriving::none_arrived))]
 pub fn arrivals<'s>(
     edit: StringEdit<'s, '_, '_>,
     lists: Lists,

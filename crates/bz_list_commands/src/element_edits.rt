@@ -78,6 +78,7 @@ fn edit_list<'a>(
 }
 
 /// The list parts of a value.
+#[tactic(auto, using(crate::proofs::ElementEdits::no_list_yet))]
 pub fn edit_value<'a>(
     edit: StringEdit<'_, '_, '_>,
     parts: &[Part<'a>],

@@ -1,7 +1,6 @@
 //! Whether a value is one list that loses all its elements.
 
 ghost use Rattle.std.specs.Prelude.{◌≡◌, ◌≤◌, List, ℕ, Option, None as Nothing, map, length, drop};
-ghost use Rattle.std.specs.List.{list_any};
 ghost use Rattle.bz_tree.specs.Tree.{Item};
 ghost use Rattle.bz_tree.specs.Rows.{beside_part, part_view};
 ghost use Rattle.bz_attribute.specs.Elements.{value_parts};
@@ -10,20 +9,8 @@ ghost use Rattle.bz_list_commands.specs.private.StringEdits.{become_all, literal
 ghost use Rattle.bz_list_commands.specs.private.ElementEdits as spec;
 
 use crate::string_edit::StringEdit;
-use bz_attribute::next_element;
+use bz_attribute::{next_element, only_list};
 use bz_tree::{GroupKind, Part};
-
-fn is_node(part: &Part<'_>) -> bool
-    ensures { result ≡ spec.is_node (part_view part.now) }
-{
-    matches!(part, Part::Token(_, _) | Part::Open(_))
-}
-
-fn has_node(parts: &[Part<'_>]) -> bool
-    ensures { result ≡ list_any spec.is_node (map part_view parts.now) }
-{
-    parts.iter().any(is_node)
-}
 
 fn begins_list(parts: &[Part<'_>]) -> bool
     ensures { result ≡ spec.begins_list (map part_view parts.now) }
@@ -32,6 +19,7 @@ fn begins_list(parts: &[Part<'_>]) -> bool
 }
 
 // The same where they go.
+#[tactic(auto, using(crate::proofs::EmptiedLists::no_list, crate::proofs::EmptiedLists::begins_some, crate::proofs::EmptiedLists::none_gone, bz_attribute::proofs::Slices::rest_seen))]
 fn all_go(edit: StringEdit<'_, '_, '_>, parts: &[Part<'_>], value: usize) -> bool
     requires { value ≤ length parts.now }
     ensures { (nodes : List Item) (suffix : Option (List ℕ))
@@ -52,7 +40,7 @@ fn all_go(edit: StringEdit<'_, '_, '_>, parts: &[Part<'_>], value: usize) -> boo
     if at == first {
         return false;
     }
-    !has_node(&parts[at..])
+    only_list(parts, value).is_some()
 }
 
 /// The value of an argument is one list, and no element of it is left, where it has some. The parts end with the

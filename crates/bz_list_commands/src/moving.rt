@@ -138,6 +138,7 @@ fn replaced<'a>(
 }
 
 // Appends the parts that stand in some places.
+#[tactic(auto, using(crate::proofs::Arriving::places_more))]
 fn push_places<'a>(
     parts: &[Part<'a>],
     places: &[Place],
@@ -177,6 +178,7 @@ fn write_new<'a>(
 }
 
 // Writes them with the elements at an end of others.
+#[tactic(auto, using(bz_attribute::proofs::Slices::three_written))]
 fn write_at<'a>(
     end: usize,
     parts: &[Part<'a>],
@@ -198,6 +200,7 @@ fn write_at<'a>(
 }
 
 // Writes them with the elements at the end of the first list part of an attribute, or in a new one.
+#[tactic(auto, using(crate::proofs::MovedRules::put_nowhere))]
 fn write_with<'a>(
     attr: &str,
     parts: &[Part<'a>],

@@ -17,6 +17,7 @@ use bz_memory::NoMemory;
 use bz_tree::Part;
 
 /// The arguments in a place of a rule are edited.
+#[tactic(auto, using(crate::proofs::PlaceEdits::quiet_place, bz_attribute::proofs::Slices::slice_seen))]
 pub(crate) fn edit_in<'a>(
     edit: ArgumentEdit<'_, '_, '_>,
     parts: &[Part<'a>],

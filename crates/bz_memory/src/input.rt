@@ -8,7 +8,7 @@ use std::io::{ErrorKind, Read};
 use std::{env, io};
 
 /// Why the words of the command line could not be had.
-#[derive(Clone, Copy, Debug, PartialEq, Eq)]
+#[derive(Clone, Copy)]
 pub enum WordsFault {
     OutOfMemory(NoMemory),
     /// A word is not UTF-8.
@@ -16,7 +16,7 @@ pub enum WordsFault {
 }
 
 /// Why the bytes of a file could not be had.
-#[derive(Clone, Copy, Debug, PartialEq, Eq)]
+#[derive(Clone, Copy)]
 pub enum BytesFault {
     OutOfMemory(NoMemory),
     /// The file could not be opened or read.

@@ -12,7 +12,7 @@ use crate::passes::Keyed;
 use bz_memory::NoMemory;
 
 /// Whether an execution of a command changed its statement, and whether it failed.
-#[derive(Clone, Copy, Debug, PartialEq, Eq)]
+#[derive(Clone, Copy)]
 pub struct Facts {
     pub changed: bool,
     pub failed: bool,

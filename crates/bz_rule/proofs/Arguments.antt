@@ -1,7 +1,7 @@
 -- Arguments with another value, and the first of a name.
 use Rattle.std.proofs.Common.{◌≡◌, ℕ, List, [], ◌∷◌, ◌++◌, true, false, if◌then◌else◌, Some, None, option_map, is_some, drop, take, refl, ap, sym, ◌∙◌}
 use Rattle.std.specs.Prelude.{bytes_eq}
-use Rattle.std.proofs.lemmas.List.{append_cancel_right}
+use Rattle.std.proofs.lemmas.List.{append_cancel_right, take-append-drop}
 use Rattle.std.proofs.lemmas.Slice.Eq.{bytes_eq-Decides}
 use Rattle.bz_tree.specs.Tree.{Item, Segment}
 use Rattle.bz_attribute.specs.Rules.{is_named, is_text, first_named, name_of, value}
@@ -30,13 +30,8 @@ name_taken (x ∷ y ∷ xs) nodes h = refl
 pub name_put : (nodes : List Item) (a : Segment) → is_attribute a ≡ true → name_of (with_value nodes a).nodes ≡ name_of a.nodes
 name_put nodes a h = name_taken a.nodes nodes h
 
-rejoined : (xs : List Item) → take 2 xs ++ drop 2 xs ≡ xs
-rejoined [] = refl
-rejoined (x ∷ []) = refl
-rejoined (x ∷ y ∷ xs) = refl
-
 pub value_back : (a : Segment) → with_value (value a) a ≡ a
-value_back a = ap (λ (nodes : List Item). record a { nodes = nodes }) (rejoined a.nodes)
+value_back a = ap (λ (nodes : List Item). record a { nodes = nodes }) (take-append-drop 2 a.nodes)
 
 -- where all stay, the first does
 pub first_same : (attr : List ℕ) (f : Segment → List Segment) (args : List Segment) (a : Segment) → first_named attr args ≡ Some a → edit_first (is_named attr) f args ≡ args → f a ≡ a ∷ []

@@ -1,6 +1,7 @@
 -- `add`: what it adds is found, and a second time it adds nothing.
 use Rattle.std.proofs.Common.{◌≡◌, ℕ, List, [], ◌∷◌, ◌++◌, Bool, true, false, ◌||◌, not, if◌then◌else◌, Option, Some, None, option_map, is_some, map, refl, ap, sym, ◌∙◌, append_assoc}
 use Rattle.std.specs.List.{list_any, list_all}
+use Rattle.std.proofs.Math.Bool.{or_assoc, or-false}
 use Rattle.std.proofs.lemmas.Bool.{or_left, or_right, and_parts}
 use Rattle.std.proofs.lemmas.List.Folds.{list_any-append}
 use Rattle.bz_tree.specs.Tree.{Segment}
@@ -15,7 +16,7 @@ use Rattle.bz_attribute.specs.declared.done.Note.TheVariants.{NotAList}
 use Rattle.bz_attribute.proofs.Views.{segments_of}
 use Rattle.bz_rule.proofs.PartLaws.{edit_head}
 use Rattle.bz_rule.proofs.Arguments.{attribute_named, first_after, name_put, same_bytes}
-use Rattle.bz_rule.proofs.Likeness.{all_follow, chosen_alike, in_full, same_self, strings_chosen, or_none}
+use Rattle.bz_rule.proofs.Likeness.{all_follow, chosen_alike, in_full, same_self, strings_chosen}
 use Rattle.bz_rule.proofs.Commands.Add.{add_kept, added_nothing, new_argument, parts_with}
 use Rattle.bz_token.specs.Common.{is_empty, map_or}
 use Rattle.bz_attribute.proofs.Locals.{has_first, is_first_named}
@@ -43,11 +44,6 @@ weaken false true z t known h = refl
 weaken false false z true known h = absurd (let no : false ≡ true = known refl in cc)
 weaken false false z false known h = h
 
-or_grouped : (x y z : Bool) → x || y ≡ true → x || (y || z) ≡ true
-or_grouped true y z h = refl
-or_grouped false true z h = refl
-or_grouped false false z h = absurd cc
-
 pub not_false : (b : Bool) → not b ≡ false → b ≡ true
 not_false true h = refl
 not_false false h = absurd cc
@@ -70,7 +66,7 @@ fresh_covers home lists earlier (v ∷ values) =
       | false ↦ λ e.
           let known : stands_in home lists v || list_any (same home v) earlier ≡ true = not_false _ e in
           let here : stands_in home lists v || list_any (same home v) (earlier ++ later) ≡ true =
-          rw (list_any-append (same home v) earlier later) (or_grouped (stands_in home lists v) (list_any (same home v) earlier) (list_any (same home v) later) known) in
+          rw (list_any-append (same home v) earlier later) (sym (or_assoc (stands_in home lists v) (list_any (same home v) earlier) (list_any (same home v) later)) ∙ or_left _ (list_any (same home v) later) known) in
           rw here (all_follow (λ w. stands_in home lists w || list_any (same home w) ((earlier ++ v ∷ []) ++ later)) (λ w. stands_in home lists w || list_any (same home w) (earlier ++ later)) (λ w k.
           rw (list_any-append (same home w) earlier later)
           (weaken (stands_in home lists w) (list_any (same home w) earlier) (list_any (same home w) later) (same home w v)
@@ -108,7 +104,7 @@ found_in_new home attr values =
     let new : List (List ℕ) = fresh home [] [] values in
     all_follow (λ v. stands_in home [] v || list_any (same home v) new) (λ v. chooses home (Values (v ∷ [])) (new_argument home attr values)) (λ v k.
     ap (λ (ls : List (List Segment)). stands_in home ls v) (parts_new home attr values)
-    ∙ or_none (list_any (is_chosen home (Values (v ∷ []))) (map string new))
+    ∙ or-false (list_any (is_chosen home (Values (v ∷ []))) (map string new))
     ∙ strings_chosen home v new ∙ k) values (fresh_covers home [] [] values)
 
 new_named : (home : Package) (attr : List ℕ) (values : List (List ℕ)) → is_named attr (new_argument home attr values) ≡ true

@@ -1,5 +1,5 @@
 -- What is owed of a command; of one on the arguments of a rule it follows from what it does to them.
-use Rattle.std.proofs.Common.{◌≡◌, ℕ, List, [], ◌∷◌, Bool, true, false, Option, Some, None, map, option_map, is_some, if◌then◌else◌, refl, ap, sym, ◌∙◌, suc, subst, ◌||◌, Result, Ok, Err}
+use Rattle.std.proofs.Common.{◌≡◌, ℕ, List, [], ◌∷◌, Bool, true, false, Option, Some, None, map, option_map, is_some, if◌then◌else◌, refl, ap, sym, ◌∙◌, suc, subst, Result, Ok, Err}
 use Rattle.std.specs.Prelude.{IfSome}
 use Rattle.std.proofs.lemmas.List.{append_cancel_left}
 use Rattle.bz_tree.specs.declared.stmt.GroupKind.TheVariants.{RuleCall}
@@ -159,7 +159,3 @@ passed false fault read c h = (refl, h)
 pub held : (test : Bool) (fault : CommandFault) (d c : Command) → Ok c ≡ (if test then Ok d else Err fault) → (test ≡ true) × (c ≡ d)
 held true fault d c h = (refl, cc)
 held false fault d c h = absurd (cc)
-
-pub none_of_either : (a b : Bool) → a || b ≡ false → a ≡ false
-none_of_either true b h = h
-none_of_either false b h = refl

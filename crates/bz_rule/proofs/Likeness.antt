@@ -1,6 +1,7 @@
 -- Words that are the same label find the same elements.
 use Rattle.std.proofs.Common.{◌≡◌, ℕ, List, [], ◌∷◌, Bool, true, false, ◌||◌, Option, Some, None, map, refl, ap, bytes_eq}
 use Rattle.std.specs.List.{list_any, list_all}
+use Rattle.std.proofs.Math.Bool.{or-false}
 use Rattle.std.proofs.lemmas.Bool.{and_from, and_parts}
 use Rattle.std.proofs.lemmas.Slice.Eq.{bytes_eq-Decides}
 use Rattle.bz_tree.specs.Tree.{Segment}
@@ -30,13 +31,9 @@ chosen_alike home v w s h =
 string_chosen : (home : Package) (v w : List ℕ) → is_chosen home (Values (v ∷ [])) (string w) ≡ same home w v || false
 string_chosen home v w = ap (λ (o : Option (List ℕ)). map_or false (λ value. same home value v) o || false) (quoted_value w)
 
-pub or_none : (b : Bool) → b || false ≡ b
-or_none true = refl
-or_none false = refl
-
 pub strings_chosen : (home : Package) (v : List ℕ) (words : List (List ℕ)) → list_any (is_chosen home (Values (v ∷ []))) (map string words) ≡ list_any (same home v) words
 strings_chosen home v [] = refl
-strings_chosen home v (w ∷ words) = rw (string_chosen home v w, or_none (same home w v), same_back home w v, strings_chosen home v words) refl
+strings_chosen home v (w ∷ words) = rw (string_chosen home v w, or-false (same home w v), same_back home w v, strings_chosen home v words) refl
 
 -- a test that follows from another
 pub all_follow : {X : Type 0} (p q : X → Bool) → ((x : X) → p x ≡ true → q x ≡ true) → (xs : List X) → list_all p xs ≡ true → list_all q xs ≡ true

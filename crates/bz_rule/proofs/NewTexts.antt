@@ -3,7 +3,7 @@ use Rattle.std.proofs.Common.{◌≡◌, ℕ, ◌==◌, ◌&&◌, ◌||◌, not,
 use Rattle.std.specs.Prelude.{codes, bytes_eq, if◌then◌else◌}
 use Rattle.std.specs.List.{list_all, list_any, flat_map}
 use Rattle.std.specs.Char.{is_ascii_digit}
-use Rattle.std.proofs.lemmas.Bool.{cases_Bool, and_parts, or_parts, false≢true}
+use Rattle.std.proofs.lemmas.Bool.{cases_Bool, and_parts, or_left, or_parts, false≢true}
 use Rattle.bz_token.specs.declared.token.Kind.TheVariants.{Identifier, Integer, String, Operator}
 use Rattle.bz_token.specs.declared.scan_string.Quotes.{Quotes}
 use Rattle.bz_token.specs.declared.scan_string.Escape.TheVariants.{Unescaped}
@@ -86,16 +86,13 @@ dot_text = refl
 digits : (bs : List ℕ) → list_all is_ascii_digit bs ≡ true → list_all is_ascii_digit bs ≡ true
 digits bs h = h
 
-either : (a b : Bool) → a ≡ true → (a || b) ≡ true
-either a b h = rw h refl
-
 pub number_text : (bs : List ℕ) → is_digits bs ≡ true → is_text Integer bs ≡ true
 number_text [] h = absurd (false≢true h)
 number_text (b ∷ bs) h = elim (cases_Bool (bytes_eq (b ∷ bs) (codes "0"))) [
   | inl zero_ ↦ ap is_number (same_bytes (b ∷ bs) (codes "0") zero_)
   | inr other ↦
       let more : (false || list_all is_ascii_digit (b ∷ bs) && not (b == 48)) ≡ true = rw other at h in
-      either (list_all is_ascii_digit (b ∷ bs)) _ (digits (b ∷ bs) (and_parts (list_all is_ascii_digit (b ∷ bs)) (not (b == 48)) more).0)
+      or_left (list_all is_ascii_digit (b ∷ bs)) _ (digits (b ∷ bs) (and_parts (list_all is_ascii_digit (b ∷ bs)) (not (b == 48)) more).0)
 ]
 
 true_text : is_text Identifier (codes "True") ≡ true

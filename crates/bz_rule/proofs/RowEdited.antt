@@ -1,5 +1,5 @@
 -- What a command makes of the row of a rule.
-use Rattle.std.proofs.Common.{◌≡◌, ◌+◌, ◌∷◌, [], ℕ, List, length, length-append, arith, true, false, Option, None, Some, is_some, refl, ap, sym, ◌∙◌, if◌then◌else◌, not, ◌++◌}
+use Rattle.std.proofs.Common.{Result, Ok, Err, IfOk, ◌≡◌, ◌+◌, ◌∷◌, [], ℕ, List, length, length-append, arith, true, false, Option, None, Some, is_some, refl, ap, sym, ◌∙◌, if◌then◌else◌, not, ◌++◌}
 use Rattle.std.specs.Prelude.{bytes_eq}
 use Rattle.std.proofs.lemmas.Bool.{false≢true}
 use Rattle.bz_tree.specs.Tree.{Segment, Statement, segs_of}
@@ -9,14 +9,16 @@ use Rattle.bz_tree.specs.declared.stmt.Class.TheVariants.{Rule as RuleClass}
 use Rattle.bz_command.specs.Labels.{Package}
 use Rattle.bz_command.specs.declared.arguments.Commented.TheVariants.{Rule as Above}
 use Rattle.bz_command.specs.declared.arguments.Setting.TheVariants.{ToKind}
-use Rattle.bz_attribute.specs.Comment.{comment_line}
+use Rattle.bz_attribute.specs.Comment.{comment_line, comment_rule}
 use Rattle.bz_attribute.specs.Rules.{Rule, rule_of, kind_text}
 use Rattle.bz_attribute.specs.Effects.{done, holds_rule, nodes_of, slot_done, with_args}
 use Rattle.bz_attribute.specs.declared.done.Done.{Done}
 use Rattle.bz_attribute.specs.Set.{kind_after, kind_items, sets_kind_of, with_kind}
 use Rattle.bz_rule.specs.Commands.{Command, after, args_after, args_done, done_of}
 use Rattle.bz_rule.specs.declared.command.Action.TheVariants.{Comment, Delete, Print, Set}
-use Rattle.bz_attribute.specs.RowEdits.{IsRowEdit}
+use Rattle.bz_attribute.specs.RowEdits.{IsRowEdit, IsWithin, replaced_at}
+use Rattle.bz_attribute.specs.RowPlaces.{IsRuleRow}
+use Rattle.bz_memory.specs.declared.no_memory.NoMemory.{NoMemory}
 use Rattle.bz_attribute.specs.declared.edit.Edit.{Edit}
 use Rattle.bz_rule.specs.private.RowEdits.{HasMore, IsEditOf, IsNextOf, edits_arguments, is_edit, rule_after}
 use Rattle.bz_command.specs.declared.arguments.Field.{Field}
@@ -26,14 +28,6 @@ use Rattle.bz_rule.proofs.Rebuilt.{kind_dotted}
 use Rattle.bz_rule.proofs.RuleClass.{class_after}
 use Rattle.bz_token.specs.Common.{map_or}
 use Rattle.bz_attribute.proofs.Headed.{class_at, rule_class}
-
--- what an edit leaves of a rule
-pub after_edit : (c : Command) (home : Package) (s : Statement) → is_edit c ≡ true → after c home (Some s) ≡ Some (rule_after c home s)
-after_edit Delete home s h = absurd (false≢true h)
-after_edit (Print fields) home s h = absurd (false≢true h)
-after_edit (Set (ToKind kind)) home s h = refl
-after_edit (Comment Above text) home s h = refl
-after_edit _ home s h = refl
 
 next_args : (f : List Segment → List Segment) (s : Statement) (r : Rule) (ps : List RowPart) → rule_of s.nodes ≡ Some r → ps ≡ parts_of (with_args f s) → IsNextOf s ps (with_args f s)
 next_args f s r ps is are = record { are = are; rule = class_after f s r is; before = omega arith; same = refl; start = refl; end = refl }
@@ -109,3 +103,11 @@ one_above text home s r is =
 
 pub none_above : (c : Command) (home : Package) (s : Statement) (r : Rule) → rule_of s.nodes ≡ Some r → HasMore 0 s (rule_after c home s)
 none_above c home s r is = let next = next_of c home s r (parts_of (rule_after c home s)) is refl in omega (arith, next.before)
+
+pub comment_edited : (text : List ℕ) (home : Package) (kind : List ℕ) (ps new : List RowPart) (x : Result Edit NoMemory) → IfOk x (λ e. IsWithin e.place ps) → IfOk x (λ e. (s : Statement) (r : Rule) → IsRuleRow s r ps → replaced_at e.place new ps ≡ parts_of (comment_rule text s)) → IfOk x (λ e. e.done ≡ done None true) → IfOk x (IsEditOf (Comment Above text) home kind ps new)
+comment_edited text home kind ps new (Err why) within parts is = tt
+comment_edited text home kind ps new (Ok e) within parts is = record {
+  within = within;
+  parts = λ s r row kind_is changed. parts s r row;
+  done = λ s r row kind_is. is ∙ sym (ap (λ (o : Option Rule). done None (is_some o)) row.rule);
+}

@@ -1,19 +1,15 @@
 -- A row is of one statement, and what is known of that by its head.
-use Rattle.std.proofs.Common.{◌≡◌, ◌≤◌, ◌∙◌, ℕ, length, List, false, Option, None, Some, is_some, map, option_map, ap, refl, sym, subst}
+use Rattle.std.proofs.Common.{◌≡◌, ◌≤◌, ◌∙◌, ℕ, length, List, Option, map, ap, refl, sym, subst}
 use Rattle.bz_tree.specs.Tree.{Statement}
 use Rattle.bz_tree.specs.Rows.{part_view, parts_of}
 use Rattle.bz_tree.specs.declared.row.Part.{Part}
 use Rattle.bz_tree.specs.declared.stmt.Class.{Class}
 use Rattle.bz_tree.specs.private.PartSteps.{content_of, last_beside}
 use Rattle.bz_tree.proofs.FromParts.{statement_of_parts}
-use Rattle.bz_command.specs.Labels.{Name, Target}
-use Rattle.bz_attribute.specs.Heads.{HasHead, IsHeadOf}
-use Rattle.bz_attribute.specs.Marks.{marks, marks_rule}
-use Rattle.bz_attribute.specs.Rules.{Rule, is_text, kind_text, rule_of}
+use Rattle.bz_attribute.specs.Heads.{HasHead}
 use Rattle.bz_attribute.specs.declared.head.Head.{Head}
 use Rattle.bz_rule.specs.RowViews.{row_value, row_statement}
 use Rattle.bz_rule.specs.private.RowEdits.{HasItsHead}
-use Rattle.bz_token.specs.Common.{map_or}
 
 pub record IsOf (s : Statement) (parts : List Part) (class : Class) (start end : ℕ) : Type 0 where
   pub are : map part_view parts ≡ parts_of s
@@ -35,20 +31,3 @@ has_head s parts class start end head comments is has below =
       has = subst (HasHead head) same has;
       below = subst (λ (z : Statement). comments ≤ length z.before) same below;
     }
-
--- of what is no rule
-pub unmarked : (target : Target) (s : Statement) → rule_of s.nodes ≡ None → false ≡ marks target s
-unmarked target s none = sym (ap (map_or false (marks_rule target s.start)) none)
-
--- the name of a rule
-pub named_by : (name : List ℕ) (head : Head) (s : Statement) → IsHeadOf head s → marks (Name name) s ≡ is_text name (option_map (λ text. text.now) head.name)
-named_by name head s h = ap (map_or false (marks_rule (Name name) s.start)) h.is ∙ ap (is_text name) (sym h.name_is)
-
-pub head_some : (o : Option Head) (s : Statement) → HasHead o s → is_some o ≡ is_some (rule_of s.nodes)
-head_some None s h = sym (ap is_some h)
-head_some (Some head) s h = sym (ap is_some h.is)
-
-pub kind_known : (head : Head) (s : Statement) (r : Rule) → IsHeadOf head s → rule_of s.nodes ≡ Some r → kind_text r.kind ≡ head.kind.now
-kind_known head s r h is =
-    let same : r ≡ h.rule = let both : Some r ≡ Some h.rule = sym is ∙ h.is in cc in
-    ap (λ (z : Rule). kind_text z.kind) same ∙ h.kind_is

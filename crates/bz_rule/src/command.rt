@@ -8,7 +8,7 @@ ghost use Rattle.bz_tree.specs.Rows.{part_view};
 ghost use Rattle.bz_attribute.specs.RowEdits.{IsRowEdit};
 ghost use Rattle.bz_rule.specs.Commands as spec;
 ghost use Rattle.bz_rule.specs.OneAttribute.{one_attribute};
-ghost use Rattle.bz_rule.specs.declared.command.Action.TheVariants.{Rename, Set};
+ghost use Rattle.bz_rule.specs.declared.command.Action.TheVariants.{Rename};
 ghost use Rattle.bz_rule.specs.declared.command.CommandFault.TheVariants.{OutOfMemory};
 ghost use Rattle.bz_rule.specs.private.RowEdits.{edits_arguments};
 
@@ -261,38 +261,19 @@ fn read_print(alloc: Global, words: Vec<Text>) -> Result<Action, CommandFault>
     Ok(Action::Print(Seq::from_vec(fields)))
 }
 
-// `set` of an attribute. The kind of a rule is none of its arguments.
-fn set_argument<'a>(
-    env: Env<'_>,
-    setting: &Setting,
-    parts: &[Part<'a>],
-    new: &mut Parts<'a>,
-) -> Result<Edit, NoMemory>
-    ensures { IfOk result (IsRowEdit (spec.args_after (Set setting.now) env.entry.home.now)
-        (spec.args_done (Set setting.now) env.entry.home.now)
-        (map part_view parts.now) (map part_view new.new.items)) }
-{
-    match setting {
-        Setting::ToKind(_) => Ok(Edit::none(Done::quiet(false))),
-        Setting::ToValues(attr, words) => {
-            set(env.alloc, attr.as_str(), words.as_slice(), parts, new)
-        }
-    }
-}
-
 // `rename` as its command, so that `edit_arguments` needs no answer for it.
 fn rename_argument<'a>(
     env: Env<'_>,
-    old: &str,
-    new: &str,
+    change: Change<'_>,
     parts: &[Part<'a>],
-    written: &mut Parts<'a>,
+    new: &mut Parts<'a>,
 ) -> Result<Edit, NoMemory>
-    ensures { IfOk result (IsRowEdit (spec.args_after (Rename old.now new.now) env.entry.home.now)
-        (spec.args_done (Rename old.now new.now) env.entry.home.now)
-        (map part_view parts.now) (map part_view written.new.items)) }
+    ensures { IfOk result (IsRowEdit
+        (spec.args_after (Rename change.entry.old.now change.entry.new.now) env.entry.home.now)
+        (spec.args_done (Rename change.entry.old.now change.entry.new.now) env.entry.home.now)
+        (map part_view parts.now) (map part_view new.new.items)) }
 {
-    rename(env.alloc, old, new, parts, written)
+    rename(env.alloc, change.old, change.new, parts, new)
 }
 
 /// What a command makes of the arguments of a rule, by its parts. The new parts go into a list.
@@ -326,8 +307,16 @@ pub(crate) fn edit_arguments<'a>(
             };
             move_elements(env, change, parts, new)
         }
-        Action::Rename(old, to) => rename_argument(env, old.as_str(), to.as_str(), parts, new),
-        Action::Set(setting) => set_argument(env, setting, parts, new),
+        Action::Rename(old, to) => {
+            let change = Change {
+                old: old.as_str(),
+                new: to.as_str(),
+            };
+            rename_argument(env, change, parts, new)
+        }
+        Action::Set(Setting::ToValues(attr, words)) => {
+            set(env.alloc, attr.as_str(), words.as_slice(), parts, new)
+        }
         Action::SetIfAbsent(attr, words) => {
             set_if_absent(env.alloc, attr.as_str(), words.as_slice(), parts, new)
         }

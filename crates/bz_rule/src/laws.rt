@@ -30,6 +30,7 @@ pub fn others_do_not_count()
 {}
 
 /// A target looks at no value but that of `name`, and so does the text of a rule.
+#[tactic(auto, using(crate::proofs::AsideTargets::marks_kept, crate::proofs::AsideTargets::shown_kept))]
 pub fn targets_look_at_names()
     ensures marks { (target : Target) (s : Statement) (g : Segment → Segment) → KeepsNames g
         → marks target (with_args (map g) s) ≡ marks target s }
@@ -38,6 +39,7 @@ pub fn targets_look_at_names()
 {}
 
 /// With other arguments a rule is a rule of the same kind, and what is none stays none.
+#[tactic(auto, using(crate::proofs::Rebuilt::kinds_after))]
 pub fn kinds_do_not_count_arguments()
     ensures { (f : List Segment → List Segment) (s : Statement)
         → option_map (λ r. r.kind) (rule_of (with_args f s).nodes) ≡ option_map (λ r. r.kind) (rule_of s.nodes) }

@@ -1,7 +1,7 @@
 //! How a command is read from its text, and what several commands read of their words.
 
 ghost use Rattle.bz_memory.specs.NoMemory.{no_memory};
-ghost use Rattle.std.specs.Prelude.{◌≡◌, ◌≢◌, ◌∷◌, [], Err, IfOk, MatchResult, false, true};
+ghost use Rattle.std.specs.Prelude.{◌≡◌, ◌≢◌, ◌∷◌, [], Err, MatchResult, false, true};
 ghost use Rattle.std.specs.List.{list_any};
 ghost use Rattle.bz_command.specs.Arguments as arguments;
 ghost use Rattle.bz_rule.specs.Commands as spec;

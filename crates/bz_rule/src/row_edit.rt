@@ -4,10 +4,9 @@ ghost use Rattle.std.specs.Prelude.{◌≡◌, ◌≤◌, IfOk, Some, length, ma
 ghost use Rattle.bz_tree.specs.Tree.{Statement};
 ghost use Rattle.bz_tree.specs.Rows.{part_view};
 ghost use Rattle.bz_attribute.specs.RowEdits.{IsWithin};
-ghost use Rattle.bz_attribute.specs.RowPlaces.{IsRuleRow};
 ghost use Rattle.bz_attribute.specs.Rules.{Rule, rule_of};
 ghost use Rattle.bz_command.specs.Labels as labels;
-ghost use Rattle.bz_rule.specs.private.RowEdits.{HasKindAndParts, HasMore, IsEditFor, IsEditOf, KeepsHead, is_edit, rule_after};
+ghost use Rattle.bz_rule.specs.private.RowEdits.{HasKindAndParts, HasMore, IsEditFor, KeepsHead, is_edit, rule_after};
 
 use crate::command::{Action, Command, edit_arguments, one_attribute};
 use bz_attribute::{Edit, Env, Parts, Place};
@@ -24,27 +23,6 @@ pub(crate) struct RuleParts<'p, 'a> {
     /// How many comments they begin with at least.
     pub(crate) comments: usize,
     pub(crate) parts: &'p [Part<'a>],
-}
-
-// What a command makes of a rule of this kind. The new parts go into a list.
-fn edit_parts<'a>(
-    env: Env<'_>,
-    command: &Command,
-    kind: &str,
-    parts: &[Part<'a>],
-    new: &mut Parts<'a>,
-) -> Result<Edit, NoMemory>
-    requires { is_edit command.now ≡ true }
-    ensures { IfOk result (IsEditOf command.now env.entry.home.now kind.now (map part_view parts.now)
-        (map part_view new.new.items)) }
-{
-    match &command.action {
-        Action::Set(Setting::ToKind(new_kind)) => set_kind(new_kind.as_str(), kind, parts, new),
-        Action::Comment(Commented::Rule, text) => {
-            comment_rule(env.alloc, text.as_str(), parts, new)
-        }
-        _ => edit_arguments(env, &command.action, parts, new),
-    }
 }
 
 /// What a command makes of a rule. The new parts go into a list. `Err`: memory was refused, and the list is of no use.
@@ -67,7 +45,14 @@ pub(crate) fn edit_rule<'a>(
         comments,
         parts,
     } = rule;
-    let edit = edit_parts(env, command, kind, &parts[comments..], new)?;
+    let parts = &parts[comments..];
+    let edit = match &command.action {
+        Action::Set(Setting::ToKind(new_kind)) => set_kind(new_kind.as_str(), kind, parts, new),
+        Action::Comment(Commented::Rule, text) => {
+            comment_rule(env.alloc, text.as_str(), parts, new)
+        }
+        _ => edit_arguments(env, &command.action, parts, new),
+    }?;
     let place = Place {
         from: comments + edit.place.from,
         to: comments + edit.place.to,

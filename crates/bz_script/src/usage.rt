@@ -42,7 +42,7 @@ impl fmt::Display for Refused {
 }
 
 /// Why a word is no flag.
-#[derive(Clone, Copy, Debug, PartialEq, Eq)]
+#[derive(Clone, Copy, Debug)]
 pub enum FlagFault {
     /// There is no flag of this name.
     Unknown,

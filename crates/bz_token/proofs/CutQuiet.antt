@@ -1,17 +1,17 @@
 -- Bytes that leave the walk where it is.
-use Rattle.std.proofs.Common.{◌≡◌, ℕ, ◌+◌, ◌<◌, ◌==◌, ◌||◌, List, [], ◌∷◌, Bool, true, false, not, cond, take, drop, length, get_or, refl, sym, ap, ◌∙◌, arith, drop-drop, drop-cons, suc, true≢false}
+use Rattle.std.proofs.Common.{◌≡◌, ℕ, ◌+◌, ◌<◌, ◌==◌, ◌||◌, ◌&&◌, List, [], ◌∷◌, Bool, true, false, not, cond, take, drop, length, get_or, refl, sym, ap, ◌∙◌, arith, drop-drop, drop-cons, suc, true≢false}
 use Rattle.std.specs.Prelude.{if◌then◌else◌}
 use Rattle.std.specs.List.{prefix_len}
-use Rattle.std.proofs.lemmas.Bool.{or_parts, not-true}
+use Rattle.std.proofs.lemmas.Bool.{and_parts, or_parts, not-true}
 use Rattle.std.proofs.lemmas.List.{take-append-drop}
 use Rattle.bz_token.specs.Lexical.{is_newline}
 use Rattle.bz_token.specs.declared.cutter.scan.LineKind.{LineKind}
 use Rattle.bz_token.specs.declared.cutter.scan.LineKind.TheVariants.{Statement}
 use Rattle.bz_token.specs.declared.cutter.scan.Quote.{Quote}
-use Rattle.bz_token.specs.declared.cutter.scan.Quote.TheVariants.{Single, Double}
 use Rattle.bz_token.specs.declared.cutter.scan.CutState.{CutState}
 use Rattle.bz_token.specs.declared.cutter.scan.CutState.TheVariants.{Plain, Comment, Short}
 use Rattle.bz_token.specs.declared.cutter.scan.Scan.{Scan}
+use Rattle.bz_token.specs.private.Scans.{is_plain}
 use Rattle.bz_token.specs.private.CutSteps.{is_quiet, byte_of, at, outside, in_short, next, run}
 use Rattle.bz_token.proofs.CutMachine.{run_append}
 
@@ -68,15 +68,12 @@ quiet_same d b h =
     (past (b == 40 || b == 91 || b == 123) s _ _ no.opening
     (past (b == 41 || b == 93 || b == 125) s _ _ no.closing refl)))))))
 
-no_quote : (q : Quote) (b : ℕ) → Quiet b → (b == byte_of q) ≡ false
-no_quote Single b other = other.single
-no_quote Double b other = other.double
-
-short_same : (q : Quote) (d : ℕ) (k : LineKind) (b : ℕ) → is_quiet b ≡ true → in_short q d k b ≡ at (Short q) d k
+short_same : (q : Quote) (d : ℕ) (k : LineKind) (b : ℕ) → is_plain (byte_of q) b ≡ true → in_short q d k b ≡ at (Short q) d k
 short_same q d k b h =
     let s : Scan = at (Short q) d k in
-    let no = quiet b h in
-    past (b == byte_of q) s _ _ (no_quote q b no) (past (b == 10) s _ _ no.newline (past (b == 92) s _ _ no.backslash refl))
+    let backslash = and_parts (not (b == byte_of q) && not (b == 10)) (not (b == 92)) h in
+    let quoted = and_parts (not (b == byte_of q)) (not (b == 10)) backslash.0 in
+    past (b == byte_of q) s _ _ (not-true _ quoted.0) (past (b == 10) s _ _ (not-true _ quoted.1) (past (b == 92) s _ _ (not-true _ backslash.1) refl))
 
 comment_same : (d : ℕ) (k : LineKind) (b : ℕ) → not (is_newline b) ≡ true → next (at Comment d k) b ≡ at Comment d k
 comment_same d k b h = past (b == 10) (at Comment d k) _ _ (not-true _ h) refl
@@ -88,11 +85,11 @@ statement_run s bs e f = by s.inside s.depth s.kind e f
     by : (i : CutState) (d : ℕ) (k : LineKind) → i ≡ Plain → k ≡ Statement → run (at i d k) (take (prefix_len is_quiet bs) bs) ≡ at i d k
     by i d k e f = rw (e, f) (run_same (at Plain d Statement) is_quiet (quiet_same d) bs)
 
-pub short_run : (s : Scan) (q : Quote) (bs : List ℕ) → s.inside ≡ Short q → run s (take (prefix_len is_quiet bs) bs) ≡ s
+pub short_run : (s : Scan) (q : Quote) (bs : List ℕ) → s.inside ≡ Short q → run s (take (prefix_len (is_plain (byte_of q)) bs) bs) ≡ s
 short_run s q bs e = by s.inside s.depth s.kind e
   where
-    by : (i : CutState) (d : ℕ) (k : LineKind) → i ≡ Short q → run (at i d k) (take (prefix_len is_quiet bs) bs) ≡ at i d k
-    by i d k e = rw e (run_same (at (Short q) d k) is_quiet (short_same q d k) bs)
+    by : (i : CutState) (d : ℕ) (k : LineKind) → i ≡ Short q → run (at i d k) (take (prefix_len (is_plain (byte_of q)) bs) bs) ≡ at i d k
+    by i d k e = rw e (run_same (at (Short q) d k) (is_plain (byte_of q)) (short_same q d k) bs)
 
 pub comment_run : (s : Scan) (bs : List ℕ) → s.inside ≡ Comment → run s (take (prefix_len (λ b. not (is_newline b)) bs) bs) ≡ s
 comment_run s bs e = by s.inside s.depth s.kind e

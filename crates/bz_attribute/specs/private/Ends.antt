@@ -31,9 +31,10 @@ abbrev pub is_above : RowPart → Bool
 is_above (above text) = true
 is_above _ = false
 
-abbrev pub is_token : RowPart → Bool
-is_token (a_token kind text) = true
-is_token _ = false
+-- how many tokens they begin with
+abbrev pub tokens_len : List RowPart → ℕ
+tokens_len (a_token kind text ∷ ps) = suc (tokens_len ps)
+tokens_len _ = 0
 
 -- how many parts stand before the comments with which they end
 abbrev pub plain_len : List RowPart → ℕ

@@ -1,20 +1,19 @@
 -- For private clauses: the kind and the arguments of a rule, as they stand in its parts.
-use Rattle.std.specs.Prelude.{◌≡◌, ℕ, List, [], ◌∷◌, ◌++◌, map, Bool, true, false, ◌&&◌, if◌then◌else◌, Option, None, Some, codes}
+use Rattle.std.specs.Prelude.{◌≡◌, ℕ, List, [], ◌∷◌, ◌++◌, map, drop, Bool, true, false, ◌&&◌, if◌then◌else◌, Option, None, Some, codes}
 use Rattle.bz_tree.specs.declared.stmt.GroupKind.TheVariants.{RuleCall}
 use Rattle.bz_tree.specs.Tree.{leaf, Statement, segs_of}
 use Rattle.bz_tree.specs.Rows.{RowPart, a_token, opening, closing, segment_end, above, beside_part, segs_parts}
 use Rattle.bz_attribute.specs.Rules.{Rule}
+use Rattle.bz_attribute.specs.private.Ends.{above_len, tokens_len}
 use Rattle.bz_attribute.specs.Rules as rules
 
 -- the parts after the comments above them
 abbrev pub after_comments : List RowPart → List RowPart
-after_comments (above text ∷ ps) = after_comments ps
-after_comments ps = ps
+after_comments ps = drop (above_len ps) ps
 
 -- the parts after the tokens with which they begin
 abbrev pub after_tokens : List RowPart → List RowPart
-after_tokens (a_token kind text ∷ ps) = after_tokens ps
-after_tokens ps = ps
+after_tokens ps = drop (tokens_len ps) ps
 
 -- the texts of the tokens with which they begin
 abbrev pub token_texts : List RowPart → List ℕ

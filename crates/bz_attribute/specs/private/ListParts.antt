@@ -1,28 +1,22 @@
 -- For private clauses alone: the items of a value, by their parts.
-use Rattle.std.specs.Prelude.{◌≡◌, ℕ, zero, suc, ◌+◌, List, [], ◌∷◌, ◌++◌, Bool, true, false, ◌||◌, if◌then◌else◌, Option, None, Some, length, drop, take}
+use Rattle.std.specs.Prelude.{◌≡◌, ℕ, ◌+◌, List, [], ◌∷◌, ◌++◌, Bool, true, false, ◌||◌, if◌then◌else◌, Option, None, Some, length, drop, take}
 use Rattle.std.specs.List.{list_all, list_any}
 use Rattle.bz_tree.specs.declared.stmt.GroupKind.TheVariants.{List as ListKind}
 use Rattle.bz_tree.specs.Tree.{Item, leaf, Segment, items_of, segs_of}
 use Rattle.bz_token.specs.declared.token.Kind.TheVariants.{String}
-use Rattle.bz_tree.specs.Rows.{RowPart, a_token, beside, closing, opening, segment_end, items_parts, segs_parts}
+use Rattle.bz_tree.specs.Rows.{RowPart, a_token, beside, closing, opening, segment_end, item_parts, items_parts, segs_parts}
 use Rattle.bz_command.specs.Labels.{Package}
 use Rattle.bz_attribute.specs.Elements.{IsElementOf, ListRest, elements_left, found_rest, rest_parts, value_parts}
 use Rattle.bz_attribute.specs.Lists as lists
 use Rattle.bz_attribute.specs.private.HeadParts.{is_end, text_of}
 
--- how many parts there are up to the bracket that closes around them, with it, where so many more are open
-abbrev pub close_len : ℕ → List RowPart → ℕ
-close_len d [] = 0
-close_len d (opening kind ∷ ps) = suc (close_len (suc d) ps)
-close_len zero (closing one_comma ∷ ps) = 1
-close_len (suc d) (closing one_comma ∷ ps) = suc (close_len d ps)
-close_len d (p ∷ ps) = suc (close_len d ps)
+abbrev pub is_open : RowPart → Bool
+is_open (opening kind) = true
+is_open _ = false
 
--- how many parts the item has that they begin with
-abbrev pub item_len : List RowPart → ℕ
-item_len [] = 0
-item_len (opening kind ∷ ps) = 1 + close_len 0 ps
-item_len (p ∷ ps) = 1
+-- the item that begins at a place ends there
+abbrev pub ItemEnds : List RowPart → ℕ → ℕ → Type 0
+ItemEnds ps at end = (x : Item) (xs : List Item) (after : List RowPart) → drop at ps ≡ value_parts (x ∷ xs) after → end ≡ at + length (item_parts x)
 
 abbrev pub is_joint : RowPart → Bool
 is_joint (a_token kind text) = lists.is_joint (leaf kind text)

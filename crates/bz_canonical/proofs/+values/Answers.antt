@@ -1,15 +1,14 @@
-use Rattle.std.proofs.Common.{◌≡◌, true, false, ◌+◌, ◌-◌, arith, ◌∙◌, ◌||◌, ◌++◌, refl, sym, subst, ap}
+use Rattle.std.proofs.Common.{true, false, ◌+◌, arith, ◌∙◌, ◌||◌, ◌++◌, refl, sym, subst, ap}
 use Rattle.std.specs.Prelude.{codes}
-use Rattle.bz_canonical.specs.private.Chains.{IsTermFront}
 use Rattle.bz_canonical.specs.private.Values.{AreNodesFront}
 use Rattle.bz_canonical.specs.private.Segments.{Continues, ContinuesFlat, IsSegmentFront}
-use Rattle.bz_canonical.proofs.GroupSegments.{begin, more, finish, begin_flat, more_flat, finish_flat, none_flat, element_segment, positional_segment, keyword_segment, entry_segment, first_of_more, second_of_more, four_or, in_place_front}
-use Rattle.bz_canonical.proofs.Operands.{list_value, dict_value, name_value, string_value, broken_group, flat_group}
-use Rattle.bz_canonical.proofs.Chained.{Chains, begin_chain, more_chain, finish_chain, value_nodes, value_term, call_term}
+use Rattle.bz_canonical.proofs.GroupSegments.{begin, more, finish, begin_flat, more_flat, finish_flat, none_flat, element_segment, positional_segment, keyword_segment, entry_segment, first_of_more, second_of_more, four_or}
+use Rattle.bz_canonical.proofs.Operands.{list_value, dict_value, name_value, broken_group, flat_group}
+use Rattle.bz_canonical.proofs.Chained.{Chains, begin_chain, more_chain, finish_chain, value_term}
 use Rattle.bz_canonical.proofs.+values.Goals as goal
 
-pub segments::segments-loop-init : goal.segments::segments-loop-init
-segments::segments-loop-init m c = (0, refl, refl, begin c.args.kind c.args.level c.args.depth c.args.text.now)
+pub segments::segments-loop-count-init : goal.segments::segments-loop-count-init
+segments::segments-loop-count-init m c = begin c.args.kind c.args.level c.args.depth c.args.text.now
 
 pub value::sum-loop-init : goal.value::sum-loop-init
 value::sum-loop-init m c = begin_chain c.args.level c.args.depth c.args.text.now
@@ -26,23 +25,19 @@ value::sum-loop-preserved m c = λ rest k t.
     (more_chain c.args.level c.args.depth c.args.text.now c.in_ok-read.read.rest.now c.in-Some.operand.now rest holds k
     (c.loop.invariant c.in_ok-read.read.rest.now c.in_ok-read.read.holds c.in_ok-read.ensures) c.in-Some.ensures t)
 
-pub segments::segments-loop-preserved : goal.segments::segments-loop-preserved
-segments::segments-loop-preserved m c =
-    let i = c.loop.invariant in
-    let on = more c.args.kind c.args.level c.args.depth c.args.text.now c.loop.rest.now c.notes-above.result.rest.now c.in-Some.inner.now c.in_ok-read.read.rest.now c.in_ok-comma.comma.now c.in_ok-side.side.rest.now
-    i.0 c.loop.holds c.in_ok-read.read.holds c.loop.noted c.notes-above.result.some c.in_ok-side.side.some i.3 c.notes-above.ensures c.in-Some.ensures c.in_ok-read.ensures c.in_ok-comma.ensures c.in_ok-side.ensures in (
-      i.0 + 1,
-      first_of_more i.0,
-      i.1 ∙ second_of_more i.0,
-      subst (λ b. Continues c.args.kind c.args.level c.args.depth c.args.text.now c.in_ok-side.side.rest.now (i.0 + 1) b c.either-noted.result) (sym c.either-holds.ensures)
-          (subst (λ b. Continues c.args.kind c.args.level c.args.depth c.args.text.now c.in_ok-side.side.rest.now (i.0 + 1) (c.loop.holds || c.in_ok-read.read.holds) b)
-          (sym (c.either-noted.ensures ∙ ap (λ b. c.loop.noted || b) c.either-about.ensures)) on),
-    )
+pub segments::segments-loop-count-preserved : goal.segments::segments-loop-count-preserved
+segments::segments-loop-count-preserved m c =
+    let l = c.loop-count in
+    let on = more c.args.kind c.args.level c.args.depth c.args.text.now l.rest.now c.notes-above.result.rest.now c.in-Some.inner.now c.in_ok-read.read.rest.now c.in_ok-comma.comma.now c.in_ok-side.side.rest.now
+    l.count l.holds c.in_ok-read.read.holds l.noted c.notes-above.result.some c.in_ok-side.side.some l.invariant c.notes-above.ensures c.in-Some.ensures c.in_ok-read.ensures c.in_ok-comma.ensures c.in_ok-side.ensures in
+    subst (λ b. Continues c.args.kind c.args.level c.args.depth c.args.text.now c.in_ok-side.side.rest.now (l.count + 1) b c.either-noted.result) (sym c.either-holds.ensures)
+    (subst (λ b. Continues c.args.kind c.args.level c.args.depth c.args.text.now c.in_ok-side.side.rest.now (l.count + 1) (l.holds || c.in_ok-read.read.holds) b)
+    (sym (c.either-noted.ensures ∙ ap (λ b. l.noted || b) c.either-about.ensures)) on)
 
 pub segments::segments-returns-in_default : goal.segments::segments-returns-in_default
 segments::segments-returns-in_default m c =
-    let i = c.loop.invariant in
-    (i.0, i.1, i.2, c.loop.rest.now, finish c.args.kind c.args.level c.args.depth c.args.text.now c.loop.rest.now i.0 c.loop.holds c.loop.noted i.3, c.notes-above.ensures)
+    let l = c.loop-count in
+    (l.rest.now, finish c.args.kind c.args.level c.args.depth c.args.text.now l.rest.now l.count l.holds l.noted l.invariant, c.notes-above.ensures)
 
 pub segments::flat_segments-loop-init : goal.segments::flat_segments-loop-init
 segments::flat_segments-loop-init m c = (1, refl, refl, begin_flat c.args.kind c.args.level c.args.depth c.args.text.now c.in_ok-first.first.rest.now c.in_ok-first.first.holds c.in_ok-first.ensures)
@@ -60,36 +55,23 @@ segments::flat_segments-loop-preserved m c =
 pub group::broken_group-returns : goal.group::broken_group-returns
 group::broken_group-returns m c =
     let read = c.in_ok-read.ensures in
-    let many = four_or c.in_ok-read.read.ended c.in_ok-read.read.noted _ _ ∙ sym (c.either-broken.ensures ∙ ap (λ b. c.in_ok-read.read.ended || b) (c.either-noted.ensures ∙ ap (λ b. c.in_ok-read.read.noted || b) (c.breaks-many.ensures read.0 read.1 read.2))) ∙ c.if-not-broken.false in
-    broken_group c.args.kind c.args.level c.args.depth c.args.inside.now read.3 c.in_ok-read.read.rest.now c.in_ok-end.end.now c.in_ok-rest.rest.now c.closing.result read.0 c.in_ok-read.read.holds c.in_ok-read.read.noted c.in_ok-read.read.ended
-    c.closing.ensures c.requires.commas read.4 read.5 many c.in_ok-end.ensures c.in_ok-rest.ensures
+    let many = four_or c.in_ok-read.read.ended c.in_ok-read.read.noted _ _ ∙ sym (c.either-broken.ensures ∙ ap (λ b. c.in_ok-read.read.ended || b) (c.either-noted.ensures ∙ ap (λ b. c.in_ok-read.read.noted || b) (c.breaks-many.ensures c.in_ok-read.read.count refl refl))) ∙ c.if-not-broken.false in
+    broken_group c.args.kind c.args.level (c.args.depth + 1) c.args.depth c.args.inside.now read.0 c.in_ok-read.read.rest.now c.in_ok-end.end.now c.in_ok-rest.rest.now c.closing.result c.in_ok-read.read.count c.in_ok-read.read.holds c.in_ok-read.read.noted c.in_ok-read.read.ended
+    (omega arith) c.closing.ensures c.requires.commas read.1 read.2 many c.in_ok-end.ensures c.in_ok-rest.ensures
 
 pub group::flat_group-returns : goal.group::flat_group-returns
 group::flat_group-returns m c =
     let read = c.in_ok-read.ensures in
-    flat_group c.args.kind c.args.level c.args.depth c.args.inside.now c.in_ok-read.read.rest.now c.in_ok-rest.rest.now c.closing.result read.0 c.in_ok-read.read.holds
-    c.closing.ensures read.3 (sym (c.breaks-broken.ensures read.0 read.1 read.2) ∙ c.if-broken.false) c.in_ok-rest.ensures
+    flat_group c.args.kind c.args.level (c.args.depth + 1) c.args.depth c.args.inside.now c.in_ok-read.read.rest.now c.in_ok-rest.rest.now c.closing.result read.0 c.in_ok-read.read.holds
+    (omega arith) c.closing.ensures read.3 (sym (c.breaks-broken.ensures read.0 read.1 read.2) ∙ c.if-broken.false) c.in_ok-rest.ensures
 
 pub segments::flat_segments-returns-then-is_some : goal.segments::flat_segments-returns-then-is_some
-segments::flat_segments-returns-then-is_some m c =
-    let made = c.in_place.ensures in (
-      0,
-      made.counted.0,
-      made.counted.1,
-      in_place_front c.args.kind c.args.level c.args.depth c.args.text.now c.args.text.now c.in_place.result.rest.now 0 false c.in_place.result.holds made.rest made.counted.2
-          (none_flat c.args.kind c.args.level c.args.depth c.args.text.now),
-    )
+segments::flat_segments-returns-then-is_some m c = (0, refl, refl, none_flat c.args.kind c.args.level c.args.depth c.args.text.now)
 
 pub segments::flat_segments-returns-in_default : goal.segments::flat_segments-returns-in_default
 segments::flat_segments-returns-in_default m c =
-    let made = c.in_place-in_default.ensures in
-    let i = c.loop.invariant in (
-      i.0,
-      made.counted.0 ∙ i.1,
-      made.counted.1 ∙ i.2,
-      in_place_front c.args.kind c.args.level c.args.depth c.args.text.now c.loop.rest.now c.in_place-in_default.result.rest.now i.0 c.loop.holds c.in_place-in_default.result.holds made.rest made.counted.2
-          (finish_flat c.args.kind true c.args.level c.args.depth c.args.text.now c.loop.rest.now i.0 c.loop.holds i.3),
-    )
+    let i = c.loop.invariant in
+    (i.0, i.1, i.2, finish_flat c.args.kind true c.args.level c.args.depth c.args.text.now c.loop.rest.now i.0 c.loop.holds i.3)
 
 pub segments::segment-returns-in_ok-read-in-List : goal.segments::segment-returns-in_ok-read-in-List
 segments::segment-returns-in_ok-read-in-List m c =
@@ -112,33 +94,19 @@ segments::named_segment-returns-in_ok-read-in-None m c =
     positional_segment c.args.kind c.args.level c.args.depth c.args.text.now c.in_ok-read-in-None.read.rest.now c.in_ok-read-in-None.read.holds
     (sym c.is_call.ensures ∙ c.if-not-is_call.false) c.in_ok-read-in-None.ensures
 
-pub value::list-returns : goal.value::list-returns
-value::list-returns m c =
-    let deeper : c.args.depth - 1 + 1 ≡ c.args.depth = omega (arith, c.if-depth-eq0.false) in
-    subst (λ d. IsTermFront c.args.level d c.args.text.now c.in_ok-read.read.rest.now c.in_ok-read.read.holds) deeper
-    (value_term c.args.level (c.args.depth - 1 + 1) c.args.text.now c.in_ok-read.read.rest.now c.in_ok-read.read.holds
-    (list_value c.args.level (c.args.depth - 1) c.args.text.now c.in_ok-read.read.rest.now c.in_ok-read.read.holds c.in_ok-read.ensures))
+pub value::term-returns-in_ok-read-in-91 : goal.value::term-returns-in_ok-read-in-91
+value::term-returns-in_ok-read-in-91 m c =
+    let read = c.in_ok-read-in-91.read in
+    value_term c.args.level c.args.depth c.args.text.now read.rest.now read.holds (list_value c.args.level c.args.depth c.args.text.now read.rest.now read.holds c.in_ok-read-in-91.ensures)
 
-pub value::dict-returns : goal.value::dict-returns
-value::dict-returns m c =
-    let deeper : c.args.depth - 1 + 1 ≡ c.args.depth = omega (arith, c.if-depth-eq0.false) in
-    subst (λ d. IsTermFront c.args.level d c.args.text.now c.in_ok-read.read.rest.now c.in_ok-read.read.holds) deeper
-    (value_term c.args.level (c.args.depth - 1 + 1) c.args.text.now c.in_ok-read.read.rest.now c.in_ok-read.read.holds
-    (dict_value c.args.level (c.args.depth - 1) c.args.text.now c.in_ok-read.read.rest.now c.in_ok-read.read.holds c.in_ok-read.ensures))
-
-pub value::name_or_call-returns-in_ok-read-in-40 : goal.value::name_or_call-returns-in_ok-read-in-40
-value::name_or_call-returns-in_ok-read-in-40 m c =
-    let deeper : c.args.depth - 1 + 1 ≡ c.args.depth = omega (arith, c.if-depth-eq0.false) in
-    subst (λ d. IsTermFront c.args.level d c.args.text.now c.in_ok-read-in-40.read.rest.now c.in_ok-read-in-40.read.holds) deeper
-    (call_term c.args.level (c.args.depth - 1) c.args.text.now c.in_ok-end.end.now c.in_ok-read-in-40.read.rest.now c.in_ok-read-in-40.read.holds c.in_ok-end.ensures c.in_ok-read-in-40.ensures)
+pub value::term-returns-in_ok-read-in-123 : goal.value::term-returns-in_ok-read-in-123
+value::term-returns-in_ok-read-in-123 m c =
+    let read = c.in_ok-read-in-123.read in
+    value_term c.args.level c.args.depth c.args.text.now read.rest.now read.holds (dict_value c.args.level c.args.depth c.args.text.now read.rest.now read.holds c.in_ok-read-in-123.ensures)
 
 pub value::name_or_call-returns-in_default : goal.value::name_or_call-returns-in_default
 value::name_or_call-returns-in_default m c =
     value_term c.args.level c.args.depth c.args.text.now c.in_ok-end.end.now false (name_value c.args.text.now c.in_ok-end.end.now c.in_ok-end.ensures c.args.level c.args.depth)
-
-pub value::nodes-returns-in-Some : goal.value::nodes-returns-in-Some
-value::nodes-returns-in-Some m c =
-    value_nodes c.args.level c.args.depth c.args.text.now c.in-Some.rest.now false (string_value c.args.text.now c.in-Some.rest.now c.in-Some.ensures c.args.level c.args.depth)
 
 pub value::term-returns-in_ok-rest-in-34 : goal.value::term-returns-in_ok-rest-in-34
 value::term-returns-in_ok-rest-in-34 m c =

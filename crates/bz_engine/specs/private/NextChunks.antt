@@ -1,7 +1,6 @@
 -- What the script on the next chunk answers, for private clauses.
 use Rattle.std.specs.Prelude.{◌≡◌, ℕ, ◌+◌, ◌*◌, ◌≤◌, Bool, true, false, IsTrue, List, [], length, take, Option, None, Some}
 use Rattle.std.specs.Str.{IsUtf8}
-use Rattle.bz_token.specs.Cuts.{IsPart}
 use Rattle.bz_token.specs.Places.{line_at}
 use Rattle.bz_tree.specs.Tree.{Statement}
 use Rattle.bz_devices.specs.Ahead.{Ahead, IsNextChunk, IsFewAfter}
@@ -36,10 +35,10 @@ pub record IsKnownEdited (run : Run) (found : Found) (old new : Progress) (befor
   pub passed : new ≡ record mid { line = line_at mid.line found.chunk.chunk.now }
   pub next_is : next ≡ record { len = length found.chunk.chunk.now; edited = Done }
 
--- The script was run on the first chunk ahead; or nothing was done, and all that is ahead is a part of it; or nothing was done.
+-- The script was run on the first chunk ahead, or nothing was done.
 abbrev pub IsFirst : Run → ℕ → Ahead → Progress → Progress → List ℕ → List ℕ → First → Type 0
 IsFirst run max_statement ahead old new before after (Edited next) = IsFirstEdited run max_statement ahead old new before after next
-IsFirst run max_statement ahead old new before after Short = IsPart ahead.bytes × (new ≡ old) × (after ≡ before)
+IsFirst run max_statement ahead old new before after Short = DoesNothing old new before after
 IsFirst run max_statement ahead old new before after Other = DoesNothing old new before after
 
 -- the same of a session

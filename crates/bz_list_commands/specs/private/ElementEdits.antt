@@ -3,18 +3,12 @@ use Rattle.std.specs.Prelude.{◌≡◌, ℕ, ◌+◌, List, [], ◌∷◌, ◌+
 use Rattle.std.specs.List.{list_any}
 use Rattle.bz_tree.specs.declared.stmt.GroupKind.TheVariants.{List as ListKind}
 use Rattle.bz_tree.specs.Tree.{Item, Segment, items_of, segs_of}
-use Rattle.bz_tree.specs.Rows.{RowPart, a_token, opening, segment_end, items_parts, segs_parts}
+use Rattle.bz_tree.specs.Rows.{RowPart, opening, segment_end, items_parts, segs_parts}
 use Rattle.bz_attribute.specs.Elements.{HasNoList, IsElementOf, IsListIn, ListRest, edit_in, lists_in, rest_parts, value_parts}
 use Rattle.bz_attribute.specs.Lists.{edit_parts, parts}
 use Rattle.bz_list_commands.specs.private.StringEdits.{become, become_all, in_place, is_meant}
 use Rattle.bz_list_commands.specs.private.WrittenParts.{IsWritten}
 use Rattle.bz_list_commands.specs.declared.rewriting.Written.{Written}
-
--- a token, or a bracket opens
-abbrev pub is_node : RowPart → Bool
-is_node (a_token kind text) = true
-is_node (opening kind) = true
-is_node _ = false
 
 abbrev pub begins_list : List RowPart → Bool
 begins_list (opening ListKind ∷ ps) = true

@@ -29,7 +29,6 @@ use Rattle.bz_rule.proofs.PassingParts.{edited_parts_pass}
 use Rattle.bz_rule.proofs.PassingTexts.{SegmentPasses, value_passes, with_value_passes}
 use Rattle.bz_rule.proofs.PassingWritten.{PassesWritten}
 use Rattle.bz_rule.proofs.Segments.{IsFormed, all_mapped, either_way}
-use Rattle.bz_rule.specs.OwnComments.{own_comments}
 use Rattle.bz_tree.specs.Comments.{beside}
 use Rattle.bz_tree.specs.Grammar.{IsArg, IsTest}
 use Rattle.std.specs.Str.{is_utf8}
@@ -169,10 +168,6 @@ attribute_passes q w home old new word a h =
 -- the elements of an attribute after `replace`
 pub replace_elements : (home : Package) (old new : List ℕ) (a : Segment) → is_attribute a ≡ true → parts (value (replaced_in home old new a)) ≡ map (map (replaced home old new)) (parts (value a))
 replace_elements home old new a h = ap parts (value_put (edit_parts (map (replaced home old new)) (value a)) a h) ∙ parts_edited (map (replaced home old new)) (value a)
-
-pub element_keeps : (home : Package) (old new : List ℕ) (s : Segment) → own_comments (replaced home old new s) ≡ own_comments s
-element_keeps home old new s =
-    either_way (λ (z : Segment). own_comments z ≡ own_comments s) (is_replaced home old new s) refl refl
 
 -- a string is a token
 string_none : (nodes : List Item) (v : List ℕ) → string_value nodes ≡ Some v → in_nodes nodes ≡ []

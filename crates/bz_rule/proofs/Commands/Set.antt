@@ -3,7 +3,7 @@ use Rattle.std.proofs.Common.{◌≡◌, ℕ, ◌==◌, List, [], ◌∷◌, ◌
 use Rattle.bz_attribute.proofs.RuleParts.{rule_dotted}
 use Rattle.std.specs.Prelude.{bytes_eq}
 use Rattle.std.specs.List.{slice_split, join_with_byte, AllByRecursion, list_all}
-use Rattle.std.proofs.lemmas.Bool.{not-true, not-false, and_parts, cases_Bool}
+use Rattle.std.proofs.lemmas.Bool.{not-true, not-false, and_parts, or_parts, cases_Bool}
 use Rattle.std.proofs.lemmas.Grind.{flat_map-append}
 use Rattle.std.proofs.lemmas.List.Splits.{join_with_byte-slice_split}
 use Rattle.bz_tree.specs.declared.stmt.GroupKind.TheVariants.{RuleCall}
@@ -21,7 +21,7 @@ use Rattle.bz_command.specs.Labels.{Package}
 use Rattle.bz_attribute.specs.Lists.{with_value, is_attribute, is_list, is_only}
 use Rattle.bz_rule.proofs.Arguments.{attribute_named, first_same, rest_same, same_bytes, value_put}
 use Rattle.bz_rule.proofs.Local.{looks_at_one, set_local}
-use Rattle.bz_rule.proofs.Lawful.{Lawful, on_arguments, passed, held, none_of_either}
+use Rattle.bz_rule.proofs.Lawful.{Lawful, on_arguments, passed, held}
 use Rattle.bz_rule.proofs.NamesKept.{KeepsEach, Leaves, append_kept, edit_one_kept, first_kept, has_kept, put_kept, taken}
 use Rattle.bz_rule.proofs.Aside.{leaves_mentioned}
 use Rattle.bz_rule.proofs.Rebuilt.{kind_told, slot_kind_exchanged}
@@ -421,7 +421,7 @@ set_read (attr ∷ values) c h u =
       | inl kind ↦ set_kind_read values c (rw kind at right.1) (and_parts (is_utf8 attr) (list_all is_utf8 values) u).1
       | inr other ↦
           let named = held (is_identifier attr) BadAttribute (Set (ToValues attr values)) c (rw other at right.1) in
-          rw named.1 (record { command = rw (named.0, none_of_either (length values == 0) (takes_one attr && not (length values == 1)) right.0) refl; words = u })
+          rw named.1 (record { command = rw (named.0, (or_parts (length values == 0) (takes_one attr && not (length values == 1)) right.0).0) refl; words = u })
     ]
 
 pub set_if_absent_read : (words : List (List ℕ)) (c : Command) → Ok c ≡ set_if_absent_of words → list_all is_utf8 words ≡ true → IsRead c

@@ -7,6 +7,7 @@ ghost use Rattle.bz_command.specs.Labels.{Package};
 
 /// A command as [`read_command`](crate::read_command) makes it tells that it changed something exactly where what
 /// stands in the slot is another than before.
+#[tactic(auto, using(crate::proofs::Commands::changed_tells))]
 pub fn changed_tells_a_difference()
     ensures { (c : Command) (home : Package) (slot : Option Statement) → is_command c ≡ true
         → ((done_of c home slot).changed ≡ true) ↔ (after c home slot ≡ slot → ⊥) }

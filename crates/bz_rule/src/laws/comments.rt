@@ -14,6 +14,7 @@ ghost use Rattle.bz_attribute.specs.Replace as replace;
 ghost use Rattle.bz_attribute.specs.Rules.{value};
 
 /// The commands that `keeps_comments` names leave all comments of a statement, in their order.
+#[tactic(auto, using(crate::proofs::Commands::comments_after))]
 pub fn comments_stay()
     ensures { (command : Command) (home : Package) (slot : Option Statement) → keeps_comments command ≡ true
         → option_map comments_of (after command home slot) ≡ option_map comments_of slot }
@@ -21,6 +22,7 @@ pub fn comments_stay()
 
 /// Of the elements of an attribute, those that stay are as they were, comments included; one that is replaced keeps its
 /// own comments.
+#[tactic(auto, using(crate::proofs::Commands::Remove::left_elements, crate::proofs::Found::added_elements))]
 pub fn elements_keep_comments()
     ensures remove { (home : Package) (chosen : Moved) (a b : Segment) → is_attribute a ≡ true
         → effects.filtered (effects.unchosen home chosen) a ≡ b ∷ []

@@ -17,6 +17,7 @@ ghost use Rattle.bz_attribute.specs.Effects as effects;
 ghost use Rattle.bz_attribute.specs.Remove as remove;
 
 /// Where `add` does not fail, an element equals each of its values afterwards, so `remove` finds them.
+#[tactic(auto, using(crate::proofs::Found::add_found))]
 pub fn added_values_are_found()
     ensures { (home : Package) (attr : List ℕ) (values : List (List ℕ)) (args : List Segment)
         → effects.not_a_list attr (first_named attr args) ≡ None
@@ -41,6 +42,7 @@ pub fn set_twice_changes_nothing()
 
 /// What `remove` removes is not there afterwards: attributes; the values, where there is one argument of the name at
 /// most; the values in all attributes. Where there are more of the name, the first is edited and all else stays.
+#[tactic(auto, using(crate::proofs::Gone::removed_named, crate::proofs::Gone::removed_everywhere))]
 pub fn removed_is_gone()
     ensures attribute { (home : Package) (attr : List ℕ) (args : List Segment)
         → effects.has attr (remove.remove home (Named attr) [] args) ≡ false }

@@ -9,6 +9,7 @@ ghost use Rattle.bz_command.specs.Labels.{Package};
 
 /// What a command leaves of a statement whose tokens and comments are UTF-8 has such, if its words, but for those of
 /// `print`, are UTF-8.
+#[tactic(auto, using(crate::proofs::Utf8Commands::commands_utf8))]
 pub fn commands_keep_utf8()
     ensures { (c : Command) (home : Package) (s t : Statement) → command_passes is_utf8 c ≡ true
         → after c home (Some s) ≡ Some t → HasUtf8 s → HasUtf8 t }

@@ -11,6 +11,7 @@ ghost use Rattle.bz_rule.specs.WellFormedSegments.{AreFormed};
 /// A command as [`read_command`](crate::read_command) makes it leaves the arguments of a rule as parsing gives
 /// them: each in the grammar, its tokens and comments texts of their kinds, its brackets of their kinds and no deeper
 /// than before, or than the brackets of one list.
+#[tactic(auto, using(crate::proofs::Commands::arguments_formed))]
 pub fn arguments_stay_well_formed()
     ensures { (depth : ℕ) (c : Command) (home : Package) (args : List Segment) → is_command c ≡ true
         → AreFormed IsArg (suc depth) args → AreFormed IsArg (suc depth) (args_after c home args) }

@@ -4,6 +4,7 @@ ghost use Rattle.std.specs.Prelude.{◌≡◌, ◌+◌, ◌-◌, ◌≤◌, ◌<
 ghost use Rattle.std.specs.List.{prefix_len};
 ghost use Rattle.bz_token.specs.private.CutSteps.{is_ended, is_quiet, byte_of, with_comment, at, outside, in_short, in_long, next, start, run};
 
+use crate::plain::plain_len;
 use crate::scan::line_len;
 use crate::table::{class_at, is_quiet_class};
 
@@ -224,7 +225,7 @@ fn advance(scan: Scan, b: u8) -> Scan
     }
 }
 
-// A byte that changes nothing in a statement outside comments, nor in a short string.
+// A byte that changes nothing in a statement outside strings and comments.
 #[inline(always)]
 fn is_quiet(b: u8) -> bool
     ensures { result ≡ is_quiet b }
@@ -250,7 +251,7 @@ fn quiet_len(scan: Scan, bytes: &[u8]) -> usize
             LineKind::Statement => quiet_prefix(bytes),
             _ => 0,
         },
-        CutState::Short(_) => quiet_prefix(bytes),
+        CutState::Short(quote) => plain_len(byte_of(quote), bytes),
         CutState::Comment => line_len(bytes),
         _ => 0,
     }

@@ -2,15 +2,8 @@ use Rattle.std.proofs.Common.{◌≡◌, None, Some, ap, map, option_map, refl, 
 use Rattle.bz_tree.specs.Rows.{part_view}
 use Rattle.bz_command.specs.private.ByteSteps.{left}
 use Rattle.bz_attribute.specs.private.ElementSets.{choice}
-use Rattle.bz_attribute.proofs.LabelsFound.{gained, none_labelled, not_gained, one_labelled}
+use Rattle.bz_attribute.proofs.LabelsFound.{gained, not_gained, one_labelled}
 use Rattle.bz_attribute.proofs.element_labels.labels_from.Goals as goal
-
-pub loop-element-init : goal.loop-element-init
-loop-element-init c = record {
-  within = search rules;
-  home = c.new-set.ensures.home;
-  same = none_labelled c.args.home.now (choice c.args.words) (map part_view c.args.parts.now) c.args.from c.new-set.result c.new-set.ensures.empty;
-}
 
 pub loop-element-preserved-in_ok-insert : goal.loop-element-preserved-in_ok-insert
 loop-element-preserved-in_ok-insert c =

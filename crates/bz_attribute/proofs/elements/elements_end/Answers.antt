@@ -1,10 +1,7 @@
 use Rattle.std.proofs.Common.{rules, map}
 use Rattle.bz_tree.specs.Rows.{part_view}
-use Rattle.bz_attribute.proofs.ValueElements.{none_passed, one_passed}
+use Rattle.bz_attribute.proofs.ValueElements.{one_passed}
 use Rattle.bz_attribute.proofs.elements.elements_end.Goals as goal
-
-pub loop-to-init : goal.loop-to-init
-loop-to-init c = record { within = search rules; after = search rules; passed = none_passed (map part_view c.args.parts.now) c.args.from }
 
 pub loop-to-preserved : goal.loop-to-preserved
 loop-to-preserved c = record {

@@ -1,6 +1,6 @@
-use Rattle.std.proofs.Common.{rules, refl, ℕ, ◌+◌, ◌&&◌, Bool, ap, drop, map, sym, ◌∙◌}
+use Rattle.std.proofs.Common.{rules, refl, ℕ, ◌&&◌, Bool, ap, drop, map, sym, ◌∙◌}
 use Rattle.bz_tree.specs.Rows.{part_view}
-use Rattle.bz_attribute.specs.private.ListParts.{ends_piece, item_len}
+use Rattle.bz_attribute.specs.private.ListParts.{ends_piece}
 use Rattle.bz_attribute.proofs.ListWalk.{list_here, no_walk_after, walk_ends, walk_passes}
 use Rattle.bz_attribute.proofs.Slices.{rest_seen}
 use Rattle.bz_attribute.proofs.elements.list_from.Goals as goal
@@ -9,15 +9,15 @@ use Rattle.bz_attribute.proofs.elements.list_from.Goals.{else-starts-via-then-st
 pub returns-then-ends_piece-clause-some : goal.returns-then-ends_piece-clause-some
 returns-then-ends_piece-clause-some c = λ nodes after read joined.
     let at : ℕ = c.loop-at.at in
-    let end : ℕ = at + c.item_len.result in
+    let end : ℕ = c.item_end-end.result in
     list_here c.args.whole c.loop-at.starts c.args.parts.now c.args.from at end _ nodes after c.loop-at.invariant.walked c.loop-at-test.true (sym c.is_end.ensures ∙ c.if-not-is_end.true)
     c.if-starts.true (sym c.opens_list.ensures ∙ c.if-opens_list.true) (sym (c.ends_piece.ensures ∙ ap ends_piece (rest_seen c.args.parts.now end)) ∙ c.if-ends_piece.true)
-    (ap (λ (n : ℕ). at + n) (c.item_len.ensures.len ∙ ap item_len (rest_seen c.args.parts.now at))) read joined
+    c.item_end-end.ensures.end read joined
 
 pub loop-at-preserved : goal.loop-at-preserved
 loop-at-preserved c =
     let at : ℕ = c.loop-at.at in
-    let end : ℕ = at + c.item_len.result in
+    let end : ℕ = c.item_end-end.result in
     let piece : Bool = ends_piece (drop end (map part_view c.args.parts.now)) in
     record {
       within = search rules;
@@ -29,8 +29,7 @@ loop-at-preserved c =
             | else-starts-via-then-starts+else-opens_list w ↦ (λ i. w.if-starts.true i && (sym w.opens_list.ensures ∙ w.if-opens_list.false) i && piece)
             | else-starts-via-else-starts w ↦ rw w.if-starts.false refl
           ]
-          ) c.is_plus-starts.ensures
-          (ap (λ (n : ℕ). at + n) (c.item_len.ensures.len ∙ ap item_len (rest_seen c.args.parts.now at)));
+          ) c.is_plus-starts.ensures c.item_end-end.ensures.end;
     }
 
 pub returns-else-not-is_end-clause-none : goal.returns-else-not-is_end-clause-none

@@ -1,11 +1,8 @@
 use Rattle.std.proofs.Common.{map, rules, sym, ◌∙◌}
 use Rattle.bz_tree.specs.Rows.{part_view}
 use Rattle.bz_attribute.proofs.ListWalk.{some_both}
-use Rattle.bz_attribute.proofs.ValueElements.{next_emptied, next_here, next_later, when_none}
+use Rattle.bz_attribute.proofs.ValueElements.{next_emptied, next_later, when_none}
 use Rattle.bz_attribute.proofs.elements.next_of_value.Goals as goal
-
-pub returns-then-is_some-clause-some : goal.returns-then-is_some-clause-some
-returns-then-is_some-clause-some c = some_both _ _ _ c.next_element-element.result (λ e begins there. λ rest after read. next_here (map part_view c.args.parts.now) c.args.at e.from e.token e.to _ rest after begins there read) c.next_element-element.ensures.from c.next_element-element.ensures.some
 
 pub loop-from-preserved : goal.loop-from-preserved
 loop-from-preserved c = record {

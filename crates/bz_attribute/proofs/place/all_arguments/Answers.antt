@@ -1,12 +1,7 @@
-use Rattle.std.proofs.Common.{arith}
 use Rattle.std.specs.Prelude.{map}
 use Rattle.bz_tree.specs.Rows.{part_view}
-use Rattle.bz_attribute.proofs.PlaceFound.{all_ordered, place_all}
+use Rattle.bz_attribute.proofs.PlaceFound.{place_all}
 use Rattle.bz_attribute.proofs.place.all_arguments.Goals as goal
-
-pub returns-then-to-from-clause-place : goal.returns-then-to-from-clause-place
-returns-then-to-from-clause-place c s r h =
-    absurd (omega (arith, all_ordered s r (map part_view c.args.parts.now) h, c.if-to-from.true, c.arguments_begin-from.ensures.begin, c.arguments_end-to.ensures.end))
 
 pub returns-clause-place : goal.returns-clause-place
 returns-clause-place c s r h = place_all s r (map part_view c.args.parts.now) _ _ h c.arguments_begin-from.ensures.begin c.arguments_end-to.ensures.end

@@ -1,16 +1,9 @@
-use Rattle.std.proofs.Common.{◌≡◌, ◌∙◌, ◌≤◌, ℕ, List, length, map, ap, sym, subst, arith}
+use Rattle.std.proofs.Common.{◌≡◌, ◌∙◌, List, map, ap}
 use Rattle.bz_tree.specs.Rows.{RowPart, part_view}
-use Rattle.bz_attribute.specs.RowEdits.{IsWithin, replaced_at}
+use Rattle.bz_attribute.specs.RowEdits.{replaced_at}
 use Rattle.bz_attribute.specs.declared.edit.Edit.{Edit}
-use Rattle.bz_attribute.proofs.RowEdits.{seen_within}
 use Rattle.bz_attribute_commands.proofs.LineWritten.{rule_commented}
 use Rattle.bz_attribute_commands.proofs.line.comment_rule.Goals as goal
-
-pub returns-clause-within : goal.returns-clause-within
-returns-clause-within c =
-    let from : ℕ = c.kind_place.result.from in
-    let bound : from ≤ length c.args.parts.now = omega (arith, c.kind_place.ensures.within.0, c.kind_place.ensures.within.1) in
-    subst (λ (e : Edit). IsWithin e.place (map part_view c.args.parts.now)) (sym c.insertion.ensures) (seen_within (record { from = from; to = from }) c.args.parts.now (omega arith, bound))
 
 pub returns-clause-parts : goal.returns-clause-parts
 returns-clause-parts c s r h =
@@ -18,6 +11,3 @@ returns-clause-parts c s r h =
     let place : c.insertion.result.place ≡ record { from = c.kind_place.result.from; to = c.kind_place.result.from } = ap (λ (e : Edit). e.place) c.insertion.ensures in
     (λ i. replaced_at (place i) (c.in_ok-write_line.ensures i) ps)
     ∙ rule_commented c.args.text.now s r ps c.kind_place.result.from c.kind_place.result.to (c.kind_place.ensures.place s r h) h.rule
-
-pub returns-clause-done : goal.returns-clause-done
-returns-clause-done c = ap (λ (e : Edit). e.done) c.insertion.ensures

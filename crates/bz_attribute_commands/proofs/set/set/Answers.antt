@@ -7,15 +7,18 @@ use Rattle.bz_attribute.specs.RowPlaces.{IsRuleRow}
 use Rattle.bz_attribute.specs.Rules.{Rule, value}
 use Rattle.bz_attribute.specs.Set.{New, new_value}
 use Rattle.bz_attribute.specs.declared.done.Done.{Done}
-use Rattle.bz_attribute.proofs.RowEdits.{changed, unchanged}
+use Rattle.bz_attribute.proofs.RowEdits.{changed, seen_within, unchanged}
 use Rattle.bz_attribute_commands.specs.private.SetViews.{new_view}
-use Rattle.bz_attribute_commands.proofs.ArgumentEdits.{in_other_words}
-use Rattle.bz_attribute_commands.proofs.SetEdits.{new_known, set_added, set_told, value_set}
+use Rattle.bz_attribute_commands.proofs.SetEdits.{new_known, none_told, set_added, set_told, value_set}
 use Rattle.bz_attribute_commands.proofs.set.set.Goals as goal
 
 pub returns-in_default : goal.returns-in_default
 returns-in_default c =
-    in_other_words c.add_argument.result _ _ (λ e a. set_added c.args.attr.now c.args.words.now (map part_view c.args.parts.now) _ e c.in_default.ensures.none a) c.add_argument.ensures
+    let attr = c.args.attr.now in
+    let ps = map part_view c.args.parts.now in
+    changed _ _ ps _ _ _ c.at.ensures (seen_within c.new_place.result c.args.parts.now c.new_place.ensures.within)
+    (λ s r h. let none = c.in_default.ensures.none s r h in set_added attr c.args.words.now s r ps _ c.new_place.result h.rule none (c.new_place.ensures.place attr s r h none) c.in_ok-write_argument.ensures)
+    (λ s r h. none_told attr c.args.words.now r.args (c.in_default.ensures.none s r h))
 
 pub returns-then-is_value : goal.returns-then-is_value
 returns-then-is_value c =
@@ -43,6 +46,6 @@ returns c =
     let v = c.in-Some.ensures.some s r h in new_known attr words v.arg v.after ps c.only_list-list.result c.is_some.result new (only s r h) c.is_some.ensures c.new_of-new.ensures in
     let other = λ (s : Statement) (r : Rule) (h : IsRuleRow s r ps).
     let v = c.in-Some.ensures.some s r h in sym c.if-is_value.false ∙ c.is_value.ensures (value v.arg) v.after v.read (only s r h) in
-    changed _ _ ps _ _ _ c.at.ensures (c.value_end.ensures.within.0, omega (arith, c.value_end.ensures.within.1, length-map c.args.parts.now part_view))
+    changed _ _ ps _ _ _ c.at-2.ensures (c.value_end.ensures.within.0, omega (arith, c.value_end.ensures.within.1, length-map c.args.parts.now part_view))
     (λ s r h. let v = c.in-Some.ensures.some s r h in value_set attr words s r ps _ c.in-Some.value c.value_end.result new h v (known s r h) (sym (other s r h)) written (c.value_end.ensures.end (value v.arg) v.after v.read))
     (λ s r h. let v = c.in-Some.ensures.some s r h in set_told attr words r.args v.arg new false v.first (known s r h) (other s r h))

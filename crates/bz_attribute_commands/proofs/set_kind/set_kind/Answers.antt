@@ -1,15 +1,10 @@
-use Rattle.std.proofs.Common.{◌≡◌, ◌∙◌, ◌++◌, List, map, sym, subst}
+use Rattle.std.proofs.Common.{◌≡◌, ◌∙◌, ◌++◌, List, map, sym}
 use Rattle.bz_tree.specs.Tree.{items_of}
 use Rattle.bz_tree.specs.Rows.{RowPart, items_parts, part_view}
-use Rattle.bz_attribute.specs.RowEdits.{IsWithin, replaced_at}
+use Rattle.bz_attribute.specs.RowEdits.{replaced_at}
 use Rattle.bz_attribute.specs.Set.{kind_items}
-use Rattle.bz_attribute.specs.declared.edit.Edit.{Edit}
-use Rattle.bz_attribute.proofs.RowEdits.{seen_within}
 use Rattle.bz_attribute_commands.proofs.KindWritten.{kind_written}
 use Rattle.bz_attribute_commands.proofs.set_kind.set_kind.Goals as goal
-
-pub returns-clause-within : goal.returns-clause-within
-returns-clause-within c = subst (λ (e : Edit). IsWithin e.place (map part_view c.args.parts.now)) (sym c.at.ensures) (seen_within c.kind_place.result c.args.parts.now c.kind_place.ensures.within)
 
 pub returns-clause-parts : goal.returns-clause-parts
 returns-clause-parts c changed s r h was =

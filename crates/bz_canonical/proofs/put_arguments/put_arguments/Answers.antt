@@ -1,5 +1,5 @@
-use Rattle.std.proofs.Common.{◌≡◌, ◌++◌, ◌∙◌, ◌||◌, ℕ, List, None, Some, false, append_assoc, sym, ap, subst}
-use Rattle.std.specs.Prelude.{Option, IfSome, option_map}
+use Rattle.std.proofs.Common.{◌≡◌, ◌++◌, ◌∙◌, ◌||◌, ℕ, List, None, Some, false, append_assoc, refl, sym, ap, subst}
+use Rattle.std.specs.Prelude.{Option, IfSome, nat_le, option_map}
 use Rattle.bz_layout.specs.Pieces.{bytes_of, comments}
 use Rattle.bz_canonical.specs.private.Rewritten.{ArePlacedRead, AreRead, Puts, pending, put_ends}
 use Rattle.bz_canonical.specs.declared.put_arguments.PutOthers.{PutOthers}
@@ -11,9 +11,9 @@ use Rattle.bz_canonical.proofs.put_arguments.put_arguments.Goals as goal
 
 pub returns : goal.returns
 returns c = λ text begun p.
-    let depth = c.args.depth in
-    let attr = c.args.attr.now in
-    let start = c.args.start in
+    let depth = c.args.asked.depth in
+    let attr = c.args.asked.attr.now in
+    let start = c.args.from in
     let placed = c.in-Some.placed in
     let later = c.in-Some-2.later in
     let last = c.in-Some-segments.last in
@@ -24,20 +24,21 @@ returns c = λ text begun p.
     let one = first text begun p in
     let two = second text (begun ++ one.0) one.1 in
     let tail = c.in-Some-segments.ensures in
-    let three = last_read depth later.at.rest.now tail.3 tail.0 last.holds last.noted last.one tail.4 tail.1 in
-    let n = tail.5 in
+    let last_one = nat_le 1 last.count in
+    let three = last_read depth later.at.rest.now tail.0 last.count last.holds last.noted last_one tail.1 refl in
+    let n = tail.2 in
     let notes : List ℕ = bytes_of (comments 1 n.notes) in
-    let more = all_read depth placed.at.rest.now later.at.rest.now tail.3 two.0 three.0 later.one last.one two.2 three.2 in
-    let at3 = pend_more text c.put_later.new.written.items ((begun ++ one.0) ++ two.0) later.at.from.now later.at.rest.now three.0 tail.3 two.1 three.1 in
-    let at4 = pend_more text c.put_later.new.written.items (((begun ++ one.0) ++ two.0) ++ three.0) later.at.from.now tail.3 notes last.rest.now at3 n.front in (
+    let more = all_read depth placed.at.rest.now later.at.rest.now tail.0 two.0 three.0 later.one last_one two.2 three.2 in
+    let at3 = pend_more text c.put_later.new.written.items ((begun ++ one.0) ++ two.0) later.at.from.now later.at.rest.now three.0 tail.0 two.1 three.1 in
+    let at4 = pend_more text c.put_later.new.written.items (((begun ++ one.0) ++ two.0) ++ three.0) later.at.from.now tail.0 notes last.rest.now at3 n.front in (
       (one.0 ++ (two.0 ++ three.0)) ++ notes,
       pend_same text c.put_later.new.written.items ((((begun ++ one.0) ++ two.0) ++ three.0) ++ notes) later.at.from.now last.rest.now (begun ++ ((one.0 ++ (two.0 ++ three.0)) ++ notes)) at4 (joined begun one.0 two.0 three.0 notes),
-      arguments_read placed.named depth attr start.rest.now placed.at.rest.now tail.3 last.rest.now begun one.0 (two.0 ++ three.0) placed.one (later.one || last.one) last.ended _ (put_ends placed.place) one.2 more n
+      arguments_read placed.named depth attr start.rest.now placed.at.rest.now tail.0 last.rest.now begun one.0 (two.0 ++ three.0) placed.one (later.one || last_one) last.ended _ (put_ends placed.place) one.2 more n
           (c.either.ensures ∙ ap (λ b. b || last.ended) (c.either-some.ensures ∙ ap (λ b. placed.one || b) c.either-more.ensures)) (option_map put_ends c.known_place.result) (known c.known_place.result c.known_place.ensures),
     )
   where
     known : (place : Option PutPlace) → IfSome place (λ p. (p ≡ c.in-Some.placed.place) × (c.in-Some.placed.named ≡ false → c.either-more.result ≡ false))
-        → IfSome (option_map put_ends place) (λ p. (p ≡ put_ends c.in-Some.placed.place) × (c.in-Some.placed.named ≡ false → (c.in-Some-2.later.one || c.in-Some-segments.last.one) ≡ false))
+        → IfSome (option_map put_ends place) (λ p. (p ≡ put_ends c.in-Some.placed.place) × (c.in-Some.placed.named ≡ false → (c.in-Some-2.later.one || nat_le 1 c.in-Some-segments.last.count) ≡ false))
     known None is = tt
     known (Some p) is = (ap put_ends is.0, λ no. sym c.either-more.ensures ∙ is.1 no)
 

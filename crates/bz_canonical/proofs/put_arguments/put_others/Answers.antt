@@ -8,8 +8,8 @@ use Rattle.bz_canonical.proofs.put_arguments.put_others.Goals as goal
 pub loop-init : goal.loop-init
 loop-init c = λ text begun p. (
   [],
-  pend_same text c.args.written.now.items begun c.args.start.from.now c.args.start.rest.now (begun ++ []) p (sym (append-nil begun)),
-  none_others c.args.depth c.args.attr.now c.args.start.rest.now,
+  pend_same text c.args.written.now.items begun c.args.from.from.now c.args.from.rest.now (begun ++ []) p (sym (append-nil begun)),
+  none_others c.args.asked.depth c.args.asked.attr.now c.args.from.rest.now,
 )
 
 pub loop-preserved : goal.loop-preserved
@@ -18,9 +18,9 @@ loop-preserved c = λ text begun p.
     let next = c.in-Some-2.next in
     let i = c.loop.invariant text begun p in
     let step = subst (λ o. IfSome o (λ next. (attr : List ℕ) (named : Bool) → IsHeadRead attr at.rest.now c.in-Some.head.value.now named
-    → Puts c.loop.written.items (pending at) c.put_argument.new.written.items (pending next) (λ begun w. IsArgumentRead c.args.depth attr at.rest.now next.rest.now w named))) c.in-Some-2.is c.in_ok-next.ensures in
-    let one = step c.args.attr.now false (subst (λ b. IsHeadRead c.args.attr.now at.rest.now c.in-Some.head.value.now b) c.if-head.false c.in-Some.ensures) text (begun ++ i.0) i.1 in (
+    → Puts c.loop.written.items (pending at) c.put_argument.new.written.items (pending next) (λ begun w. IsArgumentRead c.args.asked.depth attr at.rest.now next.rest.now w named))) c.in-Some-2.is c.in_ok-next.ensures in
+    let one = step c.args.asked.attr.now false (subst (λ b. IsHeadRead c.args.asked.attr.now at.rest.now c.in-Some.head.value.now b) c.if-head.false c.in-Some.ensures) text (begun ++ i.0) i.1 in (
       i.0 ++ one.0,
       pend_same text c.put_argument.new.written.items ((begun ++ i.0) ++ one.0) next.from.now next.rest.now (begun ++ (i.0 ++ one.0)) one.1 (append_assoc begun i.0 one.0),
-      one_more c.args.depth c.args.attr.now c.args.start.rest.now at.rest.now next.rest.now i.0 one.0 c.loop.one i.2 one.2,
+      one_more c.args.asked.depth c.args.asked.attr.now c.args.from.rest.now at.rest.now next.rest.now i.0 one.0 c.loop.one i.2 one.2,
     )

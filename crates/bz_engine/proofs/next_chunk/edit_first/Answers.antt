@@ -1,19 +1,12 @@
-use Rattle.std.proofs.Common.{ap, arith, ◌+◌, List, ℕ, length, subst}
+use Rattle.std.proofs.Common.{List, ℕ, length, subst}
 use Rattle.bz_token.specs.FirstChunk.{IsFirstChunk, IsFront}
 use Rattle.bz_engine.specs.Progress.{Progress}
 use Rattle.bz_engine.specs.private.Edits.{DoesNothing, EditsChunk, run_of}
 use Rattle.bz_engine.specs.declared.next_chunk.NextChunk.{NextChunk}
 use Rattle.bz_engine.specs.private.NextChunks.{IsFirstEdited}
 use Rattle.bz_engine.proofs.Advances.{none_of}
-use Rattle.bz_engine.proofs.BlankLines.{newline_edited}
 use Rattle.bz_engine.proofs.FirstChunks.{first_is_next, chunk_is}
 use Rattle.bz_engine.proofs.next_chunk.edit_first.Goals as goal
-
-pub returns-then-script-gt0-clause-first : goal.returns-then-script-gt0-clause-first
-returns-then-script-gt0-clause-first c =
-    let begins = c.begins_blank.ensures c.if-begins_blank.true in
-    newline_edited _ _ _ _ _ _ begins.0 _ c.requires.few c.text-text_ahead.ensures.front begins.1 (omega (arith, c.if-script-gt0.true))
-    (ap (λ (p : Progress). record p { line = p.line + 1 }) c.progress.view_is)
 
 pub returns-clause-first : goal.returns-clause-first
 returns-clause-first c =
@@ -30,7 +23,7 @@ returns-clause-first c =
     let front = c.text-text_ahead.ensures.front in
     let nothing : DoesNothing c.args.progress.now mid c.args.text.now.items before =
     none_of (DoesNothing c.args.progress.now mid c.args.text.now.items before) c.in_ok-next.field-0 c.in_ok-next.ensures.none c.in_default.is in
-    let found : IsFirstChunk c.progress-2.inside.line c.args.script.max_depth text chunk = subst (IsFront c.progress-2.inside.line c.args.script.max_depth text) c.in-Chunk.is c.in_ok-chunk.ensures.front in
+    let found : IsFirstChunk c.progress.inside.line c.args.script.max_depth text chunk = subst (IsFront c.progress.inside.line c.args.script.max_depth text) c.in-Chunk.is c.in_ok-chunk.ensures.front in
     let next : NextChunk = record { len = length chunk.text.now; edited = edited } in
     let first : IsFirstEdited run most ahead mid new before following next = record {
       chunk = first_is_next most ahead chunk.text.now text c.requires.few front found.some found.within found.front c.if-len-script.false found.ends;

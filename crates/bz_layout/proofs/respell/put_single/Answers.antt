@@ -1,6 +1,5 @@
 use Rattle.std.proofs.Common.{arith}
 use Rattle.std.proofs.lemmas.Grind.{common_steps}
-use Rattle.bz_layout.proofs.Kept.{begun_further}
 use Rattle.bz_layout.proofs.Quotes.{respell_some}
 use Rattle.bz_layout.proofs.respell.put_single.Goals as goal
 
@@ -9,9 +8,3 @@ returns-in_ok-put-in-Some-2-clause-ok g c =
     let some = c.in-Some.ensures.some in
     let e = respell_some c.args.text.now c.in-Some.inner.now some.0 some.1 in
     grind (arith, common_steps, e)
-
-pub returns-in_err-put-in-Some-2-clause-begun : goal.returns-in_err-put-in-Some-2-clause-begun
-returns-in_err-put-in-Some-2-clause-begun g c = begun_further _ _ _ c.put.ensures.begun c.put-in-Some.ensures.begun
-
-pub returns-in_ok-put-in-Some-2-clause-begun : goal.returns-in_ok-put-in-Some-2-clause-begun
-returns-in_ok-put-in-Some-2-clause-begun g c = begun_further _ _ _ (begun_further _ _ _ c.put.ensures.begun c.put-in-Some.ensures.begun) c.put-in-Some-2.ensures.begun

@@ -1,15 +1,9 @@
-use Rattle.std.proofs.Common.{ℕ, Option, map, ap, sym, subst}
-use Rattle.std.specs.List.{list_any}
+use Rattle.std.proofs.Common.{ℕ, Option, map, subst}
 use Rattle.bz_tree.specs.Rows.{part_view}
 use Rattle.bz_attribute.specs.Elements.{AreLists}
-use Rattle.bz_attribute.specs.Lists.{equals}
 use Rattle.bz_attribute.proofs.ElementSearch.{sought_told}
 use Rattle.bz_list_commands.proofs.OneValue.{lists_sought}
 use Rattle.bz_list_commands.proofs.add.is_there.Goals as goal
-
-pub returns-in-None : goal.returns-in-None
-returns-in-None c = λ lists are.
-    sym (ap (list_any (list_any (equals c.args.home.now c.args.word.now))) (subst (λ (o : Option ℕ). AreLists (map part_view c.args.parts.now) o lists) c.in-None.is are))
 
 pub returns-in-Some : goal.returns-in-Some
 returns-in-Some c = λ lists are.

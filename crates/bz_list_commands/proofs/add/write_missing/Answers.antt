@@ -5,17 +5,10 @@ use Rattle.bz_tree.specs.Rows.{RowPart, part_view, segs_parts}
 use Rattle.bz_tree.specs.Tree.{segs_of}
 use Rattle.bz_attribute.specs.Effects.{string}
 use Rattle.bz_attribute.specs.Add.{new_elements}
-use Rattle.bz_list_commands.proofs.Adding.{adding_begins, adding_ends, adding_more, adding_none}
+use Rattle.bz_list_commands.proofs.Adding.{adding_ends, adding_more, adding_none}
 use Rattle.bz_list_commands.proofs.Meanings.{one_alone}
-use Rattle.bz_list_commands.proofs.Known.{known_first}
 use Rattle.bz_list_commands.proofs.add.write_missing.Goals as goal
 use Rattle.bz_list_commands.proofs.add.write_missing.Goals.{then-branch+in_ok-push_element, else-branch}
-
-pub loop-word-init : goal.loop-word-init
-loop-word-init c = λ lists are.
-    let home = c.args.env.home.now in
-    adding_begins home lists c.args.values.now c.in_ok-labels.labels _
-    (known_first home lists c.args.values.now c.in_ok-words.words.words.now c.in_ok-labels.labels c.in_ok-words.ensures c.in_ok-labels.ensures.home (c.in_ok-labels.ensures.all lists are))
 
 pub loop-word-preserved : goal.loop-word-preserved
 loop-word-preserved c = λ lists are.

@@ -4,7 +4,7 @@ use Rattle.bz_attribute.specs.Effects.{filtered}
 use Rattle.bz_attribute.specs.Lists.{is_attribute}
 use Rattle.bz_list_commands.specs.private.ArgumentEdits.{edited, goes, goes_by, is_changed, kept}
 use Rattle.bz_list_commands.specs.private.StringEdits.{become_all, changes, literal_of, means}
-use Rattle.bz_list_commands.proofs.ArgumentEdits.{goes_away, of_keyword, stays}
+use Rattle.bz_list_commands.proofs.ArgumentEdits.{goes_away, stays}
 use Rattle.bz_list_commands.proofs.WrittenParts.{ok_as}
 use Rattle.bz_list_commands.proofs.argument_edits.edit_argument.Goals as goal
 
@@ -36,13 +36,3 @@ returns-in-None-clause-edited c =
     let none : is_attribute a ≡ false = ap is_some (sym first.named) ∙ ap (λ (o : _). is_some (option_map (λ text. text.now) o)) c.in-None.is in
     stays (edited (means e) (literal_of e)) (is_changed (means e)) a others c.args.written c.args.argument.nodes c.args.argument.to (length c.args.parts.now) _ (map part_view c.args.parts.now) (map part_view c.args.out.now.items)
     c.requires.within are first (ap (λ (b : Bool). if b then filtered (become_all (means e) (literal_of e)) a else a ∷ []) none) (ap (λ (b : Bool). b && changes (means e) a) none))
-
-pub returns-in-Some-clause-edited : goal.returns-in-Some-clause-edited
-returns-in-Some-clause-edited c =
-    rw c.in-Strings.is
-    (ok_as
-    (λ next h a others are first.
-    let e = c.in-Strings.strings in
-    let is : is_attribute a ≡ true = ap is_some (sym first.named) ∙ ap (λ (o : _). is_some (option_map (λ text. text.now) o)) c.in-Some.is in
-    of_keyword (means e) (literal_of e) a others c.args.written next (map part_view c.args.parts.now) (map part_view c.args.out.now.items) (map part_view c.edit_keyword.new.out.items) is (h a others are first is))
-    c.edit_keyword.result c.edit_keyword.ensures.edited)

@@ -9,9 +9,6 @@ use Rattle.bz_list_commands.proofs.ArgumentEdits.{after_value, left, lost, own_v
 use Rattle.bz_list_commands.proofs.WrittenParts.{ok_as}
 use Rattle.bz_list_commands.proofs.argument_edits.edit_keyword.Goals as goal
 
-pub returns-then-loses_all-clause-progress : goal.returns-then-loses_all-clause-progress
-returns-then-loses_all-clause-progress c = ok_as (λ next h. omega (arith, h.at)) c.put.result c.put.ensures.put
-
 pub returns-then-loses_all-clause-edited : goal.returns-then-loses_all-clause-edited
 returns-then-loses_all-clause-edited c =
     ok_as

@@ -1,26 +1,13 @@
-use Rattle.std.proofs.Common.{arith, ℕ, ◌≤◌, List, [], ◌++◌, Bool, length, map, ap, subst, sym, ◌∙◌, append-nil}
-use Rattle.std.proofs.lemmas.List.Elements.{All-nil, All-push, All-same}
+use Rattle.std.proofs.Common.{arith, ℕ, ◌≤◌, List, ◌++◌, Bool, length, map, ap, sym, ◌∙◌, append-nil}
+use Rattle.std.proofs.lemmas.List.Elements.{All-push, All-same}
 use Rattle.bz_tree.specs.Rows.{part_view}
 use Rattle.bz_attribute.specs.declared.place.Place.{Place}
-use Rattle.bz_list_commands.specs.private.MoveSteps.{AreArriving}
 use Rattle.bz_list_commands.specs.private.StringEdits.{means}
-use Rattle.bz_list_commands.proofs.Arriving.{all_arrived, none_arrived, one_arrived, one_place}
+use Rattle.bz_list_commands.proofs.Arriving.{all_arrived, one_arrived, one_place}
 use Rattle.bz_list_commands.proofs.arrivals.arrivals.Goals as goal
 
 abbrev Within : ℕ → Place → Type 0
 Within n place = (place.from ≤ place.to) × (place.to ≤ n)
-
-pub loop-element-init : goal.loop-element-init
-loop-element-init c =
-    let home = c.args.edit.env.home.now in
-    record {
-      within = c.requires.from;
-      places = All-same (Within (length c.args.parts.now)) c.new-places.result.items [] c.new-places.ensures.items (All-nil (Within (length c.args.parts.now)));
-      home = c.in_ok-there.ensures.home;
-      arriving =
-          subst (λ (places : List Place). AreArriving c.args.edit.env.home.now (means c.args.edit) c.args.lists (map part_view c.args.parts.now) c.args.lists.from c.in_ok-there.there places) (sym c.new-places.ensures.items)
-          (none_arrived home (means c.args.edit) c.args.lists (map part_view c.args.parts.now) c.in_ok-there.there c.in_ok-there.ensures.all);
-    }
 
 pub loop-element-preserved : goal.loop-element-preserved
 loop-element-preserved c =

@@ -1,24 +1,15 @@
-use Rattle.std.proofs.Common.{◌+◌, ℕ, List, None, Some, length, map, subst, sym, ◌∙◌}
+use Rattle.std.proofs.Common.{◌+◌, ℕ, List, Some, length, map, subst, sym, ◌∙◌}
 use Rattle.bz_tree.specs.Rows.{part_view}
 use Rattle.bz_command.specs.Values.{quoted}
 use Rattle.bz_list_commands.specs.private.StringEdits.{literal_of, means}
 use Rattle.bz_list_commands.specs.private.WrittenParts.{HasPut}
-use Rattle.bz_list_commands.proofs.ElementEdits.{element_edited, element_gone, element_passed, element_put, strings_only}
-use Rattle.bz_list_commands.proofs.WrittenParts.{ok_as}
+use Rattle.bz_list_commands.proofs.ElementEdits.{element_edited, element_passed, element_put, strings_only}
 use Rattle.bz_list_commands.proofs.element_edits.edit_element.Goals as goal
 
 pub returns-then-not-means-clause-edited : goal.returns-then-not-means-clause-edited
 returns-then-not-means-clause-edited c =
     element_passed (means c.args.edit) (literal_of c.args.edit) c.args.written c.args.element.token c.args.element.to (length c.args.parts.now) _ (map part_view c.args.parts.now) (map part_view c.args.out.now.items)
     c.requires.within (sym c.means.ensures ∙ c.if-not-means.true)
-
-pub returns-in-None-clause-edited : goal.returns-in-None-clause-edited
-returns-in-None-clause-edited c =
-    let p = means c.args.edit in
-    let ps = map part_view c.args.parts.now in
-    let out = map part_view c.args.out.now.items in
-    rw (sym c.in-None.ensures) (ok_as (λ next h. element_edited p None c.args.written next c.args.element.token c.args.element.to _ ps out (map part_view c.put.new.out.items) (sym c.means.ensures ∙ c.if-not-means.false)
-    (element_gone p c.args.written next c.args.element.token c.args.element.to _ ps out (map part_view c.put.new.out.items) h)) c.put.result c.put.ensures.put)
 
 pub returns-in_ok-next-in-Some-clause-edited : goal.returns-in_ok-next-in-Some-clause-edited
 returns-in_ok-next-in-Some-clause-edited c =

@@ -1,15 +1,8 @@
 use Rattle.std.proofs.Common.{map, arith}
 use Rattle.bz_tree.specs.Rows.{part_view}
 use Rattle.bz_list_commands.specs.private.StringEdits.{literal_of, means}
-use Rattle.bz_list_commands.proofs.ElementEdits.{all_edited, none_edited, one_edited}
+use Rattle.bz_list_commands.proofs.ElementEdits.{all_edited, one_edited}
 use Rattle.bz_list_commands.proofs.element_edits.edit_list.Goals as goal
-
-pub loop-element-init : goal.loop-element-init
-loop-element-init c = record {
-  within = c.requires;
-  progress = omega arith;
-  left = λ list after read. none_edited (means c.args.edit) (literal_of c.args.edit) list after c.args.written (map part_view c.args.parts.now) (map part_view c.args.out.now.items) read;
-}
 
 pub loop-element-preserved : goal.loop-element-preserved
 loop-element-preserved c = record {

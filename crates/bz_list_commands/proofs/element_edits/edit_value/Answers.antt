@@ -2,19 +2,9 @@ use Rattle.std.proofs.Common.{ℕ, Option, length, map, subst}
 use Rattle.bz_tree.specs.Rows.{part_view}
 use Rattle.bz_list_commands.specs.private.ElementEdits.{HasEditedLists}
 use Rattle.bz_list_commands.specs.private.StringEdits.{literal_of, means}
-use Rattle.bz_list_commands.proofs.ElementEdits.{all_lists, no_list_yet, one_list}
+use Rattle.bz_list_commands.proofs.ElementEdits.{one_list}
 use Rattle.bz_list_commands.proofs.WrittenParts.{none_is, some_is}
 use Rattle.bz_list_commands.proofs.element_edits.edit_value.Goals as goal
-
-pub loop-list-init : goal.loop-list-init
-loop-list-init c = record {
-  within = c.requires;
-  some = λ from is. some_is _ c.first_list-list.result from c.first_list-list.ensures.within is;
-  left = λ nodes after read.
-      no_list_yet (means c.args.edit) (literal_of c.args.edit) nodes after c.args.written c.first_list-list.result (map part_view c.args.parts.now) (map part_view c.args.out.now.items) read
-      (λ to is. some_is _ c.first_list-list.result to c.first_list-list.ensures.some is nodes after read)
-      (λ is. none_is c.first_list-list.result c.first_list-list.ensures.none is nodes after read);
-}
 
 pub loop-list-preserved : goal.loop-list-preserved
 loop-list-preserved c = record {
@@ -28,7 +18,3 @@ loop-list-preserved c = record {
       (λ to is list rest none r. some_is _ c.next_list-list.result to c.next_list-list.ensures.some is list rest none r)
       (λ is list rest none r. none_is c.next_list-list.result c.next_list-list.ensures.none is list rest none r);
 }
-
-pub returns-clause-edited : goal.returns-clause-edited
-returns-clause-edited c nodes after read =
-    all_lists (means c.args.edit) (literal_of c.args.edit) nodes after c.args.written c.loop-list.next c.loop-list.list (map part_view c.args.parts.now) (map part_view c.args.out.now.items) (map part_view c.loop-list.out.items) (c.loop-list.invariant.left nodes after read) c.in_default.is

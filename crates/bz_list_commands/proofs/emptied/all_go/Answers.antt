@@ -1,32 +1,10 @@
-use Rattle.std.proofs.Common.{◌≡◌, ◌+◌, ◌&&◌, not, true, false, Bool, map, drop, arith, length-drop, ap, sym, ◌∙◌}
+use Rattle.std.proofs.Common.{is_some, ◌≡◌, ◌+◌, ◌&&◌, true, Bool, map, arith, ap, sym, ◌∙◌}
 use Rattle.std.specs.Prelude.{nat_lt}
-use Rattle.std.specs.List.{list_any}
 use Rattle.std.proofs.lemmas.Bool.Decides.{nat_tests}
-use Rattle.std.proofs.Common.{None as Nothing}
-use Rattle.std.proofs.lemmas.List.{length-map}
 use Rattle.bz_tree.specs.Rows.{beside_part, part_view}
-use Rattle.bz_attribute.proofs.Slices.{rest_seen}
-use Rattle.bz_list_commands.specs.private.ElementEdits.{begins_list, is_node}
-use Rattle.bz_list_commands.specs.private.StringEdits.{become_all, means}
-use Rattle.bz_list_commands.proofs.EmptiedLists.{all_gone, begins_some, no_list, none_gone, one_gone, one_stays}
+use Rattle.bz_list_commands.specs.private.StringEdits.{means}
+use Rattle.bz_list_commands.proofs.EmptiedLists.{all_gone, one_gone, one_stays}
 use Rattle.bz_list_commands.proofs.emptied.all_go.Goals as goal
-
-pub returns-then-not-begins_list : goal.returns-then-not-begins_list
-returns-then-not-begins_list c nodes suffix read =
-    sym (no_list (become_all (means c.args.edit) Nothing) nodes (beside_part suffix) (drop c.args.value (map part_view c.args.parts.now)) read (sym (c.begins_list.ensures ∙ ap begins_list (rest_seen c.args.parts.now c.args.value)) ∙ c.if-not-begins_list.true))
-
-pub loop-element-init : goal.loop-element-init
-loop-element-init c = record {
-  order = omega arith;
-  within =
-      omega (
-        arith,
-        begins_some (drop c.args.value (map part_view c.args.parts.now)) (sym (c.begins_list.ensures ∙ ap begins_list (rest_seen c.args.parts.now c.args.value)) ∙ c.if-not-begins_list.false),
-        length-drop c.args.value (map part_view c.args.parts.now),
-        length-map c.args.parts.now part_view,
-      );
-  left = λ nodes suffix read. none_gone (means c.args.edit) nodes (beside_part suffix) (map part_view c.args.parts.now) c.args.value read (sym (c.begins_list.ensures ∙ ap begins_list (rest_seen c.args.parts.now c.args.value)) ∙ c.if-not-begins_list.false);
-}
 
 pub returns-then-not-means : goal.returns-then-not-means
 returns-then-not-means c nodes suffix read =
@@ -47,15 +25,6 @@ pub returns : goal.returns
 returns c nodes suffix read =
     let g = c.loop-element.invariant.left nodes suffix read in
     let later : nat_lt (c.args.value + 1) c.loop-element.at ≡ true = grind (arith, nat_tests, c.loop-element.invariant.order, c.if-at-first.false) in
-    let there : Bool = list_any is_node (drop c.loop-element.at (map part_view c.args.parts.now)) in
-    ap not (c.has_node.ensures ∙ ap (list_any is_node) (rest_seen c.args.parts.now c.loop-element.at))
-    ∙ ap (λ (b : Bool). b && not there) (sym later)
-    ∙ all_gone (means c.args.edit) nodes suffix (map part_view c.args.parts.now) (c.args.value + 1) c.loop-element.at g (c.in_default.ensures.none (record g.list { elements = g.others }) (beside_part suffix) g.read)
-
-pub returns-then-at-first : goal.returns-then-at-first
-returns-then-at-first c nodes suffix read =
-    let g = c.loop-element.invariant.left nodes suffix read in
-    let none : nat_lt (c.args.value + 1) c.loop-element.at ≡ false = grind (arith, nat_tests, c.if-at-first.true) in
-    let there : Bool = list_any is_node (drop c.loop-element.at (map part_view c.args.parts.now)) in
-    ap (λ (b : Bool). b && not there) (sym none)
-    ∙ all_gone (means c.args.edit) nodes suffix (map part_view c.args.parts.now) (c.args.value + 1) c.loop-element.at g (c.in_default.ensures.none (record g.list { elements = g.others }) (beside_part suffix) g.read)
+    c.is_some.ensures ∙ ap (λ (b : Bool). b && is_some c.only_list.result) (sym later)
+    ∙ all_gone (means c.args.edit) nodes (beside_part suffix) (map part_view c.args.parts.now) (c.args.value + 1) c.loop-element.at c.only_list.result g
+    (c.in_default.ensures.none (record g.list { elements = g.others }) (beside_part suffix) g.read) (c.only_list.ensures.list nodes (beside_part suffix) read)

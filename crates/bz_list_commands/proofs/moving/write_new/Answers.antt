@@ -7,8 +7,7 @@ use Rattle.bz_attribute.specs.Lists.{edit_first_part, with_value}
 use Rattle.bz_attribute.specs.Move.{put_in}
 use Rattle.bz_attribute.specs.Rules.{value}
 use Rattle.bz_attribute.proofs.Slices.{three_written}
-use Rattle.bz_list_commands.proofs.Adding.{attribute_written, put_new}
-use Rattle.bz_list_commands.proofs.Named.{put_local}
+use Rattle.bz_list_commands.proofs.Adding.{attribute_written, put_local, put_new}
 use Rattle.bz_list_commands.proofs.moving.write_new.Goals as goal
 
 pub returns : goal.returns

@@ -5,11 +5,7 @@ use Rattle.bz_attribute.specs.Lists.{edit_first_part, with_value}
 use Rattle.bz_attribute.specs.Move.{put_in}
 use Rattle.bz_attribute.specs.Rules.{value}
 use Rattle.bz_list_commands.proofs.Adding.{put_there}
-use Rattle.bz_list_commands.proofs.MovedRules.{put_nowhere}
 use Rattle.bz_list_commands.proofs.moving.write_with.Goals as goal
-
-pub returns-in-NoList : goal.returns-in-NoList
-returns-in-NoList c = on_ok_weaker c.write_at.result (λ written. λ ss s r are row. written ∙ put_nowhere c.args.attr.now ss s r (map part_view c.args.left.now) row (c.in-NoList.ensures.place s r row)) c.write_at.ensures
 
 pub returns-in-At : goal.returns-in-At
 returns-in-At c = on_ok_weaker c.write_at-in-At.result (λ written. λ ss s r are row.

@@ -1,19 +1,12 @@
-use Rattle.std.proofs.Common.{◌≡◌, ◌-◌, ℕ, List, length, map, take, drop, arith, length-drop, length-take-le, subst, ap, sym, ◌∙◌}
-use Rattle.std.proofs.lemmas.Bool.{not-true, not-false}
+use Rattle.std.proofs.Common.{◌≡◌, ◌-◌, ℕ, List, length, map, take, drop, arith, length-drop, length-take-le, subst, ◌∙◌}
+use Rattle.std.proofs.lemmas.Bool.{not-false}
 use Rattle.std.proofs.lemmas.List.{length-map}
 use Rattle.bz_tree.specs.Rows.{RowPart, part_view}
-use Rattle.bz_attribute.specs.declared.done.Done.{Done}
 use Rattle.bz_attribute.proofs.Slices.{slice_seen}
 use Rattle.bz_list_commands.specs.private.ArgumentEdits.{HasEditedAll, changes_by, edit_by}
 use Rattle.bz_list_commands.specs.private.WrittenParts.{IsWithin}
-use Rattle.bz_list_commands.proofs.PlaceEdits.{quiet_place, written_place}
+use Rattle.bz_list_commands.proofs.PlaceEdits.{written_place}
 use Rattle.bz_list_commands.proofs.place_edits.edit_in.Goals as goal
-
-pub returns-then-not-written : goal.returns-then-not-written
-returns-then-not-written c =
-    quiet_place (edit_by c.args.edit) (changes_by c.args.edit) c.args.place (map part_view c.args.parts.now) (map part_view c.edit_arguments.new.out.items) c.none.result
-    (c.none.ensures ∙ ap (λ (d : Done). record { done = d; place = record { from = 0; to = 0 } }) c.quiet.ensures)
-    (λ args there. sym (c.in_ok-written.ensures.edited args (slice_seen c.args.parts.now c.args.place.from (c.args.place.to - c.args.place.from) ∙ there)).changed ∙ not-true c.in_ok-written.written.changed c.if-not-written.true)
 
 pub returns : goal.returns
 returns c =

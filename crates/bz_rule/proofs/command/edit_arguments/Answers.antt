@@ -17,3 +17,6 @@ returns-in-SetIfAbsent c = rw c.in-SetIfAbsent.is (rw (c.as_str-in-SetIfAbsent.e
 
 pub returns-in-Comment : goal.returns-in-Comment
 returns-in-Comment c = rw c.in-Comment.is (rw (c.as_str-in-Comment.ensures) at c.comment.ensures)
+
+pub returns-in-Set-ToValues : goal.returns-in-Set-ToValues
+returns-in-Set-ToValues c = rw (c.in-Set-ToValues.is, rw c.in-Set-ToValues.is at c.in-Set-ToValues.field-0-is) (rw (c.as_str-in-Set-ToValues.ensures, c.as_slice-in-Set-ToValues.ensures) at c.set.ensures)

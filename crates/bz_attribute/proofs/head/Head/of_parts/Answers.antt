@@ -2,14 +2,8 @@ use Rattle.std.proofs.Common.{◌≡◌, List, Bor, map, option_map, ap, sym, �
 use Rattle.bz_tree.specs.declared.row.Part.{Part}
 use Rattle.bz_tree.specs.Rows.{RowPart, part_view, parts_of}
 use Rattle.bz_attribute.specs.private.HeadParts.{after_comments, after_tokens, in_call, token_texts}
-use Rattle.bz_attribute.proofs.Headed.{headed, no_head}
+use Rattle.bz_attribute.proofs.Headed.{headed}
 use Rattle.bz_attribute.proofs.head.Head.of_parts.Goals as goal
-
-pub returns-in_default : goal.returns-in_default
-returns-in_default c s class are start end =
-    no_head s class
-    (sym (c.in_call.ensures ∙ ap (λ (ps : List RowPart). in_call (after_tokens ps)) (c.after_comments-first.ensures ∙ ap after_comments are))
-    ∙ ap (option_map (λ (args : Bor (List Part)). map part_view args.now)) c.in_default.is)
 
 pub returns : goal.returns
 returns c s class are start end =

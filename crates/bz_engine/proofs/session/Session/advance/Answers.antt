@@ -6,9 +6,17 @@ use Rattle.bz_engine.specs.declared.session.SessionState.TheVariants.{Going, Sto
 use Rattle.bz_engine.specs.declared.session.Step.TheVariants.{More}
 use Rattle.bz_engine.specs.private.Finds.{Finds}
 use Rattle.bz_engine.specs.private.NextChunks.{IsNext}
-use Rattle.bz_engine.specs.SessionValue.{SessionValue}
-use Rattle.bz_engine.proofs.SessionSteps.{adds_one, ends_whole, ends_at_fault, ends_at_failure, left_by_write, steps_as, step_unread, step_unwritten, step_on, step_ended}
+use Rattle.bz_engine.specs.SessionValue.{SessionValue, IsSession}
+use Rattle.bz_engine.proofs.SessionSteps.{adds_one, ends_whole, ends_at_fault, ends_at_failure, left_by_write, steps_as, step_unread, step_unwritten, step_on, step_ended, step_at_empty_line}
 use Rattle.bz_engine.proofs.session.Session.advance.Goals as goal
+
+pub returns-then-is_at_empty_line-clause-steps : goal.returns-then-is_at_empty_line-clause-steps
+returns-then-is_at_empty_line-clause-steps g c =
+    let at = c.is_at_empty_line.ensures c.if-is_at_empty_line.true in
+    let kept = subst IsSession c.self.view_is c.self.invariant in
+    step_at_empty_line g.S.Source.gave g.S.Source.failures g.W.Sink.took g.W.Sink.failures _ _ c.args.source.now c.args.sink.now at.0
+    (g.met.S.Source.gave_nothing c.args.source.now) (g.met.W.Sink.took_nothing c.args.sink.now)
+    c.requires.going (kept.ready c.requires.going) kept.made at.1 at.2 c.pass_empty_line.ensures
 
 pub returns-in_err-len-clause-steps : goal.returns-in_err-len-clause-steps
 returns-in_err-len-clause-steps g c =

@@ -4,7 +4,7 @@ use Rattle.bz_attribute.specs.Effects.{filtered, unchosen}
 use Rattle.bz_attribute.specs.Remove.{goes_with_all}
 use Rattle.bz_rule.proofs.Kept.{none_left}
 use Rattle.bz_rule.proofs.Commands.Remove.{filtered_left}
-use Rattle.bz_rule.proofs.Gone.{edited_at, removed_everywhere, removed_named}
+use Rattle.bz_rule.proofs.Gone.{edited_at}
 use Rattle.bz_rule.proofs.laws.effects.removed_is_gone.Goals as goal
 
 pub returns-clause-attribute : goal.returns-clause-attribute
@@ -12,12 +12,6 @@ returns-clause-attribute c = λ home attr args. none_left (is_named attr) args
 
 pub returns-clause-all : goal.returns-clause-all
 returns-clause-all c = λ home args. none_left goes_with_all args
-
-pub returns-clause-values : goal.returns-clause-values
-returns-clause-values c = removed_named
-
-pub returns-clause-everywhere : goal.returns-clause-everywhere
-returns-clause-everywhere c = removed_everywhere
 
 pub returns-clause-edited : goal.returns-clause-edited
 returns-clause-edited c = λ home values a h. filtered_left home (Values values) a h

@@ -5,11 +5,6 @@ use Rattle.bz_tree.specs.declared.row.Part.{Part}
 use Rattle.bz_rule.proofs.RowStatements.{has_head, statement_of}
 use Rattle.bz_rule.proofs.statement_row.StatementRow.of_stmt.Goals as goal
 
-pub head_of-requires : goal.head_of-requires
-head_of-requires c =
-    let s = view c.args.stmt.now in
-    ap (map part_view) c.deref.ensures.value ∙ c.in_ok-push_stmt.ensures ∙ ap (λ (ps : List Part). map part_view ps ++ parts_of s) c.new-parts.ensures.items
-
 pub invariant_of-result : goal.invariant_of-result
 invariant_of-result c =
     let s = view c.args.stmt.now in

@@ -9,10 +9,10 @@ pub returns-in-Statement-clause-quiet : goal.returns-in-Statement-clause-quiet
 returns-in-Statement-clause-quiet c = rw c.quiet_prefix.ensures (statement_run c.args.scan c.args.bytes.now c.in-Plain.is c.in-Statement.is)
 
 pub returns-in-Short-clause-in_range : goal.returns-in-Short-clause-in_range
-returns-in-Short-clause-in_range c = rw c.quiet_prefix-in-Short.ensures (prefix_len-le-length _ c.args.bytes.now)
+returns-in-Short-clause-in_range c = rw c.plain_len.ensures (prefix_len-le-length _ c.args.bytes.now)
 
 pub returns-in-Short-clause-quiet : goal.returns-in-Short-clause-quiet
-returns-in-Short-clause-quiet c = rw c.quiet_prefix-in-Short.ensures (short_run c.args.scan c.in-Short.field-0 c.args.bytes.now c.in-Short.is)
+returns-in-Short-clause-quiet c = rw (c.plain_len.ensures, c.byte_of.ensures) (short_run c.args.scan c.in-Short.quote c.args.bytes.now c.in-Short.is)
 
 pub returns-in-Comment-clause-in_range : goal.returns-in-Comment-clause-in_range
 returns-in-Comment-clause-in_range c = rw c.line_len.ensures (prefix_len-le-length _ c.args.bytes.now)
