@@ -38,7 +38,7 @@ pub use finder::find_argument;
 pub use head::Head;
 pub use lists::{elements_at, is_list};
 pub use place::{Place, all_arguments, new_place, place_of};
-pub use row_args::{push_stmt, read_arguments};
+pub use row_args::read_arguments;
 pub use row_kind::kind_place;
 pub use rule::{is_rule, only_text, value_of};
 pub use texts::{label, push_home};

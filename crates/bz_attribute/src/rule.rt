@@ -41,14 +41,14 @@ fn are_dotted(kind: &[Node<'_>]) -> bool
 fn is_operator_item(node: &Node<'_>, operator: &str) -> bool
     ensures { result ≡ spec.is_operator_item operator.now (node_view node.now) }
 {
-    matches!(node, Node::Token(leaf) if matches!(leaf.kind, Kind::Operator) && leaf.text.as_str() == operator)
+    matches!(node, Node::Token(leaf) if matches!(leaf.kind, Kind::Operator) && leaf.text == operator)
 }
 
 fn ident_of<'n>(node: &'n Node<'_>) -> Option<&'n str>
     ensures { option_map (λ text. text.now) result ≡ spec.ident_of (node_view node.now) }
 {
     match node {
-        Node::Token(leaf) if matches!(leaf.kind, Kind::Identifier) => Some(leaf.text.as_str()),
+        Node::Token(leaf) if matches!(leaf.kind, Kind::Identifier) => Some(leaf.text),
         _ => None,
     }
 }
@@ -78,7 +78,7 @@ fn text_of<'n>(node: &'n Node<'_>) -> Option<&'n str>
     ensures { option_map (λ text. text.now) result ≡ spec.only_text (node_view node.now ∷ []) }
 {
     match node {
-        Node::Token(leaf) if matches!(leaf.kind, Kind::String) => Some(leaf.text.as_str()),
+        Node::Token(leaf) if matches!(leaf.kind, Kind::String) => Some(leaf.text),
         _ => None,
     }
 }

@@ -22,12 +22,12 @@ use crate::command::{Action, Command};
 use crate::row_edit::{RuleParts, edit_rule, keeps_head, new_comments};
 use crate::row_parts::{put_in, with_others};
 use bumpalo::Bump;
-use bz_attribute::{Done, Env, Executed, Head, Parts, Place, is_rule, push_stmt};
+use bz_attribute::{Done, Env, Executed, Head, Parts, Place, is_rule};
 use bz_attribute_commands::print::print;
 use bz_command::{Field, Package, Target};
 use bz_layout::put_row;
 use bz_memory::NoMemory;
-use bz_tree::{Class, Part, Row, Stmt, stmt_of_parts};
+use bz_tree::{Class, Part, Row, Stmt, push_parts, stmt_of_parts};
 use std::alloc::Global;
 use std::marker::Model;
 use std::mem;
@@ -85,7 +85,7 @@ impl<'a> StatementRow<'a> {
         }
     }
 
-    /// The statement of a tree. Texts that it owns are copied into the arena.
+    /// The statement of a tree.
     pub fn of_stmt(
         alloc: Global,
         bump: &'a Bump,
@@ -94,7 +94,7 @@ impl<'a> StatementRow<'a> {
         ensures { IfOk result (λ row. row ≡ view stmt.now) }
     {
         let mut parts = Vec::new(bump);
-        push_stmt(bump, stmt, &mut parts)?;
+        push_parts(stmt, &mut parts)?;
         let head = head_of(alloc, bump, stmt, &parts)?;
         Ok(StatementRow {
             row: Row {

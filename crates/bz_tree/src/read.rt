@@ -7,53 +7,28 @@ ghost use Rattle.bz_tree.specs.Tree.{Statement};
 ghost use Rattle.bz_tree.specs.View.{view};
 ghost use Rattle.bz_tree.specs.Chunk.{IsStatementIn, IsBlank, IsFaultIn};
 ghost use Rattle.bz_tree.specs.RowReads.{IsReadByTokens};
-ghost use Rattle.bz_tree.specs.Rows.{IsRowOf, part_view};
+ghost use Rattle.bz_tree.specs.Rows.{IsRowOf};
 
 use crate::chunk::{parse, parse_tokens};
 use crate::fault::ParseFault;
 use crate::parts::push_parts;
-use crate::row::{Part, Parts, Row};
+use crate::row::Row;
 use crate::rows::read_row;
 use crate::stmt::Stmt;
 use crate::text_row::row_of_text;
 use bumpalo::Bump;
-use bz_memory::{NoMemory, alloc_str, push, with_room_for};
+use bz_memory::NoMemory;
 use bz_token::Token;
 use std::alloc::Global;
 
-// The same part, its text in the arena.
-fn part_in<'a>(bump: &'a Bump, part: Part<'_>) -> Result<Part<'a>, NoMemory>
-    ensures { IfOk result (λ copy. part_view copy ≡ part_view part.entry) }
-{
-    Ok(match part {
-        Part::Token(kind, text) => Part::Token(kind, alloc_str(bump, text)?),
-        Part::Open(kind) => Part::Open(kind),
-        Part::Close(one_comma) => Part::Close(one_comma),
-        Part::End => Part::End,
-        Part::Above(text) => Part::Above(alloc_str(bump, text)?),
-        Part::Beside(text) => Part::Beside(alloc_str(bump, text)?),
-    })
-}
-
-// The same parts in the arena.
-fn parts_in<'a>(bump: &'a Bump, parts: &[Part<'_>]) -> Result<Parts<'a>, NoMemory>
-    ensures { IfOk result (λ copies. map part_view copies.items ≡ map part_view parts.now) }
-{
-    let mut copies = with_room_for(bump, parts, 0)?;
-    for part in parts {
-        push(&mut copies, part_in(bump, *part)?)?;
-    }
-    Ok(copies)
-}
-
 // The row of a statement that has a tree.
-fn row_of_tree<'a>(alloc: Global, bump: &'a Bump, stmt: &Stmt<'_>) -> Result<Row<'a>, NoMemory>
+fn row_of_tree<'a>(bump: &'a Bump, stmt: &Stmt<'a>) -> Result<Row<'a>, NoMemory>
     ensures { IfOk result (IsRowOf (view stmt.now)) }
 {
-    let mut parts = Vec::new(alloc);
+    let mut parts = Vec::new(bump);
     push_parts(stmt, &mut parts)?;
     Ok(Row {
-        parts: parts_in(bump, &parts)?,
+        parts,
         class: stmt.class,
         start: stmt.start,
         end: stmt.end,
@@ -65,7 +40,7 @@ fn row_of_tree<'a>(alloc: Global, bump: &'a Bump, stmt: &Stmt<'_>) -> Result<Row
 pub fn read_statement<'a>(
     alloc: Global,
     bump: &'a Bump,
-    text: &str,
+    text: &'a str,
     first_line: u64,
     tokens: &[Token<'a>],
 ) -> Result<Option<Row<'a>>, ParseFault>
@@ -78,7 +53,7 @@ pub fn read_statement<'a>(
     }
     match parse_tokens(alloc, text, first_line, tokens)? {
         None => Ok(None),
-        Some(stmt) => Ok(Some(row_of_tree(alloc, bump, &stmt)?)),
+        Some(stmt) => Ok(Some(row_of_tree(bump, &stmt)?)),
     }
 }
 
@@ -103,6 +78,6 @@ pub fn read_text<'a>(
     }
     match parse(alloc, text, first_line, max_depth)? {
         None => Ok(None),
-        Some(stmt) => Ok(Some(row_of_tree(alloc, bump, &stmt)?)),
+        Some(stmt) => Ok(Some(row_of_tree(bump, &stmt)?)),
     }
 }
