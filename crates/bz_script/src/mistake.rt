@@ -11,13 +11,6 @@ use thiserror::Error;
 pub const DASHED_PACKAGE: &str =
     "flags come before the commands; a word after them that begins with a dash is a package";
 
-const COMMAND_FIRST: &str =
-    "write one before the targets, as in buildozer 'add deps //x' //app:base";
-
-const TARGET_LAST: &str = "write one after the commands, as in buildozer 'add deps //x' //app:base";
-
-const LINE_FORM: &str = "a line is COMMAND|..|TARGET|.., as in add deps //x|//app:base";
-
 /// A kind of mistake. Its text stands after the word that is refused, where one is.
 #[derive(Clone, Copy, Debug, PartialEq, Eq, Error)]
 pub enum Mistake {
@@ -49,8 +42,14 @@ pub enum Mistake {
     WordNotUtf8,
 
     // A group that lacks something.
-    #[error("no {0}; {1}")]
-    Lacks(&'static str, &'static str),
+    #[error("no command; write one before the targets, as in buildozer 'add deps //x' //app:base")]
+    NoCommand,
+    #[error("no target; write one after the commands, as in buildozer 'add deps //x' //app:base")]
+    NoTarget,
+    #[error("no command; a line is COMMAND|..|TARGET|.., as in add deps //x|//app:base")]
+    NoCommandOnLine,
+    #[error("no target; a line is COMMAND|..|TARGET|.., as in add deps //x|//app:base")]
+    NoTargetOnLine,
 
     // A command with a fault.
     #[error("a command is one word, so put quotes around it: '{0}'")]
@@ -124,12 +123,18 @@ impl Mistake {
 
     /// What a group without a command lacks; `line` is 0 for the command line.
     pub fn of_no_command(line: u64) -> Mistake {
-        Mistake::Lacks("command", if line == 0 { COMMAND_FIRST } else { LINE_FORM })
+        match line {
+            0 => Mistake::NoCommand,
+            _ => Mistake::NoCommandOnLine,
+        }
     }
 
     /// What a group without a target lacks; `line` is 0 for the command line.
     pub fn of_no_target(line: u64) -> Mistake {
-        Mistake::Lacks("target", if line == 0 { TARGET_LAST } else { LINE_FORM })
+        match line {
+            0 => Mistake::NoTarget,
+            _ => Mistake::NoTargetOnLine,
+        }
     }
 
     /// What is wrong with a word that begins with a command's name.
