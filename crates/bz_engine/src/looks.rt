@@ -73,6 +73,11 @@ impl Looks {
         self.ahead = bytes.len();
         bytes.len() < self.open
     }
+
+    /// A chunk ended in the bytes ahead that seemed not to: their end is seen no more.
+    pub(crate) fn end_ahead(&mut self) {
+        self.open = 0;
+    }
 }
 
 /// How many bytes follow the last newline that an empty line or a closing bracket follows: where fewer are left, all

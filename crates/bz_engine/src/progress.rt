@@ -130,6 +130,13 @@ impl Progress {
     {
         self.looks.is_likely_short(ahead)
     }
+
+    /// They did not.
+    pub(crate) fn ended_ahead(&mut self)
+        ensures { self.new ≡ self.old }
+    {
+        self.looks.end_ahead();
+    }
 }
 
 /// The one command of a pass ran on one statement more, which the pass marked, and this line was told of it.

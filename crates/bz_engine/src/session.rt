@@ -499,7 +499,9 @@ fn read_short<S: Source>(
 {
     if progress.is_likely_short(ahead.bytes()) {
         let line = progress.line;
-        read_more(ahead, source, Search { options, line })?;
+        if !read_more(ahead, source, Search { options, line })? {
+            progress.ended_ahead();
+        }
     }
     Ok(())
 }
