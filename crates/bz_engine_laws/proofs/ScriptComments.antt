@@ -7,8 +7,9 @@ use Rattle.bz_tree.specs.Comments.{beside, comments_of, item_owners, items_owner
 use Rattle.bz_tree.specs.Tree.{Item, leaf, group, Items, no_items, item, Segs, no_segs, seg, Statement, items_of}
 use Rattle.bz_layout_laws.specs.Spelled.{spelled, spelled_items, spelled_segs, spelled_statement}
 use Rattle.bz_layout_laws.specs.Lineless.{lineless}
-use Rattle.bz_rule.specs.Commands.{Command, after, keeps_comments}
-use Rattle.bz_rule.proofs.Commands.{comments_after}
+use Rattle.bz_rule.specs.Commands.{Command, after}
+use Rattle.bz_rule_laws.specs.Commands.{keeps_comments}
+use Rattle.bz_rule_laws.proofs.Commands.{comments_after}
 use Rattle.bz_command.specs.Labels.{Package}
 use Rattle.bz_command.specs.Passes.{Slot, Marked, marked, executed}
 use Rattle.bz_passes.specs.Exchange.{slot_after_commands, slot_after_pass, slot_after}

@@ -8,18 +8,17 @@ pub mod Remove
 pub mod Rename
 pub mod Replace
 pub mod Set
-use Rattle.std.proofs.Common.{◌≡◌, ◌↔◌, ℕ, List, Bool, true, false, Option, Some, None, map, option_map, is_some, refl, ap, sym, ◌∙◌, subst, zero, suc, ◌≤◌, arith, Result, Ok, Err, if◌then◌else◌}
+use Rattle.std.proofs.Common.{◌≡◌, ◌↔◌, ℕ, List, Bool, true, false, Option, Some, None, is_some, refl, ap, sym, ◌∙◌, subst, Result, Ok, Err, if◌then◌else◌}
 use Rattle.std.specs.Prelude.{IfSome, bytes_eq, codes}
-use Rattle.bz_tree.specs.Tree.{Segment, Statement}
+use Rattle.bz_tree.specs.Tree.{Statement}
 use Rattle.bz_command.specs.Labels.{Package}
-use Rattle.bz_rule.specs.Commands.{Command, is_command, command_passes, after, done_of, args_after, keeps_comments, IsRead, a_command, named_command, add_of, comment_of, delete_of, move_of, print_of, remove_of, rename_of, replace_of, set_if_absent_of, set_of}
+use Rattle.bz_rule.specs.Commands.{Command, is_command, after, done_of, IsRead, a_command, named_command, add_of, comment_of, delete_of, move_of, print_of, remove_of, rename_of, replace_of, set_if_absent_of, set_of}
 use Rattle.bz_rule.specs.declared.command.Action.{Action}
 use Rattle.bz_attribute.specs.declared.done.Done.{Done}
 use Rattle.bz_attribute.specs.declared.done.Note.{Note}
-use Rattle.bz_attribute.specs.Effects.{fails, holds_rule, with_args}
-use Rattle.bz_rule.specs.Aside.{IsAside}
+use Rattle.bz_attribute.specs.Effects.{fails, holds_rule}
 use Rattle.bz_rule.specs.OneAttribute.{one_attribute}
-use Rattle.bz_rule.proofs.Lawful.{Lawful, Local, SlotFormed}
+use Rattle.bz_rule.proofs.Lawful.{Lawful, Local}
 use Rattle.bz_rule.proofs.Commands.Add.{add_lawful, add_read}
 use Rattle.bz_rule.proofs.Commands.Comment.{comment_lawful, comment_read}
 use Rattle.bz_rule.proofs.Commands.Delete.{delete_lawful, delete_read}
@@ -29,13 +28,6 @@ use Rattle.bz_rule.proofs.Commands.Remove.{remove_lawful, remove_read}
 use Rattle.bz_rule.proofs.Commands.Rename.{rename_lawful, rename_read}
 use Rattle.bz_rule.proofs.Commands.Replace.{replace_lawful, replace_read}
 use Rattle.bz_rule.proofs.Commands.Set.{set_if_absent_lawful, set_lawful, set_read, set_if_absent_read}
-use Rattle.bz_tree.specs.Grammar.{IsArg}
-use Rattle.bz_layout_laws.specs.EachText.{statement_passes}
-use Rattle.bz_layout_laws.specs.WellFormed.{IsWellFormed}
-use Rattle.bz_rule.proofs.PassingRules.{SlotPasses}
-use Rattle.bz_rule.proofs.PassingWritten.{PassesWritten}
-use Rattle.bz_rule.proofs.Segments.{AreFormed}
-use Rattle.bz_tree.specs.Comments.{comments_of}
 use Rattle.std.specs.List.{list_all}
 use Rattle.std.specs.Str.{is_utf8}
 use Rattle.bz_rule.specs.declared.command.CommandFault.{CommandFault}
@@ -51,13 +43,6 @@ lawful (Action.Move old new chosen) home = move_lawful home old new chosen
 lawful (Action.Replace attrs old new) home = replace_lawful home attrs old new
 lawful (Action.Comment commented text) home = comment_lawful home commented text
 lawful (Action.Print fields) home = print_lawful home fields
-
--- what a command does not mention may be changed before it or after it, and it tells the same
-pub after_aside : (c : Command) (home : Package) (slot : Option Statement) (g : Segment → Segment) → IsAside c g → after c home (option_map (with_args (map g)) slot) ≡ option_map (with_args (map g)) (after c home slot)
-after_aside c home slot g aside = let law = lawful c home in law.aside g aside slot
-
-pub done_aside : (c : Command) (home : Package) (slot : Option Statement) (g : Segment → Segment) → IsAside c g → done_of c home (option_map (with_args (map g)) slot) ≡ done_of c home slot
-done_aside c home slot g aside = let law = lawful c home in law.told g aside slot
 
 pub local : (c : Command) (home : Package) (name : List ℕ) → one_attribute c ≡ Some name → Local c home name
 local c home name h = let law = lawful c home in subst (λ o. IfSome o (Local c home)) h law.local
@@ -87,23 +72,6 @@ changed_tells c home slot h = let law = lawful c home in both_ways (done_of c ho
 -- what a command tells of a slot is so of what it made of it
 pub told_of_slot : (c : Command) (home : Package) (slot new : Option Statement) (d : Done) → is_command c ≡ true → new ≡ after c home slot → d ≡ done_of c home slot → (d.changed ≡ true) ↔ (new ≡ slot → ⊥)
 told_of_slot c home slot new d h is told = rw (told, is) (changed_tells c home slot h)
-
--- what is well formed stays so, and texts pass a test that those before it and the words of the command pass
-pub arguments_formed : (depth : ℕ) (c : Command) (home : Package) (args : List Segment) → is_command c ≡ true → AreFormed IsArg (suc depth) args → AreFormed IsArg (suc depth) (args_after c home args)
-arguments_formed depth c home args h good = (lawful c home).arguments depth args h good
-
-pub formed_after : (depth : ℕ) (c : Command) (home : Package) (s t : Statement) → is_command c ≡ true → 2 ≤ depth → IsWellFormed depth s → after c home (Some s) ≡ Some t → IsWellFormed depth t
-formed_after zero c home s t h k w e = absurd (omega arith)
-formed_after (suc zero) c home s t h k w e = absurd (omega arith)
-formed_after (suc (suc depth)) c home s t h k w e = subst (SlotFormed (suc (suc depth))) e ((lawful c home).statement depth s h w)
-
-pub commands_pass : (q : List ℕ → Bool) → PassesWritten q → (c : Command) (home : Package) (s t : Statement) → command_passes q c ≡ true → after c home (Some s) ≡ Some t → statement_passes q s ≡ true
-    → statement_passes q t ≡ true
-commands_pass q w c home s t h is k = subst (SlotPasses q) is ((lawful c home).texts q w s h k)
-
--- comments stay where the command is one that leaves them
-pub comments_after : (c : Command) (home : Package) (slot : Option Statement) → keeps_comments c ≡ true → option_map comments_of (after c home slot) ≡ option_map comments_of slot
-comments_after c home slot keeps = let law = lawful c home in law.comments keeps slot
 
 -- what is read of words that are UTF-8 can be read, and its words are UTF-8
 row : (test : Bool) (one : Result Command CommandFault) (others : Result (Option Command) CommandFault) (c : Command) → (Ok c ≡ one → IsRead c) → (Ok (Some c) ≡ others → IsRead c)

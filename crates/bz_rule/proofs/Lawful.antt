@@ -1,30 +1,19 @@
--- What is owed of a command; of one on the arguments of a rule it follows from what it does to them.
-use Rattle.std.proofs.Common.{◌≡◌, ℕ, List, [], ◌∷◌, Bool, true, false, Option, Some, None, map, option_map, is_some, if◌then◌else◌, refl, ap, sym, ◌∙◌, suc, subst, Result, Ok, Err}
+-- What is owed of a command for the program; of one on the arguments of a rule it follows from what it does to them.
+use Rattle.std.proofs.Common.{◌≡◌, ℕ, List, [], ◌∷◌, Bool, true, false, Option, Some, None, option_map, is_some, if◌then◌else◌, refl, ap, sym, ◌∙◌, Result, Ok, Err}
 use Rattle.std.specs.Prelude.{IfSome}
 use Rattle.std.proofs.lemmas.List.{append_cancel_left}
 use Rattle.bz_tree.specs.declared.stmt.GroupKind.TheVariants.{RuleCall}
 use Rattle.bz_tree.specs.Tree.{Item, group, Segment, Statement, segs_of, segments}
 use Rattle.bz_command.specs.Labels.{Package}
-use Rattle.bz_rule.specs.Commands.{Command, is_command, command_passes, after, args_after, args_done, done_of, keeps_comments}
+use Rattle.bz_rule.specs.Commands.{Command, is_command, after, args_after, args_done, done_of}
 use Rattle.bz_attribute.specs.Rules.{Rule, rule_of}
 use Rattle.bz_attribute.specs.declared.done.Done.{Done}
 use Rattle.bz_attribute.specs.declared.done.Note.{Note}
 use Rattle.bz_attribute.specs.Effects.{done, holds_rule, nodes_after, nodes_of, slot_done, with_args}
-use Rattle.bz_rule.specs.Aside.{IsAside}
 use Rattle.bz_attribute.specs.RowPlaces.{IsLocal, LooksAt}
 use Rattle.bz_rule.specs.OneAttribute.{one_attribute}
 use Rattle.bz_attribute.proofs.Views.{segments_of}
 use Rattle.bz_attribute.proofs.RuleNodes.{rule_nodes}
-use Rattle.bz_rule.proofs.Rebuilt.{slot_exchanged, told_alike}
-use Rattle.bz_tree.specs.Grammar.{IsArg}
-use Rattle.bz_layout_laws.specs.WellFormed.{IsWellFormed}
-use Rattle.bz_rule.proofs.PassingParts.{KeepsPassing}
-use Rattle.bz_rule.proofs.PassingRules.{SlotPasses, StatementPasses, args_nodes_pass, with_nodes}
-use Rattle.bz_rule.proofs.PassingWritten.{PassesWritten}
-use Rattle.bz_rule.proofs.RuleFormed.{rule_formed, rule_parts}
-use Rattle.bz_rule.proofs.Segments.{AreFormed}
-use Rattle.bz_tree.specs.Comments.{comments_of}
-use Rattle.bz_rule.proofs.AllComments.{in_all, slot_comments}
 use Rattle.bz_rule.specs.declared.command.CommandFault.{CommandFault}
 use Rattle.bz_token.specs.Common.{map_or}
 
@@ -35,38 +24,20 @@ pub record Local (c : Command) (home : Package) (name : List ℕ) : Type 0 where
   pub slot : (s : Statement) → after c home (Some s) ≡ Some (with_args (args_after c home) s)
   pub done : (s : Statement) → done_of c home (Some s) ≡ slot_done (args_done c home) (Some s)
 
--- what a slot holds is well formed
-abbrev pub SlotFormed : ℕ → Option Statement → Type 0
-SlotFormed depth None = Unit {0}
-SlotFormed depth (Some s) = IsWellFormed depth s
-
 -- Where it tells no change, all stays, else something differs. With a note there is no change, and none of what is no rule.
--- Arguments that it does not mention may be changed before it or after it, and it tells the same.
--- A command that was read leaves what is well formed so; texts that pass a test do so afterwards, if the words of the command do. Comments stay where it is a command that leaves them.
 pub record Lawful (c : Command) (home : Package) : Type 0 where
   pub stays : (slot : Option Statement) → (done_of c home slot).changed ≡ false → after c home slot ≡ slot
   pub differs : is_command c ≡ true → (slot : Option Statement) → (done_of c home slot).changed ≡ true → after c home slot ≡ slot → ⊥
   pub noted : (slot : Option Statement) → is_some (done_of c home slot).note ≡ true → (done_of c home slot).changed ≡ false
   pub no_rule : (slot : Option Statement) → holds_rule slot ≡ false → (done_of c home slot).changed ≡ false
-  pub aside : (g : Segment → Segment) → IsAside c g → (slot : Option Statement) → after c home (option_map (with_args (map g)) slot) ≡ option_map (with_args (map g)) (after c home slot)
-  pub told : (g : Segment → Segment) → IsAside c g → (slot : Option Statement) → done_of c home (option_map (with_args (map g)) slot) ≡ done_of c home slot
   pub local : IfSome (one_attribute c) (Local c home)
-  pub arguments : (depth : ℕ) (args : List Segment) → is_command c ≡ true → AreFormed IsArg (suc depth) args → AreFormed IsArg (suc depth) (args_after c home args)
-  pub statement : (depth : ℕ) (s : Statement) → is_command c ≡ true → IsWellFormed (suc (suc depth)) s → SlotFormed (suc (suc depth)) (after c home (Some s))
-  pub texts : (q : List ℕ → Bool) → PassesWritten q → (s : Statement) → command_passes q c ≡ true → StatementPasses q s → SlotPasses q (after c home (Some s))
-  pub comments : keeps_comments c ≡ true → (slot : Option Statement) → option_map comments_of (after c home slot) ≡ option_map comments_of slot
 
 -- the same of arguments
 pub record OnArguments (c : Command) (home : Package) : Type 0 where
   pub stays : (args : List Segment) → (args_done c home args).changed ≡ false → args_after c home args ≡ args
   pub differs : is_command c ≡ true → (args : List Segment) → (args_done c home args).changed ≡ true → args_after c home args ≡ args → ⊥
   pub noted : (args : List Segment) → is_some (args_done c home args).note ≡ true → (args_done c home args).changed ≡ false
-  pub aside : (g : Segment → Segment) → IsAside c g → (args : List Segment) → args_after c home (map g args) ≡ map g (args_after c home args)
-  pub told : (g : Segment → Segment) → IsAside c g → (args : List Segment) → args_done c home (map g args) ≡ args_done c home args
   pub local : IfSome (one_attribute c) (Local c home)
-  pub formed : (depth : ℕ) (args : List Segment) → is_command c ≡ true → AreFormed IsArg (suc depth) args → AreFormed IsArg (suc depth) (args_after c home args)
-  pub passes : (q : List ℕ → Bool) → PassesWritten q → command_passes q c ≡ true → KeepsPassing q (args_after c home)
-  pub comments : keeps_comments c ≡ true → (args : List Segment) → in_all (args_after c home args) ≡ in_all args
 
 -- where there is a note, nothing is changed
 pub note_unchanged : (n : Option Note) (b : Bool) → is_some (done n b).note ≡ true → (done n b).changed ≡ false
@@ -122,17 +93,6 @@ slot_no_rule : (g : List Segment → Done) (slot : Option Statement) → holds_r
 slot_no_rule g None h = refl
 slot_no_rule g (Some s) h = elim (rule_of s.nodes) as (λ r. is_some r ≡ false → (map_or (done None false) (λ r. g r.args) r).changed ≡ false) [ None ↦ λ k. refl | Some r ↦ λ k. absurd cc ] h
 
--- other arguments of a rule
-args_stay_formed : (depth : ℕ) (f : List Segment → List Segment) → ((args : List Segment) → AreFormed IsArg depth args → AreFormed IsArg depth (f args)) → (s : Statement) → IsWellFormed (suc depth) s → IsWellFormed (suc depth) (with_args f s)
-args_stay_formed depth f keep s w =
-    elim (rule_of s.nodes) as (λ o. rule_of s.nodes ≡ o → IsWellFormed (suc depth) (record s { nodes = nodes_after f s.nodes o })) [
-      | None ↦ λ e. w
-      | Some r ↦ λ e.
-          let p = rule_parts depth s r e w in
-          rule_formed depth s (record r { args = f r.args })
-          (record { kind = p.kind; args = keep r.args p.args; no_comma = p.no_comma; end = p.end; before = p.before; suffix = p.suffix; class = p.class })
-    ] refl
-
 -- a command that does to a slot what it does to the arguments of its rule
 pub on_arguments : (c : Command) (home : Package) → ((slot : Option Statement) → after c home slot ≡ option_map (with_args (args_after c home)) slot)
     → ((slot : Option Statement) → done_of c home slot ≡ slot_done (args_done c home) slot) → OnArguments c home → Lawful c home
@@ -141,14 +101,7 @@ on_arguments c home is told law = record {
   differs = λ read slot h same. slot_differs c home law read slot (ap (λ (d : Done). d.changed) (sym (told slot)) ∙ h) (sym (is slot) ∙ same);
   noted = λ slot h. ap (λ (d : Done). d.changed) (told slot) ∙ slot_noted c home law slot (ap (λ (d : Done). is_some d.note) (sym (told slot)) ∙ h);
   no_rule = λ slot h. ap (λ (d : Done). d.changed) (told slot) ∙ slot_no_rule (args_done c home) slot h;
-  aside = λ g aside slot.
-      is (option_map (with_args (map g)) slot) ∙ slot_exchanged (args_after c home) (map g) (law.aside g aside) slot ∙ ap (option_map (with_args (map g))) (sym (is slot));
-  told = λ g aside slot. told (option_map (with_args (map g)) slot) ∙ told_alike (args_done c home) (map g) (law.told g aside) slot ∙ sym (told slot);
   local = law.local;
-  arguments = law.formed;
-  statement = λ depth s read w. subst (SlotFormed (suc (suc depth))) (sym (is (Some s))) (args_stay_formed (suc depth) (args_after c home) (λ args good. law.formed depth args read good) s w);
-  texts = λ q w s h k. subst (SlotPasses q) (sym (is (Some s))) (with_nodes q s (nodes_after (args_after c home) s.nodes (rule_of s.nodes)) (args_nodes_pass q (args_after c home) (law.passes q w h) s.nodes) k);
-  comments = λ keeps slot. ap (option_map comments_of) (is slot) ∙ slot_comments (args_after c home) (law.comments keeps) slot;
 }
 
 -- where a test gives no fault, it failed; where it gives no other, it held

@@ -24,8 +24,7 @@ use Rattle.bz_rule.specs.private.RowEdits.{HasMore, IsEditOf, IsNextOf, edits_ar
 use Rattle.bz_command.specs.declared.arguments.Field.{Field}
 use Rattle.bz_attribute_commands.specs.Print.{prints, fields_of, printed}
 use Rattle.bz_rule.proofs.Commands.{lawful}
-use Rattle.bz_rule.proofs.Rebuilt.{kind_dotted}
-use Rattle.bz_rule.proofs.RuleClass.{class_after}
+use Rattle.bz_rule.proofs.RuleClass.{class_after, kind_dotted}
 use Rattle.bz_token.specs.Common.{map_or}
 use Rattle.bz_attribute.proofs.Headed.{class_at, rule_class}
 

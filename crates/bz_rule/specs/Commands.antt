@@ -1,10 +1,9 @@
 -- The ten commands: how their words are read (buildozer README, edit commands; the refusals are this project's own rule),
--- which attributes they mention, a test of their words; the statement after each, what it tells, and which leave all
--- comments.
+-- a test of their words; the statement after each, and what it tells.
 -- Begin with `after` and `done_of`.
 -- In no stop, since `run` does not reach what they are for: bz_command `Words` (a text as words), `Names` (identifiers and
--- kinds), `Arguments` (what arguments keep that were read, which attributes they mention, a test of their words). They are
--- for how commands are read (`command_of`, `is_command`), for `mentions` and for `command_passes`.
+-- kinds), `Arguments` (what arguments keep that were read, a test of their words). They are for how commands are read
+-- (`command_of`, `is_command`) and for `command_passes`.
 use Rattle.std.specs.Prelude.{◌≡◌, ℕ, ◌==◌, List, [], ◌∷◌, Bool, true, false, ◌&&◌, ◌||◌, not, if◌then◌else◌, Option, Some, None, Result, Ok, Err, map, length, codes, bytes_eq, option_map}
 use Rattle.std.specs.List.{list_all, list_any}
 use Rattle.std.specs.Str.{is_utf8}
@@ -33,7 +32,7 @@ use Rattle.bz_attribute.specs.Replace.{replace, replaces}
 use Rattle.bz_attribute.specs.Comment.{comment_rule, comment_args, comment_done}
 use Rattle.bz_attribute_commands.specs.Print.{prints}
 use Rattle.bz_attribute.specs.declared.done.Done.{Done}
-use Rattle.bz_command.specs.Arguments.{breaks_line, field_of, is_field, are_attributes, is_setting, is_moved, is_commented, is_named_field, attributes_mention, setting_mentions, comment_mentions, print_mentions, attributes_pass, setting_passes, moved_passes, commented_passes}
+use Rattle.bz_command.specs.Arguments.{breaks_line, field_of, is_field, are_attributes, is_setting, is_moved, is_commented, is_named_field, attributes_pass, setting_passes, moved_passes, commented_passes}
 
 -- a command is the enum of the source
 abbrev pub Command : Type 0
@@ -161,19 +160,6 @@ abbrev pub is_print : Command → Bool
 is_print (Print fields) = true
 is_print _ = false
 
--- the attributes that a command mentions; it looks at no other argument's value, but for that of a rule's name, and changes none
-abbrev pub mentions : Command → List ℕ → Bool
-mentions (Add attr values) name = bytes_eq attr name
-mentions (Remove attrs values) name = attributes_mention name attrs
-mentions (Set setting) name = setting_mentions name setting
-mentions (SetIfAbsent attr values) name = bytes_eq attr name
-mentions Delete name = false
-mentions (Rename old new) name = bytes_eq old name || bytes_eq new name
-mentions (Move old new moved) name = bytes_eq old name || bytes_eq new name
-mentions (Replace attrs old new) name = attributes_mention name attrs
-mentions (Comment commented text) name = comment_mentions name commented
-mentions (Print fields) name = print_mentions name fields
-
 -- a test of each word that a command holds, but for those of `print`, which writes none into a file
 abbrev pub command_passes : (List ℕ → Bool) → Command → Bool
 command_passes test (Add attr values) = test attr && list_all test values
@@ -231,13 +217,3 @@ done_of (Set (ToKind kind)) home slot = sets_kind_of kind slot
 done_of (Comment Rule text) home slot = done None (holds_rule slot)
 done_of (Print fields) home slot = prints home fields slot
 done_of command home slot = slot_done (args_done command home) slot
-
--- The commands that leave all comments of a statement.
-abbrev pub keeps_comments : Command → Bool
-keeps_comments (Add attr values) = true
-keeps_comments (Set (ToKind kind)) = true
-keeps_comments (SetIfAbsent attr values) = true
-keeps_comments (Rename old new) = true
-keeps_comments (Replace attrs old new) = true
-keeps_comments (Print fields) = true
-keeps_comments _ = false

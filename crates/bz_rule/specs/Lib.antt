@@ -1,7 +1,5 @@
-pub mod Aside
 pub mod Commands
 pub mod OneAttribute
 pub mod OwnComments
 pub mod RowViews
-pub mod WellFormedSegments
 pub mod private

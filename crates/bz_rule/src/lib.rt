@@ -1,8 +1,7 @@
-//! Labels, targets and commands on one rule, and their laws.
+//! Labels, targets and commands on one rule.
 #![tactic(auto)]
 
 mod command;
-pub mod laws;
 mod reader;
 mod row_edit;
 mod row_parts;

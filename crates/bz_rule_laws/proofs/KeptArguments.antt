@@ -21,17 +21,22 @@ use Rattle.bz_attribute.specs.Move.{move, move_note, moves, put_in}
 use Rattle.bz_attribute.specs.Remove.{goes_with_all, remove}
 use Rattle.bz_attribute.specs.Set.{New, is_value, new_of, new_value, set, set_if_absent, set_in}
 use Rattle.bz_rule.specs.declared.command.Action.TheVariants.{Add, Remove, Set, SetIfAbsent, Delete, Rename, Move, Replace, Comment, Print}
-use Rattle.bz_rule.specs.Commands.{Command, after, args_after, mentions}
+use Rattle.bz_rule.specs.Commands.{Command, after, args_after}
+use Rattle.bz_rule_laws.specs.Commands.{mentions}
 use Rattle.bz_rule.proofs.Commands.Comment.{comment_attribute_edits, comment_value_edits}
 use Rattle.bz_rule.proofs.Commands.Rename.{rename_edits}
 use Rattle.bz_rule.proofs.Commands.Replace.{replace_edits}
-use Rattle.bz_rule.proofs.FirstEdits.{EditsFirst, Noting, noted, named_with}
+use Rattle.bz_rule.proofs.FirstEdits.{EditsFirst, Noting, noted}
+use Rattle.bz_rule_laws.proofs.KeepsFirst.{KeepsFirst, named_with}
+use Rattle.bz_rule_laws.proofs.Commands.Comment.{attribute_first, value_first}
+use Rattle.bz_rule_laws.proofs.Commands.Rename.{rename_first}
+use Rattle.bz_rule_laws.proofs.Commands.Replace.{replace_first}
 use Rattle.bz_rule_laws.specs.Unmentioned.{arguments_in, arguments_of, is_delete, is_unmentioned, may_change, may_change_named, unmentioned}
 use Rattle.bz_rule_laws.proofs.RuleArguments.{there, there_after}
 use Rattle.bz_token.specs.Common.{is_empty}
 use Rattle.bz_rule.proofs.Arguments.{name_put, same_bytes}
-use Rattle.bz_rule.proofs.Segments.{either_way}
-use Rattle.bz_rule.proofs.Found.{not_false}
+use Rattle.bz_rule_laws.proofs.Segments.{either_way}
+use Rattle.bz_rule_laws.proofs.Found.{not_false}
 
 -- the edit leaves all that stay
 abbrev Leaves : Command → (List Segment → List Segment) → Type 0
@@ -134,11 +139,11 @@ filter_leaves c p goes (a ∷ args) =
 
 -- a command that edits the first argument of a name in its place
 first_leaves : (c : Command) (home : Package) (attr : List ℕ) (note : Noting) (changes : Option Segment → Bool) (edit : Segment → Segment) → ((name : List ℕ) → mentions c name ≡ true → may_change c name ≡ true)
-    → EditsFirst c home attr note changes edit → Leaves c (args_after c home)
-first_leaves c home attr note changes edit may law args =
-    ap (unmentioned c) (law.after args)
+    → EditsFirst c home attr note changes edit → KeepsFirst c attr edit → Leaves c (args_after c home)
+first_leaves c home attr note changes edit may is law args =
+    ap (unmentioned c) (is.after args)
     ∙ either_leaves c (is_some (noted note attr args)) args _ _ refl
-    (first_edited c attr (may attr law.mentioned) (λ a. edit a ∷ []) (λ a h. let is = law.named a h in one_gone c is.name (may is.name is.mentioned) (edit a) is.is) args)
+    (first_edited c attr (may attr law.mentioned) (λ a. edit a ∷ []) (λ a h. let made = law.named a h in one_gone c made.name (may made.name made.mentioned) (edit a) made.is) args)
 
 -- command by command
 
@@ -210,13 +215,13 @@ args_left (Set (ToKind kind)) home args = refl
 args_left (Set (ToValues attr values)) home args = set_leaves attr values args
 args_left (SetIfAbsent attr values) home args = set_if_absent_leaves attr values args
 args_left Delete home args = refl
-args_left (Rename old new) home args = first_leaves (Rename old new) home old _ _ _ (λ name h. h) (rename_edits home old new) args
+args_left (Rename old new) home args = first_leaves (Rename old new) home old _ _ _ (λ name h. h) (rename_edits home old new) (rename_first old new) args
 args_left (Move old new chosen) home args = move_leaves home old new chosen args
 args_left (Replace Every old new) home args = each_with_value (Replace Every old new) (λ name. refl) _ args
-args_left (Replace (Named attr) old new) home args = first_leaves (Replace (Named attr) old new) home attr _ _ _ (λ name h. h) (replace_edits home attr old new) args
+args_left (Replace (Named attr) old new) home args = first_leaves (Replace (Named attr) old new) home attr _ _ _ (λ name h. h) (replace_edits home attr old new) (replace_first home attr old new) args
 args_left (Comment OfRule text) home args = refl
-args_left (Comment (Attribute attr) text) home args = first_leaves (Comment (Attribute attr) text) home attr _ _ _ (λ name h. h) (comment_attribute_edits home attr text) args
-args_left (Comment (Value attr v) text) home args = first_leaves (Comment (Value attr v) text) home attr _ _ _ (λ name h. h) (comment_value_edits home attr v text) args
+args_left (Comment (Attribute attr) text) home args = first_leaves (Comment (Attribute attr) text) home attr _ _ _ (λ name h. h) (comment_attribute_edits home attr text) (attribute_first attr text) args
+args_left (Comment (Value attr v) text) home args = first_leaves (Comment (Value attr v) text) home attr _ _ _ (λ name h. h) (comment_value_edits home attr v text) (value_first home attr v text) args
 args_left (Print fields) home args = refl
 
 -- on a statement

@@ -15,7 +15,7 @@ use Rattle.bz_attribute.specs.Rules.{first_named, is_named, value}
 use Rattle.bz_attribute.specs.Set.{is_value, new_of, new_value, set, set_if_absent, set_in}
 use Rattle.bz_rule.specs.OwnComments.{Comments, no_comments, own_comments}
 use Rattle.bz_token.specs.Common.{is_empty}
-use Rattle.bz_rule.proofs.Segments.{either_way}
+use Rattle.bz_rule_laws.proofs.Segments.{either_way}
 
 -- an edit of the first of a name that leaves what v sees
 seen_first : {X : Type 0} (v : Segment → X) (attr : List ℕ) (g : Segment → Segment) → ((a : Segment) → v (g a) ≡ v a) → (args : List Segment)

@@ -1,12 +1,12 @@
 -- The arguments of a rule after an edit of them, and after another kind.
-use Rattle.std.proofs.Common.{◌≡◌, ℕ, ◌<◌, List, [], ◌∷◌, Bool, true, false, Option, Some, None, option_map, is_some, length, if◌then◌else◌, refl, ap, sym, ◌∙◌, arith}
+use Rattle.std.proofs.Common.{◌≡◌, ℕ, List, [], Bool, true, false, Option, Some, None, option_map, is_some, if◌then◌else◌, refl, ap, sym, ◌∙◌}
 use Rattle.bz_attribute.proofs.RuleParts.{rule_dotted}
 use Rattle.std.specs.Prelude.{bytes_eq}
 use Rattle.std.proofs.lemmas.Bool.{false≢true}
 use Rattle.bz_tree.specs.Tree.{Segment, Statement}
-use Rattle.bz_attribute.specs.Rules.{Rule, dotted, kind_text, rule_of}
+use Rattle.bz_attribute.specs.Rules.{Rule, kind_text, rule_of}
 use Rattle.bz_attribute.specs.Effects.{nodes_after, nodes_of, with_args}
-use Rattle.bz_attribute.specs.Set.{joined_by_dots, kind_after, kind_items, with_kind}
+use Rattle.bz_attribute.specs.Set.{kind_after, kind_items, with_kind}
 use Rattle.bz_attribute.specs.Comment.{comment_rule}
 use Rattle.bz_command.specs.Labels.{Package}
 use Rattle.bz_command.specs.declared.arguments.Commented.TheVariants.{Rule as OfRule}
@@ -15,7 +15,7 @@ use Rattle.bz_rule.specs.declared.command.Action.TheVariants.{Set, Delete, Comme
 use Rattle.bz_rule.specs.Commands.{Command, after, args_after}
 use Rattle.bz_rule_laws.specs.Again.{is_steady, sets_a_kind}
 use Rattle.bz_attribute.proofs.EditedRules.{nodes_read}
-use Rattle.bz_rule.proofs.Rebuilt.{kind_dotted}
+use Rattle.bz_rule.proofs.RuleClass.{kind_dotted}
 
 -- the arguments of what may be a rule
 abbrev pub there : Option Rule → Option (List Segment)
@@ -25,11 +25,6 @@ edited_there : (f : List Segment → List Segment) (s : Statement) → there (ru
 edited_there f s =
     elim (rule_of s.nodes) as (λ o. rule_of s.nodes ≡ o → there (rule_of (nodes_after f s.nodes o)) ≡ option_map f (there o))
     [ None ↦ λ e. ap there e | Some r ↦ λ e. ap there (nodes_read (record r { args = f r.args }) (rule_dotted [] s.nodes r e)) ] refl
-
-joined_dotted : (names : List (List ℕ)) → 0 < length names → dotted true (joined_by_dots names) ≡ true
-joined_dotted [] h = absurd (omega arith)
-joined_dotted (name ∷ []) h = refl
-joined_dotted (name ∷ other ∷ names) h = joined_dotted (other ∷ names) (omega arith)
 
 kind_set : (kind : List ℕ) (s : Statement) → there (rule_of (with_kind kind s).nodes) ≡ there (rule_of s.nodes)
 kind_set kind s =

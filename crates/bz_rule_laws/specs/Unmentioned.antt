@@ -4,7 +4,8 @@ use Rattle.bz_tree.specs.Tree.{Segment, Statement}
 use Rattle.bz_command.specs.declared.arguments.Attributes.TheVariants.{Every}
 use Rattle.bz_attribute.specs.Rules.{Rule, name_of, rule_of}
 use Rattle.bz_rule.specs.declared.command.Action.TheVariants.{Delete, Print, Remove}
-use Rattle.bz_rule.specs.Commands.{Command, mentions}
+use Rattle.bz_rule.specs.Commands.{Command}
+use Rattle.bz_rule_laws.specs.Commands.{mentions}
 
 -- the arguments of a rule; what is no rule has none
 abbrev pub arguments_in : Option Rule → List Segment

@@ -24,8 +24,8 @@ ghost use Rattle.bz_rule_laws.specs.Again.{
 };
 ghost use Rattle.bz_rule_laws.specs.Unmentioned.{arguments_of};
 
-use bz_rule::laws::comments::elements_keep_comments;
-use bz_rule::laws::effects::{added_values_are_found, removed_is_gone, set_twice_changes_nothing};
+use crate::comments::elements_keep_comments;
+use crate::effects::{added_values_are_found, removed_is_gone, set_twice_changes_nothing};
 
 /// Where a steady command did not fail, it finds nothing to do a second time, if the statement has the attribute once
 /// at most.

@@ -1,7 +1,7 @@
-//! Law of comments: an argument keeps its own.
+//! Laws of comments: which commands keep which.
 
-ghost use Rattle.std.specs.Prelude.{◌≡◌, ◌++◌, ◌∷◌, if◌then◌else◌, ℕ, List, [], map};
-ghost use Rattle.bz_tree.specs.Tree.{Segment};
+ghost use Rattle.std.specs.Prelude.{◌≡◌, ◌++◌, ◌∷◌, if◌then◌else◌, ℕ, List, [], map, Option, option_map, true};
+ghost use Rattle.bz_tree.specs.Tree.{Segment, Statement};
 ghost use Rattle.bz_command.specs.Labels.{Package};
 ghost use Rattle.bz_command.specs.declared.arguments.Attributes.{Attributes};
 ghost use Rattle.bz_command.specs.declared.arguments.Moved.{Moved};
@@ -12,6 +12,35 @@ ghost use Rattle.bz_attribute.specs.Replace as replace;
 ghost use Rattle.bz_attribute.specs.Rules.{value};
 ghost use Rattle.bz_attribute.specs.Set as set;
 ghost use Rattle.bz_rule.specs.OwnComments.{no_comments, own_comments};
+ghost use Rattle.bz_tree.specs.Comments.{comments_of};
+ghost use Rattle.bz_rule.specs.Commands.{after, Command};
+ghost use Rattle.bz_rule_laws.specs.Commands.{keeps_comments};
+ghost use Rattle.bz_attribute.specs.Lists.{is_attribute, parts};
+
+/// The commands that `keeps_comments` names leave all comments of a statement, in their order.
+#[tactic(auto, using(crate::proofs::Commands::comments_after))]
+pub fn comments_stay()
+    ensures { (command : Command) (home : Package) (slot : Option Statement) → keeps_comments command ≡ true
+        → option_map comments_of (after command home slot) ≡ option_map comments_of slot }
+{}
+
+/// Of the elements of an attribute, those that stay are as they were, comments included; one that is replaced keeps its
+/// own comments.
+#[tactic(auto, using(crate::proofs::Commands::Remove::left_elements, crate::proofs::Found::added_elements))]
+pub fn elements_keep_comments()
+    ensures remove { (home : Package) (chosen : Moved) (a b : Segment) → is_attribute a ≡ true
+        → effects.filtered (effects.unchosen home chosen) a ≡ b ∷ []
+        → parts (value b) ≡ map (effects.unchosen home chosen) (parts (value a)) }
+    ensures add { (home : Package) (values : List (List ℕ)) (a : Segment) (ss : List Segment)
+        (lists : List (List Segment)) → is_attribute a ≡ true → parts (value a) ≡ ss ∷ lists
+        → parts (value (add.with_added home values a)) ≡ (ss ++ add.new_elements home (ss ∷ lists) values)
+        ∷ lists }
+    ensures replace { (home : Package) (old new : List ℕ) (a : Segment) → is_attribute a ≡ true
+        → parts (value (replace.replaced_in home old new a))
+        ≡ map (map (replace.replaced home old new)) (parts (value a)) }
+    ensures replaced { (home : Package) (old new : List ℕ) (s : Segment)
+        → own_comments (replace.replaced home old new s) ≡ own_comments s }
+{}
 
 /// An argument that stays keeps its own comments, and a new one has none.
 #[tactic(auto, using(crate::proofs::KeptComments::own_comments_stay))]

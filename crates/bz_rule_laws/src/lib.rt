@@ -1,6 +1,12 @@
-//! Laws of commands on one statement: what they leave as it is, and what a second time changes.
+//! Laws of targets and of commands on one statement. Each function does nothing: its contract is the law.
 #![tactic(auto)]
 
 pub mod again;
+pub mod aside;
+pub mod changes;
 pub mod comments;
+pub mod effects;
+pub mod targets;
+pub mod texts;
 pub mod unmentioned;
+pub mod well_formed;

@@ -1,12 +1,12 @@
--- What is owed of `comment`: it changes what it stands before, a list of comment lines that gets longer, and leaves what is well formed so, and texts that pass a test.
-use Rattle.std.proofs.Common.{◌≡◌, ℕ, ◌+◌, List, [], ◌∷◌, ◌++◌, Bool, true, false, Option, None, Some, length, option_map, is_some, if◌then◌else◌, refl, ap, sym, ◌∙◌, arith, inl, inr, not, suc, ◌&&◌, rules, Ok}
+-- What is owed of `comment`: it changes what it stands before, a list of comment lines that gets longer.
+use Rattle.std.proofs.Common.{◌≡◌, ℕ, ◌+◌, List, [], ◌∷◌, ◌++◌, Bool, true, false, Option, None, Some, length, option_map, is_some, if◌then◌else◌, refl, ap, sym, ◌∙◌, arith, inl, inr, ◌&&◌, rules, Ok}
 use Rattle.std.specs.List.{list_any, list_all}
-use Rattle.std.proofs.lemmas.Bool.{cases_Bool, and_from, and_parts, not-true}
+use Rattle.std.proofs.lemmas.Bool.{cases_Bool}
 use Rattle.std.proofs.lemmas.List.{length_push}
-use Rattle.bz_tree.specs.Tree.{Item, leaf, group, Segment, Statement, Items}
+use Rattle.bz_tree.specs.Tree.{Item, leaf, group, Segment, Statement}
 use Rattle.bz_command.specs.Labels.{Package}
 use Rattle.bz_attribute.specs.Rules.{rule_of, is_named, first_named, value, elements}
-use Rattle.bz_attribute.specs.Lists.{edit_list, equals, is_joint, is_part, is_plus, parts, parts_from, is_attribute}
+use Rattle.bz_attribute.specs.Lists.{edit_list, equals, is_joint, is_part, is_plus, parts, parts_from}
 use Rattle.bz_attribute.specs.declared.done.Note.{Note}
 use Rattle.bz_attribute.specs.declared.done.Note.TheVariants.{NoAttribute, NoValue}
 use Rattle.bz_attribute.specs.Effects.{done, edit_first, has, holds_rule, is_absent, not_a_list}
@@ -15,24 +15,13 @@ use Rattle.bz_attribute.proofs.Views.{segments_of}
 use Rattle.bz_command.specs.declared.arguments.Commented.{Commented}
 use Rattle.bz_command.specs.declared.arguments.Commented.TheVariants.{Rule as OfRule, Attribute, Value}
 use Rattle.bz_rule.specs.declared.command.Action.TheVariants.{Comment}
-use Rattle.bz_rule.proofs.Arguments.{attribute_named, first_same, same_bytes, value_put}
+use Rattle.bz_rule.proofs.Arguments.{attribute_named, first_same, value_put}
 use Rattle.bz_rule.proofs.Local.{comment_local, comment_value_local, looks_at_one, note_by_first, note_of}
 use Rattle.bz_rule.specs.OwnComments.{Comments}
 use Rattle.bz_rule.proofs.CommentEdits.{ChangesComments, EditsComments, EditsRuleComments, above_rule, always, comments_edits, own_after, rule_comments, with_above, with_comments}
-use Rattle.bz_rule.proofs.FirstEdits.{EditsFirst, edits_first, named_with}
+use Rattle.bz_rule.proofs.FirstEdits.{EditsFirst, edits_first}
 use Rattle.bz_rule.proofs.Lawful.{Lawful, on_arguments}
-use Rattle.bz_command.specs.Arguments.{breaks_line, is_commented}
-use Rattle.bz_rule.specs.Commands.{is_command, Command, IsRead, comment_of}
-use Rattle.bz_layout_laws.proofs.EachRead.{comments_join}
-use Rattle.bz_rule.proofs.ArgumentValues.{good_value, good_with}
-use Rattle.bz_rule.proofs.ListParts.{KeepsGood, edited_element_good}
-use Rattle.bz_rule.proofs.NewTexts.{line_text}
-use Rattle.bz_rule.proofs.PassingParts.{edited_element_passes}
-use Rattle.bz_rule.proofs.PassingTexts.{SegmentPasses, value_passes, with_value_passes}
-use Rattle.bz_rule.proofs.PassingWritten.{PassesWritten}
-use Rattle.bz_rule.proofs.Segments.{AreFormed, IsFormed, either_way}
-use Rattle.bz_token.specs.Lexical.{is_comment}
-use Rattle.bz_tree.specs.Grammar.{IsArg, IsTest}
+use Rattle.bz_rule.specs.Commands.{Command, IsRead, comment_of}
 use Rattle.std.specs.Str.{is_utf8}
 use Rattle.bz_token.specs.Common.{map_or}
 use Rattle.std.specs.Option.{option_or}
@@ -120,59 +109,22 @@ comment_value_differs home attr v text args h same =
     let inner = both_none (not_a_list attr (first_named attr args)) (is_missing home attr v (first_named attr args)) outer.1 in
     value_differs home attr v text args (first_named attr args) refl (sym (has_first attr args) ∙ present attr args outer.0) inner.1 edited
 
--- what it leaves is well formed, and passes a test
-
--- one more comment line
-line_more : (q : List ℕ → Bool) (before : List (List ℕ)) (line : List ℕ) → list_all q before ≡ true → q line ≡ true → list_all q (before ++ line ∷ []) ≡ true
-line_more q before line h k = comments_join q before (line ∷ []) h (and_from (q line) true k refl)
-
-commented_formed : (Form : Items → Type 0) (depth : ℕ) (text : List ℕ) (s : Segment) → list_any breaks_line text ≡ false → IsFormed Form depth s → IsFormed Form depth (with_comment (comment_line text) s)
-commented_formed Form depth text s one_line h =
-    record { before = line_more is_comment s.before (comment_line text) h.before (line_text text one_line); suffix = h.suffix; nodes = h.nodes; form = h.form }
-
--- the first element that passes
-first_commented : (depth : ℕ) (p : Segment → Bool) (text : List ℕ) → list_any breaks_line text ≡ false → KeepsGood depth (edit_first p (λ s. with_comment (comment_line text) s ∷ []))
-first_commented depth p text one_line [] h = tt
-first_commented depth p text one_line (s ∷ ss) h =
-    either_way (AreFormed IsTest depth) (p s) (commented_formed IsTest depth text s one_line h.0, h.1) (h.0, first_commented depth p text one_line ss h.1)
-
-element_formed : (depth : ℕ) (home : Package) (word text : List ℕ) (a : Segment) → list_any breaks_line text ≡ false → is_attribute a ≡ true → IsFormed IsArg (suc depth) a → IsFormed IsArg (suc depth) (comment_element home word text a)
-element_formed depth home word text a one_line n good =
-    let line : List ℕ = comment_line text in
-    good_with (suc depth) (edit_element (equals home word) (with_comment line) (value a)) a n good
-    (edited_element_good depth (equals home word) (with_comment line) (first_commented depth (equals home word) text one_line) (value a) (good_value (suc depth) a n good))
-
-commented_passes : (q : List ℕ → Bool) → PassesWritten q → (text : List ℕ) → q text ≡ true → (s : Segment) → SegmentPasses q s → SegmentPasses q (with_comment (comment_line text) s)
-commented_passes q w text word s h = record { before = line_more q s.before (comment_line text) h.before (w.line text word); nodes = h.nodes; suffix = h.suffix }
-
-element_passes : (q : List ℕ → Bool) → PassesWritten q → (home : Package) (v text : List ℕ) → q text ≡ true → (a : Segment) → SegmentPasses q a → SegmentPasses q (comment_element home v text a)
-element_passes q w home v text word a h =
-    with_value_passes q (edit_element (equals home v) (with_comment (comment_line text)) (value a)) a
-    (edited_element_passes q (equals home v) (with_comment (comment_line text)) (commented_passes q w text word) (value a) (value_passes q a.nodes h.nodes)) h
-
--- what is known of a command that was read
-one_line : (place : Commented) (text : List ℕ) → is_command (Comment place text) ≡ true → list_any breaks_line text ≡ false
-one_line place text h = not-true (list_any breaks_line text) (and_parts (is_commented place) (not (list_any breaks_line text)) h).1
-
 -- it always adds its line
-abbrev one_more : List ℕ → Comments → Comments
+abbrev pub one_more : List ℕ → Comments → Comments
 one_more text own = record own { before = own.before ++ comment_line text ∷ [] }
 
-comment_changes : (place : Commented) (text : List ℕ) → ChangesComments (Comment place text) (λ own. true) (one_more text)
-comment_changes place text = record {
+comment_changes : (text : List ℕ) → ChangesComments (λ own. true) (one_more text)
+comment_changes text = record {
   stays = λ own h. absurd cc;
   differs = λ own h same. push_longer own.before (comment_line text) (ap (λ (z : Comments). z.before) same);
-  passes = λ q line own h. record { before = line_more q own.before (comment_line text) h.before line; suffix = h.suffix };
 }
 
 attribute_edits : (home : Package) (attr text : List ℕ) → EditsComments (Comment (Attribute attr) text) home attr (λ own. true) (one_more text)
 attribute_edits home attr text = record {
   after = λ args. refl;
   told = λ args. always attr args;
-  mentioned = same_bytes attr;
   local = record { args = comment_local attr text; told = looks_at_one attr _ (λ o. done (if is_some o then None else Some (NoAttribute attr)) true) (λ args. ap (λ (b : Bool). done (if b then None else Some (NoAttribute attr)) true) (has_first attr args)); slot = λ s. refl; done = λ s. refl };
-  loses = refl;
-  changed = comment_changes (Attribute attr) text;
+  changed = comment_changes text;
 }
 
 pub comment_attribute_edits : (home : Package) (attr text : List ℕ)
@@ -189,22 +141,17 @@ rule_told : (slot : Option Statement) → done None (holds_rule slot) ≡ done N
 rule_told None = refl
 rule_told (Some s) = elim (rule_of s.nodes) as (λ o. done None (is_some o) ≡ done None (is_some o && true)) [ None ↦ refl | Some r ↦ refl ]
 
-rule_edits : (home : Package) (text : List ℕ) → EditsRuleComments (Comment OfRule text) home (λ own. true) (one_more text)
-rule_edits home text = record { after = rule_commented text; told = rule_told; args = λ args. refl; local = refl; loses = refl; changed = comment_changes OfRule text }
+pub rule_edits : (home : Package) (text : List ℕ) → EditsRuleComments (Comment OfRule text) home (λ own. true) (one_more text)
+rule_edits home text = record { after = rule_commented text; told = rule_told; local = refl; changed = comment_changes text }
 
 pub comment_value_edits : (home : Package) (attr v text : List ℕ)
     → EditsFirst (Comment (Value attr v) text) home attr (λ there first. option_or (if there attr then None else Some (NoAttribute attr)) (option_or (not_a_list attr first) (is_missing home attr v first))) (λ first. true) (comment_element home v text)
 comment_value_edits home attr v text = record {
   after = λ args. refl;
   told = λ args. refl;
-  mentioned = same_bytes attr;
   local = record { args = comment_value_local home attr v text; told = looks_at_one attr _ (λ o. done (note_of home attr v o) true) (λ args. ap (λ (n : Option Note). done n true) (note_by_first home attr v args)); slot = λ s. refl; done = λ s. refl };
   stays = λ args h. absurd cc;
   differs = λ read args quiet changed same. comment_value_differs home attr v text args quiet same;
-  named = λ a h. record { name = attr; is = named_with attr _ a h; mentioned = same_bytes attr };
-  formed = λ depth a h n good. element_formed depth home v text a (one_line (Value attr v) text h) n good;
-  passes = λ q w h a k. element_passes q w home v text (and_parts (q attr && q v) (q text) h).1 a k;
-  comments = λ k. absurd cc;
 }
 
 pub comment_lawful : (home : Package) (place : Commented) (text : List ℕ) → Lawful (Comment place text) home

@@ -1,5 +1,5 @@
--- What is owed of `remove`: it changes something exactly where it says so, and leaves what is well formed so, texts that pass a test, and the comments of what stays.
-use Rattle.std.proofs.Common.{IfSome, ◌≡◌, ℕ, List, [], ◌∷◌, Bool, true, false, ◌&&◌, not, if◌then◌else◌, Option, Some, None, map, filter, refl, ap, sym, ◌∙◌, suc, rules, Ok, flat_map}
+-- What is owed of `remove`: it changes something exactly where it says so.
+use Rattle.std.proofs.Common.{IfSome, ◌≡◌, ℕ, List, [], ◌∷◌, Bool, true, false, ◌&&◌, not, if◌then◌else◌, Option, Some, None, map, filter, refl, ap, sym, ◌∙◌, rules, Ok, flat_map}
 use Rattle.std.specs.List.{list_any, list_all}
 use Rattle.std.proofs.lemmas.Bool.{or_parts, and_right}
 use Rattle.std.proofs.lemmas.List.Folds.{list_any-append}
@@ -15,26 +15,16 @@ use Rattle.bz_attribute.specs.Rules.{is_named, first_named, value}
 use Rattle.bz_attribute.specs.Lists.{edit_parts, is_attribute, parts, with_value}
 use Rattle.bz_attribute.specs.Effects.{chooses, done, filtered, has, is_chosen, loses_all, unchosen, edit_first}
 use Rattle.bz_attribute.specs.Remove.{goes_with_all, remove, removes}
-use Rattle.bz_rule.specs.Aside.{IsAside}
 use Rattle.bz_rule.proofs.Kept.{all_stay, all_stay_in, none_left_in, none_passes, none_passes_in}
 use Rattle.bz_rule.proofs.PartLaws.{parts_edited, parts_stay}
-use Rattle.bz_rule.proofs.Arguments.{attribute_named, first_same, rest_same, same_bytes, value_back, value_put}
+use Rattle.bz_rule.proofs.Arguments.{attribute_named, first_same, rest_same, value_back, value_put}
 use Rattle.bz_rule.specs.OneAttribute.{one_attribute}
-use Rattle.bz_attribute.proofs.Locals.{edit_local}
+use Rattle.bz_attribute.proofs.Locals.{edit_local, is_first_named}
 use Rattle.bz_rule.proofs.Local.{looks_at_one}
 use Rattle.bz_rule.proofs.Lawful.{Local, Lawful, on_arguments}
-use Rattle.bz_rule.proofs.NamesKept.{Leaves, edit_kept, filter_kept, first_kept, has_kept, named_kept, put_kept}
-use Rattle.bz_rule.proofs.Aside.{all_aside, leaves_all, leaves_mentioned}
-use Rattle.bz_rule.proofs.GoodArguments.{filtered_good, first_good}
-use Rattle.bz_rule.proofs.PassingParts.{edited_first_passes}
-use Rattle.bz_rule.proofs.PassingTexts.{SegmentPasses, SegmentsPass}
-use Rattle.bz_rule.proofs.PassingWritten.{filtered_passes}
-use Rattle.bz_rule.proofs.Segments.{AreFormed, IsFormed, all_filtered, all_flattened, either_way}
-use Rattle.bz_tree.specs.Grammar.{IsArg}
 use Rattle.std.specs.Str.{is_utf8}
 use Rattle.bz_rule.specs.Commands.{Command, IsRead, remove_of}
 use Rattle.bz_token.specs.Common.{is_empty, map_or}
-use Rattle.bz_attribute.proofs.Locals.{is_first_named}
 
 empty_or_not : (ss : List Segment) → not (is_empty ss) && is_empty ss ≡ false
 empty_or_not [] = refl
@@ -131,60 +121,6 @@ remove_differs home Every (v ∷ values) args h same =
 remove_differs home (Named attr) [] args h same = let none : has attr args ≡ false = none_passes (is_named attr) args same in cc
 remove_differs home (Named attr) (v ∷ values) args h same = values_differ home attr (v ∷ values) args (first_named attr args) refl h same
 
--- beside changes of other arguments
-
-pub filtered_kept : (g : Segment → Segment) (f : List Segment → List Segment) (attr : List ℕ) → Leaves attr g → (a : Segment) → is_named attr a ≡ true → map g (filtered f a) ≡ filtered f a
-filtered_kept g f attr leaves a named =
-    elim (loses_all f (value a)) as (λ b. let new : List Segment = if b then [] else with_value (edit_parts f (value a)) a ∷ [] in map g new ≡ new)
-    [ true ↦ refl | false ↦ ap (λ (z : Segment). z ∷ []) (put_kept g attr leaves (edit_parts f (value a)) a named) ]
-
-remove_aside : (home : Package) (attrs : Attributes) (values : List (List ℕ)) (g : Segment → Segment) → IsAside (Remove attrs values) g → (args : List Segment) → remove home attrs values (map g args) ≡ map g (remove home attrs values args)
-remove_aside home Every values g aside args = all_aside aside (λ attr. refl) (remove home Every values) args
-remove_aside home (Named attr) [] g aside args = filter_kept g (λ a. not (is_named attr a)) (λ a. ap not (named_kept g aside.names attr a)) args
-remove_aside home (Named attr) (v ∷ values) g aside args =
-    let leaves = leaves_mentioned aside attr (same_bytes attr) in
-    edit_kept g aside.names attr leaves (filtered (unchosen home (Values (v ∷ values)))) (filtered_kept g (unchosen home (Values (v ∷ values))) attr leaves) args
-
-remove_told : (home : Package) (attrs : Attributes) (values : List (List ℕ)) (g : Segment → Segment) → IsAside (Remove attrs values) g → (args : List Segment) → removes home attrs values (map g args) ≡ removes home attrs values args
-remove_told home Every values g aside args = ap (removes home Every values) (leaves_all aside (λ attr. refl) args)
-remove_told home (Named attr) [] g aside args = has_kept g aside.names attr args
-remove_told home (Named attr) (v ∷ values) g aside args = rw (first_kept g aside.names attr (leaves_mentioned aside attr (same_bytes attr)) args) refl
-
--- what it leaves is well formed, and passes a test
-
-everywhere_good : (depth : ℕ) (home : Package) (chosen : Moved) (a : Segment) → IsFormed IsArg (suc depth) a → AreFormed IsArg (suc depth) (if is_attribute a then filtered (unchosen home chosen) a else a ∷ [])
-everywhere_good depth home chosen a good =
-    elim (is_attribute a) as (λ b. is_attribute a ≡ b → AreFormed IsArg (suc depth) (if b then filtered (unchosen home chosen) a else a ∷ []))
-    [ true ↦ λ e. filtered_good depth home chosen a e good | false ↦ λ e. (good, tt) ] refl
-
-remove_good : (depth : ℕ) (home : Package) (attrs : Attributes) (values : List (List ℕ)) (args : List Segment) → AreFormed IsArg (suc depth) args → AreFormed IsArg (suc depth) (remove home attrs values args)
-remove_good depth home Every [] args h = all_filtered (IsFormed IsArg (suc depth)) (λ a. not (goes_with_all a)) args h
-remove_good depth home Every (v ∷ values) args h =
-    all_flattened (IsFormed IsArg (suc depth)) (IsFormed IsArg (suc depth)) (λ a. if is_attribute a then filtered (unchosen home (Values (v ∷ values))) a else a ∷ []) (everywhere_good depth home (Values (v ∷ values))) args h
-remove_good depth home (Named attr) [] args h = all_filtered (IsFormed IsArg (suc depth)) (λ a. not (is_named attr a)) args h
-remove_good depth home (Named attr) (v ∷ values) args h = first_good (suc depth) attr (filtered (unchosen home (Values (v ∷ values)))) (filtered_good depth home (Values (v ∷ values))) args h
-
-everywhere_passes : (q : List ℕ → Bool) (home : Package) (chosen : Moved) (a : Segment) → SegmentPasses q a → SegmentsPass q (if is_attribute a then filtered (unchosen home chosen) a else a ∷ [])
-everywhere_passes q home chosen a h =
-    either_way (SegmentsPass q) (is_attribute a) (filtered_passes q home chosen a h) (h, tt)
-
-remove_passes : (q : List ℕ → Bool) (home : Package) (attrs : Attributes) (values : List (List ℕ)) (args : List Segment) → SegmentsPass q args → SegmentsPass q (remove home attrs values args)
-remove_passes q home Every [] args h = all_filtered (SegmentPasses q) (λ a. not (goes_with_all a)) args h
-remove_passes q home Every (v ∷ values) args h =
-    all_flattened (SegmentPasses q) (SegmentPasses q) (λ a. if is_attribute a then filtered (unchosen home (Values (v ∷ values))) a else a ∷ []) (everywhere_passes q home (Values (v ∷ values))) args h
-remove_passes q home (Named attr) [] args h = all_filtered (SegmentPasses q) (λ a. not (is_named attr a)) args h
-remove_passes q home (Named attr) (v ∷ values) args h = edited_first_passes q (is_named attr) (filtered (unchosen home (Values (v ∷ values)))) (filtered_passes q home (Values (v ∷ values))) args h
-
--- of the elements of an argument that `remove` leaves, those stay that no value equals, as they were
-pub left_elements : (home : Package) (chosen : Moved) (a b : Segment) → is_attribute a ≡ true → filtered (unchosen home chosen) a ≡ b ∷ [] → parts (value b) ≡ map (unchosen home chosen) (parts (value a))
-left_elements home chosen a b h is =
-    elim (loses_all (unchosen home chosen) (value a)) as (λ l. (if l then [] else with_value (edit_parts (unchosen home chosen) (value a)) a ∷ []) ≡ b ∷ [] → parts (value b) ≡ map (unchosen home chosen) (parts (value a))) [
-      | true ↦ λ k. absurd cc
-      | false ↦ λ k.
-          let same : with_value (edit_parts (unchosen home chosen) (value a)) a ≡ b = cc in
-          ap (λ (z : Segment). parts (value z)) (sym same) ∙ ap parts (value_put (edit_parts (unchosen home chosen) (value a)) a h) ∙ parts_edited (unchosen home chosen) (value a)
-    ] is
-
 -- with values, of one attribute
 remove_local : (home : Package) (attrs : Attributes) (values : List (List ℕ)) → IfSome (one_attribute (Remove attrs values)) (Local (Remove attrs values) home)
 remove_local home Every values = tt
@@ -201,12 +137,7 @@ remove_lawful home attrs values = on_arguments (Remove attrs values) home (λ sl
   stays = λ args h. remove_stays home attrs values args h;
   differs = λ read args h same. remove_differs home attrs values args h same;
   noted = λ args h. absurd cc;
-  aside = λ g aside args. remove_aside home attrs values g aside args;
-  told = λ g aside args. ap (done None) (remove_told home attrs values g aside args);
   local = remove_local home attrs values;
-  formed = λ depth args h good. remove_good depth home attrs values args good;
-  passes = λ q w h args k. remove_passes q home attrs values args k;
-  comments = λ k. absurd cc;
 })
 
 -- What is read of words that are UTF-8 can be read, and its words are UTF-8.

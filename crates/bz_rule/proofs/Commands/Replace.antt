@@ -1,10 +1,9 @@
--- What is owed of `replace`: it changes something where an element equals `old` and is not exactly `new`, and afterwards there is none; it leaves what is well formed so, texts that pass a test, and comments.
-use Rattle.std.proofs.Common.{◌≡◌, ℕ, List, [], ◌∷◌, Bool, true, false, not, ◌&&◌, ◌||◌, Option, Some, None, option_map, map, if◌then◌else◌, refl, ap, sym, ◌∙◌, inl, inr, suc, ◌++◌, rules, Ok}
-use Rattle.bz_token.specs.declared.token.Kind.TheVariants.{String}
+-- What is owed of `replace`: it changes something where an element equals `old` and is not exactly `new`, and afterwards there is none.
+use Rattle.std.proofs.Common.{◌≡◌, ℕ, List, [], ◌∷◌, Bool, true, false, not, ◌&&◌, ◌||◌, Option, Some, None, option_map, map, if◌then◌else◌, refl, ap, sym, ◌∙◌, inl, inr, rules, Ok}
 use Rattle.std.specs.List.{list_any, list_all}
-use Rattle.std.proofs.lemmas.Bool.{cases_Bool, or_parts, and_parts}
+use Rattle.std.proofs.lemmas.Bool.{cases_Bool, or_parts}
 use Rattle.std.proofs.lemmas.Slice.Eq.{bytes_eq-Decides}
-use Rattle.bz_tree.specs.Tree.{Item, Segment, group, leaf}
+use Rattle.bz_tree.specs.Tree.{Item, Segment}
 use Rattle.bz_command.specs.Labels.{Package}
 use Rattle.bz_command.specs.declared.arguments.Attributes.{Attributes}
 use Rattle.bz_command.specs.declared.arguments.Attributes.TheVariants.{Every, Named}
@@ -14,27 +13,15 @@ use Rattle.bz_attribute.specs.Lists.{edit_parts, equals, is_attribute, parts, wi
 use Rattle.bz_attribute.specs.Effects.{done, edit_first, string_item}
 use Rattle.bz_attribute.specs.Replace.{is_replaced, replaced, replaced_in, replace, replaces, replaces_in}
 use Rattle.bz_command.proofs.ReadBack.{quoted_value}
-use Rattle.bz_rule.proofs.Arguments.{attribute_named, first_after, name_put, rest_same, same_bytes, value_back, value_put}
-use Rattle.bz_attribute.proofs.Locals.{edit_local}
+use Rattle.bz_rule.proofs.Arguments.{attribute_named, first_after, name_put, rest_same, value_back, value_put}
+use Rattle.bz_attribute.proofs.Locals.{edit_local, is_first_named}
 use Rattle.bz_rule.proofs.Local.{looks_at_one}
-use Rattle.bz_rule.proofs.FirstEdits.{EditsFirst, edits_first, named_with}
+use Rattle.bz_rule.proofs.FirstEdits.{EditsFirst, edits_first}
 use Rattle.bz_rule.proofs.Lawful.{Lawful, on_arguments}
 use Rattle.bz_rule.proofs.PartLaws.{parts_edited, parts_stay}
-use Rattle.bz_rule.proofs.Aside.{all_aside, leaves_all}
-use Rattle.bz_rule.proofs.AllComments.{in_nodes, in_one, map_keeps, parts_keep, value_keeps}
-use Rattle.bz_rule.proofs.ArgumentValues.{good_value, good_with}
-use Rattle.bz_rule.proofs.GoodArguments.{string_good_value}
-use Rattle.bz_rule.proofs.ListParts.{KeepsGood, edited_parts_good}
-use Rattle.bz_rule.proofs.PassingParts.{edited_parts_pass}
-use Rattle.bz_rule.proofs.PassingTexts.{SegmentPasses, value_passes, with_value_passes}
-use Rattle.bz_rule.proofs.PassingWritten.{PassesWritten}
-use Rattle.bz_rule.proofs.Segments.{IsFormed, all_mapped, either_way}
-use Rattle.bz_tree.specs.Comments.{beside}
-use Rattle.bz_tree.specs.Grammar.{IsArg, IsTest}
 use Rattle.std.specs.Str.{is_utf8}
 use Rattle.bz_rule.specs.Commands.{Command, IsRead, replace_of}
 use Rattle.bz_token.specs.Common.{map_or}
-use Rattle.bz_attribute.proofs.Locals.{is_first_named}
 
 -- an element that was replaced is exactly `new`
 pub settled : (home : Package) (old new : List ℕ) (s : Segment) → is_replaced home old new (replaced home old new s) ≡ false
@@ -132,75 +119,10 @@ every_stays home old new (a ∷ args) h =
     [ true ↦ λ k. argument_stays home old new a k | false ↦ λ k. refl ] both.0 in
     rw here (ap (λ (zs : List Segment). a ∷ zs) (every_stays home old new args both.1))
 
--- what it leaves is well formed, and passes a test
-
-replaced_good : (depth : ℕ) (home : Package) (old new : List ℕ) (s : Segment) → IsFormed IsTest depth s → IsFormed IsTest depth (replaced home old new s)
-replaced_good depth home old new s h =
-    let v = string_good_value depth new in
-    either_way (IsFormed IsTest depth) (is_replaced home old new s) (record { before = h.before; suffix = h.suffix; nodes = v.nodes_are; form = v.test }) h
-
-all_replaced : (depth : ℕ) (home : Package) (old new : List ℕ) → KeepsGood depth (map (replaced home old new))
-all_replaced depth home old new ss h = all_mapped (IsFormed IsTest depth) (IsFormed IsTest depth) (replaced home old new) (replaced_good depth home old new) ss h
-
-replaced_in_good : (depth : ℕ) (home : Package) (old new : List ℕ) (a : Segment) → is_attribute a ≡ true → IsFormed IsArg (suc depth) a → IsFormed IsArg (suc depth) (replaced_in home old new a)
-replaced_in_good depth home old new a n h =
-    good_with (suc depth) (edit_parts (map (replaced home old new)) (value a)) a n h
-    (edited_parts_good depth (map (replaced home old new)) (all_replaced depth home old new) (value a) (good_value (suc depth) a n h))
-
-where_attribute : (depth : ℕ) (home : Package) (old new : List ℕ) (a : Segment) → IsFormed IsArg (suc depth) a → IsFormed IsArg (suc depth) (if is_attribute a then replaced_in home old new a else a)
-where_attribute depth home old new a h =
-    elim (is_attribute a) as (λ b. is_attribute a ≡ b → IsFormed IsArg (suc depth) (if b then replaced_in home old new a else a))
-    [ true ↦ λ e. replaced_in_good depth home old new a e h | false ↦ λ e. h ] refl
-
-replaced_passes : (q : List ℕ → Bool) → PassesWritten q → (home : Package) (old new : List ℕ) → q new ≡ true → (s : Segment) → SegmentPasses q s → SegmentPasses q (replaced home old new s)
-replaced_passes q w home old new word s h =
-    either_way (SegmentPasses q) (is_replaced home old new s) (record { before = h.before; nodes = (w.literal new word, tt); suffix = h.suffix }) h
-
-replaced_in_passes : (q : List ℕ → Bool) → PassesWritten q → (home : Package) (old new : List ℕ) → q new ≡ true → (a : Segment) → SegmentPasses q a → SegmentPasses q (replaced_in home old new a)
-replaced_in_passes q w home old new word a h =
-    with_value_passes q (edit_parts (map (replaced home old new)) (value a)) a
-    (edited_parts_pass q (map (replaced home old new)) (all_mapped (SegmentPasses q) (SegmentPasses q) (replaced home old new) (replaced_passes q w home old new word)) (value a) (value_passes q a.nodes h.nodes)) h
-
-attribute_passes : (q : List ℕ → Bool) → PassesWritten q → (home : Package) (old new : List ℕ) → q new ≡ true → (a : Segment) → SegmentPasses q a → SegmentPasses q (if is_attribute a then replaced_in home old new a else a)
-attribute_passes q w home old new word a h =
-    either_way (SegmentPasses q) (is_attribute a) (replaced_in_passes q w home old new word a h) h
-
--- the elements of an attribute after `replace`
-pub replace_elements : (home : Package) (old new : List ℕ) (a : Segment) → is_attribute a ≡ true → parts (value (replaced_in home old new a)) ≡ map (map (replaced home old new)) (parts (value a))
-replace_elements home old new a h = ap parts (value_put (edit_parts (map (replaced home old new)) (value a)) a h) ∙ parts_edited (map (replaced home old new)) (value a)
-
--- a string is a token
-string_none : (nodes : List Item) (v : List ℕ) → string_value nodes ≡ Some v → in_nodes nodes ≡ []
-string_none [] v h = refl
-string_none (leaf kind text ∷ []) v h = refl
-string_none (group kind segs one_comma end ∷ []) v h = absurd cc
-string_none (leaf String text ∷ y ∷ xs) v h = absurd cc
-string_none (leaf _ text ∷ y ∷ xs) v h = absurd cc
-string_none (group kind segs one_comma end ∷ y ∷ xs) v h = absurd cc
-
-equal_none : (home : Package) (old : List ℕ) (s : Segment) → equals home old s ≡ true → in_nodes s.nodes ≡ []
-equal_none home old s h =
-    elim (string_value s.nodes) as (λ o. string_value s.nodes ≡ o → map_or false (λ value. same home value old) o ≡ true → in_nodes s.nodes ≡ [])
-    [ None ↦ λ e k. absurd cc | Some v ↦ λ e k. string_none s.nodes v e ] refl h
-
-replaced_keeps : (home : Package) (old new : List ℕ) (s : Segment) → in_one (replaced home old new s) ≡ in_one s
-replaced_keeps home old new s =
-    elim (is_replaced home old new s) as (λ b. is_replaced home old new s ≡ b → in_one (if b then record s { nodes = string_item new ∷ [] } else s) ≡ in_one s) [
-      | true ↦ λ e.
-          let none : in_nodes s.nodes ≡ [] = equal_none home old s (and_parts (equals home old s) (not (is_text new (string_value s.nodes))) e).0 in
-          ap (λ (cs : List (List ℕ)). s.before ++ (beside s.suffix ++ cs)) (sym none)
-      | false ↦ λ e. refl
-    ] refl
-
-replaced_in_keeps : (home : Package) (old new : List ℕ) (a : Segment) → in_one (replaced_in home old new a) ≡ in_one a
-replaced_in_keeps home old new a =
-    value_keeps (edit_parts (map (replaced home old new)) (value a)) a (parts_keep (map (replaced home old new)) (map_keeps (replaced home old new) (replaced_keeps home old new)) (value a))
-
 pub replace_edits : (home : Package) (attr old new : List ℕ) → EditsFirst (Replace (Named attr) old new) home attr (λ there first. None) (map_or false (replaces_in home old new)) (replaced_in home old new)
 replace_edits home attr old new = record {
   after = λ args. refl;
   told = λ args. refl;
-  mentioned = same_bytes attr;
   local = record {
     args = edit_local attr (λ a. replaced_in home old new a ∷ []);
     told = looks_at_one attr _ (λ o. done None (map_or false (replaces_in home old new) o)) (λ args. refl);
@@ -209,10 +131,6 @@ replace_edits home attr old new = record {
   };
   stays = λ args h. first_stays home attr old new args h;
   differs = λ read args quiet changed same. replace_differs home (Named attr) old new args changed same;
-  named = λ a h. record { name = attr; is = named_with attr _ a h; mentioned = same_bytes attr };
-  formed = λ depth a h n good. replaced_in_good depth home old new a n good;
-  passes = λ q w h a k. replaced_in_passes q w home old new (and_parts _ (q new) h).1 a k;
-  comments = λ k a h. replaced_in_keeps home old new a;
 }
 
 pub replace_lawful : (home : Package) (attrs : Attributes) (old new : List ℕ) → Lawful (Replace attrs old new) home
@@ -221,13 +139,7 @@ replace_lawful home Every old new = on_arguments (Replace Every old new) home (�
   stays = λ args h. every_stays home old new args h;
   differs = λ read args h same. replace_differs home Every old new args h same;
   noted = λ args h. absurd cc;
-  aside = λ g aside args. all_aside aside (λ attr. refl) (replace home Every old new) args;
-  told = λ g aside args. ap (λ (zs : List Segment). done None (replaces home Every old new zs)) (leaves_all aside (λ attr. refl) args);
   local = tt;
-  formed = λ depth args h good. all_mapped (IsFormed IsArg (suc depth)) (IsFormed IsArg (suc depth)) (λ a. if is_attribute a then replaced_in home old new a else a) (where_attribute depth home old new) args good;
-  passes = λ q w h args k. all_mapped (SegmentPasses q) (SegmentPasses q) (λ a. if is_attribute a then replaced_in home old new a else a) (attribute_passes q w home old new (and_parts _ (q new) h).1) args k;
-  comments = λ k args. map_keeps (λ a. if is_attribute a then replaced_in home old new a else a) (λ a.
-      either_way (λ (z : Segment). in_one z ≡ in_one a) (is_attribute a) (replaced_in_keeps home old new a) refl) args;
 })
 
 -- What is read of words that are UTF-8 can be read, and its words are UTF-8.
