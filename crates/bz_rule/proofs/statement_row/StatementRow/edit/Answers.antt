@@ -1,4 +1,4 @@
-use Rattle.std.proofs.Common.{◌≡◌, ◌∙◌, Some, false, true, ap, is_some, sym, arith, tests}
+use Rattle.std.proofs.Common.{◌≡◌, ◌∙◌, Some, false, ap, is_some, sym, arith, tests}
 use Rattle.bz_tree.specs.Tree.{Statement}
 use Rattle.bz_attribute.specs.Rules.{rule_of}
 use Rattle.bz_attribute.specs.declared.done.Done.{Done}
