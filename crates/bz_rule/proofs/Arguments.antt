@@ -1,12 +1,15 @@
 -- Arguments with another value, and the first of a name.
-use Rattle.std.proofs.Common.{◌≡◌, ℕ, List, [], ◌∷◌, ◌++◌, true, false, if◌then◌else◌, Some, None, option_map, is_some, drop, take, refl, ap, sym, ◌∙◌}
+use Rattle.std.proofs.Common.{◌≡◌, ℕ, List, [], ◌∷◌, ◌++◌, Bool, true, false, if◌then◌else◌, Some, None, is_some, drop, take, refl, ap, sym, ◌∙◌}
 use Rattle.std.specs.Prelude.{bytes_eq}
+use Rattle.std.proofs.lemmas.Bool.{false≢true}
 use Rattle.std.proofs.lemmas.List.{append_cancel_right, take-append-drop}
 use Rattle.std.proofs.lemmas.Slice.Eq.{bytes_eq-Decides}
+use Rattle.bz_token.specs.Common.{map_or}
 use Rattle.bz_tree.specs.Tree.{Item, Segment}
 use Rattle.bz_attribute.specs.Rules.{is_named, is_text, first_named, name_of, value}
 use Rattle.bz_attribute.specs.Lists.{is_attribute, with_value}
 use Rattle.bz_attribute.specs.Effects.{edit_first}
+use Rattle.bz_attribute.proofs.Locals.{is_first_named}
 
 pub same_bytes : (bytes : List ℕ) → bytes_eq bytes bytes ≡ true
 same_bytes bytes = (bytes_eq-Decides bytes bytes).1 refl
@@ -51,10 +54,12 @@ rest_same attr f (b ∷ args) keep =
       | false ↦ λ k. ap (λ (zs : List Segment). b ∷ zs) (rest_same attr f args k)
     ] keep
 
--- the first of a name, after an edit that leaves the name
-pub first_after : (attr : List ℕ) (g : Segment → Segment) (args : List Segment) → ((a : Segment) → is_named attr a ≡ true → is_named attr (g a) ≡ true)
-    → first_named attr (edit_first (is_named attr) (λ a. g a ∷ []) args) ≡ option_map g (first_named attr args)
-first_after attr g [] named = refl
-first_after attr g (a ∷ args) named =
-    elim (is_named attr a) as (λ t. is_named attr a ≡ t → first_named attr (if t then g a ∷ args else a ∷ edit_first (is_named attr) (λ z. g z ∷ []) args) ≡ option_map g (if t then Some a else first_named attr args))
-    [ true ↦ λ e. rw (named a e) refl | false ↦ λ e. rw e (first_after attr g args named) ] refl
+-- an edit of the first of a name, which changes it exactly where a test passes it
+pub first_stays : (attr : List ℕ) (p : Segment → Bool) (f : Segment → List Segment) → ((a : Segment) → p a ≡ false → f a ≡ a ∷ []) → (args : List Segment) → map_or false p (first_named attr args) ≡ false → edit_first (is_named attr) f args ≡ args
+first_stays attr p f same args h = rest_same attr f args (λ a first. same a (ap (map_or false p) (sym first) ∙ h))
+
+pub first_differs : (attr : List ℕ) (p : Segment → Bool) (f : Segment → List Segment) → ((a : Segment) → is_named attr a ≡ true → p a ≡ true → f a ≡ a ∷ [] → ⊥) → (args : List Segment) → map_or false p (first_named attr args) ≡ true
+    → edit_first (is_named attr) f args ≡ args → ⊥
+first_differs attr p f other args h same =
+    elim (first_named attr args) as (λ o. first_named attr args ≡ o → map_or false p o ≡ true → ⊥)
+    [ None ↦ λ e k. false≢true k | Some a ↦ λ e k. other a (is_first_named attr args a e) k (first_same attr f args a e same) ] refl h

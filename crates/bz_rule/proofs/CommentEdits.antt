@@ -13,7 +13,7 @@ use Rattle.bz_attribute.proofs.First.{edit_first_none}
 use Rattle.bz_rule.specs.Commands.{Command, after, args_after, args_done, done_of}
 use Rattle.bz_rule.specs.OneAttribute.{one_attribute}
 use Rattle.bz_rule.specs.OwnComments.{Comments, own_comments}
-use Rattle.bz_rule.proofs.Arguments.{first_same}
+use Rattle.bz_rule.proofs.Arguments.{first_differs, first_stays}
 use Rattle.bz_rule.proofs.FirstEdits.{EditsFirst}
 use Rattle.bz_rule.proofs.Lawful.{Lawful, Local}
 use Rattle.bz_attribute.proofs.Locals.{has_first}
@@ -43,21 +43,6 @@ always attr args =
     ∙ elim (first_named attr args) as (λ o. told (is_some o) true ≡ told (is_some o) (map_or false (λ a. true) o)) [ None ↦ refl | Some a ↦ refl ]
     ∙ ap (λ (b : Bool). told b (map_or false (λ a. true) (first_named attr args))) (sym (has_first attr args))
 
-first_stays : (attr : List ℕ) (p : Segment → Bool) (f : Segment → Segment) → ((a : Segment) → p a ≡ false → f a ≡ a) → (args : List Segment) → map_or false p (first_named attr args) ≡ false
-    → edit_first (is_named attr) (λ a. f a ∷ []) args ≡ args
-first_stays attr p f same [] h = refl
-first_stays attr p f same (a ∷ args) h =
-    elim (is_named attr a) as (λ b. map_or false p (if b then Some a else first_named attr args) ≡ false → (if b then f a ∷ args else a ∷ edit_first (is_named attr) (λ z. f z ∷ []) args) ≡ a ∷ args)
-    [ true ↦ λ k. ap (λ (z : Segment). z ∷ args) (same a k) | false ↦ λ k. ap (λ (zs : List Segment). a ∷ zs) (first_stays attr p f same args k) ] h
-
-first_differs : (attr : List ℕ) (p : Segment → Bool) (f : Segment → Segment) → ((a : Segment) → p a ≡ true → f a ≡ a → ⊥) → (args : List Segment) → map_or false p (first_named attr args) ≡ true
-    → edit_first (is_named attr) (λ a. f a ∷ []) args ≡ args → ⊥
-first_differs attr p f other args h same =
-    elim (first_named attr args) as (λ o. first_named attr args ≡ o → map_or false p o ≡ true → ⊥) [
-      | None ↦ λ e k. false≢true k
-      | Some a ↦ λ e k. let one : f a ∷ [] ≡ a ∷ [] = first_same attr (λ z. f z ∷ []) args a e same in other a k cc
-    ] refl h
-
 -- where there is none, an edit of it leaves all
 either_edit : (attr : List ℕ) (f : Segment → List Segment) (args : List Segment) → (if has attr args then edit_first (is_named attr) f args else args) ≡ edit_first (is_named attr) f args
 either_edit attr f args =
@@ -77,9 +62,9 @@ comments_edits c home attr changes edit law =
           law.after args ∙ elim (has attr args) as (λ b. (if b then new else args) ≡ (if is_some (if b then None else Some (NoAttribute attr)) then args else new)) [ true ↦ refl | false ↦ refl ];
       told = law.told;
       local = law.local;
-      stays = λ args h. first_stays attr (λ a. changes (own_comments a)) (with_comments edit) (λ a k. comments_same edit a (one.stays (own_comments a) k)) args h;
+      stays = λ args h. first_stays attr (λ a. changes (own_comments a)) (λ a. with_comments edit a ∷ []) (λ a k. ap (λ (z : Segment). z ∷ []) (comments_same edit a (one.stays (own_comments a) k))) args h;
       differs = λ read args quiet changed same.
-          first_differs attr (λ a. changes (own_comments a)) (with_comments edit) (λ a k is. one.differs (own_comments a) k (ap own_comments is)) args changed
+          first_differs attr (λ a. changes (own_comments a)) (λ a. with_comments edit a ∷ []) (λ a named k is. let kept : with_comments edit a ≡ a = cc in one.differs (own_comments a) k (ap own_comments kept)) args changed
           (sym (either_edit attr (λ a. with_comments edit a ∷ []) args) ∙ sym (law.after args) ∙ same);
     }
 

@@ -15,7 +15,8 @@ use Rattle.bz_attribute.specs.Add.{add, fresh, is_fresh, new_elements, with_adde
 use Rattle.bz_attribute.specs.declared.done.Note.TheVariants.{NotAList}
 use Rattle.bz_attribute.proofs.Views.{segments_of}
 use Rattle.bz_rule.proofs.PartLaws.{edit_head}
-use Rattle.bz_rule.proofs.Arguments.{attribute_named, first_after, name_put, same_bytes}
+use Rattle.bz_rule.proofs.Arguments.{attribute_named, name_put, same_bytes}
+use Rattle.bz_rule_laws.proofs.FirstNamed.{first_after}
 use Rattle.bz_rule_laws.proofs.Likeness.{all_follow, chosen_alike, in_full, same_self, strings_chosen}
 use Rattle.bz_rule.proofs.Commands.Add.{add_kept, added_nothing, new_argument, parts_with}
 use Rattle.bz_token.specs.Common.{is_empty, map_or}

@@ -28,7 +28,8 @@ use Rattle.bz_rule_laws.specs.Unmentioned.{arguments_in, arguments_of}
 use Rattle.bz_rule_laws.proofs.RuleArguments.{there, there_after}
 use Rattle.bz_token.specs.Common.{is_empty, map_or}
 use Rattle.bz_attribute.proofs.Locals.{is_first_named}
-use Rattle.bz_rule.proofs.Arguments.{attribute_named, name_put, first_after, same_bytes}
+use Rattle.bz_rule.proofs.Arguments.{attribute_named, name_put, same_bytes}
+use Rattle.bz_rule_laws.proofs.FirstNamed.{first_after}
 use Rattle.bz_rule_laws.proofs.Segments.{either_way}
 use Rattle.bz_rule.proofs.Commands.Replace.{lists_settled}
 

@@ -8,7 +8,8 @@ use Rattle.bz_attribute.specs.Rules.{Rule, rule_of, call_at, kind_text, is_named
 use Rattle.bz_attribute.specs.Effects.{argument, edit_first, nodes_of, string, done}
 use Rattle.bz_attribute.specs.Set.{New, NewStrings, is_list_attribute, is_number, is_constant, new_word, new_of, new_value, is_value, set_in, set, sets, kind_items, kind_after, with_kind, sets_kind_of}
 use Rattle.bz_attribute.proofs.Calls.{rule_from_end}
-use Rattle.bz_rule.proofs.Arguments.{attribute_named, first_after, name_put, same_bytes}
+use Rattle.bz_rule.proofs.Arguments.{attribute_named, name_put, same_bytes}
+use Rattle.bz_rule_laws.proofs.FirstNamed.{first_after}
 use Rattle.bz_rule.proofs.Commands.Set.{in_stays, in_value, is_written, kind_read, set_absent, set_present}
 use Rattle.bz_rule_laws.proofs.Found.{first_at_end}
 use Rattle.bz_attribute.specs.Lists.{is_list, is_only}

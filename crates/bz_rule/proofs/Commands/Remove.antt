@@ -1,7 +1,7 @@
 -- What is owed of `remove`: it changes something exactly where it says so.
-use Rattle.std.proofs.Common.{IfSome, ◌≡◌, ℕ, List, [], ◌∷◌, Bool, true, false, ◌&&◌, not, if◌then◌else◌, Option, Some, None, map, filter, refl, ap, sym, ◌∙◌, rules, Ok, flat_map}
+use Rattle.std.proofs.Common.{IfSome, ◌≡◌, ℕ, List, [], ◌∷◌, Bool, true, false, ◌&&◌, not, if◌then◌else◌, None, map, filter, refl, ap, sym, ◌∙◌, rules, Ok, flat_map}
 use Rattle.std.specs.List.{list_any, list_all}
-use Rattle.std.proofs.lemmas.Bool.{or_parts, and_right}
+use Rattle.std.proofs.lemmas.Bool.{or_parts, and_right, false≢true}
 use Rattle.std.proofs.lemmas.List.Folds.{list_any-append}
 use Rattle.bz_tree.specs.declared.stmt.GroupKind.TheVariants.{Call, RuleCall, Load, Paren, List as ListKind, Index, Dict, ListComp, DictComp}
 use Rattle.bz_tree.specs.Tree.{Item, leaf, group, Segment, segments}
@@ -11,15 +11,15 @@ use Rattle.bz_command.specs.declared.arguments.Attributes.TheVariants.{Every, Na
 use Rattle.bz_command.specs.declared.arguments.Moved.{Moved}
 use Rattle.bz_command.specs.declared.arguments.Moved.TheVariants.{Values}
 use Rattle.bz_rule.specs.declared.command.Action.TheVariants.{Remove}
-use Rattle.bz_attribute.specs.Rules.{is_named, first_named, value}
+use Rattle.bz_attribute.specs.Rules.{is_named, value}
 use Rattle.bz_attribute.specs.Lists.{edit_parts, is_attribute, parts, with_value}
-use Rattle.bz_attribute.specs.Effects.{chooses, done, filtered, has, is_chosen, loses_all, unchosen, edit_first}
+use Rattle.bz_attribute.specs.Effects.{chooses, done, filtered, has, is_chosen, loses_all, unchosen}
 use Rattle.bz_attribute.specs.Remove.{goes_with_all, remove, removes}
 use Rattle.bz_rule.proofs.Kept.{all_stay, all_stay_in, none_left_in, none_passes, none_passes_in}
 use Rattle.bz_rule.proofs.PartLaws.{parts_edited, parts_stay}
-use Rattle.bz_rule.proofs.Arguments.{attribute_named, first_same, rest_same, value_back, value_put}
+use Rattle.bz_rule.proofs.Arguments.{attribute_named, first_differs, first_stays, value_back, value_put}
 use Rattle.bz_rule.specs.OneAttribute.{one_attribute}
-use Rattle.bz_attribute.proofs.Locals.{edit_local, is_first_named}
+use Rattle.bz_attribute.proofs.Locals.{edit_local}
 use Rattle.bz_rule.proofs.Local.{looks_at_one}
 use Rattle.bz_rule.proofs.Lawful.{Local, Lawful, on_arguments}
 use Rattle.std.specs.Str.{is_utf8}
@@ -96,30 +96,20 @@ everywhere_stays home chosen (a ∷ args) h =
     [ true ↦ λ k. filtered_stays home chosen a k | false ↦ λ k. refl ] both.0 in
     rw here (ap (λ (zs : List Segment). a ∷ zs) (everywhere_stays home chosen args both.1))
 
-values_stay : (home : Package) (attr : List ℕ) (values : List (List ℕ)) (args : List Segment) → map_or false (chooses home (Values values)) (first_named attr args) ≡ false → edit_first (is_named attr) (filtered (unchosen home (Values values))) args ≡ args
-values_stay home attr values args h =
-    rest_same attr (filtered (unchosen home (Values values))) args (λ a first.
-    filtered_stays home (Values values) a (ap (map_or false (chooses home (Values values))) (sym first) ∙ h))
-
-values_differ : (home : Package) (attr : List ℕ) (values : List (List ℕ)) (args : List Segment) (first : Option Segment) → first_named attr args ≡ first → map_or false (chooses home (Values values)) first ≡ true → edit_first (is_named attr) (filtered (unchosen home (Values values))) args ≡ args → ⊥
-values_differ home attr values args None e h same = cc
-values_differ home attr values args (Some a) e h same =
-    let attribute : is_attribute a ≡ true = attribute_named attr a (is_first_named attr args a e) in
-    let none : chooses home (Values values) a ≡ false = filtered_same home (Values values) a attribute (first_same attr (filtered (unchosen home (Values values))) args a e same) in
-    cc
-
 remove_stays : (home : Package) (attrs : Attributes) (values : List (List ℕ)) (args : List Segment) → removes home attrs values args ≡ false → remove home attrs values args ≡ args
 remove_stays home Every [] args h = all_stay goes_with_all args h
 remove_stays home Every (v ∷ values) args h = everywhere_stays home (Values (v ∷ values)) args h
 remove_stays home (Named attr) [] args h = all_stay (is_named attr) args h
-remove_stays home (Named attr) (v ∷ values) args h = values_stay home attr (v ∷ values) args h
+remove_stays home (Named attr) (v ∷ values) args h = first_stays attr (chooses home (Values (v ∷ values))) (filtered (unchosen home (Values (v ∷ values)))) (filtered_stays home (Values (v ∷ values))) args h
 
 remove_differs : (home : Package) (attrs : Attributes) (values : List (List ℕ)) (args : List Segment) → removes home attrs values args ≡ true → remove home attrs values args ≡ args → ⊥
 remove_differs home Every [] args h same = let none : list_any goes_with_all args ≡ false = none_passes goes_with_all args same in cc
 remove_differs home Every (v ∷ values) args h same =
     let none : list_any (λ a. is_attribute a && chooses home (Values (v ∷ values)) a) args ≡ false = ap (λ x0. list_any (λ a. is_attribute a && chooses home (Values (v ∷ values)) a) x0) (sym same) ∙ everywhere_left home (Values (v ∷ values)) args in cc
 remove_differs home (Named attr) [] args h same = let none : has attr args ≡ false = none_passes (is_named attr) args same in cc
-remove_differs home (Named attr) (v ∷ values) args h same = values_differ home attr (v ∷ values) args (first_named attr args) refl h same
+remove_differs home (Named attr) (v ∷ values) args h same =
+    first_differs attr (chooses home (Values (v ∷ values))) (filtered (unchosen home (Values (v ∷ values)))) (λ a named chosen kept.
+    false≢true (sym (filtered_same home (Values (v ∷ values)) a (attribute_named attr a named) kept) ∙ chosen)) args h same
 
 -- with values, of one attribute
 remove_local : (home : Package) (attrs : Attributes) (values : List (List ℕ)) → IfSome (one_attribute (Remove attrs values)) (Local (Remove attrs values) home)

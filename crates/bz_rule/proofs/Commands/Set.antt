@@ -17,7 +17,7 @@ use Rattle.bz_command.specs.declared.arguments.Setting.{Setting}
 use Rattle.bz_command.specs.declared.arguments.Setting.TheVariants.{ToKind, ToValues}
 use Rattle.bz_rule.specs.declared.command.Action.TheVariants.{Set, SetIfAbsent}
 use Rattle.bz_command.specs.Labels.{Package}
-use Rattle.bz_rule.proofs.Arguments.{attribute_named, first_same, rest_same, same_bytes, value_put}
+use Rattle.bz_rule.proofs.Arguments.{attribute_named, first_differs, first_stays, same_bytes, value_put}
 use Rattle.bz_rule.proofs.Local.{looks_at_one, set_local}
 use Rattle.bz_rule.proofs.Lawful.{Lawful, on_arguments, passed, held}
 use Rattle.bz_command.specs.Names.{is_identifier}
@@ -25,7 +25,7 @@ use Rattle.std.specs.Str.{is_utf8}
 use Rattle.bz_rule.specs.declared.command.CommandFault.TheVariants.{WrongCount, BadAttribute}
 use Rattle.bz_rule.specs.Commands.{Command, IsRead, on_attribute, set_if_absent_of, set_kind_of, set_of, takes_one}
 use Rattle.bz_token.specs.Common.{map_or}
-use Rattle.bz_attribute.proofs.Locals.{has_first, is_first_named}
+use Rattle.bz_attribute.proofs.Locals.{has_first}
 use Rattle.bz_attribute_commands.proofs.SetEdits.{set_if_absent_local}
 
 -- what is written is what was meant
@@ -54,21 +54,8 @@ in_differs attr new a named other same =
     let clash : false ≡ true = sym other ∙ ap (is_value new) kept ∙ is_written new in
     absurd cc
 
--- the first argument of a name
-
-first_stays : (attr : List ℕ) (new : New) (args : List Segment) (a : Segment) → first_named attr args ≡ Some a → is_value new (value a) ≡ true
-    → edit_first (is_named attr) (λ s. set_in new s ∷ []) args ≡ args
-first_stays attr new args a h is = rest_same attr (λ s. set_in new s ∷ []) args (λ z first.
-    let found : Some z ≡ Some a = sym first ∙ h in
-    let here : z ≡ a = cc in
-    ap (λ (s : Segment). s ∷ []) (in_stays new z (ap (λ (s : Segment). is_value new (value s)) here ∙ is)))
-
-first_differs : (attr : List ℕ) (new : New) (args : List Segment) (a : Segment) → first_named attr args ≡ Some a → is_value new (value a) ≡ false
-    → edit_first (is_named attr) (λ s. set_in new s ∷ []) args ≡ args → ⊥
-first_differs attr new args a h other same =
-    let kept : set_in new a ∷ [] ≡ a ∷ [] = first_same attr (λ s. set_in new s ∷ []) args a h same in
-    let one : set_in new a ≡ a = cc in
-    in_differs attr new a (is_first_named attr args a h) other one
+abbrev is_other : New → Segment → Bool
+is_other new a = not (is_value new (value a))
 
 longer : (args : List Segment) (a : Segment) → args ++ a ∷ [] ≡ args → ⊥
 longer args a same = absurd (omega (arith, ap length same, length-append args (a ∷ [])))
@@ -88,14 +75,18 @@ set_stays : (attr : List ℕ) (words : List (List ℕ)) (args : List Segment) �
 set_stays attr words args h =
     elim (first_named attr args) as (λ r. first_named attr args ≡ r → sets attr words r ≡ false → set attr words args ≡ args) [
       | None ↦ λ e k. absurd cc
-      | Some a ↦ λ e k. set_present attr words args a e ∙ first_stays attr (new_of attr words (Some a)) args a e (not-false _ k)
+      | Some a ↦ λ e k. set_present attr words args a e
+          ∙ first_stays attr (is_other (new_of attr words (Some a))) (λ s. set_in (new_of attr words (Some a)) s ∷ [])
+          (λ s n. ap (λ (z : Segment). z ∷ []) (in_stays (new_of attr words (Some a)) s (not-false _ n))) args (ap (map_or false (is_other (new_of attr words (Some a)))) e ∙ k)
     ] refl h
 
 set_differs : (attr : List ℕ) (words : List (List ℕ)) (args : List Segment) → sets attr words (first_named attr args) ≡ true → set attr words args ≡ args → ⊥
 set_differs attr words args h same =
     elim (first_named attr args) as (λ r. first_named attr args ≡ r → sets attr words r ≡ true → ⊥) [
       | None ↦ λ e k. longer args (argument attr (new_value (new_of attr words None))) (sym (set_absent attr words args e) ∙ same)
-      | Some a ↦ λ e k. first_differs attr (new_of attr words (Some a)) args a e (not-true _ k) (sym (set_present attr words args a e) ∙ same)
+      | Some a ↦ λ e k. first_differs attr (is_other (new_of attr words (Some a))) (λ s. set_in (new_of attr words (Some a)) s ∷ [])
+          (λ s named n stays. let kept : set_in (new_of attr words (Some a)) s ≡ s = cc in in_differs attr (new_of attr words (Some a)) s named (not-true _ n) kept) args
+          (ap (map_or false (is_other (new_of attr words (Some a)))) e ∙ k) (sym (set_present attr words args a e) ∙ same)
     ] refl h
 
 -- `set_if_absent`
