@@ -14,7 +14,7 @@ use Rattle.bz_attribute.specs.declared.done.Done.{Done}
 use Rattle.bz_attribute.specs.declared.done.Note.{Note}
 use Rattle.bz_attribute.specs.declared.done.Note.TheVariants.{Missing}
 use Rattle.bz_attribute_commands.specs.Print.{field_name, fields_of, line_of, prints, value_text, printed}
-use Rattle.bz_attribute_commands.specs.private.PrintSteps.{HasPrinted, HasPrintedArgument, IsRuleOf}
+use Rattle.bz_attribute_commands.specs.private.PrintSteps.{HasPrinted, IsRuleOf}
 use Rattle.bz_attribute.specs.Effects.{done}
 use Rattle.bz_token.specs.Common.{map_or}
 
@@ -27,16 +27,14 @@ kind_told head ps s r h = ap (λ (z : Rule). kind_text z.kind) (same_rule (rule_
 abbrev pub note_of : Field → Option (List ℕ) → Option Note
 note_of field text = if is_some text then None else Some (Missing (field_name field))
 
-pub one_argument : (attr : List ℕ) (ps : List RowPart) (old new : List ℕ) (text : Option (List ℕ))
+-- the first argument of a name, for which the head is not needed
+pub one_argument : (home : Package) (attr : List ℕ) (head : Head) (ps : List RowPart) (old new : List ℕ) (text : Option (List ℕ))
     → ((s : Statement) (r : Rule) → IsRuleRow s r ps → option_map (λ (a : Segment). value_text (value a)) (first_named attr r.args) ≡ text) → new ≡ old ++ map_or (codes "(missing)") (λ text. text) text
-    → HasPrintedArgument attr ps old new (note_of (ValueOf attr) text)
-one_argument attr ps old new text told is = record {
-  line = λ home s r h. is ∙ ap (λ (t : Option (List ℕ)). old ++ map_or (codes "(missing)") (λ text. text) t) (sym (told s r h));
-  note = λ home s r h. ap (note_of (ValueOf attr)) (sym (told s r h));
+    → HasPrinted home (ValueOf attr ∷ []) head ps old new (note_of (ValueOf attr) text)
+one_argument home attr head ps old new text told is = record {
+  line = λ s r h. is ∙ ap (λ (t : Option (List ℕ)). old ++ map_or (codes "(missing)") (λ text. text) t) (sym (told s r h.row));
+  note = λ s r h. ap (note_of (ValueOf attr)) (sym (told s r h.row));
 }
-
-pub with_head : (home : Package) (attr : List ℕ) (head : Head) (ps : List RowPart) (old new : List ℕ) (told : Option Note) → HasPrintedArgument attr ps old new told → HasPrinted home (ValueOf attr ∷ []) head ps old new told
-with_head home attr head ps old new told a = record { line = λ s r h. a.line home s r h.row; note = λ s r h. a.note home s r h.row }
 
 -- the first argument of a name, read alone
 pub none_in : (o : Option Segment) → [] ≡ option_to_list o → o ≡ None

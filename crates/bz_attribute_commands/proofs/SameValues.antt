@@ -1,46 +1,14 @@
 -- Whether a value is the new one already, by its parts.
-use Rattle.std.proofs.Common.{◌≡◌, ℕ, ◌+◌, ◌<◌, List, [], ◌∷◌, Bool, true, ◌&&◌, Option, length, get_or, drop, refl, ap, sym, ◌∙◌, option_and_then}
+use Rattle.std.proofs.Common.{◌≡◌, ℕ, ◌+◌, ◌<◌, List, ◌∷◌, Bool, true, ◌&&◌, Option, length, get_or, drop, ap, sym, ◌∙◌, option_and_then}
 use Rattle.std.proofs.lemmas.List.{drop_more}
-use Rattle.bz_token.specs.declared.token.Kind.TheVariants.{Identifier, Integer, String}
-use Rattle.bz_tree.specs.Tree.{Item, Segment, leaf, group}
+use Rattle.bz_tree.specs.Tree.{Item, Segment}
 use Rattle.bz_tree.specs.Rows.{RowPart}
-use Rattle.bz_attribute.specs.Elements.{IsElementOf, IsOnlyList, ListRest, rest_parts, value_parts}
+use Rattle.bz_attribute.specs.Elements.{IsElementOf, IsOnlyList, ListRest, rest_parts}
 use Rattle.bz_attribute.specs.Rules.{elements, is_text, string_value}
 use Rattle.bz_attribute.specs.Set as spec
 use Rattle.bz_attribute.proofs.Views.{segments_of}
-use Rattle.bz_attribute_commands.specs.private.ValueParts.{HasMatched, is_ident, is_int, is_string}
+use Rattle.bz_attribute_commands.specs.private.ValueParts.{HasMatched}
 use Rattle.bz_command.specs.Values.{value_of}
-
--- one token
-pub string_told : (word : List ℕ) (nodes : List Item) (after : List RowPart) → is_string word (value_parts nodes after) ≡ spec.is_value (spec.NewString word) nodes
-string_told word [] after = refl
-string_told word (leaf String text ∷ []) after = refl
-string_told word (leaf _ text ∷ []) after = refl
-string_told word (leaf String text ∷ leaf k t ∷ xs) after = refl
-string_told word (leaf String text ∷ group k segs one_comma end ∷ xs) after = refl
-string_told word (leaf _ text ∷ y ∷ xs) after = refl
-string_told word (group k segs one_comma end ∷ []) after = refl
-string_told word (group k segs one_comma end ∷ y ∷ xs) after = refl
-
-pub int_told : (digits : List ℕ) (nodes : List Item) (after : List RowPart) → is_int digits (value_parts nodes after) ≡ spec.is_value (spec.NewNumber digits) nodes
-int_told digits [] after = refl
-int_told digits (leaf Integer text ∷ []) after = refl
-int_told digits (leaf _ text ∷ []) after = refl
-int_told digits (leaf Integer text ∷ leaf k t ∷ xs) after = refl
-int_told digits (leaf Integer text ∷ group k segs one_comma end ∷ xs) after = refl
-int_told digits (leaf _ text ∷ y ∷ xs) after = refl
-int_told digits (group k segs one_comma end ∷ []) after = refl
-int_told digits (group k segs one_comma end ∷ y ∷ xs) after = refl
-
-pub ident_told : (name : List ℕ) (nodes : List Item) (after : List RowPart) → is_ident name (value_parts nodes after) ≡ spec.is_value (spec.NewConstant name) nodes
-ident_told name [] after = refl
-ident_told name (leaf Identifier text ∷ []) after = refl
-ident_told name (leaf _ text ∷ []) after = refl
-ident_told name (leaf Identifier text ∷ leaf k t ∷ xs) after = refl
-ident_told name (leaf Identifier text ∷ group k segs one_comma end ∷ xs) after = refl
-ident_told name (leaf _ text ∷ y ∷ xs) after = refl
-ident_told name (group k segs one_comma end ∷ []) after = refl
-ident_told name (group k segs one_comma end ∷ y ∷ xs) after = refl
 
 pub in_list : (words : List (List ℕ)) (nodes : List Item) (after ps : List RowPart) (to : ℕ) (b : Bool) → IsOnlyList nodes after ps to
     → ((l : ListRest) (after : List RowPart) → drop to ps ≡ rest_parts l after → b ≡ spec.are_strings words l.elements) → b ≡ spec.is_value (spec.NewStrings words) nodes

@@ -30,11 +30,7 @@ argument_added attr words s r ps new place none at written =
     ∙ at.put (set_if_absent attr words) (set_if_absent_local attr words)
 
 set_absent : (attr : List ℕ) (words : List (List ℕ)) (args : List Segment) → has attr args ≡ false → set_if_absent attr words args ≡ set attr words args
-set_absent attr words args none =
-    let more : Option Segment → List Segment = λ was. args ++ argument attr (new_value (new_of attr words was)) ∷ [] in
-    ap (λ (b : Bool). if b then args else more None) none
-    ∙ sym (ap (λ (b : Bool). if b then edit_first (is_named attr) (λ a. set_in (new_of attr words (first_named attr args)) a ∷ []) args else more (first_named attr args)) none
-    ∙ ap more (none_first attr args none))
+set_absent attr words args none = rw (none, none_first attr args none) refl
 
 pub set_added : (attr : List ℕ) (words : List (List ℕ)) (s : Statement) (r : Rule) (ps new : List RowPart) (place : Place) → rule_of s.nodes ≡ Some r → has attr r.args ≡ false → IsPlaceOf attr s r ps place.from place.to
     → new ≡ segs_parts (segs_of (argument attr (new_value (new_of attr words None)) ∷ [])) → replaced_at place new ps ≡ parts_of (with_args (set attr words) s)
@@ -42,7 +38,7 @@ set_added attr words s r ps new place rule none at written =
     argument_added attr words s r ps new place none at written ∙ ap parts_of (with_args_at (set_if_absent attr words) (set attr words) s r rule (set_absent attr words r.args none))
 
 pub none_told : (attr : List ℕ) (words : List (List ℕ)) (args : List Segment) → has attr args ≡ false → done None true ≡ done None (sets attr words (first_named attr args))
-none_told attr words args none = sym (ap (λ (o : Option Segment). done None (sets attr words o)) (none_first attr args none))
+none_told attr words args none = rw (none_first attr args none) refl
 
 -- what was tested of the value that is there
 list_known : (nodes : List Item) (after ps : List RowPart) (o : Option ℕ) → OnlyList nodes after ps o → is_only is_list nodes ≡ is_some o
@@ -55,8 +51,7 @@ new_known attr words a after ps o b new only is told = told (Some a) (list_known
 
 pub set_told : (attr : List ℕ) (words : List (List ℕ)) (args : List Segment) (a : Segment) (new : New) (b : Bool) → first_named attr args ≡ Some a → new ≡ new_of attr words (Some a) → b ≡ is_value new (value a)
     → done None (not b) ≡ done None (sets attr words (first_named attr args))
-set_told attr words args a new b first known is =
-    ap (λ (c : Bool). done None (not c)) (is ∙ ap (λ (n : New). is_value n (value a)) known) ∙ sym (ap (λ (o : Option Segment). done None (sets attr words o)) first)
+set_told attr words args a new b first known is = rw (first, is, known) refl
 
 -- another value
 pub value_set : (attr : List ℕ) (words : List (List ℕ)) (s : Statement) (r : Rule) (ps new : List RowPart) (at to : ℕ) (n : New) → IsRuleRow s r ps → (v : IsValueAt attr s r ps at) → n ≡ new_of attr words (Some v.arg) → is_value n (value v.arg) ≡ false
@@ -64,7 +59,5 @@ pub value_set : (attr : List ℕ) (words : List (List ℕ)) (s : Statement) (r :
 value_set attr words s r ps new at to n h v known other written left =
     let edit : New → Segment → List Segment = λ m a. set_in m a ∷ [] in
     let made : edit n v.arg ≡ with_value (new_value n) v.arg ∷ [] = rw other refl in
-    let edits : set attr words r.args ≡ edit_first (is_named attr) (edit n) r.args =
-    ap (λ (b : Bool). if b then edit_first (is_named attr) (edit (new_of attr words (first_named attr r.args))) r.args else r.args ++ argument attr (new_value (new_of attr words (first_named attr r.args))) ∷ []) (is_there attr r.args v.arg v.first)
-    ∙ ap (λ (m : New). edit_first (is_named attr) (edit m) r.args) (ap (new_of attr words) v.first ∙ sym known) in
+    let edits : set attr words r.args ≡ edit_first (is_named attr) (edit n) r.args = rw (is_there attr r.args v.arg v.first, v.first, known) refl in
     (λ i. take at ps ++ (written i ++ left i)) ∙ v.put (edit n) (new_value n) made ∙ ap parts_of (sym (with_args_at (set attr words) (edit_first (is_named attr) (edit n)) s r h.rule edits))

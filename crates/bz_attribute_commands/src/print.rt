@@ -12,7 +12,7 @@ ghost use Rattle.bz_attribute.specs.RowPlaces.{IsRuleRow};
 ghost use Rattle.bz_attribute.specs.Rules.{Rule, name_in, rule_of, string_value};
 ghost use Rattle.bz_attribute.specs.declared.done.Note.TheVariants.{Missing};
 ghost use Rattle.bz_attribute_commands.specs.Print as spec;
-ghost use Rattle.bz_attribute_commands.specs.private.PrintSteps.{HasPrinted, HasPrintedArgument, IsFieldOfName};
+ghost use Rattle.bz_attribute_commands.specs.private.PrintSteps.{HasPrinted, IsFieldOfName};
 ghost use Rattle.bz_token.specs.Common.{map_or};
 
 use bz_attribute::equals::string_of;
@@ -181,31 +181,19 @@ fn push_attribute<'f>(
     match head.name {
         Some(name) if attr == "name" => {
             push_word(env.alloc, text, name)?;
-            Ok(None)
+            return Ok(None);
         }
-        _ => push_argument(env.alloc, text, parts, attr),
+        _ => {}
     }
-}
-
-// Writes the value of the first argument of a name. Tells the name where no argument has it.
-fn push_argument<'f>(
-    alloc: Global,
-    text: &mut String,
-    parts: &[Part<'_>],
-    attr: &'f str,
-) -> Result<Option<&'f str>, NoMemory>
-    ensures { IfOk result (λ missing. HasPrintedArgument attr.now (map part_view parts.now)
-        (string_bytes text.old) (string_bytes text.new) (option_map (λ name. Missing name.now) missing)) }
-{
     let place = place_of(parts, attr);
-    let args = read_arguments(alloc, &parts[place.from..place.to])?;
+    let args = read_arguments(env.alloc, &parts[place.from..place.to])?;
     match args.as_slice() {
         [] => {
             push_str(text, "(missing)")?;
             Ok(Some(attr))
         }
         [arg, ..] => {
-            push_value(alloc, text, value_of(arg))?;
+            push_value(env.alloc, text, value_of(arg))?;
             Ok(None)
         }
     }

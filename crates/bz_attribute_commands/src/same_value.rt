@@ -25,36 +25,27 @@ pub fn is_value(new: New<'_>, parts: &[Part<'_>], value: usize, list: Option<usi
         → drop value (map part_view parts.now) ≡ value_parts nodes after
         → OnlyList nodes after (map part_view parts.now) list → result ≡ spec.is_value (new_view new.entry) nodes }
 {
-    let own = &parts[value..];
     match new {
-        New::String(word) => is_string(word, own),
-        New::Number(digits) => is_int(digits, own),
-        New::Constant(name) => is_ident(name, own),
         New::Strings(words) => are_in_list(words, parts, list),
+        _ => is_token(new, &parts[value..]),
     }
 }
 
-fn is_string(word: &str, value: &[Part<'_>]) -> bool
-    ensures { result ≡ parts.is_string word.now (map part_view value.now) }
+// The value is one token, which is the new one.
+fn is_token(new: New<'_>, value: &[Part<'_>]) -> bool
+    ensures { result ≡ spec.is_value (new_view new.entry) (parts.one_token (map part_view value.now)) }
 {
-    match value {
-        [Part::Token(Kind::String, text), Part::End, ..] => {
-            has_value(text.as_bytes(), word.as_bytes())
+    let [Part::Token(kind, text), Part::End, ..] = value else {
+        return false;
+    };
+    match new {
+        New::String(word) => {
+            matches!(kind, Kind::String) && has_value(text.as_bytes(), word.as_bytes())
         }
-        _ => false,
+        New::Number(digits) => matches!(kind, Kind::Integer) && *text == digits,
+        New::Constant(name) => matches!(kind, Kind::Identifier) && *text == name,
+        New::Strings(_) => false,
     }
-}
-
-fn is_int(digits: &str, value: &[Part<'_>]) -> bool
-    ensures { result ≡ parts.is_int digits.now (map part_view value.now) }
-{
-    matches!(value, [Part::Token(Kind::Integer, text), Part::End, ..] if *text == digits)
-}
-
-fn is_ident(name: &str, value: &[Part<'_>]) -> bool
-    ensures { result ≡ parts.is_ident name.now (map part_view value.now) }
-{
-    matches!(value, [Part::Token(Kind::Identifier, text), Part::End, ..] if *text == name)
 }
 
 fn are_in_list(words: &[Text], parts: &[Part<'_>], list: Option<usize>) -> bool

@@ -34,8 +34,11 @@ last_edge within left (item x xs) = last_edge within (edge_after within left x) 
 abbrev broken_frame : GroupKind → Bool → OpenBracket
 broken_frame kind comma = record { within = Some kind; mark = record { broken = true; comma = comma }; later = false }
 
+abbrev in_place_frame : Option GroupKind → Bool → Bool → OpenBracket
+in_place_frame within later comma = record { within = within; mark = record { broken = false; comma = comma }; later = later }
+
 abbrev flat_frame : GroupKind → Bool → Bool → OpenBracket
-flat_frame kind later comma = record { within = Some kind; mark = record { broken = false; comma = comma }; later = later }
+flat_frame kind later comma = in_place_frame (Some kind) later comma
 
 -- in flat text the walk has no marks, so that no bracket is broken
 abbrev pub supply : Style → List BracketForm → List BracketForm
@@ -59,9 +62,9 @@ run_beside None rest t ms o kind comma l n = rw (append-nil t) refl
 run_beside (Some comment) rest t ms o kind comma l n = rw (append-nil comment) refl
 
 -- in place they are left out
-skip_above : (comment_texts : List (List ℕ)) (rest : List RowPart) (t : List ℕ) (ms : List BracketForm) (o : List OpenBracket) (kind : GroupKind) (later comma : Bool) (l : Edge) (n : ℕ) → run (map above comment_texts ++ rest) (at t ms o (flat_frame kind later comma) l n) ≡ run rest (at t ms o (flat_frame kind later comma) l n)
-skip_above [] rest t ms o kind later comma l n = refl
-skip_above (comment ∷ comment_texts) rest t ms o kind later comma l n = ap (λ (u : List ℕ). run (map above comment_texts ++ rest) (at u ms o (flat_frame kind later comma) l n)) (append-nil t) ∙ skip_above comment_texts rest t ms o kind later comma l n
+pub skip_above : (comment_texts : List (List ℕ)) (rest : List RowPart) (t : List ℕ) (ms : List BracketForm) (o : List OpenBracket) (within : Option GroupKind) (later comma : Bool) (l : Edge) (n : ℕ) → run (map above comment_texts ++ rest) (at t ms o (in_place_frame within later comma) l n) ≡ run rest (at t ms o (in_place_frame within later comma) l n)
+skip_above [] rest t ms o within later comma l n = refl
+skip_above (comment ∷ comment_texts) rest t ms o within later comma l n = ap (λ (u : List ℕ). run (map above comment_texts ++ rest) (at u ms o (in_place_frame within later comma) l n)) (append-nil t) ∙ skip_above comment_texts rest t ms o within later comma l n
 
 skip_beside : (suffix : Option (List ℕ)) (rest : List RowPart) (t : List ℕ) (ms : List BracketForm) (o : List OpenBracket) (kind : GroupKind) (later comma : Bool) (l : Edge) (n : ℕ) → run (beside_part suffix ++ rest) (at t ms o (flat_frame kind later comma) l n) ≡ run rest (at t ms o (flat_frame kind later comma) l n)
 skip_beside None rest t ms o kind later comma l n = refl
@@ -243,7 +246,7 @@ mutual
       (run_broken style ss rest (t3 ++ bytes_of c) ms o kind comma n ∙ ap (λ (u : List ℕ). run rest (at u (supply style ms) o frame Start n)) (broken_seg_text t a b comma c d)))))
 
   pub run_flat : (style : Style) (ss : Segs) (end : List (List ℕ)) (rest : List RowPart) (t : List ℕ) (ms : List BracketForm) (o : List OpenBracket) (kind : GroupKind) (comma one later : Bool) (n : ℕ) → FlatRuns style ss end rest t ms o kind comma one later n
-  run_flat style no_segs end rest t ms o kind comma one later n = skip_above end (closing one ∷ rest) t (supply style ms) o kind later comma Start n
+  run_flat style no_segs end rest t ms o kind comma one later n = skip_above end (closing one ∷ rest) t (supply style ms) o (Some kind) later comma Start n
   run_flat style (seg before nodes suffix ss) end rest t ms o kind comma one later n =
       let frame = flat_frame kind later comma in
       let after = segs_parts ss ++ (map above end ++ closing one ∷ rest) in
@@ -252,7 +255,7 @@ mutual
       let a = in_place style n kind (not later) nodes in
       let t1 = t ++ bytes_of a in
       rw (seg_joined before nodes suffix ss (map above end ++ closing one ∷ rest), append_assoc (items_marks nodes) (segs_marks ss) ms)
-      (skip_above before (items_parts nodes ++ ending) t (supply style (items_marks nodes ++ marks)) o kind later comma Start n ∙ (run_items style nodes ending t marks o frame Start n ∙
+      (skip_above before (items_parts nodes ++ ending) t (supply style (items_marks nodes ++ marks)) o (Some kind) later comma Start n ∙ (run_items style nodes ending t marks o frame Start n ∙
       (ap (λ (u : List ℕ). run (beside_part suffix ++ after) (at u (supply style marks) o (flat_frame kind true comma) Start n)) (in_place_text style n kind later comma nodes t) ∙
       (skip_beside suffix after t1 (supply style marks) o kind true comma Start n ∙ (run_flat style ss end rest t1 ms o kind comma one true n ∙
       ap (λ (u : List ℕ). run rest (at u (supply style ms) (tail o) (first_frame o) Operand n)) (next_text t a (flat_segs style n kind false ss) (comma_bytes one ++ closing_text kind)))))))

@@ -3,7 +3,7 @@ use Rattle.std.proofs.Common.{◌≡◌, ℕ, suc, List, [], ◌∷◌, ◌++◌
 use Rattle.std.proofs.Math.Bool.{or_assoc, or_comm, or-false}
 use Rattle.std.proofs.lemmas.Bool.Decides.{nat_tests}
 use Rattle.bz_tree.specs.declared.stmt.GroupKind.{GroupKind}
-use Rattle.bz_tree.specs.declared.stmt.GroupKind.TheVariants.{Call, RuleCall, Load, Paren, List as ListKind, Index, Dict, ListComp, DictComp}
+use Rattle.bz_tree.specs.declared.stmt.GroupKind.TheVariants.{RuleCall, Paren, List as ListKind, Dict}
 use Rattle.bz_tree.specs.Tree.{Item, leaf, group, Items, no_items, item, Segs, no_segs, seg}
 use Rattle.bz_tree.specs.Rows.{RowPart, closing, segment_end, above, beside_part, item_parts, items_parts, segs_parts}
 use Rattle.bz_layout.specs.declared.marks.BracketForm.{BracketForm}
@@ -46,48 +46,30 @@ abbrev seen : Segs → Scan → Scan
 seen ss s = record { marks = segs_marks ss ++ s.marks; here = in_segs (have_comments ss) (segs_hold ss) (add ss s.here.segs) s.here; outer = s.outer }
 
 -- at most two segments are counted, which is enough
-two_of : (n : ℕ) → nat_le 2 (suc (suc n)) ≡ true
-two_of n = grind (arith, nat_tests)
-
-one_of : (n : ℕ) → nat_le 1 (suc n) ≡ true
-one_of n = grind (arith, nat_tests)
-
-two_more : (n : ℕ) → nat_le 2 (one_more (one_more n)) ≡ true
-two_more n = grind (arith, nat_tests)
+two_more : (m n : ℕ) → nat_le 2 (one_more (one_more m)) ≡ nat_le 2 (suc (suc n))
+two_more m n = grind (arith, nat_tests)
 
 add_two : (ss : Segs) → nat_le 2 (add ss 0) ≡ nat_le 2 (count ss)
 add_two no_segs = refl
 add_two (seg before nodes suffix no_segs) = refl
-add_two (seg before nodes suffix (seg before2 nodes2 suffix2 ss)) = two_more (add ss 0) ∙ sym (two_of (count ss))
+add_two (seg before nodes suffix (seg before2 nodes2 suffix2 ss)) = two_more (add ss 0) (count ss)
 
-one_is_more : (n : ℕ) → nat_le 1 (one_more n) ≡ true
-one_is_more n = grind (arith, nat_tests)
+one_is_more : (m n : ℕ) → nat_le 1 (one_more m) ≡ nat_le 1 (suc n)
+one_is_more m n = grind (arith, nat_tests)
 
 add_one : (ss : Segs) → nat_le 1 (add ss 0) ≡ nat_le 1 (count ss)
 add_one no_segs = refl
-add_one (seg before nodes suffix ss) = one_is_more (add ss 0) ∙ sym (one_of (count ss))
+add_one (seg before nodes suffix ss) = one_is_more (add ss 0) (count ss)
 
 counts : (kind : GroupKind) (ss : Segs) → breaks_by_count kind (add ss 0) ≡ breaks_by_count kind (count ss)
-counts Call ss = refl
 counts RuleCall ss = add_two ss
-counts Load ss = refl
-counts Paren ss = refl
 counts ListKind ss = add_two ss
-counts Index ss = refl
 counts Dict ss = add_one ss
-counts ListComp ss = refl
-counts DictComp ss = refl
+counts _ ss = refl
 
 commas : (kind : GroupKind) (one : Bool) (ss : Segs) → has_commas kind one (add ss 0) ≡ has_commas kind one (count ss)
-commas Call one ss = refl
-commas RuleCall one ss = refl
-commas Load one ss = refl
 commas Paren one ss = rw (add_two ss) refl
-commas ListKind one ss = refl
-commas Index one ss = refl
-commas Dict one ss = refl
-commas ListComp one ss = refl
-commas DictComp one ss = refl
+commas _ one ss = refl
 
 breaks_as : (kind : GroupKind) (ss : Segs) (end : List (List ℕ)) → breaks_with kind (have_comments ss || (is_filled end || false)) (add ss 0) (segs_hold ss || false) ≡ is_broken kind ss end (segs_hold ss)
 breaks_as kind ss end = rw (or-false (is_filled end), or_comm (have_comments ss) (is_filled end), or-false (segs_hold ss), counts kind ss, add_two ss) refl

@@ -17,7 +17,7 @@ use Rattle.bz_layout.specs.Layout.{items_pieces, statement_line, is_comment, lay
 use Rattle.bz_layout.specs.private.RowLayout.{leading, Laid, Scan, line_text, lines_text, row_text, run, scan, start, top}
 use Rattle.bz_layout.proofs.Pieces.{bytes_append}
 use Rattle.bz_layout.proofs.Scans.{items_marks, scan_above, scan_items}
-use Rattle.bz_layout.proofs.Runs.{at, last_edge, run_items}
+use Rattle.bz_layout.proofs.Runs.{at, last_edge, run_items, skip_above}
 
 -- the parts after the comments above the statement
 abbrev rest_of : Statement → List RowPart
@@ -32,11 +32,6 @@ no_leading (item (group kind segs one_comma end) xs) suffix = refl
 leads : (comments : List (List ℕ)) (ps : List RowPart) → leading ps ≡ [] → leading (map above comments ++ ps) ≡ comments
 leads [] ps h = h
 leads (comment ∷ comments) ps h = ap (λ ns. comment ∷ ns) (leads comments ps h)
-
--- the walk leaves them out
-skips : (comments : List (List ℕ)) (rest : List RowPart) (t : List ℕ) (ms : List BracketForm) (o : List OpenBracket) (l : Edge) (n : ℕ) → run (map above comments ++ rest) (at t ms o (top None) l n) ≡ run rest (at t ms o (top None) l n)
-skips [] rest t ms o l n = refl
-skips (comment ∷ comments) rest t ms o l n = ap (λ (u : List ℕ). run (map above comments ++ rest) (at u ms o (top None) l n)) (append-nil t) ∙ skips comments rest t ms o l n
 
 marks_are : (xs : Items) (suffix : Option (List ℕ)) → (scan (items_parts xs ++ beside_part suffix)).marks ≡ items_marks xs ++ []
 marks_are xs None = rw (scan_items xs []) refl
@@ -56,7 +51,7 @@ line_is : (t : List ℕ) (s : Statement) → line_text t (parts_of s) ≡ t ++ b
 line_is t s =
     let xs = items_of s.nodes in
     let a = items_pieces Broken 0 None Closed Start xs in
-    let skipped = skips s.before (rest_of s) t (items_marks xs ++ []) [] Start 0 in
+    let skipped = skip_above s.before (rest_of s) t (items_marks xs ++ []) [] None false false Start 0 in
     let written = ap (λ (l : Laid). l.text) (skipped ∙ run_items Broken xs (beside_part s.suffix) t [] [] (top None) Start 0) ∙ beside_text s.suffix (t ++ bytes_of a) [] [] (last_edge None Start xs) 0 in
     rw (all_marks s) (ap (λ (u : List ℕ). u ++ codes "\n") written ∙ line_joined t a (suffix_piece s.suffix))
 

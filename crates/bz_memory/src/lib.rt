@@ -14,8 +14,8 @@ mod string;
 pub use arena::alloc_str;
 pub use input::{BytesFault, WordsFault, bytes_of_file, bytes_of_input, words};
 pub use list::{
-    append, collect, extend_from_slice, from_array, lengthen, push, reserve, reserve_for,
-    with_capacity, with_room_for, with_room_for_both, with_room_within,
+    append, collect, extend_from_slice, lengthen, push, reserve, reserve_for, with_capacity,
+    with_room_for, with_room_for_both, with_room_within,
 };
 pub use map::{entry, insert, insert_last};
 pub use no_memory::NoMemory;

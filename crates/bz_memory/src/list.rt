@@ -126,17 +126,6 @@ fn with_capacity_of<T, A: Allocator>(alloc: A, room: usize) -> Result<Vec<T, A>,
     Vec::with_capacity(alloc, room).map_err(|_| refused())
 }
 
-/// A list of the values of an array.
-#[inline(always)]
-pub fn from_array<T: Drop, A: Allocator, const N: usize>(
-    alloc: A,
-    values: [T; N],
-) -> Result<Vec<T, A>, NoMemory>
-    ensures items { IfOk result (λ v. v.items ≡ values) }
-{
-    Vec::from_array(alloc, values).map_err(|_| refused())
-}
-
 /// Makes bytes longer by so many zeros; at most a piece of an input.
 #[inline(always)]
 pub fn lengthen<A: Allocator>(bytes: &mut Vec<u8, A>, more: usize) -> Result<(), NoMemory>

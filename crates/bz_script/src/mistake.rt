@@ -5,135 +5,166 @@ use crate::usage::{FlagFault, Refused};
 use bz_command::{LabelFault, NO_SUCH_FIELD, is_left_out_field};
 use bz_memory::NoMemory;
 use bz_rule::{CommandFault, LEFT_OUT, USAGE};
-use thiserror::Error;
+use std::fmt;
 
 /// Told below `cannot open`, where the name of the file begins with a dash.
 pub const DASHED_PACKAGE: &str =
     "flags come before the commands; a word after them that begins with a dash is a package";
 
-/// A kind of mistake. Its text stands after the word that is refused, where one is.
-#[derive(Clone, Copy, Debug, PartialEq, Eq, Error)]
+// A word that is no flag.
+const UNKNOWN_FLAG: &str = "no such flag; the flags are -k, -stdout, -quiet and -f FILE";
+
+const DASHED_TARGET: &str =
+    "no such flag; a target of standard input comes after the commands, or after --";
+
+const BAD_BOOLEAN: &str = "the value of this flag is true or false";
+
+const NO_FILE: &str = "a command file must follow, or - for standard input";
+
+// Flags, command files and standard input.
+pub const WORDS_WITH_FILE: &str =
+    "commands and targets stand in the file that -f names, or on the command line, not in both";
+
+pub const TWO_INPUTS: &str =
+    "standard input is both the command file (-f -) and a package (-:..); put the commands into a file";
+
+pub const UNREAD_FILE: &str = "this command file cannot be read";
+
+pub const LONG_FILE: &str = "this command file is longer than 16,777,216 bytes; split it";
+
+pub const FILE_NOT_UTF8: &str = "the command file is not UTF-8; save it as UTF-8";
+
+pub const WORD_NOT_UTF8: &str = "an argument is not UTF-8";
+
+// A group that lacks something.
+const NO_COMMAND: &str =
+    "no command; write one before the targets, as in buildozer 'add deps //x' //app:base";
+
+const NO_TARGET: &str =
+    "no target; write one after the commands, as in buildozer 'add deps //x' //app:base";
+
+const NO_COMMAND_ON_LINE: &str =
+    "no command; a line is COMMAND|..|TARGET|.., as in add deps //x|//app:base";
+
+const NO_TARGET_ON_LINE: &str =
+    "no target; a line is COMMAND|..|TARGET|.., as in add deps //x|//app:base";
+
+// A command with a fault.
+const SPACE_IN_COMMENT: &str =
+    "too many words; write a backslash before each space of the text, as in 'comment made\\ by\\ hand'";
+
+const ONE_VALUE: &str = "name and kind take one value, as in 'set kind cc_test'";
+
+const BAD_ATTRIBUTE: &str =
+    "an attribute's name is letters, digits and underscores, with no digit first, and no keyword";
+
+const BAD_KIND: &str =
+    "a kind is a name, or names with dots between them, as in 'set kind cc_test'";
+
+const COMMENT_LINE: &str = "a comment is one line; write a command for each line";
+
+const SAME_ATTRIBUTE: &str = "it moves an attribute to itself; write 'move OLD NEW VALUE..'";
+
+// A word that is nearly a command.
+const BYTE_ORDER_MARK: &str =
+    "a byte order mark stands before this word; save the file as UTF-8 without one";
+
+const UNKNOWN_COMMAND: &str = "no such command; buildozer -help lists them";
+
+const BLANK: &str = "the words of a command have spaces between them, no tabs or other blanks";
+
+// A word that is no target.
+const EMPTY: &str = "this word is empty; leave it out, or set the variable that it comes from";
+
+const EMPTY_FIELD: &str = "this word is empty; leave out the | beside it";
+
+const SPACE: &str =
+    "no space, tab or control character in a target; each target is a word of its own";
+
+const REPOSITORY: &str =
+    "no other repository can be edited; write a target of this one, as in //app:base";
+
+const PATTERN: &str = "no pattern over packages is read; name each package, as in //app:*";
+
+const DOT_PART: &str =
+    "no . or .. in a package; write its path below the current folder, as in //app:base";
+
+const ONE_SLASH: &str = "a package begins with two slashes or none, as in //app:base or app:base";
+
+const SLASH_AT_END: &str =
+    "leave out the slash at the end of the package, as in //app:base or //app:*";
+
+const TWO_SLASHES: &str = "two slashes in a row in the package; write one, as in //app/lib:base";
+
+const NO_NAME: &str =
+    "no rule is named; write one after a colon, as in //app:base, or * for all rules";
+
+const TWO_COLONS: &str = "a target has one colon, as in //app:base";
+
+const BAD_PERCENT: &str =
+    "after % comes a kind or the number of a line, as in //app:%cc_test or //app:%12";
+
+/// What is wrong. Its text stands after the word that is refused, where one is.
+#[derive(Clone, Copy)]
 pub enum Mistake {
-    #[error("out of memory")]
     OutOfMemory(NoMemory),
-
-    // A word that is no flag.
-    #[error("no such flag; the flags are -k, -stdout, -quiet and -f FILE")]
-    UnknownFlag,
-    #[error("no such flag; a target of standard input comes after the commands, or after --")]
-    DashedTarget,
-    #[error("the value of this flag is true or false")]
-    BadBoolean,
-    #[error("a command file must follow, or - for standard input")]
-    NoFile,
-
-    // Flags, command files and standard input.
-    #[error("commands and targets stand in the file that -f names, or on the command line, not in both")]
-    WordsWithFile,
-    #[error("standard input is both the command file (-f -) and a package (-:..); put the commands into a file")]
-    TwoInputs,
-    #[error("this command file cannot be read")]
-    UnreadFile,
-    #[error("this command file is longer than 16,777,216 bytes; split it")]
-    LongFile,
-    #[error("the command file is not UTF-8; save it as UTF-8")]
-    FileNotUtf8,
-    #[error("an argument is not UTF-8")]
-    WordNotUtf8,
-
-    // A group that lacks something.
-    #[error("no command; write one before the targets, as in buildozer 'add deps //x' //app:base")]
-    NoCommand,
-    #[error("no target; write one after the commands, as in buildozer 'add deps //x' //app:base")]
-    NoTarget,
-    #[error("no command; a line is COMMAND|..|TARGET|.., as in add deps //x|//app:base")]
-    NoCommandOnLine,
-    #[error("no target; a line is COMMAND|..|TARGET|.., as in add deps //x|//app:base")]
-    NoTargetOnLine,
-
-    // A command with a fault.
-    #[error("a command is one word, so put quotes around it: '{0}'")]
+    /// All that is told.
+    Text(&'static str),
+    /// The form of the command.
     Unquoted(&'static str),
-    #[error("too few or too many words; write '{0}'")]
     WrongCount(&'static str),
-    #[error("too many words; write a backslash before each space of the text, as in 'comment made\\ by\\ hand'")]
-    SpaceInComment,
-    #[error("name and kind take one value, as in 'set kind cc_test'")]
-    OneValue,
-    #[error("an attribute's name is letters, digits and underscores, with no digit first, and no keyword")]
-    BadAttribute,
-    #[error("{text}", text = NO_SUCH_FIELD)]
-    LeftOutField,
-    #[error("a kind is a name, or names with dots between them, as in 'set kind cc_test'")]
-    BadKind,
-    #[error("a comment is one line; write a command for each line")]
-    CommentLine,
-    #[error("it moves an attribute to itself; write 'move OLD NEW VALUE..'")]
-    SameAttribute,
-
-    // A word that is nearly a command.
-    #[error("a byte order mark stands before this word; save the file as UTF-8 without one")]
-    ByteOrderMark,
-    #[error("{0} is a command of Bazel's buildozer that this one does not have")]
+    /// The name of the command.
     LeftOut(&'static str),
-    #[error("no such command; do you mean '{0}'?")]
     NearCommand(&'static str),
-    #[error("no such command; buildozer -help lists them")]
-    UnknownCommand,
-    #[error("the words of a command have spaces between them, no tabs or other blanks")]
-    Blank,
+}
 
-    // A word that is no target.
-    #[error("this word is empty; leave it out, or set the variable that it comes from")]
-    Empty,
-    #[error("this word is empty; leave out the | beside it")]
-    EmptyField,
-    #[error("no space, tab or control character in a target; each target is a word of its own")]
-    Space,
-    #[error("no other repository can be edited; write a target of this one, as in //app:base")]
-    Repository,
-    #[error("no pattern over packages is read; name each package, as in //app:*")]
-    Pattern,
-    #[error("no . or .. in a package; write its path below the current folder, as in //app:base")]
-    DotPart,
-    #[error("a package begins with two slashes or none, as in //app:base or app:base")]
-    OneSlash,
-    #[error("leave out the slash at the end of the package, as in //app:base or //app:*")]
-    SlashAtEnd,
-    #[error("two slashes in a row in the package; write one, as in //app/lib:base")]
-    TwoSlashes,
-    #[error("no rule is named; write one after a colon, as in //app:base, or * for all rules")]
-    NoName,
-    #[error("a target has one colon, as in //app:base")]
-    TwoColons,
-    #[error("after % comes a kind or the number of a line, as in //app:%cc_test or //app:%12")]
-    BadPercent,
+impl fmt::Display for Mistake {
+    fn fmt<W: fmt::Write>(&self, f: &mut fmt::Formatter<W>) -> fmt::Result {
+        match *self {
+            Mistake::OutOfMemory(_) => f.write_str("out of memory"),
+            Mistake::Text(text) => f.write_str(text),
+            Mistake::Unquoted(form) => {
+                write!(
+                    f,
+                    "a command is one word, so put quotes around it: '{form}'"
+                )
+            }
+            Mistake::WrongCount(form) => write!(f, "too few or too many words; write '{form}'"),
+            Mistake::LeftOut(name) => {
+                write!(
+                    f,
+                    "{name} is a command of Bazel's buildozer that this one does not have"
+                )
+            }
+            Mistake::NearCommand(name) => write!(f, "no such command; do you mean '{name}'?"),
+        }
+    }
 }
 
 impl Mistake {
     /// What is wrong with a word that stands where a flag may stand.
-    pub fn of_flag(refused: &Refused, fault: FlagFault) -> Mistake {
+    pub fn of_flag(refused: &Refused, fault: FlagFault) -> &'static str {
         match fault {
-            FlagFault::Unknown if refused.word.as_str().starts_with("-:") => Mistake::DashedTarget,
-            FlagFault::Unknown => Mistake::UnknownFlag,
-            FlagFault::BadBoolean => Mistake::BadBoolean,
-            FlagFault::NoFile => Mistake::NoFile,
+            FlagFault::Unknown if refused.word.as_str().starts_with("-:") => DASHED_TARGET,
+            FlagFault::Unknown => UNKNOWN_FLAG,
+            FlagFault::BadBoolean => BAD_BOOLEAN,
+            FlagFault::NoFile => NO_FILE,
         }
     }
 
     /// What a group without a command lacks; `line` is 0 for the command line.
-    pub fn of_no_command(line: u64) -> Mistake {
+    pub fn of_no_command(line: u64) -> &'static str {
         match line {
-            0 => Mistake::NoCommand,
-            _ => Mistake::NoCommandOnLine,
+            0 => NO_COMMAND,
+            _ => NO_COMMAND_ON_LINE,
         }
     }
 
     /// What a group without a target lacks; `line` is 0 for the command line.
-    pub fn of_no_target(line: u64) -> Mistake {
+    pub fn of_no_target(line: u64) -> &'static str {
         match line {
-            0 => Mistake::NoTarget,
-            _ => Mistake::NoTargetOnLine,
+            0 => NO_TARGET,
+            _ => NO_TARGET_ON_LINE,
         }
     }
 
@@ -143,11 +174,11 @@ impl Mistake {
         match fault {
             CommandFault::OutOfMemory(why) => Mistake::OutOfMemory(why),
             CommandFault::WrongCount => of_count(word, refused.line),
-            CommandFault::BadAttribute if prints_left_out(word) => Mistake::LeftOutField,
-            CommandFault::BadAttribute => Mistake::BadAttribute,
-            CommandFault::BadKind => Mistake::BadKind,
-            CommandFault::CommentLine => Mistake::CommentLine,
-            CommandFault::SameAttribute => Mistake::SameAttribute,
+            CommandFault::BadAttribute if prints_left_out(word) => Mistake::Text(NO_SUCH_FIELD),
+            CommandFault::BadAttribute => Mistake::Text(BAD_ATTRIBUTE),
+            CommandFault::BadKind => Mistake::Text(BAD_KIND),
+            CommandFault::CommentLine => Mistake::Text(COMMENT_LINE),
+            CommandFault::SameAttribute => Mistake::Text(SAME_ATTRIBUTE),
         }
     }
 
@@ -163,15 +194,15 @@ impl Mistake {
         };
         match fault {
             LabelFault::OutOfMemory(why) => Mistake::OutOfMemory(why),
-            LabelFault::BadPackage => of_package(package),
-            LabelFault::BadTarget => of_target(target),
+            LabelFault::BadPackage => Mistake::Text(of_package(package)),
+            LabelFault::BadTarget => Mistake::Text(of_target(target)),
         }
     }
 
     /// What is wrong with a word whose first word is nearly a command's name.
     pub fn of_name(word: &str) -> Option<Mistake> {
         if word.starts_with('\u{feff}') {
-            return Some(Mistake::ByteOrderMark);
+            return Some(Mistake::Text(BYTE_ORDER_MARK));
         }
         let name = first_word(word);
         match LEFT_OUT.iter().find(|command| **command == name) {
@@ -181,10 +212,10 @@ impl Mistake {
     }
 }
 
-fn of_empty(line: u64) -> Mistake {
+fn of_empty(line: u64) -> &'static str {
     match line {
-        0 => Mistake::Empty,
-        _ => Mistake::EmptyField,
+        0 => EMPTY,
+        _ => EMPTY_FIELD,
     }
 }
 
@@ -192,62 +223,62 @@ fn of_empty(line: u64) -> Mistake {
 fn of_blanks(word: &str, line: u64) -> Option<Mistake> {
     let name = first_word(word);
     if name.is_empty() {
-        return Some(of_empty(line));
+        return Some(Mistake::Text(of_empty(line)));
     }
     if name.len() == word.len() {
         return word
             .starts_with('\u{feff}')
-            .then_some(Mistake::ByteOrderMark);
+            .then_some(Mistake::Text(BYTE_ORDER_MARK));
     }
     if form_of(name).is_some() {
-        return Some(Mistake::Blank);
+        return Some(Mistake::Text(BLANK));
     }
     if let Some(mistake) = Mistake::of_name(word) {
         return Some(mistake);
     }
     Some(if name.contains(['/', ':']) || second_word(word).is_none() {
-        Mistake::Space
+        Mistake::Text(SPACE)
     } else {
-        Mistake::UnknownCommand
+        Mistake::Text(UNKNOWN_COMMAND)
     })
 }
 
 /// What is wrong with what stands before the colon.
-fn of_package(package: &str) -> Mistake {
+fn of_package(package: &str) -> &'static str {
     let path = package.strip_prefix("//").unwrap_or(package);
     if path.starts_with('@') {
-        return Mistake::Repository;
+        return REPOSITORY;
     }
     if path.split('/').any(|part| part == "...") {
-        return Mistake::Pattern;
+        return PATTERN;
     }
     if path.split('/').any(|part| part == "." || part == "..") {
-        return Mistake::DotPart;
+        return DOT_PART;
     }
     if path.starts_with('/') {
-        return Mistake::OneSlash;
+        return ONE_SLASH;
     }
     if path.ends_with('/') {
-        return Mistake::SlashAtEnd;
+        return SLASH_AT_END;
     }
     if path.contains("//") {
-        return Mistake::TwoSlashes;
+        return TWO_SLASHES;
     }
-    Mistake::Space
+    SPACE
 }
 
 /// What is wrong with what stands after the colon.
-fn of_target(target: &str) -> Mistake {
+fn of_target(target: &str) -> &'static str {
     if target.is_empty() {
-        return Mistake::NoName;
+        return NO_NAME;
     }
     if target.contains(':') {
-        return Mistake::TwoColons;
+        return TWO_COLONS;
     }
     if target.starts_with('%') {
-        return Mistake::BadPercent;
+        return BAD_PERCENT;
     }
-    Mistake::Space
+    SPACE
 }
 
 /// What is wrong with the number of a command's words. On the command line (`line` 0) a name alone is taken for a
@@ -259,8 +290,8 @@ fn of_count(word: &str, line: u64) -> Mistake {
         return Mistake::Unquoted(form);
     }
     match (name, second_word(word)) {
-        ("comment", Some(_)) => Mistake::SpaceInComment,
-        ("set" | "set_if_absent", Some("name" | "kind")) => Mistake::OneValue,
+        ("comment", Some(_)) => Mistake::Text(SPACE_IN_COMMENT),
+        ("set" | "set_if_absent", Some("name" | "kind")) => Mistake::Text(ONE_VALUE),
         _ => Mistake::WrongCount(form),
     }
 }

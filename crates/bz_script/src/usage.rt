@@ -3,7 +3,7 @@
 ghost use Rattle.std.specs.Prelude.{◌≡◌, IfOk};
 ghost use Rattle.bz_script.specs.Refused.{refused};
 
-use crate::mistake::Mistake;
+use crate::mistake::{self, Mistake};
 use crate::quoted::Quoted;
 use bz_command::LabelFault;
 use bz_memory::NoMemory;
@@ -82,13 +82,13 @@ pub enum UsageFault {
         fault: LabelFault,
     },
     /// The first of the words is told.
-    #[error("{refused}: {}", Mistake::WordsWithFile)]
+    #[error("{refused}: {}", mistake::WORDS_WITH_FILE)]
     WordsWithFile {
         refused: Refused,
     },
-    #[error("{}", Mistake::TwoInputs)]
+    #[error("{}", mistake::TWO_INPUTS)]
     TwoInputs,
-    #[error("{}", Mistake::FileNotUtf8)]
+    #[error("{}", mistake::FILE_NOT_UTF8)]
     NotUtf8,
 }
 
@@ -137,11 +137,11 @@ impl From<NoMemory> for UsageFault {
 /// Why a run does not begin.
 #[derive(Debug, Drop, Error)]
 pub enum StartFault {
-    #[error("{}", Mistake::WordNotUtf8)]
+    #[error("{}", mistake::WORD_NOT_UTF8)]
     NotUtf8,
-    #[error("{}: {}", .0, Mistake::UnreadFile)]
+    #[error("{}: {}", .0, mistake::UNREAD_FILE)]
     UnreadCommands(Quoted),
-    #[error("{}: {}", .0, Mistake::LongFile)]
+    #[error("{}: {}", .0, mistake::LONG_FILE)]
     LongCommands(Quoted),
     #[error(transparent)]
     Usage(#[from] UsageFault),

@@ -4,7 +4,6 @@ use Rattle.bz_tree.specs.Tree.{Segment, Statement}
 use Rattle.bz_tree.specs.Rows.{RowPart}
 use Rattle.bz_command.specs.Labels.{Package}
 use Rattle.bz_command.specs.declared.arguments.Field.{Field}
-use Rattle.bz_command.specs.declared.arguments.Field.TheVariants.{ValueOf}
 use Rattle.bz_attribute.specs.declared.head.Head.{Head}
 use Rattle.bz_attribute.specs.declared.done.Note.{Note}
 use Rattle.bz_attribute.specs.Heads.{IsHeadOf}
@@ -22,11 +21,6 @@ pub record IsRuleOf (known : Head) (ps : List RowPart) (s : Statement) (r : Rule
 pub record HasPrinted (home : Package) (fields : List Field) (head : Head) (ps : List RowPart) (old new : List ℕ) (told : Option Note) : Type 0 where
   pub line : (s : Statement) (r : Rule) → IsRuleOf head ps s r → new ≡ old ++ line_of home s r fields
   pub note : (s : Statement) (r : Rule) → IsRuleOf head ps s r → told ≡ missing home s r fields
-
--- the like of one attribute, for which the head is not needed
-pub record HasPrintedArgument (attr : List ℕ) (ps : List RowPart) (old new : List ℕ) (told : Option Note) : Type 0 where
-  pub line : (home : Package) (s : Statement) (r : Rule) → IsRuleRow s r ps → new ≡ old ++ line_of home s r (ValueOf attr ∷ [])
-  pub note : (home : Package) (s : Statement) (r : Rule) → IsRuleRow s r ps → told ≡ missing home s r (ValueOf attr ∷ [])
 
 -- this is written of each rule of this name
 pub record IsFieldOfName (home : Package) (field : Field) (name old new : List ℕ) : Type 0 where

@@ -46,16 +46,16 @@ abbrev pub mark_of : GroupKind → Contents → BracketForm
 mark_of kind i = record { broken = breaks_with kind i.comments i.segs i.holds; comma = has_commas kind i.one_comma i.segs }
 
 abbrev pub holding : Bool → Contents → Contents
-holding holds i = record { one_comma = i.one_comma; comments = i.comments; holds = holds || i.holds; segs = i.segs }
+holding holds i = record i { holds = holds || i.holds }
 
 abbrev pub commented : Contents → Contents
-commented i = record { one_comma = i.one_comma; comments = true; holds = i.holds; segs = i.segs }
+commented i = record i { comments = true }
 
 abbrev pub counted : Contents → Contents
-counted i = record { one_comma = i.one_comma; comments = i.comments; holds = i.holds; segs = one_more i.segs }
+counted i = record i { segs = one_more i.segs }
 
 abbrev pub here_as : Contents → Scan → Scan
-here_as i s = record { marks = s.marks; here = i; outer = s.outer }
+here_as i s = record s { here = i }
 
 -- before the bracket, below it
 abbrev pub below : BracketForm → Bool → List BracketForm → List Contents → Scan
@@ -68,7 +68,7 @@ opened_back kind s = below (mark_of kind s.here) ((mark_of kind s.here).broken |
 abbrev pub back : RowPart → Scan → Scan
 back (a_token kind text) s = s
 back (opening kind) s = opened_back kind s
-back (closing one_comma) s = record { marks = s.marks; here = closed one_comma; outer = s.here ∷ s.outer }
+back (closing one_comma) s = record s { here = closed one_comma; outer = s.here ∷ s.outer }
 back segment_end s = here_as (counted s.here) s
 back (above text) s = here_as (commented s.here) s
 back (beside text) s = here_as (commented s.here) s
@@ -125,16 +125,12 @@ abbrev pub laid : RowWriter → List ℕ → Laid
 laid w text = record { text = text; marks = reverse w.marks.items; outer = reverse w.outer.items; here = w.here; left = w.left; level = w.level }
 
 abbrev pub put_comment : Bool → Gap → List ℕ → Laid → Laid
-put_comment has gap text s = record { text = s.text ++ (if has then gap_bytes gap ++ text else []); marks = s.marks; outer = s.outer; here = s.here; left = s.left; level = s.level }
+put_comment has gap text s = record s { text = s.text ++ (if has then gap_bytes gap ++ text else []) }
 
 abbrev pub with_token : Kind → List ℕ → Laid → Laid
-with_token kind text s = record {
+with_token kind text s = record s {
   text = s.text ++ (due s.here s.left ++ (gap_bytes (gap_for (first_gap s.here s.level) s.left (closes_up (leaf kind text))) ++ respell kind text));
-  marks = s.marks;
-  outer = s.outer;
-  here = s.here;
   left = edge_after s.here.within s.left (leaf kind text);
-  level = s.level;
 }
 
 abbrev pub level_in : BracketForm → ℕ → ℕ
@@ -176,9 +172,8 @@ closing_of None = []
 closing_of (Some kind) = closing_text kind
 
 abbrev pub closed_by : Bool → Laid → Laid
-closed_by one_comma s = record {
+closed_by one_comma s = record s {
   text = s.text ++ (before_closing s.here.mark one_comma s.level ++ closing_of s.here.within);
-  marks = s.marks;
   outer = tail s.outer;
   here = first_frame s.outer;
   left = Operand;
@@ -190,13 +185,10 @@ abbrev pub after_segment : OpenBracket → Edge → List ℕ
 after_segment f left = if f.mark.broken then comma_bytes f.mark.comma else due f left
 
 abbrev pub ended : Laid → Laid
-ended s = record {
+ended s = record s {
   text = s.text ++ after_segment s.here s.left;
-  marks = s.marks;
-  outer = s.outer;
-  here = record { within = s.here.within; mark = s.here.mark; later = not s.here.mark.broken || s.here.later };
+  here = record s.here { later = not s.here.mark.broken || s.here.later };
   left = Start;
-  level = s.level;
 }
 
 abbrev pub step : RowPart → Laid → Laid

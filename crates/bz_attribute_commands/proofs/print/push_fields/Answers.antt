@@ -1,6 +1,6 @@
 use Rattle.std.proofs.Common.{rules, ℕ, List, ◌++◌, map, string_bytes, ap, ◌∙◌, refl, codes}
 use Rattle.bz_attribute.specs.declared.done.Note.TheVariants.{Missing}
-use Rattle.bz_attribute_commands.specs.Print.{field_text, missing}
+use Rattle.bz_attribute_commands.specs.Print.{field_text}
 use Rattle.bz_attribute_commands.proofs.Printed.{spaced_all, next_word, next_missing}
 use Rattle.bz_attribute_commands.proofs.print.push_fields.Goals as goal
 use Rattle.bz_token.specs.Common.{map_or}

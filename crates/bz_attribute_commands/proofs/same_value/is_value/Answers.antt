@@ -1,26 +1,43 @@
-use Rattle.std.proofs.Common.{ap, sym, ◌∙◌}
+use Rattle.std.proofs.Common.{◌≡◌, List, [], ◌∷◌, refl, ap, sym, ◌∙◌}
+use Rattle.bz_token.specs.declared.token.Kind.TheVariants.{Identifier, Integer, String}
+use Rattle.bz_tree.specs.Rows.{RowPart}
+use Rattle.bz_tree.specs.Tree.{Item, leaf, group}
+use Rattle.bz_attribute.specs.Elements.{value_parts}
 use Rattle.bz_attribute.specs.Set as spec
+use Rattle.bz_attribute.specs.Set.{NewConstant, NewNumber, NewString, NewStrings, is_value}
 use Rattle.bz_attribute.proofs.Slices.{rest_seen}
 use Rattle.bz_attribute_commands.specs.declared.set.New.{New}
 use Rattle.bz_attribute_commands.specs.private.SetViews.{new_view}
-use Rattle.bz_attribute_commands.specs.private.ValueParts.{is_ident, is_int, is_string}
-use Rattle.bz_attribute_commands.proofs.SameValues.{ident_told, int_told, string_told}
+use Rattle.bz_attribute_commands.specs.private.ValueParts.{one_token}
 use Rattle.bz_attribute_commands.proofs.same_value.is_value.Goals as goal
 
-pub returns-in-String : goal.returns-in-String
-returns-in-String c = λ nodes after read list.
-    let word = c.in-String.word.now in
-    c.is_string.ensures ∙ ap (is_string word) (rest_seen c.args.parts.now c.args.value ∙ read) ∙ string_told word nodes after ∙ ap (λ (n : New). spec.is_value (new_view n) nodes) (sym c.in-String.is)
+-- two nodes are no token, and neither is a list
+two : (new : spec.New) (x y : Item) (xs : List Item) → is_value new [] ≡ is_value new (x ∷ y ∷ xs)
+two (NewString word) (leaf String text) y xs = refl
+two (NewString word) (leaf _ text) y xs = refl
+two (NewString word) (group k segs one_comma end) y xs = refl
+two (NewNumber digits) (leaf Integer text) y xs = refl
+two (NewNumber digits) (leaf _ text) y xs = refl
+two (NewNumber digits) (group k segs one_comma end) y xs = refl
+two (NewConstant name) (leaf Identifier text) y xs = refl
+two (NewConstant name) (leaf _ text) y xs = refl
+two (NewConstant name) (group k segs one_comma end) y xs = refl
+two (NewStrings words) x y xs = refl
 
-pub returns-in-Number : goal.returns-in-Number
-returns-in-Number c = λ nodes after read list.
-    let digits = c.in-Number.digits.now in
-    c.is_int.ensures ∙ ap (is_int digits) (rest_seen c.args.parts.now c.args.value ∙ read) ∙ int_told digits nodes after ∙ ap (λ (n : New). spec.is_value (new_view n) nodes) (sym c.in-Number.is)
+token_told : (new : New) (nodes : List Item) (after : List RowPart) → ((words : _) → new ≡ New.Strings words → ⊥) → is_value (new_view new) (one_token (value_parts nodes after)) ≡ is_value (new_view new) nodes
+token_told new [] after other = refl
+token_told new (leaf k text ∷ []) after other = refl
+token_told new (leaf k text ∷ leaf l more ∷ xs) after other = two (new_view new) (leaf k text) (leaf l more) xs
+token_told new (leaf k text ∷ group l segs one_comma end ∷ xs) after other = two (new_view new) (leaf k text) (group l segs one_comma end) xs
+token_told (New.String word) (group k segs one_comma end ∷ []) after other = refl
+token_told (New.Number digits) (group k segs one_comma end ∷ []) after other = refl
+token_told (New.Constant name) (group k segs one_comma end ∷ []) after other = refl
+token_told (New.Strings words) (group k segs one_comma end ∷ []) after other = absurd (other words refl)
+token_told new (group k segs one_comma end ∷ y ∷ xs) after other = two (new_view new) (group k segs one_comma end) y xs
 
-pub returns-in-Constant : goal.returns-in-Constant
-returns-in-Constant c = λ nodes after read list.
-    let name = c.in-Constant.name.now in
-    c.is_ident.ensures ∙ ap (is_ident name) (rest_seen c.args.parts.now c.args.value ∙ read) ∙ ident_told name nodes after ∙ ap (λ (n : New). spec.is_value (new_view n) nodes) (sym c.in-Constant.is)
+pub returns-in_default : goal.returns-in_default
+returns-in_default c = λ nodes after read list.
+    c.is_token.ensures ∙ ap (λ (ps : List RowPart). is_value (new_view c.args.new) (one_token ps)) (rest_seen c.args.parts.now c.args.value ∙ read) ∙ token_told c.args.new nodes after c.in_default.not-Strings
 
 pub returns-in-Strings : goal.returns-in-Strings
-returns-in-Strings c = λ nodes after read list. c.are_in_list.ensures nodes after list ∙ ap (λ (n : New). spec.is_value (new_view n) nodes) (sym c.in-Strings.is)
+returns-in-Strings c = λ nodes after read list. c.are_in_list.ensures nodes after list ∙ ap (λ (new : New). is_value (new_view new) nodes) (sym c.in-Strings.is)

@@ -1,28 +1,25 @@
-use Rattle.std.proofs.Common.{Bool, None, ap, map, not, sym, ◌∙◌}
+use Rattle.std.proofs.Common.{ap, is_some, map, refl, ◌∙◌}
 use Rattle.bz_tree.specs.Rows.{part_view}
 use Rattle.bz_tree.specs.Tree.{Statement}
 use Rattle.bz_attribute.specs.RowPlaces.{IsRuleRow}
 use Rattle.bz_attribute.specs.Rules.{Rule}
-use Rattle.bz_attribute.specs.Effects.{done}
 use Rattle.bz_attribute.specs.declared.done.Done.{Done}
-use Rattle.bz_attribute.proofs.PlaceFound.{has_none}
 use Rattle.bz_attribute.proofs.RowEdits.{changed, seen_within, unchanged}
-use Rattle.bz_attribute_commands.proofs.ArgumentEdits.{has_argument}
+use Rattle.bz_attribute_commands.proofs.ArgumentEdits.{has_found}
 use Rattle.bz_attribute_commands.proofs.SetEdits.{argument_added}
 use Rattle.bz_attribute_commands.proofs.set.set_if_absent.Goals as goal
 
 pub returns-in-Some : goal.returns-in-Some
 returns-in-Some c =
-    let attr = c.args.attr.now in
     let ps = map part_view c.args.parts.now in
     unchanged _ _ ps _ _ _ c.none.ensures (ap (λ (d : Done). d.changed) c.quiet.ensures)
-    (λ s r h. c.quiet.ensures ∙ sym (ap (λ (b : Bool). done None (not b)) (has_argument attr s r ps _ h (sym c.find_argument.ensures.found ∙ c.in-Some.is))))
+    (λ s r h. rw (has_found c.args.attr.now s r ps c.find_argument.result h c.find_argument.ensures.found ∙ ap is_some c.in-Some.is) c.quiet.ensures)
 
 pub returns-in_ok-write_argument-in-None : goal.returns-in_ok-write_argument-in-None
 returns-in_ok-write_argument-in-None c =
     let attr = c.args.attr.now in
     let ps = map part_view c.args.parts.now in
-    let none = λ (s : Statement) (r : Rule) (h : IsRuleRow s r ps). has_none attr s r ps h (sym c.find_argument.ensures.found ∙ c.in-None.is) in
+    let none = λ (s : Statement) (r : Rule) (h : IsRuleRow s r ps). has_found attr s r ps c.find_argument.result h c.find_argument.ensures.found ∙ ap is_some c.in-None.is in
     changed _ _ ps _ _ _ c.at.ensures (seen_within c.new_place.result c.args.parts.now c.new_place.ensures.within)
     (λ s r h. argument_added attr c.args.words.now s r ps _ c.new_place.result (none s r h) (c.new_place.ensures.place attr s r h (none s r h)) c.in_ok-write_argument-in-None.ensures)
-    (λ s r h. sym (ap (λ (b : Bool). done None (not b)) (none s r h)))
+    (λ s r h. rw (none s r h) refl)
