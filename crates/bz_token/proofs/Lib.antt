@@ -1,6 +1,7 @@
 mod TokenExamples
 pub mod Strings
 pub mod Blocks
+pub mod WordBlocks
 pub mod PlainStrings
 pub mod Gaps
 pub mod Stack

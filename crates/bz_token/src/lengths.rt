@@ -5,9 +5,10 @@ ghost use Rattle.bz_token.specs.declared.token.Kind.TheVariants.{Identifier, Int
 ghost use Rattle.bz_token.specs.Lengths.{word_length, IsTokenOf};
 
 use crate::identifier::begins_name;
-use crate::scan::{is_keyword, is_number, word_len};
+use crate::scan::{is_keyword, is_number};
 use crate::scan_string::opening_at;
 use crate::scan_token::{scan_comment, string_at};
+use crate::word::word_len;
 
 /// The number of bytes of the identifier that the text begins with. 0: it begins with none. The letters, digits and
 /// underscores alone decide it: `r"x"` begins with the identifier `r`.
