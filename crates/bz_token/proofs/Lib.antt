@@ -49,7 +49,6 @@ pub mod CutHeads
 pub mod CutAfter
 pub mod CutAnswers
 pub mod CutWords
-pub mod CutTests
 pub mod ChunkLaws
 pub mod Quiet
 pub mod Stands

@@ -28,8 +28,9 @@ fn word_in_block(bytes: &[u8]) -> usize
     others.trailing_zeros() as usize
 }
 
+/// The number of letters, digits and underscores here, of which there are most often few, as in a number.
 #[inline(always)]
-fn few_word(bytes: &[u8]) -> usize
+pub fn short_word_len(bytes: &[u8]) -> usize
     ensures { result ≡ prefix_len is_word_byte bytes.now }
 {
     bytes.iter().take_while(|b| is_word_byte(**b)).count()
@@ -48,5 +49,5 @@ pub fn word_len(bytes: &[u8]) -> usize
             return len;
         }
     }
-    len + few_word(&bytes[len..])
+    len + short_word_len(&bytes[len..])
 }

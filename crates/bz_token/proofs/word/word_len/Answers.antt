@@ -39,10 +39,10 @@ loop-len-preserved c =
     }
 
 pub returns : goal.returns
-returns c = omega (arith, rw take_rest at c.few_word.ensures, c.loop-len.invariant.word)
+returns c = omega (arith, rw take_rest at c.short_word_len.ensures, c.loop-len.invariant.word)
 
 pub overflow_add-result : goal.overflow_add-result
 overflow_add-result c =
     let len = c.loop-len.len in
-    let counted = rw take_rest at c.few_word.ensures in
+    let counted = rw take_rest at c.short_word_len.ensures in
     omega (arith, counted, prefix_len-le-length is_word_byte (drop len c.args.bytes.now), length-drop len c.args.bytes.now, c.loop-len.invariant.within)
