@@ -200,11 +200,6 @@ takes_no_third : (quote : Quote) (n : ℕ) (u : List ℕ) (b : ℕ) → escape_t
 takes_no_third Single n u b h = elim (takes_cases u b h) [ inl one ↦ rw one refl | inr two ↦ rw two.0 refl ]
 takes_no_third Double n u b h = elim (takes_cases u b h) [ inl one ↦ rw one refl | inr two ↦ rw two.0 refl ]
 
--- and so many stand before
-takes_no_row : (quote : Quote) (n : ℕ) (u : List ℕ) (b : ℕ) → escape_takes u b ≡ true → three_in_a_row (byte_of quote) n (u ∷ []) ≡ false
-takes_no_row Single n u b h = elim (takes_cases u b h) [ inl one ↦ rw one refl | inr two ↦ rw two.0 refl ]
-takes_no_row Double n u b h = elim (takes_cases u b h) [ inl one ↦ rw one refl | inr two ↦ rw two.0 refl ]
-
 pub three_step : (q n : ℕ) (u : List ℕ) (us : List (List ℕ)) → third q n u ≡ false → three_in_a_row q n (u ∷ us) ≡ three_in_a_row q (row q n u) us
 three_step q n u us h = elim (cases_Bool (is_byte q u)) [
   | inl is ↦ let other : (n == 2) ≡ false = (rw is at h) in rw (is, three_in_a_row) (rw other refl)

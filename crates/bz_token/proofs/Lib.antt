@@ -1,6 +1,7 @@
 mod TokenExamples
 pub mod Strings
 pub mod Blocks
+pub mod WordBlocks
 pub mod PlainStrings
 pub mod Gaps
 pub mod Stack
@@ -48,7 +49,6 @@ pub mod CutHeads
 pub mod CutAfter
 pub mod CutAnswers
 pub mod CutWords
-pub mod CutTests
 pub mod ChunkLaws
 pub mod Quiet
 pub mod Stands

@@ -31,9 +31,6 @@ no_long_operator a b c d more = false_from_ne_true _ (λ is. too_long (length mo
     too_long x h = grind (arith, nat_tests)
 
 -- a 0 is in no operator
-no_zero_1 : is_operator_text (0 ∷ []) ≡ true → ⊥
-no_zero_1 is = false≢true (operator_bytes (0 ∷ []) is)
-
 no_zero : (front more : List ℕ) → is_operator_text (front ++ 0 ∷ more) ≡ true → ⊥
 no_zero front more is = has_zero front (operator_bytes (front ++ 0 ∷ more) is)
   where

@@ -1,5 +1,5 @@
 -- What stands at a place, before it is read.
-use Rattle.std.proofs.Common.{◌≡◌, ℕ, ◌-◌, zero, suc, drop, ◌+◌, ◌<◌, ◌≤◌, List, [], ◌∷◌, length, take, get_or, ◌||◌, Bool, true, false, refl, ap, subst, ◌∙◌, arith, inl, inr, one-add}
+use Rattle.std.proofs.Common.{◌≡◌, ℕ, ◌-◌, zero, suc, drop, ◌+◌, ◌<◌, List, [], ◌∷◌, length, take, get_or, ◌||◌, Bool, true, false, refl, ap, subst, ◌∙◌, arith, inl, inr, one-add}
 use Rattle.std.specs.Prelude.{Result, Ok, Err, IfOk, IfErr}
 use Rattle.std.specs.List.{prefix_len}
 use Rattle.std.proofs.lemmas.List.{length-take-le}
@@ -9,7 +9,7 @@ use Rattle.std.proofs.lemmas.Bool.Decides.{nat_tests}
 use Rattle.bz_token.specs.declared.gap.TokenGap.{TokenGap}
 use Rattle.bz_token.specs.Brackets.{is_opening_bracket, is_closing_bracket, is_inside, bracket_fits, open_after_token}
 use Rattle.bz_token.specs.Lexical.{begins, is_blank}
-use Rattle.bz_token.specs.Reading.{is_gap, begins_gap}
+use Rattle.bz_token.specs.Reading.{begins_gap}
 use Rattle.bz_token.specs.private.Scans.{IsBadPlace, bad_fault, IsMisfit, misfit_fault}
 use Rattle.bz_token.specs.private.Steps.{IsTaken, IsRefused, IsGapHere, IsStep, IsTokenStep, IsBadStep}
 use Rattle.bz_token.specs.declared.brackets.Misfit.{Misfit}
@@ -68,41 +68,6 @@ newline_here (b ∷ bs) gap some first on len ends =
       lines = rw (whole, ends, first) one;
       column = λ c. rw (whole, on, ends, first) (one_line_column 1 (take n bs) flat ∙ ap (λ k. 1 + k) (length-take-le n bs within));
     }
-
-two_gap : (inside : Bool) (ys : List ℕ) → is_gap inside (92 ∷ 10 ∷ ys) ≡ is_gap inside ys
-two_gap true ys = refl
-two_gap false ys = refl
-
-three_gap : (inside : Bool) (ys : List ℕ) → is_gap inside (92 ∷ 13 ∷ 10 ∷ ys) ≡ is_gap inside ys
-three_gap true ys = refl
-three_gap false ys = refl
-
-pub two_here : (inside : Bool) (bytes : List ℕ) (gap : TokenGap) → 2 ≤ length bytes → get_or bytes 0 0 ≡ 92 → get_or bytes 1 0 ≡ 10 → gap.len ≡ 2 → gap.on_line ≡ 0 → gap.has_newline ≡ true → IsGapHere inside bytes gap
-two_here inside [] gap some first second len on ends = absurd (omega arith)
-two_here inside (a ∷ []) gap some first second len on ends = absurd (omega arith)
-two_here inside (a ∷ b ∷ bs) gap some first second len on ends = record {
-  some = omega (arith, len);
-  within = omega (arith, len);
-  on_line = omega (arith, on);
-  goes_on = λ ys. rw (len, first, second) (two_gap inside ys);
-  ascii = rw (len, second) (omega arith);
-  lines = rw (len, ends, first, second) refl;
-  column = λ c. rw (len, on, ends, first, second) refl;
-}
-
-pub three_here : (inside : Bool) (bytes : List ℕ) (gap : TokenGap) → 3 ≤ length bytes → get_or bytes 0 0 ≡ 92 → get_or bytes 1 0 ≡ 13 → get_or bytes 2 0 ≡ 10 → gap.len ≡ 3 → gap.on_line ≡ 0 → gap.has_newline ≡ true → IsGapHere inside bytes gap
-three_here inside [] gap some first second third len on ends = absurd (omega arith)
-three_here inside (a ∷ []) gap some first second third len on ends = absurd (omega arith)
-three_here inside (a ∷ b ∷ []) gap some first second third len on ends = absurd (omega arith)
-three_here inside (a ∷ b ∷ c ∷ cs) gap some first second third len on ends = record {
-  some = omega (arith, len);
-  within = omega (arith, len);
-  on_line = omega (arith, on);
-  goes_on = λ ys. rw (len, first, second, third) (three_gap inside ys);
-  ascii = rw (len, third) (omega arith);
-  lines = rw (len, ends, first, second, third) refl;
-  column = λ c. rw (len, on, ends, first, second, third) refl;
-}
 
 -- no gap begins with a solid byte
 pub solid_gap : (inside : Bool) (bytes : List ℕ) → 0 < length bytes → IsSolid (get_or bytes 0 0) → begins_gap inside bytes ≡ false

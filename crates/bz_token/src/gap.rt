@@ -112,7 +112,10 @@ fn indent_len(bytes: &[u8]) -> usize
     ensures { result ≡ prefix_len is_blank bytes.now }
 {
     let spaces = some_spaces(bytes);
-    spaces + blank_len(&bytes[spaces..])
+    match &bytes[spaces..] {
+        [b, ..] if !is_blank(*b) => spaces,
+        others => spaces + blank_len(others),
+    }
 }
 
 /// The blanks here.

@@ -5,9 +5,10 @@ ghost use Rattle.bz_token.specs.declared.token.Kind.TheVariants.{Identifier, Int
 ghost use Rattle.bz_token.specs.Lengths.{word_length, IsTokenOf};
 
 use crate::identifier::begins_name;
-use crate::scan::{is_keyword, is_number, word_len};
+use crate::scan::{is_keyword, is_number};
 use crate::scan_string::opening_at;
 use crate::scan_token::{scan_comment, string_at};
+use crate::word::{short_word_len, word_len};
 
 /// The number of bytes of the identifier that the text begins with. 0: it begins with none. The letters, digits and
 /// underscores alone decide it: `r"x"` begins with the identifier `r`.
@@ -30,7 +31,7 @@ pub fn identifier_len(bytes: &[u8]) -> usize
 pub fn integer_len(bytes: &[u8]) -> usize
     ensures { result ≡ word_length Integer bytes.now }
 {
-    let len = word_len(bytes);
+    let len = short_word_len(bytes);
     if is_number(&bytes[..len]) { len } else { 0 }
 }
 

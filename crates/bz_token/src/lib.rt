@@ -18,6 +18,7 @@ mod scan_token;
 mod table;
 mod token;
 mod utf8;
+mod word;
 
 pub use chunk::{FirstChunk, Front, first_chunk};
 pub use cutter::{Cut, Cutter, Next};

@@ -6,9 +6,8 @@ ghost use Rattle.std.specs.List.{list_all, prefix_len};
 ghost use Rattle.bz_token.specs.declared.token.Kind.TheVariants.{Operator};
 ghost use Rattle.bz_token.specs.Ends.{stops_at};
 ghost use Rattle.bz_token.specs.private.Keywords.{keyword_len};
-ghost use Rattle.bz_token.specs.Lexical.{operators, keywords, begins, is_blank, is_word_byte, is_octal_digit, are_based, is_number, is_keyword, is_operator_text, is_comment, is_newline};
+ghost use Rattle.bz_token.specs.Lexical.{operators, keywords, begins, is_blank, is_octal_digit, are_based, is_number, is_keyword, is_operator_text, is_comment, is_newline};
 
-use crate::table::is_word_byte;
 use memchr::memchr;
 
 #[inline(always)]
@@ -16,14 +15,6 @@ pub fn is_blank(b: u8) -> bool
     ensures { result ≡ is_blank b }
 {
     matches!(b, b' ' | b'\t' | b'\r')
-}
-
-/// The number of letters, digits and underscores here.
-#[inline(always)]
-pub fn word_len(bytes: &[u8]) -> usize
-    ensures { result ≡ prefix_len is_word_byte bytes.now }
-{
-    bytes.iter().take_while(|b| is_word_byte(**b)).count()
 }
 
 fn is_octal_digit(b: u8) -> bool

@@ -12,10 +12,11 @@ ghost use Rattle.bz_token.specs.private.Steps.{IsStep, IsTokenStep, IsBadStep};
 ghost use Rattle.bz_token.specs.private.Tables.{is_single, IsMark};
 
 use crate::gap::{TokenGap, blanks, continued, newline};
-use crate::scan::{is_keyword, is_number, line_comment_len, operator_len, word_len};
+use crate::scan::{is_keyword, is_number, line_comment_len, operator_len};
 use crate::scan_string::{Opening, closing_row, inside_at, opening_at, quoted_at};
 use crate::table::{ByteClass, class_at};
 use crate::token::Kind;
+use crate::word::{short_word_len, word_len};
 
 /// A token's kind and length.
 #[derive(Clone, Copy)]
@@ -91,7 +92,7 @@ fn scan_number(bytes: &[u8]) -> Result<GapOrToken, Bad>
     ensures token { IfOk result (λ step. IsTokenStep bytes.now step) }
     ensures bad { IfErr result (λ bad. IsBadPlace bytes.now bad) }
 {
-    let len = word_len(bytes);
+    let len = short_word_len(bytes);
     if !is_number(&bytes[..len]) {
         return Err(Bad::Number);
     }
