@@ -45,6 +45,15 @@ fn with_class<'a>(seg: Seg<'a>, tokens: &[Token<'a>]) -> Stmt<'a>
     }
 }
 
+/// A chunk whose tokens are there.
+#[derive(Clone, Copy)]
+pub(crate) struct Chunk<'a, 't> {
+    pub(crate) text: &'a str,
+    /// The number of its first line.
+    pub(crate) first_line: u64,
+    pub(crate) tokens: &'t [Token<'a>],
+}
+
 // The statement of the tokens, which are no block. None: they have none.
 fn plain_statement<'a>(alloc: Global, tokens: &[Token<'a>]) -> Result<Option<Stmt<'a>>, NoMemory>
     requires { EndsFit (map placed tokens.now) }
@@ -96,20 +105,20 @@ fn begins_block(tokens: &[Token<'_>]) -> bool
 }
 
 // The statement of a chunk's tokens, a block or not. None: they have none.
-fn chunk_statement<'a>(
-    alloc: Global,
-    text: &'a str,
-    first_line: u64,
-    tokens: &[Token<'a>],
-) -> Result<Option<Stmt<'a>>, NoMemory>
-    requires lines { first_line + count_by (λ b. b == 10) text.now < 2 ^ 64 }
-    requires ends { EndsFit (map placed tokens.now) }
-    requires standing { AreStanding first_line text.now (map placed tokens.now) }
+fn chunk_statement<'a>(alloc: Global, chunk: &Chunk<'a, '_>) -> Result<Option<Stmt<'a>>, NoMemory>
+    requires lines { chunk.now.first_line + count_by (λ b. b == 10) chunk.now.text.now < 2 ^ 64 }
+    requires ends { EndsFit (map placed chunk.now.tokens.now) }
+    requires standing { AreStanding chunk.now.first_line chunk.now.text.now (map placed chunk.now.tokens.now) }
     ensures statement { IfOk result
-        (λ o. IfSome o (λ s. IsChunkOf first_line text.now (map placed tokens.now) (view s))) }
-    ensures none { IfOk result
-        (λ o. IfNone o ((t : Statement) → IsChunkOf first_line text.now (map placed tokens.now) t → ⊥)) }
+        (λ o. IfSome o (λ s. IsChunkOf chunk.now.first_line chunk.now.text.now (map placed chunk.now.tokens.now) (view s))) }
+    ensures none { IfOk result (λ o. IfNone o ((t : Statement)
+        → IsChunkOf chunk.now.first_line chunk.now.text.now (map placed chunk.now.tokens.now) t → ⊥)) }
 {
+    let Chunk {
+        text,
+        first_line,
+        tokens,
+    } = *chunk;
     if !begins_block(tokens) {
         return plain_statement(alloc, tokens);
     }
@@ -139,34 +148,34 @@ fn indent_fault(alloc: Global, tokens: &[Token<'_>]) -> Result<Option<u64>, NoMe
     }
 }
 
-/// The statement of a chunk that has these tokens, its first line having this number. None: the chunk is blank. Every
-/// text of the statement is borrowed from the chunk. The rules are those of `parse`.
+/// The statement of a chunk. None: the chunk is blank. Every text of the statement is borrowed from the chunk. The rules
+/// are those of `parse`.
 pub(crate) fn parse_tokens<'a>(
     alloc: Global,
-    text: &'a str,
-    first_line: u64,
-    tokens: &[Token<'a>],
+    chunk: &Chunk<'a, '_>,
 ) -> Result<Option<Stmt<'a>>, ParseFault>
-    requires lines { first_line + count_by (λ b. b == 10) text.now < 2 ^ 64 }
-    requires tokens { (depth : ℕ) × AreTokensOf first_line depth text.now (map placed tokens.now) }
+    requires lines { chunk.now.first_line + count_by (λ b. b == 10) chunk.now.text.now < 2 ^ 64 }
+    requires tokens { (depth : ℕ) × AreTokensOf chunk.now.first_line depth chunk.now.text.now (map placed chunk.now.tokens.now) }
     ensures statement { IfOk result (λ o. IfSome o (λ s. (depth : ℕ)
-        → AreTokensOf first_line depth text.now (map placed tokens.now)
-        → IsStatementIn first_line depth text.now (view s))) }
+        → AreTokensOf chunk.now.first_line depth chunk.now.text.now (map placed chunk.now.tokens.now)
+        → IsStatementIn chunk.now.first_line depth chunk.now.text.now (view s))) }
     ensures blank { IfOk result (λ o. IfNone o ((depth : ℕ)
-        → AreTokensOf first_line depth text.now (map placed tokens.now) → IsBlank first_line depth text.now)) }
+        → AreTokensOf chunk.now.first_line depth chunk.now.text.now (map placed chunk.now.tokens.now)
+        → IsBlank chunk.now.first_line depth chunk.now.text.now)) }
     ensures fault { IfErr result (λ fault. (depth : ℕ)
-        → AreTokensOf first_line depth text.now (map placed tokens.now) → IsFaultIn first_line depth text.now fault) }
+        → AreTokensOf chunk.now.first_line depth chunk.now.text.now (map placed chunk.now.tokens.now)
+        → IsFaultIn chunk.now.first_line depth chunk.now.text.now fault) }
 {
-    if first_seen(tokens).is_none() {
+    if first_seen(chunk.tokens).is_none() {
         return Ok(None);
     }
-    if let Some(line) = indent_fault(alloc, tokens)? {
+    if let Some(line) = indent_fault(alloc, chunk.tokens)? {
         return Err(ParseFault::Indented { line });
     }
-    match chunk_statement(alloc, text, first_line, tokens)? {
+    match chunk_statement(alloc, chunk)? {
         Some(stmt) => Ok(Some(stmt)),
         None => Err(ParseFault::NotAStatement {
-            line: start_of(tokens),
+            line: start_of(chunk.tokens),
         }),
     }
 }
@@ -187,7 +196,14 @@ pub fn parse<'a>(
 {
     let bump = Bump::new(alloc);
     match tokens(&bump, text, first_line, max_depth) {
-        Ok(tokens) => parse_tokens(alloc, text, first_line, tokens),
+        Ok(tokens) => {
+            let chunk = Chunk {
+                text,
+                first_line,
+                tokens,
+            };
+            parse_tokens(alloc, &chunk)
+        }
         Err(LexFault::OutOfMemory(why)) => Err(ParseFault::OutOfMemory(why)),
         Err(fault) => Err(ParseFault::Lex(fault)),
     }

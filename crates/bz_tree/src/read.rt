@@ -9,7 +9,7 @@ ghost use Rattle.bz_tree.specs.Chunk.{IsStatementIn, IsBlank, IsFaultIn};
 ghost use Rattle.bz_tree.specs.RowReads.{IsReadByTokens};
 ghost use Rattle.bz_tree.specs.Rows.{IsRowOf};
 
-use crate::chunk::{parse, parse_tokens};
+use crate::chunk::{Chunk, parse, parse_tokens};
 use crate::fault::ParseFault;
 use crate::parts::push_parts;
 use crate::row::Row;
@@ -51,7 +51,12 @@ pub fn read_statement<'a>(
     if let Some(row) = read_row(bump, tokens)? {
         return Ok(Some(row));
     }
-    match parse_tokens(alloc, text, first_line, tokens)? {
+    let chunk = Chunk {
+        text,
+        first_line,
+        tokens,
+    };
+    match parse_tokens(alloc, &chunk)? {
         None => Ok(None),
         Some(stmt) => Ok(Some(row_of_tree(bump, &stmt)?)),
     }
