@@ -5,26 +5,38 @@ use Rattle.bz_canonical.specs.private.Segments.{Continues, ContinuesFlat, IsSegm
 use Rattle.bz_canonical.proofs.GroupSegments.{begin, more, finish, begin_flat, more_flat, finish_flat, none_flat, element_segment, positional_segment, keyword_segment, entry_segment, first_of_more, second_of_more, four_or}
 use Rattle.bz_canonical.proofs.Operands.{list_value, dict_value, name_value, broken_group, flat_group}
 use Rattle.bz_canonical.proofs.StringLists.{plain_more}
-use Rattle.bz_canonical.proofs.Chained.{Chains, begin_chain, more_chain, finish_chain, value_term}
+use Rattle.bz_canonical.specs.private.Chains.{Chains}
+use Rattle.bz_canonical.proofs.Chained.{begin_chain, more_chain, finish_chain, value_term}
 use Rattle.bz_canonical.proofs.+values.Goals as goal
 
 pub segments::segments-loop-count-init : goal.segments::segments-loop-count-init
 segments::segments-loop-count-init m c = begin c.args.kind c.args.level c.args.depth c.args.text.now
 
-pub value::sum-loop-init : goal.value::sum-loop-init
-value::sum-loop-init m c = begin_chain c.args.level c.args.depth c.args.text.now
+pub value::sum-returns-in-None : goal.value::sum-returns-in-None
+value::sum-returns-in-None m c =
+    let first = c.in_ok-first.first in
+    finish_chain c.args.level c.args.depth c.args.text.now first.rest.now first.holds (begin_chain c.args.level c.args.depth c.args.text.now first.rest.now first.holds c.in_ok-first.ensures)
 
-pub value::sum-returns-in_default : goal.value::sum-returns-in_default
-value::sum-returns-in_default m c =
-    subst (λ h. AreNodesFront c.args.level c.args.depth c.args.text.now c.in_ok-read.read.rest.now h) (sym c.either-holds.ensures)
-    (finish_chain c.args.level c.args.depth c.args.text.now c.in_ok-read.read.rest.now _ (c.loop.invariant c.in_ok-read.read.rest.now c.in_ok-read.read.holds c.in_ok-read.ensures))
+pub value::sum-returns-in_ok-read-in-Some : goal.value::sum-returns-in_ok-read-in-Some
+value::sum-returns-in_ok-read-in-Some m c =
+    let first = c.in_ok-first.first in
+    c.in_ok-read-in-Some.ensures c.args.text.now (λ rest k t. more_chain c.args.level c.args.depth c.args.text.now first.rest.now c.in-Some.operand.now rest first.holds k
+    (begin_chain c.args.level c.args.depth c.args.text.now first.rest.now first.holds c.in_ok-first.ensures) c.in-Some.ensures t)
 
-pub value::sum-loop-preserved : goal.value::sum-loop-preserved
-value::sum-loop-preserved m c = λ rest k t.
+pub value::operands-loop-init : goal.value::operands-loop-init
+value::operands-loop-init m c = λ all so. so
+
+pub value::operands-returns-in_default : goal.value::operands-returns-in_default
+value::operands-returns-in_default m c = λ all so.
+    subst (λ h. AreNodesFront c.args.level c.args.depth all c.in_ok-read.read.rest.now h) (sym c.either-holds.ensures)
+    (finish_chain c.args.level c.args.depth all c.in_ok-read.read.rest.now _ (c.loop.invariant all so c.in_ok-read.read.rest.now c.in_ok-read.read.holds c.in_ok-read.ensures))
+
+pub value::operands-loop-preserved : goal.value::operands-loop-preserved
+value::operands-loop-preserved m c = λ all so rest k t.
     let holds = c.loop.holds || c.in_ok-read.read.holds in
-    subst (λ h. Chains c.args.level c.args.depth c.args.text.now rest (h || k)) (sym c.either-holds.ensures)
-    (more_chain c.args.level c.args.depth c.args.text.now c.in_ok-read.read.rest.now c.in-Some.operand.now rest holds k
-    (c.loop.invariant c.in_ok-read.read.rest.now c.in_ok-read.read.holds c.in_ok-read.ensures) c.in-Some.ensures t)
+    subst (λ h. Chains c.args.level c.args.depth all rest (h || k)) (sym c.either-holds.ensures)
+    (more_chain c.args.level c.args.depth all c.in_ok-read.read.rest.now c.in-Some.operand.now rest holds k
+    (c.loop.invariant all so c.in_ok-read.read.rest.now c.in_ok-read.read.holds c.in_ok-read.ensures) c.in-Some.ensures t)
 
 pub segments::segments-loop-count-preserved-in-Some : goal.segments::segments-loop-count-preserved-in-Some
 segments::segments-loop-count-preserved-in-Some m c =
