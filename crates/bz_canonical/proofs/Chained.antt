@@ -24,7 +24,7 @@ use Rattle.bz_layout_laws.specs.Spelled.{spelled_items}
 use Rattle.bz_canonical.specs.private.Fronts.{IsTokenFront}
 use Rattle.bz_canonical.specs.private.Values.{IsValueFront, AreNodesFront}
 use Rattle.bz_canonical.specs.private.Segments.{IsGroupFront}
-use Rattle.bz_canonical.specs.private.Chains.{IsTailFront, IsTermFront}
+use Rattle.bz_canonical.specs.private.Chains.{Chains, IsTailFront, IsTermFront}
 use Rattle.bz_canonical.proofs.GroupSegments.{most, or_no}
 
 join_none : (a : Items) → join a no_items ≡ a
@@ -153,9 +153,6 @@ plus_tail level depth text value rest next h k is t y = record {
     by within first e is = rw is (ap (λ (xs : List ℕ). 32 ∷ 43 ∷ xs) (value_is within first))
 
 -- The operands so far, whatever follows them.
-abbrev pub Chains : ℕ → ℕ → List ℕ → List ℕ → Bool → Type 0
-Chains level depth text rest holds = (next : List ℕ) (k : Bool) → IsTailFront level depth rest next k → AreNodesFront level depth text next (holds || k)
-
 pub begin_chain : (level depth : ℕ) (text rest : List ℕ) (h : Bool) → IsTermFront level depth text rest h → Chains level depth text rest h
 begin_chain level depth text rest h t = λ next k y. nodes_of level depth text rest next h k t y
 

@@ -1,3 +1,4 @@
+pub mod StringLists
 pub mod Strings
 pub mod Tokens
 pub mod Taken

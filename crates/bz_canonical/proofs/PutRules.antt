@@ -468,6 +468,22 @@ place_back depth attr s t text written (Some ends) same has (Some place) is =
     let same_place : place ≡ has.between = λ i. record { before = (is.1 ∙ has.before) i; lines = middle i; after = (is.2 ∙ has.after) i } in
     subst (HasPlace depth attr t) (sym same_place) (place_same depth attr s t has.between same has.has)
 
+-- what stands before the name
+abbrev pub up_to_name : (text name inside rest : List ℕ) → IsRuleHead text name inside rest → List ℕ
+up_to_name text name inside rest h = bytes_of (comment_lines h.notes) ++ (h.kind ++ (40 ∷ 10 ∷ (indent 1 ++ (codes "name" ++ (codes " = " ++ (34 ∷ []))))))
+
+pub with_name : (text name inside rest : List ℕ) → (h : IsRuleHead text name inside rest) → (left : ℕ) (front : List ℕ) → left ≡ suc (suc (length rest)) → front ≡ take (length text - left) text
+    → front ≡ up_to_name text name inside rest h ++ name
+with_name text name inside rest h left front left_is front_is =
+    front_is ∙ ap (λ n. take (length text - n) text) left_is ∙ taken text (up_to_name text name inside rest h ++ name) (34 ∷ 44 ∷ rest) whole
+  where
+    whole : text ≡ (up_to_name text name inside rest h ++ name) ++ (34 ∷ 44 ∷ rest)
+    whole = h.front ∙ ap (λ (t : List ℕ). bytes_of (comment_lines h.notes) ++ (h.kind ++ (40 ∷ t))) h.lines ∙ by (bytes_of (comment_lines h.notes))
+      where
+        by : (notes : List ℕ) → notes ++ (h.kind ++ (40 ∷ 10 ∷ (indent 1 ++ (codes "name" ++ (codes " = " ++ (34 ∷ (name ++ 34 ∷ (44 ∷ rest))))))))
+            ≡ ((notes ++ (h.kind ++ (40 ∷ 10 ∷ (indent 1 ++ (codes "name" ++ (codes " = " ++ (34 ∷ []))))))) ++ name) ++ (34 ∷ 44 ∷ rest)
+        by notes = simp append_assoc
+
 pub rule_chunk : (depth : ℕ) (attr name text rest written chunk : List ℕ) (ends : Option PutEnds) (place : Option Between) → IsRuleRead depth attr name text rest written ends → chunk ≡ take (length text - length rest) text → IsPutPlaceIn text written ends place
     → IsCanonical depth attr RuleClass (Some name) place chunk written text
 rule_chunk depth attr name text rest written chunk ends place r chunk_is is =

@@ -1,10 +1,11 @@
 -- Sixteen bytes at once: the first mark of a block tells how many of its bytes are simple.
-use Rattle.std.proofs.Common.{◌≡◌, ℕ, ◌&&◌, ◌||◌, List, [], ◌∷◌, Bool, true, false, not, refl, sym, ◌∙◌, ap, cond, eqb, map, replicate, length, bit_or, arith, ◌%◌, ◌^◌, inl, inr}
+use Rattle.std.proofs.Common.{◌≡◌, ℕ, suc, ◌&&◌, ◌||◌, List, [], ◌∷◌, Bool, true, false, not, refl, sym, ◌∙◌, ap, cond, eqb, map, replicate, length, bit_or, arith, ◌%◌, ◌^◌, ◌*◌, ◌+◌, ◌<◌, ◌≤◌, take, inl, inr}
 use Rattle.std.specs.List.{prefix_len}
 use Rattle.std.specs.Simd.Lanes.{zip2, mask_l, top}
 use Rattle.std.specs.Int.Count.{count_trailing_zeros}
 use Rattle.std.proofs.lemmas.Bool.{cases_Bool, eqb-true}
-use Rattle.std.proofs.lemmas.List.{length-map}
+use Rattle.std.proofs.lemmas.List.{length-map, length-take-le}
+use Rattle.bz_token.proofs.Blocks.{ends_in_block}
 use Rattle.std.proofs.lemmas.Simd.{first_set_mask_l, mask_l-mod}
 use Rattle.bz_canonical.specs.private.Fronts.{is_simple}
 
@@ -67,8 +68,29 @@ all_simple xs long none =
     let m = mask_l (map (top 7) (lanes 16 xs)) % 2 ^ 64 in
     sym (ap (λ b. cond b 16 (count_trailing_zeros 64 m)) (ap (λ n. eqb n 0) none)) ∙ first xs m long (mask xs long)
 
-pub before_mark : (xs : List ℕ) → length xs ≡ 16 → (mask_l (map (top 7) (lanes 16 xs)) % 2 ^ 64 ≡ 0 → ⊥)
+before_mark : (xs : List ℕ) → length xs ≡ 16 → (mask_l (map (top 7) (lanes 16 xs)) % 2 ^ 64 ≡ 0 → ⊥)
     → count_trailing_zeros 64 (mask_l (map (top 7) (lanes 16 xs)) % 2 ^ 64) ≡ prefix_len is_simple xs
 before_mark xs long some =
     let m = mask_l (map (top 7) (lanes 16 xs)) % 2 ^ 64 in
     sym (ap (λ b. cond b 16 (count_trailing_zeros 64 m)) (not_0 m some)) ∙ first xs m long (mask xs long)
+
+some_mark : (xs : List ℕ) → (mask_l (map (λ b. not (is_simple b)) xs) ≡ 0 → ⊥) → prefix_len is_simple xs < length xs
+some_mark [] marked = absurd (marked refl)
+some_mark (x ∷ xs) marked = by (is_simple x) marked (some_mark xs)
+  where
+    by : (b : Bool) → (cond (not b) 1 0 + 2 * mask_l (map (λ b. not (is_simple b)) xs) ≡ 0 → ⊥)
+        → ((mask_l (map (λ b. not (is_simple b)) xs) ≡ 0 → ⊥) → prefix_len is_simple xs < length xs) → cond b (1 + prefix_len is_simple xs) 0 < suc (length xs)
+    by true marked more = omega (arith, more (λ e. marked (omega (arith, e))))
+    by false marked more = omega arith
+
+-- a byte has a mark
+pub in_block : (bytes : List ℕ) → 16 ≤ length bytes → (mask_l (map (top 7) (lanes 16 (take 16 bytes))) % 2 ^ 64 ≡ 0 → ⊥)
+    → (prefix_len is_simple bytes ≡ count_trailing_zeros 64 (mask_l (map (top 7) (lanes 16 (take 16 bytes))) % 2 ^ 64))
+    × (count_trailing_zeros 64 (mask_l (map (top 7) (lanes 16 (take 16 bytes))) % 2 ^ 64) < 16)
+in_block bytes enough some =
+    let xs : List ℕ = take 16 bytes in
+    let n : ℕ = count_trailing_zeros 64 (mask_l (map (top 7) (lanes 16 xs)) % 2 ^ 64) in
+    let long : length xs ≡ 16 = length-take-le 16 bytes enough in
+    let count : n ≡ prefix_len is_simple xs = before_mark xs long some in
+    let less : n < 16 = omega (arith, count, long, some_mark xs (λ e. some (mask xs long ∙ e))) in
+    (sym (ends_in_block is_simple bytes n enough count less), less)

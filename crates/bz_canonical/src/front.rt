@@ -118,6 +118,7 @@ pub(crate) struct SimpleString<'t> {
 }
 
 /// The string in double quotes here, whose value stands as it is.
+#[inline(always)]
 pub(crate) fn simple_string(text: &[u8]) -> Option<SimpleString<'_>>
     ensures { IfSome result (λ q. IsQuotedFront text.now q.inner.now q.rest.now) }
 {

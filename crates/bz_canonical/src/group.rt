@@ -65,7 +65,7 @@ pub(crate) fn group(kind: GroupKind, text: &[u8], level: u8, depth: u8) -> Optio
 
 /// What follows the group on lines here, its first bracket left out.
 #[cycle(values)]
-#[inline(always)]
+#[inline(never)]
 fn broken_group(kind: GroupKind, inside: &[u8], level: u8, depth: u8) -> Option<Value<'_>>
     requires commas { (n : ℕ) → has_commas kind false n ≡ true }
     requires deep { level + depth + 1 < 255 }

@@ -2,12 +2,14 @@
 //! asks for all of them; `added.rt` and `commented.rt` ask for the head of the one argument whose lines they have.
 
 ghost use Rattle.std.specs.Prelude.{◌≡◌, ◌<◌, ℕ, List, Bool, length, option_map, IfOk, IfSome, true, false};
+ghost use Rattle.bz_tree.specs.declared.stmt.GroupKind.TheVariants.{RuleCall};
+ghost use Rattle.bz_canonical.specs.private.Segments.{AreNotesFront, AreSegmentsFront};
 ghost use Rattle.bz_canonical.specs.private.Rewritten.{AreArgumentsRead, AreOthersRead, AreRead, IsArgumentRead, IsHeadRead, ArePlacedRead, IsPending, IsValueEnd, Puts, pending, put_ends};
 
 use crate::front::{Word, after_word, before, identifier, line};
 use crate::lists::{after_value, put_list};
 use crate::notes::notes;
-use crate::segments::segments;
+use crate::segments::{AfterLines, segments};
 use crate::value::{either, nodes};
 use bz_memory::{NoMemory, extend_from_slice};
 use bz_tree::GroupKind;
@@ -318,7 +320,7 @@ pub(crate) fn put_arguments<'t>(
     let Some(later) = put_later(placed, asked.depth, written)? else {
         return Ok(None);
     };
-    let Some(last) = segments(GroupKind::RuleCall, later.at.rest, 1, asked.depth) else {
+    let Some(last) = last_segments(later.at.rest, asked.depth) else {
         return Ok(None);
     };
     let more = either(later.one, last.count > 0);
@@ -331,6 +333,36 @@ pub(crate) fn put_arguments<'t>(
         place: known_place(placed, more),
         some: either(some, last.ended),
     }))
+}
+
+/// What follows the arguments here, and the comments after them.
+#[inline(always)]
+fn last_segments(text: &[u8], depth: u8) -> Option<AfterLines<'_>>
+    requires { depth < 254 }
+    ensures { IfSome result (λ read. (middle : List ℕ)
+        × AreSegmentsFront RuleCall 1 depth text.now middle read.count read.holds read.noted
+        × AreNotesFront 1 middle read.rest.now read.ended) }
+{
+    match text {
+        // Most calls end here.
+        [b'\n', b')', ..] => Some(no_segments(text)),
+        _ => segments(GroupKind::RuleCall, text, 1, depth),
+    }
+}
+
+#[inline(always)]
+fn no_segments(text: &[u8]) -> AfterLines<'_>
+    ensures { (depth : ℕ) → (middle : List ℕ)
+        × AreSegmentsFront RuleCall 1 depth text.now middle result.count result.holds result.noted
+        × AreNotesFront 1 middle result.rest.now result.ended }
+{
+    AfterLines {
+        rest: text,
+        count: 0,
+        holds: false,
+        noted: false,
+        ended: false,
+    }
 }
 
 /// The place of the argument of the name, or the place after all, where none follows.

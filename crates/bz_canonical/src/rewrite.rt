@@ -32,13 +32,30 @@ pub(crate) fn rule_chunk<'t>(
     let Some(read) = put_rule(text.as_bytes(), head, attr.as_bytes(), depth, written)? else {
         return Ok(None);
     };
-    Ok(chunk_of(text, head.name, written.as_slice(), read))
+    let Some(name) = name_in(text, head) else {
+        return Ok(None);
+    };
+    Ok(chunk_of(text, name, written.as_slice(), read))
+}
+
+/// The name as text, by its place.
+#[inline(always)]
+fn name_in<'t>(text: &'t str, head: RuleHead<'_>) -> Option<&'t str>
+    requires { IsRuleHead text.now head.name.now head.inside.now head.rest.now }
+    ensures { IfSome result (λ name. name.now ≡ head.entry.name.now) }
+{
+    // A quote and a comma follow it.
+    let end = head.rest.len().checked_add(2)?;
+    let front = without(text, end)?;
+    let start = front.len().checked_sub(head.name.len())?;
+    let (_, name) = front.split_at_checked(start)?;
+    Some(name)
 }
 
 /// The chunk of the rule of this name, which is in the buffer if it stands otherwise than it is written.
 fn chunk_of<'t>(
     text: &'t str,
-    name: &'t [u8],
+    name: &'t str,
     buffer: &'t [u8],
     read: PutRule<'t>,
 ) -> Option<CanonicalChunk<'t>>
@@ -51,9 +68,6 @@ fn chunk_of<'t>(
 {
     let chunk = without(text, read.rest.len())?;
     let written = written_of(chunk, buffer, read.as_is)?;
-    let Ok(name) = check_utf8(name) else {
-        return None;
-    };
     Some(CanonicalChunk {
         chunk,
         written,

@@ -3,13 +3,14 @@
 ghost use Rattle.std.specs.Prelude.{◌≡◌, ◌+◌, ◌<◌, ◌||◌, ◌∷◌, ◌++◌, ℕ, List, codes, IfSome, nat_le, true, false};
 ghost use Rattle.bz_token.specs.declared.token.Kind.TheVariants.{Identifier};
 ghost use Rattle.bz_tree.specs.Statement.{is_call};
+ghost use Rattle.bz_layout.specs.Pieces.{indent};
 ghost use Rattle.bz_canonical.specs.private.Fronts.{IsTokenFront};
-ghost use Rattle.bz_canonical.specs.private.Segments.{AreFlatFront, AreNotesFront, AreSegmentsFront, IsSegmentFront};
+ghost use Rattle.bz_canonical.specs.private.Segments.{AreFlatFront, AreNotesFront, AreSegmentsFront, IsBesideFront, IsSegmentFront};
 ghost use Rattle.bz_canonical.specs.private.Values.{IsValueFront};
 
-use crate::front::{Word, after, after_word, identifier, line};
+use crate::front::{Word, after, after_word, identifier, line, simple_string};
 use crate::group::closing;
-use crate::notes::{beside, notes};
+use crate::notes::{AfterNotes, beside, notes};
 use crate::value::{Value, either, leaf, nodes};
 use bz_tree::GroupKind;
 
@@ -29,7 +30,7 @@ pub(crate) struct AfterLines<'t> {
 
 /// What follows the segments here, each on lines of its own and with its comma, and the comments after them.
 #[cycle(values)]
-#[inline(never)]
+#[inline(always)]
 pub(crate) fn segments(kind: GroupKind, text: &[u8], level: u8, depth: u8) -> Option<AfterLines<'_>>
     requires { level + depth < 255 }
     ensures { IfSome result (λ read. (middle : List ℕ)
@@ -40,6 +41,12 @@ pub(crate) fn segments(kind: GroupKind, text: &[u8], level: u8, depth: u8) -> Op
     let mut holds = false;
     let mut noted = false;
     for count in 0..text.len() {
+        // Most lines are strings in lists.
+        if let Some(after_string) = string_line(kind, rest, level) {
+            rest = after_string.rest;
+            noted = either(noted, after_string.some);
+            continue;
+        }
         let above = notes(rest, level);
         let Some(inner) = line(above.rest, level) else {
             return Some(AfterLines {
@@ -59,6 +66,29 @@ pub(crate) fn segments(kind: GroupKind, text: &[u8], level: u8, depth: u8) -> Op
         noted = either(noted, about);
     }
     None
+}
+
+/// What follows the element here of a list that is the value of an argument, on a line of its own, where it is a string
+/// whose bytes stand for themselves, with its comma and the comment beside it.
+#[inline(always)]
+fn string_line(kind: GroupKind, text: &[u8], level: u8) -> Option<AfterNotes<'_>>
+    ensures { IfSome result (λ side. (inner comma : List ℕ) × (text.now ≡ 10 ∷ (indent level ++ inner))
+        × ((depth : ℕ) → IsSegmentFront kind level depth inner (44 ∷ comma) false)
+        × IsBesideFront comma side.rest.now side.some) }
+{
+    if level != 2 {
+        return None;
+    }
+    match kind {
+        GroupKind::List => {
+            let inner = line(text, 2)?;
+            let string = simple_string(inner)?;
+            let comma = after(string.rest, b',')?;
+            let side = beside(comma)?;
+            Some(side)
+        }
+        _ => None,
+    }
 }
 
 /// What follows segments in place.

@@ -1,8 +1,8 @@
 //! How many bytes of a string stand for themselves: sixteen are looked at at once.
 
-ghost use Rattle.std.specs.Prelude.{◌≡◌, ◌≤◌, length, take};
+ghost use Rattle.std.specs.Prelude.{◌≡◌, ◌≤◌, length};
 ghost use Rattle.std.specs.List.{prefix_len};
-ghost use Rattle.bz_canonical.specs.private.Fronts.{is_simple};
+ghost use Rattle.bz_canonical.specs.private.Fronts.{IsCounted, is_simple};
 
 use std::simd::prelude::*;
 
@@ -16,11 +16,11 @@ fn is_simple(b: u8) -> bool
     b != b'"' && b != b'\\' && b != b'\n' && b != b'\r' && b != b'\t'
 }
 
-// How many of the 16 bytes at the front are such.
+// How many of the 16 bytes at the front are such. None: all.
 #[inline(always)]
-fn simple_in_block(bytes: &[u8]) -> usize
+fn simple_in_block(bytes: &[u8]) -> Option<usize>
     requires { 16 ≤ length bytes.now }
-    ensures { result ≡ prefix_len is_simple (take 16 bytes.now) }
+    ensures { IsCounted bytes.now result }
 {
     let block = u8x16::from_slice(bytes);
     let quotes = block.simd_eq(u8x16::splat(b'"'));
@@ -30,9 +30,9 @@ fn simple_in_block(bytes: &[u8]) -> usize
     let tabs = block.simd_eq(u8x16::splat(b'\t'));
     let marks = (quotes | escapes | newlines | returns | tabs).to_bitmask();
     if marks == 0 {
-        return BLOCK;
+        return None;
     }
-    marks.trailing_zeros() as usize
+    Some(marks.trailing_zeros() as usize)
 }
 
 #[inline(always)]
@@ -49,10 +49,9 @@ pub(crate) fn simple_len(bytes: &[u8]) -> usize
 {
     let mut len = 0;
     while bytes.len() - len >= BLOCK {
-        let passed = simple_in_block(&bytes[len..]);
-        len += passed;
-        if passed < BLOCK {
-            return len;
+        match simple_in_block(&bytes[len..]) {
+            Some(passed) => return len + passed,
+            None => len += BLOCK,
         }
     }
     len + few_simple(&bytes[len..])

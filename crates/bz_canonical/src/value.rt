@@ -1,12 +1,12 @@
 //! Values that stand as they would be written: operands, calls of names, and sums of them.
 
-ghost use Rattle.std.specs.Prelude.{◌≡◌, ◌+◌, ◌<◌, ◌||◌, ℕ, IfSome, false};
+ghost use Rattle.std.specs.Prelude.{◌≡◌, ◌+◌, ◌<◌, ◌||◌, ℕ, Bool, List, IfSome, false};
 ghost use Rattle.bz_token.specs.declared.token.Kind.TheVariants.{String};
-ghost use Rattle.bz_canonical.specs.private.Chains.{IsTermFront};
+ghost use Rattle.bz_canonical.specs.private.Chains.{Chains, IsTermFront};
 ghost use Rattle.bz_canonical.specs.private.Fronts.{IsTokenFront};
 ghost use Rattle.bz_canonical.specs.private.Values.{AreNodesFront, IsValueFront};
 
-use crate::front::{Word, after_word, identifier, number, string};
+use crate::front::{Word, after, after_word, identifier, number, simple_string, string};
 use crate::group::group;
 use bz_tree::GroupKind;
 
@@ -111,13 +111,33 @@ pub(crate) fn nodes(text: &[u8], level: u8, depth: u8) -> Option<Value<'_>>
     requires { level + depth < 255 }
     ensures { IfSome result (λ v. AreNodesFront level depth text.now v.rest.now v.holds) }
 {
-    // Most values are a string alone.
+    // Most values are a string alone, or a list of one.
     match lone_string(text) {
         Some(rest) => Some(Value { rest, holds: false }),
-        None => {
-            let read = sum(text, level, depth)?;
-            Some(read)
-        }
+        None => match lone_list(text, depth) {
+            Some(rest) => Some(Value { rest, holds: false }),
+            None => {
+                let read = sum(text, level, depth)?;
+                Some(read)
+            }
+        },
+    }
+}
+
+/// What follows the list of one string here, in place, where no operator may follow it.
+#[inline(always)]
+fn lone_list(text: &[u8], depth: u8) -> Option<&[u8]>
+    ensures { IfSome result (λ rest. (level : ℕ) → AreNodesFront level depth text.now rest.now false) }
+{
+    if depth == 0 {
+        return None;
+    }
+    let inside = after(text, b'[')?;
+    let string = simple_string(inside)?;
+    let rest = after(string.rest, b']')?;
+    match rest {
+        [b' ', ..] => None,
+        _ => Some(rest),
     }
 }
 
@@ -128,8 +148,28 @@ fn sum(text: &[u8], level: u8, depth: u8) -> Option<Value<'_>>
     requires { level + depth < 255 }
     ensures { IfSome result (λ v. AreNodesFront level depth text.now v.rest.now v.holds) }
 {
+    let first = term(text, level, depth)?;
+    match after_word(first.rest, Word::Plus) {
+        // Most are one operand.
+        None => Some(first),
+        Some(operand) => {
+            let read = operands(operand, first.holds, level, depth)?;
+            Some(read)
+        }
+    }
+}
+
+/// What follows the operands here, which follow others. `before`: one of those is a group on lines, or holds one.
+#[cycle(values)]
+#[inline(never)]
+fn operands(text: &[u8], before: bool, level: u8, depth: u8) -> Option<Value<'_>>
+    requires { level + depth < 255 }
+    ensures { IfSome result (λ v. (all : List ℕ)
+        → ((rest : List ℕ) (k : Bool) → IsTermFront level depth text.now rest k → Chains level depth all rest (before || k))
+        → AreNodesFront level depth all v.rest.now v.holds) }
+{
     let mut next = text;
-    let mut holds = false;
+    let mut holds = before;
     for _ in 0..text.len() {
         let read = term(next, level, depth)?;
         holds = either(holds, read.holds);

@@ -4,38 +4,59 @@ use Rattle.bz_canonical.specs.private.Values.{AreNodesFront}
 use Rattle.bz_canonical.specs.private.Segments.{Continues, ContinuesFlat, IsSegmentFront}
 use Rattle.bz_canonical.proofs.GroupSegments.{begin, more, finish, begin_flat, more_flat, finish_flat, none_flat, element_segment, positional_segment, keyword_segment, entry_segment, first_of_more, second_of_more, four_or}
 use Rattle.bz_canonical.proofs.Operands.{list_value, dict_value, name_value, broken_group, flat_group}
-use Rattle.bz_canonical.proofs.Chained.{Chains, begin_chain, more_chain, finish_chain, value_term}
+use Rattle.bz_canonical.proofs.StringLists.{plain_more}
+use Rattle.bz_canonical.specs.private.Chains.{Chains}
+use Rattle.bz_canonical.proofs.Chained.{begin_chain, more_chain, finish_chain, value_term}
 use Rattle.bz_canonical.proofs.+values.Goals as goal
 
 pub segments::segments-loop-count-init : goal.segments::segments-loop-count-init
 segments::segments-loop-count-init m c = begin c.args.kind c.args.level c.args.depth c.args.text.now
 
-pub value::sum-loop-init : goal.value::sum-loop-init
-value::sum-loop-init m c = begin_chain c.args.level c.args.depth c.args.text.now
+pub value::sum-returns-in-None : goal.value::sum-returns-in-None
+value::sum-returns-in-None m c =
+    let first = c.in_ok-first.first in
+    finish_chain c.args.level c.args.depth c.args.text.now first.rest.now first.holds (begin_chain c.args.level c.args.depth c.args.text.now first.rest.now first.holds c.in_ok-first.ensures)
 
-pub value::sum-returns-in_default : goal.value::sum-returns-in_default
-value::sum-returns-in_default m c =
-    subst (λ h. AreNodesFront c.args.level c.args.depth c.args.text.now c.in_ok-read.read.rest.now h) (sym c.either-holds.ensures)
-    (finish_chain c.args.level c.args.depth c.args.text.now c.in_ok-read.read.rest.now _ (c.loop.invariant c.in_ok-read.read.rest.now c.in_ok-read.read.holds c.in_ok-read.ensures))
+pub value::sum-returns-in_ok-read-in-Some : goal.value::sum-returns-in_ok-read-in-Some
+value::sum-returns-in_ok-read-in-Some m c =
+    let first = c.in_ok-first.first in
+    c.in_ok-read-in-Some.ensures c.args.text.now (λ rest k t. more_chain c.args.level c.args.depth c.args.text.now first.rest.now c.in-Some.operand.now rest first.holds k
+    (begin_chain c.args.level c.args.depth c.args.text.now first.rest.now first.holds c.in_ok-first.ensures) c.in-Some.ensures t)
 
-pub value::sum-loop-preserved : goal.value::sum-loop-preserved
-value::sum-loop-preserved m c = λ rest k t.
+pub value::operands-loop-init : goal.value::operands-loop-init
+value::operands-loop-init m c = λ all so. so
+
+pub value::operands-returns-in_default : goal.value::operands-returns-in_default
+value::operands-returns-in_default m c = λ all so.
+    subst (λ h. AreNodesFront c.args.level c.args.depth all c.in_ok-read.read.rest.now h) (sym c.either-holds.ensures)
+    (finish_chain c.args.level c.args.depth all c.in_ok-read.read.rest.now _ (c.loop.invariant all so c.in_ok-read.read.rest.now c.in_ok-read.read.holds c.in_ok-read.ensures))
+
+pub value::operands-loop-preserved : goal.value::operands-loop-preserved
+value::operands-loop-preserved m c = λ all so rest k t.
     let holds = c.loop.holds || c.in_ok-read.read.holds in
-    subst (λ h. Chains c.args.level c.args.depth c.args.text.now rest (h || k)) (sym c.either-holds.ensures)
-    (more_chain c.args.level c.args.depth c.args.text.now c.in_ok-read.read.rest.now c.in-Some.operand.now rest holds k
-    (c.loop.invariant c.in_ok-read.read.rest.now c.in_ok-read.read.holds c.in_ok-read.ensures) c.in-Some.ensures t)
+    subst (λ h. Chains c.args.level c.args.depth all rest (h || k)) (sym c.either-holds.ensures)
+    (more_chain c.args.level c.args.depth all c.in_ok-read.read.rest.now c.in-Some.operand.now rest holds k
+    (c.loop.invariant all so c.in_ok-read.read.rest.now c.in_ok-read.read.holds c.in_ok-read.ensures) c.in-Some.ensures t)
+
+pub segments::segments-loop-count-preserved-in-Some : goal.segments::segments-loop-count-preserved-in-Some
+segments::segments-loop-count-preserved-in-Some m c =
+    let l = c.loop-count in
+    let side = c.in-Some.after_string in
+    let read = c.in-Some.ensures in
+    subst (λ b. Continues c.args.kind c.args.level c.args.depth c.args.text.now side.rest.now (l.count + 1) l.holds b) (sym c.either-noted.ensures)
+    (plain_more c.args.kind c.args.level c.args.depth c.args.text.now l.rest.now read.0 read.1 side.rest.now l.count l.holds l.noted side.some l.invariant read.2 (read.3 c.args.depth) read.4)
 
 pub segments::segments-loop-count-preserved : goal.segments::segments-loop-count-preserved
 segments::segments-loop-count-preserved m c =
     let l = c.loop-count in
-    let on = more c.args.kind c.args.level c.args.depth c.args.text.now l.rest.now c.notes-above.result.rest.now c.in-Some.inner.now c.in_ok-read.read.rest.now c.in_ok-comma.comma.now c.in_ok-side.side.rest.now
-    l.count l.holds c.in_ok-read.read.holds l.noted c.notes-above.result.some c.in_ok-side.side.some l.invariant c.notes-above.ensures c.in-Some.ensures c.in_ok-read.ensures c.in_ok-comma.ensures c.in_ok-side.ensures in
-    subst (λ b. Continues c.args.kind c.args.level c.args.depth c.args.text.now c.in_ok-side.side.rest.now (l.count + 1) b c.either-noted.result) (sym c.either-holds.ensures)
+    let on = more c.args.kind c.args.level c.args.depth c.args.text.now l.rest.now c.notes-above.result.rest.now c.in-Some-line.inner.now c.in_ok-read.read.rest.now c.in_ok-comma.comma.now c.in_ok-side.side.rest.now
+    l.count l.holds c.in_ok-read.read.holds l.noted c.notes-above.result.some c.in_ok-side.side.some l.invariant c.notes-above.ensures c.in-Some-line.ensures c.in_ok-read.ensures c.in_ok-comma.ensures c.in_ok-side.ensures in
+    subst (λ b. Continues c.args.kind c.args.level c.args.depth c.args.text.now c.in_ok-side.side.rest.now (l.count + 1) b c.either-noted-in-loop-count.result) (sym c.either-holds.ensures)
     (subst (λ b. Continues c.args.kind c.args.level c.args.depth c.args.text.now c.in_ok-side.side.rest.now (l.count + 1) (l.holds || c.in_ok-read.read.holds) b)
-    (sym (c.either-noted.ensures ∙ ap (λ b. l.noted || b) c.either-about.ensures)) on)
+    (sym (c.either-noted-in-loop-count.ensures ∙ ap (λ b. l.noted || b) c.either-about.ensures)) on)
 
-pub segments::segments-returns-in_default : goal.segments::segments-returns-in_default
-segments::segments-returns-in_default m c =
+pub segments::segments-returns-in_default-line : goal.segments::segments-returns-in_default-line
+segments::segments-returns-in_default-line m c =
     let l = c.loop-count in
     (l.rest.now, finish c.args.kind c.args.level c.args.depth c.args.text.now l.rest.now l.count l.holds l.noted l.invariant, c.notes-above.ensures)
 

@@ -1,7 +1,6 @@
-use Rattle.std.proofs.Common.{◌≡◌, ◌-◌, ◌∙◌, ℕ, List, length, take, sym, ap, subst, Some}
+use Rattle.std.proofs.Common.{◌≡◌, ◌-◌, ◌∙◌, ℕ, List, length, take, sym, ap, subst}
 use Rattle.std.specs.Prelude.{option_map, if◌then◌else◌}
-use Rattle.bz_tree.specs.declared.stmt.Class.TheVariants.{Rule as RuleClass}
-use Rattle.bz_canonical.specs.Canonical.{IsCanonical, between}
+use Rattle.bz_canonical.specs.Canonical.{between}
 use Rattle.bz_canonical.specs.private.Rewritten.{IsRuleRead, put_ends}
 use Rattle.bz_canonical.proofs.PutRules.{rule_chunk}
 use Rattle.bz_canonical.proofs.rewrite.chunk_of.Goals as goal
@@ -15,5 +14,4 @@ returns c = λ depth attr read.
     let place = option_map between c.place_in_both.result in
     let ends = option_map put_ends r.place in
     let same : (if r.as_is then take (length text - length r.rest.now) text else c.args.buffer.now) ≡ written = ap (λ (t : List ℕ). if r.as_is then t else c.args.buffer.now) (sym c.in_ok-chunk.ensures) ∙ sym c.in_ok-written.ensures in
-    subst (λ (n : List ℕ). IsCanonical depth attr RuleClass (Some n) place chunk written text) (sym c.in-Ok.ensures.0)
-    (rule_chunk depth attr c.args.name.now text r.rest.now written chunk ends place (subst (λ (t : List ℕ). IsRuleRead depth attr c.args.name.now text r.rest.now t ends) same read) c.in_ok-chunk.ensures c.place_in_both.ensures)
+    rule_chunk depth attr c.args.name.now text r.rest.now written chunk ends place (subst (λ (t : List ℕ). IsRuleRead depth attr c.args.name.now text r.rest.now t ends) same read) c.in_ok-chunk.ensures c.place_in_both.ensures
