@@ -3,26 +3,27 @@ use Rattle.std.proofs.Common.{◌≡◌, ℕ, ◌+◌, ◌<◌, ◌≤◌, List,
 use Rattle.std.proofs.lemmas.Bool.{false≢true}
 use Rattle.std.proofs.lemmas.List.{length-map}
 use Rattle.std.proofs.Math.Seq.{drop-append_seam, take-append_seam}
-use Rattle.std.specs.Prelude.{codes, is_some, option_map}
+use Rattle.std.specs.Prelude.{codes, is_some, option_and_then, option_map}
 use Rattle.bz_tree.specs.declared.stmt.GroupKind.{GroupKind}
 use Rattle.bz_tree.specs.Tree.{Item, leaf, group, Segment, Statement, items_of, segs_of}
 use Rattle.bz_tree.specs.Rows.{RowPart, a_token, opening, closing, segment_end, above, beside, beside_part, items_parts, segs_parts}
 use Rattle.bz_token.specs.declared.token.Kind.TheVariants.{Identifier, Operator, String}
 use Rattle.bz_attribute.specs.Elements.{IsElementOf, IsValueAt, ListRest, rest_parts, value_parts}
-use Rattle.bz_attribute.specs.Effects.{edit_first, with_args, nodes_after, nodes_of}
+use Rattle.bz_attribute.specs.Effects.{edit_first, has, with_args, nodes_after, nodes_of}
 use Rattle.bz_attribute.specs.Finder.{find_from}
 use Rattle.bz_attribute.specs.Lists.{with_value}
 use Rattle.bz_attribute.specs.RowPlaces.{IsRuleRow}
-use Rattle.bz_attribute.specs.Rules.{Rule, first_named, is_named, is_operator_item, is_text, name_of, only_text, value}
+use Rattle.bz_attribute.specs.Rules.{Rule, first_named, is_named, is_operator_item, is_text, name_in, name_of, only_text, string_value, value}
 use Rattle.bz_attribute.specs.private.Ends.{above_len, end_len, segment_len}
 use Rattle.bz_attribute.specs.private.HeadParts.{is_end}
 use Rattle.bz_attribute.specs.private.ListParts.{HasElement, bare_string, ends_list, string_in}
-use Rattle.bz_attribute.proofs.EditedAt.{edited_at, first_at, segs_join}
+use Rattle.bz_command.specs.Values.{value_of}
+use Rattle.bz_attribute.proofs.EditedAt.{edited_at, first_at, none_first, segs_join}
 use Rattle.bz_attribute.proofs.EndsBack.{no_beside_argument, no_beside_end, segment_long}
 use Rattle.bz_attribute.proofs.Lengths.{above_passed, no_more_above}
 use Rattle.bz_attribute.proofs.RuleNodes.{rule_nodes}
 use Rattle.bz_attribute.proofs.RuleParts.{before_args}
-use Rattle.bz_attribute.proofs.PlaceFound.{answered, argument_there, args_found, in_three, nodes_split, placed, post, pre, told}
+use Rattle.bz_attribute.proofs.PlaceFound.{answered, args_found, in_three, nodes_split, placed, post, pre, told}
 use Rattle.bz_attribute.proofs.FoundArgs.{split}
 
 -- what comes after the elements of a list
@@ -192,14 +193,6 @@ named_nodes name (group k segs one_comma end ∷ leaf Operator operator ∷ xs) 
 named_nodes name (x ∷ leaf _ operator ∷ xs) h = absurd (false≢true h)
 named_nodes name (x ∷ group k segs one_comma end ∷ xs) h = absurd (false≢true h)
 
--- its name and the operator stand before it
-pub value_within : (name : List ℕ) (s : Statement) (r : Rule) (ps : List RowPart) (at : ℕ) → IsRuleRow s r ps → find_from name 0 false ps ≡ Some at → at + 2 ≤ length ps
-value_within name s r ps at h is =
-    let g = argument_there name s r ps at h is in
-    let n = named_nodes name g.arg.nodes g.is in
-    let two : drop at ps ≡ a_token Identifier n.text ∷ a_token Operator n.operator ∷ value_parts (value g.arg) g.more = g.parts ∙ ap (λ (xs : List Item). items_parts (items_of xs) ++ segment_end ∷ g.more) n.are in
-    omega (arith, ap length two, length-drop at ps)
-
 -- the value of the first argument of a name
 pub value_there : (name : List ℕ) (s : Statement) (r : Rule) (ps : List RowPart) (at to : ℕ) → IsRuleRow s r ps → find_from name 0 false ps ≡ Some at → to ≡ at + 2 → IsValueAt name s r ps to
 value_there name s r ps at to h is to_is =
@@ -235,3 +228,16 @@ value_there name s r ps at to h is to_is =
           ap (λ (qs : List RowPart). qs ++ value_parts v after) taken ∙ append_assoc first two (value_parts v after) ∙ ap (λ (qs : List RowPart). first ++ qs) (sym own_now)
           ∙ sym (in_three (with_args (edit_first (is_named name) edit) s) r2 f.arg.front (b ∷ []) f.arg.back written args ∙ nodes_split s r f.arg.front f.arg.back b);
     }
+
+-- its name and the operator stand before it
+pub value_within : (name : List ℕ) (s : Statement) (r : Rule) (ps : List RowPart) (at : ℕ) → IsRuleRow s r ps → find_from name 0 false ps ≡ Some at → at + 2 ≤ length ps
+value_within name s r ps at h is =
+    let v = value_there name s r ps at (at + 2) h is refl in
+    omega (arith, ap length v.read, length-drop (at + 2) ps, length-append (items_parts (items_of (value v.arg))) (segment_end ∷ v.after))
+
+-- the string that it is
+pub string_told : (s : Statement) (r : Rule) (ps : List RowPart) (at : ℕ) → IsValueAt (codes "name") s r ps at → option_and_then value_of (string_in (drop at ps)) ≡ name_in r.args
+string_told s r ps at v = ap (option_and_then value_of) (ap string_in v.read ∙ text_told (value v.arg) v.after) ∙ sym (ap (option_and_then (λ a. string_value (value a))) v.first)
+
+pub none_told : (args : List Segment) → has (codes "name") args ≡ false → option_and_then value_of None ≡ name_in args
+none_told args none = sym (ap (option_and_then (λ a. string_value (value a))) (none_first (codes "name") args none))

@@ -196,7 +196,7 @@ fn ends_list(parts: &[Part<'_>]) -> bool
 
 // The text of the segment that they begin with, where it is one string token.
 #[inline(always)]
-fn string_in<'a>(parts: &[Part<'a>]) -> Option<&'a str>
+pub(crate) fn string_in<'a>(parts: &[Part<'a>]) -> Option<&'a str>
     ensures { option_map (λ text. text.now) result ≡ spec.string_in (map part_view parts.now) }
 {
     match parts {
