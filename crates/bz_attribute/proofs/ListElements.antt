@@ -3,24 +3,24 @@ use Rattle.std.proofs.Common.{◌≡◌, ℕ, ◌+◌, ◌<◌, ◌≤◌, List,
 use Rattle.std.proofs.lemmas.Bool.{false≢true}
 use Rattle.std.proofs.lemmas.List.{length-map}
 use Rattle.std.proofs.Math.Seq.{drop-append_seam, take-append_seam}
-use Rattle.std.specs.Prelude.{codes, is_some, option_and_then, option_map}
+use Rattle.std.specs.Prelude.{codes, option_and_then}
 use Rattle.bz_tree.specs.declared.stmt.GroupKind.{GroupKind}
 use Rattle.bz_tree.specs.Tree.{Item, leaf, group, Segment, Statement, items_of, segs_of}
-use Rattle.bz_tree.specs.Rows.{RowPart, a_token, opening, closing, segment_end, above, beside, beside_part, items_parts, segs_parts}
+use Rattle.bz_tree.specs.Rows.{RowPart, a_token, opening, closing, segment_end, above, beside_part, items_parts, segs_parts}
 use Rattle.bz_token.specs.declared.token.Kind.TheVariants.{Identifier, Operator, String}
-use Rattle.bz_attribute.specs.Elements.{IsElementOf, IsValueAt, ListRest, rest_parts, value_parts}
+use Rattle.bz_attribute.specs.Elements.{AreElementsTo, IsElementOf, IsValueAt, ListRest, rest_parts, value_parts}
 use Rattle.bz_attribute.specs.Effects.{edit_first, has, with_args, nodes_after, nodes_of}
 use Rattle.bz_attribute.specs.Finder.{find_from}
 use Rattle.bz_attribute.specs.Lists.{with_value}
 use Rattle.bz_attribute.specs.RowPlaces.{IsRuleRow}
 use Rattle.bz_attribute.specs.Rules.{Rule, first_named, is_named, is_operator_item, is_text, name_in, name_of, only_text, string_value, value}
-use Rattle.bz_attribute.specs.private.Ends.{above_len, end_len, segment_len}
+use Rattle.bz_attribute.specs.private.Ends.{above_len, end_len, parts_len, plain_len, segment_len}
 use Rattle.bz_attribute.specs.private.HeadParts.{is_end}
-use Rattle.bz_attribute.specs.private.ListParts.{HasElement, bare_string, ends_list, string_in}
+use Rattle.bz_attribute.specs.private.ListParts.{ends_list, string_in}
 use Rattle.bz_command.specs.Values.{value_of}
 use Rattle.bz_attribute.proofs.EditedAt.{edited_at, first_at, none_first, segs_join}
-use Rattle.bz_attribute.proofs.EndsBack.{no_beside_argument, no_beside_end, segment_long}
-use Rattle.bz_attribute.proofs.Lengths.{above_passed, no_more_above}
+use Rattle.bz_attribute.proofs.EndsBack.{plain_elements, no_beside_argument, no_beside_end, segment_long}
+use Rattle.bz_attribute.proofs.Lengths.{above_passed, no_more_above, segs_ended}
 use Rattle.bz_attribute.proofs.RuleNodes.{rule_nodes}
 use Rattle.bz_attribute.proofs.RuleParts.{before_args}
 use Rattle.bz_attribute.proofs.PlaceFound.{answered, args_found, in_three, nodes_split, placed, post, pre, told}
@@ -137,26 +137,18 @@ pub element_there : (rest : ListRest) (after ps : List RowPart) (at token to : �
     → to ≡ token + segment_len (drop token ps) → string ≡ string_in (drop token ps) → IsElementOf rest after ps at token to string
 element_there rest after ps at token to string read is more to_is string_is = element_in rest.elements rest.end rest.one_comma rest.items after ps at token to string read is more to_is string_is
 
--- one that is one string token, without comments
-record IsBare (qs : List RowPart) (text : List ℕ) : Type 0 where
-  above : above_len qs ≡ 0
-  more : ends_list qs ≡ false
-  long : segment_len qs ≡ 2
-  string : string_in qs ≡ Some text
-
-is_bare : (qs : List RowPart) (text : List ℕ) → bare_string qs ≡ Some text → IsBare qs text
-is_bare (a_token String t ∷ segment_end ∷ beside comment ∷ ps) text h = let clash : None ≡ Some text = h in absurd cc
-is_bare (a_token String t ∷ segment_end ∷ p ∷ ps) text h = record { above = refl; more = refl; long = refl; string = h }
-is_bare _ text h = let clash : None ≡ Some text = h in absurd cc
-
-pub bare_there : (ps : List RowPart) (at : ℕ) (text : List ℕ) → bare_string (drop at ps) ≡ Some text → HasElement ps at at (at + 2) (Some text)
-bare_there ps at text h = λ rest after read.
-    let b = is_bare (drop at ps) text h in
-    element_there rest after ps at at (at + 2) (Some text) read (omega (arith, b.above)) b.more (omega (arith, b.long)) (sym b.string)
-
-pub bare_some : {A : Type 0} (f : A → List ℕ) (o : Option A) (qs : List RowPart) → option_map f o ≡ bare_string qs → is_some o ≡ true → (text : List ℕ) × (bare_string qs ≡ Some text)
-bare_some f None qs told h = absurd (false≢true h)
-bare_some f (Some x) qs told h = (f x, sym told)
+-- where the elements end
+pub elements_told : (l : ListRest) (after ps : List RowPart) (from close end : ℕ) → drop from ps ≡ rest_parts l after → close ≡ parts_len false 0 (drop from ps) → end ≡ from + plain_len (take close (drop from ps)) → AreElementsTo l ps from end
+elements_told l after ps from close end read close_is end_is =
+    let own : List RowPart = segs_parts (segs_of l.elements) in
+    let comments : List RowPart = map above l.end in
+    let later : List RowPart = closing l.one_comma ∷ value_parts l.items after in
+    let long : close ≡ length (own ++ comments) =
+    omega (arith, close_is, ap (parts_len false 0) read, segs_ended (segs_of l.elements) l.end l.one_comma (value_parts l.items after), length-append own comments) in
+    let inside : take close (drop from ps) ≡ own ++ comments = (λ i. take (long i) ((read ∙ sym (append_assoc own comments later)) i)) ∙ take-append_seam (own ++ comments) later in
+    let size : end ≡ from + length own = end_is ∙ ap (λ (qs : List RowPart). from + plain_len qs) inside ∙ ap (λ (n : ℕ). from + n) (plain_elements l.elements l.end) in
+    let left : drop end ps ≡ comments ++ later = ap (λ (n : ℕ). drop n ps) size ∙ sym (drop-drop (length own) from ps) ∙ ap (drop (length own)) read ∙ drop-append_seam own (comments ++ later) in
+    record { are = read ∙ ap (λ (qs : List RowPart). own ++ qs) (sym left); size = size }
 
 -- the list ends
 pub record HasClosed (rest : ListRest) (after ps : List RowPart) (at token : ℕ) : Type 0 where

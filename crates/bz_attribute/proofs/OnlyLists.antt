@@ -7,17 +7,17 @@ use Rattle.bz_tree.specs.Tree.{Item, leaf, group, Segs, items_of}
 use Rattle.bz_tree.specs.Rows.{RowPart, segment_end, item_parts, items_parts}
 use Rattle.bz_attribute.specs.Elements.{IsListIn, IsOnlyList, list_item, value_parts}
 use Rattle.bz_attribute.specs.Lists.{is_list, is_only}
-use Rattle.bz_attribute.specs.private.Ends.{nodes_len}
+use Rattle.bz_attribute.specs.private.Ends.{parts_len}
 use Rattle.bz_attribute.specs.private.ListParts.{ItemEnds, begins_list, ends_value}
 use Rattle.bz_attribute.proofs.ItemParts.{opened, rest_of}
 use Rattle.bz_attribute.proofs.Lengths.{nodes_ended}
 use Rattle.bz_attribute.proofs.ListWalk.{found_here}
 use Rattle.bz_tree.proofs.FromParts.{segs_back}
 
-pub value_ended : (nodes : List Item) (after ps : List RowPart) (value end : ℕ) → drop value ps ≡ value_parts nodes after → end ≡ value + nodes_len 0 (drop value ps) → drop end ps ≡ segment_end ∷ after
+pub value_ended : (nodes : List Item) (after ps : List RowPart) (value end : ℕ) → drop value ps ≡ value_parts nodes after → end ≡ value + parts_len true 0 (drop value ps) → drop end ps ≡ segment_end ∷ after
 value_ended nodes after ps value end read is =
     let own : List RowPart = items_parts (items_of nodes) in
-    let size : end ≡ value + length own = is ∙ ap (λ (n : ℕ). value + n) (ap (nodes_len 0) read ∙ nodes_ended (items_of nodes) after) in
+    let size : end ≡ value + length own = is ∙ ap (λ (n : ℕ). value + n) (ap (parts_len true 0) read ∙ nodes_ended (items_of nodes) after) in
     ap (λ (n : ℕ). drop n ps) size ∙ sym (drop-drop (length own) value ps) ∙ ap (drop (length own)) read ∙ drop-append_seam own (segment_end ∷ after)
 
 begins_told : (x : Item) (xs : List Item) (after : List RowPart) → begins_list (value_parts (x ∷ xs) after) ≡ is_list x

@@ -14,7 +14,7 @@ ghost use Rattle.bz_attribute.specs.Lists as lists;
 
 use crate::finder::find_argument;
 use crate::head_parts::{is_end, text_of};
-use crate::place::{comments_len, segment_len};
+use crate::place::{comments_begin, comments_len, parts_len, segment_len};
 use crate::value::is_one_list;
 use bz_token::Kind;
 use bz_tree::{GroupKind, Part};
@@ -64,8 +64,7 @@ pub(crate) fn item_end(parts: &[Part<'_>], at: usize) -> usize
     if !opens(&parts[at]) {
         return at + 1;
     }
-    let end = elements_end(parts, at + 1);
-    let close = end + comments_len(&parts[end..]);
+    let close = at + 1 + parts_len(&parts[at + 1..], false);
     parts.len().min(close + 1)
 }
 
@@ -230,40 +229,7 @@ pub fn next_element<'a>(parts: &[Part<'a>], at: usize) -> Option<Element<'a>>
     })
 }
 
-/// The text of the element that they begin with, where it is one string token without comments: its parts are two.
-#[inline(always)]
-pub(crate) fn bare_string<'a>(parts: &[Part<'a>]) -> Option<&'a str>
-    ensures text { option_map (λ text. text.now) result ≡ spec.bare_string (map part_view parts.now) }
-    ensures within { IfSome result (λ text. 2 ≤ length parts.now) }
-{
-    match parts {
-        [Part::Token(Kind::String, text), Part::End, next, ..] => match next {
-            Part::Beside(_) => None,
-            _ => Some(*text),
-        },
-        _ => None,
-    }
-}
-
-// Where the element ends that begins at a place in a list part. None: its elements end there.
-fn next_end(parts: &[Part<'_>], at: usize) -> Option<usize>
-    requires { at ≤ length parts.now }
-    ensures some { IfSome result (λ to. spec.EndsAt (map part_view parts.now) at to) }
-    ensures none { IfNone result ((rest : ListRest) (after : List RowPart)
-        → drop at (map part_view parts.now) ≡ rest_parts rest after → rest.elements ≡ []) }
-    ensures within { IfSome result (λ to. (at < to) × (to ≤ length parts.now)) }
-{
-    if bare_string(&parts[at..]).is_some() {
-        return Some(at + 2);
-    }
-    match next_element(parts, at) {
-        None => None,
-        Some(element) => Some(element.to),
-    }
-}
-
 /// Where the elements of a list part end, which begin at a place.
-#[tactic(auto, using(crate::proofs::ValueElements::none_passed))]
 pub fn elements_end(parts: &[Part<'_>], from: usize) -> usize
     requires { from ≤ length parts.now }
     ensures elements { (rest : ListRest) (after : List RowPart)
@@ -271,11 +237,9 @@ pub fn elements_end(parts: &[Part<'_>], from: usize) -> usize
         → AreElementsTo rest (map part_view parts.now) from result }
     ensures within { (from ≤ result) × (result ≤ length parts.now) }
 {
-    let mut at = from;
-    while let Some(to) = next_end(parts, at) {
-        at = to;
-    }
-    at
+    let rest = &parts[from..];
+    let close = parts_len(rest, false);
+    from + comments_begin(&rest[..close])
 }
 
 /// The next element of a value, from a place in a list part of it on. None: no element is left in any.
