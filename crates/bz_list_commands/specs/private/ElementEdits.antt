@@ -10,10 +10,6 @@ use Rattle.bz_list_commands.specs.private.StringEdits.{become, become_all, in_pl
 use Rattle.bz_list_commands.specs.private.WrittenParts.{IsWritten}
 use Rattle.bz_list_commands.specs.declared.rewriting.Written.{Written}
 
-abbrev pub begins_list : List RowPart → Bool
-begins_list (opening ListKind ∷ ps) = true
-begins_list _ = false
-
 -- an element that is meant is written
 pub record HasPutElement (p : Option (List ℕ) → Bool) (literal : Option (List ℕ)) (w next : Written) (token to : ℕ) (string : Option (List ℕ)) (ps before out : List RowPart) : Type 0 where
   pub at : next.at ≡ to
