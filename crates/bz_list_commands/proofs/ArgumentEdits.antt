@@ -232,32 +232,6 @@ all_edited f t args next ps out s ends =
       written = subst (λ (zs : List Segment). IsWritten next ps out (segs_parts (segs_of (flat_map f zs)))) (sym all) s.written;
     }
 
--- the value of an argument with what ends it, among the parts up to there
-pub own_value : (a : Segment) (h : is_attribute a ≡ true) (others : List Segment) (ps : List RowPart) (at v nodes to : ℕ) (name : Option (List ℕ)) → drop at ps ≡ argument_parts a others → IsFirstArgument a nodes to name → v ≡ at + nodes + 2 → at + to ≤ length ps
-    → drop v (take (at + to) ps) ≡ value_parts (value a) (beside_part a.suffix)
-own_value a h others ps at v nodes to name are first is fits =
-    let own : List RowPart = value_parts (value a) (beside_part a.suffix) in
-    let tail : List RowPart = segs_parts (segs_of others) in
-    let rest : List RowPart = segment_end ∷ (beside_part a.suffix ++ []) in
-    let size : at + to ≡ v + length own =
-    omega (
-      arith,
-      is,
-      first.begins,
-      first.ends,
-      ap length (cut_name a h rest),
-      name_long a h,
-      length-append (name_parts a h) (items_parts (items_of (value a)) ++ rest),
-      length-append (items_parts (items_of (value a))) rest,
-      length-append (items_parts (items_of (value a))) (segment_end ∷ beside_part a.suffix),
-      length-append (beside_part a.suffix) [],
-    ) in
-    let here : drop v ps ≡ own ++ tail = value_reads a h others ps at v nodes to name are first is ∙ sym (append_assoc (items_parts (items_of (value a))) (segment_end ∷ beside_part a.suffix) tail) in
-    let front : length (take v ps) ≡ v = length-take-le v ps (omega (arith, size, fits)) in
-    ap (λ (n : ℕ). drop v (take n ps)) size ∙ ap (drop v) (take-add v (length own) ps)
-    ∙ ap (λ (n : ℕ). drop n (take v ps ++ take (length own) (drop v ps))) (sym front) ∙ drop-append_seam (take v ps) (take (length own) (drop v ps))
-    ∙ ap (take (length own)) here ∙ take-append_seam own tail
-
 -- a keyword argument, and any
 pub of_keyword : (p : Option (List ℕ) → Bool) (literal : Option (List ℕ)) (a : Segment) (others : List Segment) (w next : Written) (ps before out : List RowPart) → is_attribute a ≡ true → HasEdited (filtered (become_all p literal)) (changes p) a others w next ps before out
     → HasEdited (edited p literal) (is_changed p) a others w next ps before out

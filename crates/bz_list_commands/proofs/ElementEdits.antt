@@ -21,7 +21,7 @@ use Rattle.bz_list_commands.specs.declared.string_edit.Meant.{Meant}
 use Rattle.bz_list_commands.specs.declared.string_edit.Meant.TheVariants.{Any, Unlike, Word, Words}
 use Rattle.bz_command.specs.Labels.{Package}
 use Rattle.bz_list_commands.specs.private.WrittenParts.{HasPut, IsWithin, IsWritten}
-use Rattle.bz_list_commands.specs.private.ElementEdits.{HasEditedElement, HasEditedFront, HasEditedList, HasEditedLists, HasEditedValue, HasPutElement}
+use Rattle.bz_list_commands.specs.private.ElementEdits.{HasEditedElement, HasEditedFront, HasEditedList, HasEditedLists, HasEditedValue}
 use Rattle.bz_list_commands.proofs.WrittenParts.{passed}
 use Rattle.bz_attribute.proofs.ListEdits.{items_join}
 
@@ -53,20 +53,20 @@ strings_only home (Word word) literal h = refl
 strings_only home (Words set) literal h = refl
 strings_only home (Unlike old new) literal h = refl
 
--- an element goes
-pub element_gone : (p : Option (List ℕ) → Bool) (w next : Written) (token to : ℕ) (string : Option (List ℕ)) (ps before out : List RowPart) → HasPut w next to None ps before out → HasPutElement p None w next token to string ps before out
-element_gone p w next token to string ps before out put = record { at = put.at; changed = put.changed; are = λ list after e is target h. put.are target h }
-
 joined : (a b c d : List RowPart) → ((a ++ b) ++ c) ++ d ≡ a ++ (b ++ (c ++ d))
 joined a b c d = simp append_assoc
 
+pub or_true : (b : Bool) → (b || true) ≡ true
+or_true true = refl
+or_true false = refl
+
 -- its string becomes another
-pub element_put : (p : Option (List ℕ) → Bool) (literal : List ℕ) (w next : Written) (token to n : ℕ) (string : Option (List ℕ)) (ps before out : List RowPart) → p None ≡ false → IsWithin w n → w.at ≤ token → IsWithin next n
-    → HasPut (record w { at = token }) next (token + 1) (Some literal) ps before out → HasPutElement p (Some literal) w (record next { at = to }) token to string ps before out
-element_put p literal w next token to n string ps before out none within order within2 put = record {
+pub element_put : (p : Option (List ℕ) → Bool) (literal : List ℕ) (w next : Written) (token to n : ℕ) (string : Option (List ℕ)) (ps before out : List RowPart) → p None ≡ false → p string ≡ true → IsWithin w n → w.at ≤ token → IsWithin next n
+    → HasPut (record w { at = token }) next (token + 1) (Some literal) ps before out → HasEditedElement p (Some literal) w (record next { at = to }) token to string ps before out
+element_put p literal w next token to n string ps before out none is within order within2 put = record {
   at = refl;
-  changed = put.changed;
-  are = λ list after e is target h.
+  changed = put.changed ∙ sym (ap (λ (b : Bool). w.changed || b) is ∙ or_true w.changed);
+  are = λ list after e target h.
       let s : Segment = e.element in
       let one : IsString s.nodes = is_string s.nodes p none (ap p (sym e.text) ∙ is) in
       let comments : List RowPart = map above s.before in
@@ -82,12 +82,9 @@ element_put p literal w next token to n string ps before out none within order w
       let second = put.are (target ++ comments) first in
       let third = passed next ps out ((target ++ comments) ++ a_token String literal ∷ []) last to n within2 second (ap (λ (k : ℕ). drop k ps) put.at ∙ at_last) (omega (arith, ends, put.at)) in
       let whole : ((target ++ comments) ++ a_token String literal ∷ []) ++ last ≡ target ++ (comments ++ a_token String literal ∷ last) = joined target comments (a_token String literal ∷ []) last in
-      subst (λ (t : List RowPart). IsWritten (record next { at = to }) ps out t) whole third;
+      let goes : become p (Some literal) s ≡ in_place (Some literal) s = ap (λ (b : Bool). if b then in_place (Some literal) s else s ∷ []) (ap p (sym e.text) ∙ is) in
+      subst (λ (t : List RowPart). IsWritten (record next { at = to }) ps out t) (whole ∙ ap (λ (ss : List Segment). target ++ segs_parts (segs_of ss)) (sym goes)) third;
 }
-
-pub or_true : (b : Bool) → (b || true) ≡ true
-or_true true = refl
-or_true false = refl
 
 -- an element that is no such string stays
 pub element_passed : (p : Option (List ℕ) → Bool) (literal : Option (List ℕ)) (w : Written) (token to n : ℕ) (string : Option (List ℕ)) (ps out : List RowPart) → IsWithin w n → p string ≡ false
@@ -100,18 +97,6 @@ element_passed p literal w token to n string ps out within none = record {
       let stays : become p literal s ≡ s ∷ [] = ap (λ (o : Option (List ℕ)). if p o then in_place literal s else s ∷ []) (sym e.text) ∙ ap (λ (b : Bool). if b then in_place literal s else s ∷ []) none in
       subst (λ (ss : List Segment). IsWritten (record w { at = to }) ps out (target ++ segs_parts (segs_of ss))) (sym stays)
       (passed w ps out target (segs_parts (segs_of (s ∷ []))) to n within h e.own e.ends);
-}
-
--- one that is such a string was written
-pub element_edited : (p : Option (List ℕ) → Bool) (literal : Option (List ℕ)) (w next : Written) (token to : ℕ) (string : Option (List ℕ)) (ps before out : List RowPart) → p string ≡ true → HasPutElement p literal w next token to string ps before out
-    → HasEditedElement p literal w next token to string ps before out
-element_edited p literal w next token to string ps before out is put = record {
-  at = put.at;
-  changed = put.changed ∙ sym (ap (λ (b : Bool). w.changed || b) is ∙ or_true w.changed);
-  are = λ list after e target h.
-      let s : Segment = e.element in
-      let goes : become p literal s ≡ in_place literal s = ap (λ (o : Option (List ℕ)). if p o then in_place literal s else s ∷ []) (sym e.text) ∙ ap (λ (b : Bool). if b then in_place literal s else s ∷ []) is in
-      subst (λ (ss : List Segment). IsWritten next ps out (target ++ segs_parts (segs_of ss))) (sym goes) (put.are list after e is target h);
 }
 
 -- the walk over the elements of a list part

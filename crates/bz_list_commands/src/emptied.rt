@@ -1,8 +1,8 @@
 //! Whether a value is one list that loses all its elements.
 
-ghost use Rattle.std.specs.Prelude.{◌≡◌, ◌≤◌, List, ℕ, Option, None as Nothing, map, length, drop};
+ghost use Rattle.std.specs.Prelude.{◌≡◌, ◌≤◌, List, None as Nothing, map, length, drop};
 ghost use Rattle.bz_tree.specs.Tree.{Item};
-ghost use Rattle.bz_tree.specs.Rows.{beside_part, part_view};
+ghost use Rattle.bz_tree.specs.Rows.{RowPart, part_view};
 ghost use Rattle.bz_attribute.specs.Elements.{value_parts};
 ghost use Rattle.bz_attribute.specs.Effects.{loses_all};
 ghost use Rattle.bz_list_commands.specs.private.StringEdits.{become_all, literal_of, means};
@@ -15,8 +15,8 @@ use bz_tree::Part;
 #[tactic(auto, using(crate::proofs::EmptiedLists::no_list))]
 fn all_go(edit: StringEdit<'_, '_, '_>, parts: &[Part<'_>], value: usize) -> bool
     requires { value ≤ length parts.now }
-    ensures { (nodes : List Item) (suffix : Option (List ℕ))
-        → drop value (map part_view parts.now) ≡ value_parts nodes (beside_part suffix)
+    ensures { (nodes : List Item) (after : List RowPart)
+        → drop value (map part_view parts.now) ≡ value_parts nodes after
         → result ≡ loses_all (become_all (means edit.entry) Nothing) nodes }
 {
     let Some(first) = only_list(parts, value) else {
@@ -32,12 +32,11 @@ fn all_go(edit: StringEdit<'_, '_, '_>, parts: &[Part<'_>], value: usize) -> boo
     first < at
 }
 
-/// The value of an argument is one list, and no element of it is left, where it has some. The parts end with the
-/// argument.
+/// The value of an argument is one list, and no element of it is left, where it has some.
 pub fn loses_all(edit: StringEdit<'_, '_, '_>, parts: &[Part<'_>], value: usize) -> bool
     requires { value ≤ length parts.now }
-    ensures { (nodes : List Item) (suffix : Option (List ℕ))
-        → drop value (map part_view parts.now) ≡ value_parts nodes (beside_part suffix)
+    ensures { (nodes : List Item) (after : List RowPart)
+        → drop value (map part_view parts.now) ≡ value_parts nodes after
         → result ≡ loses_all (become_all (means edit.entry) (literal_of edit.entry)) nodes }
 {
     match edit.new() {

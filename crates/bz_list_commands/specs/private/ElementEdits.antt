@@ -10,13 +10,6 @@ use Rattle.bz_list_commands.specs.private.StringEdits.{become, become_all, in_pl
 use Rattle.bz_list_commands.specs.private.WrittenParts.{IsWritten}
 use Rattle.bz_list_commands.specs.declared.rewriting.Written.{Written}
 
--- an element that is meant is written
-pub record HasPutElement (p : Option (List ℕ) → Bool) (literal : Option (List ℕ)) (w next : Written) (token to : ℕ) (string : Option (List ℕ)) (ps before out : List RowPart) : Type 0 where
-  pub at : next.at ≡ to
-  pub changed : next.changed ≡ true
-  pub are : (list : ListRest) (after : List RowPart) (e : IsElementOf list after ps w.at token to string) → p string ≡ true
-      → (target : List RowPart) → IsWritten w ps before target → IsWritten next ps out (target ++ segs_parts (segs_of (in_place literal e.element)))
-
 -- an element is passed or written
 pub record HasEditedElement (p : Option (List ℕ) → Bool) (literal : Option (List ℕ)) (w next : Written) (token to : ℕ) (string : Option (List ℕ)) (ps before out : List RowPart) : Type 0 where
   pub at : next.at ≡ to
