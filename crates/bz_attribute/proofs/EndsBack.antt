@@ -97,6 +97,11 @@ segment_long a back h =
     ∙ ap (λ (ps : List RowPart). length nodes + end_len ps) (drop-append_seam nodes after)
     ∙ ap (λ (k : ℕ). length nodes + k) (no_beside back a.suffix h)
 
+pub argument_long : (a : Segment) → length (segs_parts (segs_of (a ∷ []))) ≡ length (map above a.before) + (length (items_parts (items_of a.nodes)) + (1 + length (beside_part a.suffix)))
+argument_long a =
+    let rest : List RowPart = segment_end ∷ (beside_part a.suffix ++ []) in
+    omega (arith, length-append (map above a.before) (items_parts (items_of a.nodes) ++ rest), length-append (items_parts (items_of a.nodes)) rest, length-append (beside_part a.suffix) [])
+
 no_beside_node : (xs : Items) (rest : List RowPart) → end_len (segment_end ∷ (items_parts xs ++ segment_end ∷ rest)) ≡ 1
 no_beside_node no_items rest = refl
 no_beside_node (item (leaf kind text) xs) rest = refl

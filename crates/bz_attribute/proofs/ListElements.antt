@@ -1,5 +1,5 @@
 -- The elements of a list part, and the value of an argument, by their parts.
-use Rattle.std.proofs.Common.{◌≡◌, ℕ, ◌+◌, ◌<◌, ◌≤◌, List, [], ◌∷◌, ◌++◌, Bool, true, false, if◌then◌else◌, Option, Some, None, map, length, length-drop, take, drop, refl, ap, sym, ◌∙◌, arith, append_assoc, length-append, drop-drop}
+use Rattle.std.proofs.Common.{is_some, ◌≡◌, ℕ, ◌+◌, ◌<◌, ◌≤◌, List, [], ◌∷◌, ◌++◌, Bool, true, false, if◌then◌else◌, Option, Some, None, map, length, length-drop, take, drop, refl, ap, sym, ◌∙◌, arith, append_assoc, length-append, drop-drop}
 use Rattle.std.proofs.lemmas.Bool.{false≢true}
 use Rattle.std.proofs.lemmas.List.{length-map}
 use Rattle.std.proofs.Math.Seq.{drop-append_seam, take-append_seam}
@@ -7,24 +7,24 @@ use Rattle.std.specs.Prelude.{codes, option_and_then}
 use Rattle.bz_tree.specs.declared.stmt.GroupKind.{GroupKind}
 use Rattle.bz_tree.specs.Tree.{Item, leaf, group, Segment, Statement, items_of, segs_of}
 use Rattle.bz_tree.specs.Rows.{RowPart, a_token, opening, closing, segment_end, above, beside_part, items_parts, segs_parts}
-use Rattle.bz_token.specs.declared.token.Kind.TheVariants.{Identifier, Operator, String}
+use Rattle.bz_token.specs.declared.token.Kind.TheVariants.{String}
 use Rattle.bz_attribute.specs.Elements.{AreElementsTo, IsElementOf, IsValueAt, ListRest, rest_parts, value_parts}
 use Rattle.bz_attribute.specs.Effects.{edit_first, has, with_args, nodes_after, nodes_of}
 use Rattle.bz_attribute.specs.Finder.{find_from}
 use Rattle.bz_attribute.specs.Lists.{with_value}
 use Rattle.bz_attribute.specs.RowPlaces.{IsRuleRow}
-use Rattle.bz_attribute.specs.Rules.{Rule, first_named, is_named, is_operator_item, is_text, name_in, name_of, only_text, string_value, value}
+use Rattle.bz_attribute.specs.Rules.{Rule, first_named, is_named, is_text, name_in, name_of, only_text, string_value, value}
 use Rattle.bz_attribute.specs.private.Ends.{above_len, end_len, parts_len, plain_len, segment_len}
 use Rattle.bz_attribute.specs.private.HeadParts.{is_end}
 use Rattle.bz_attribute.specs.private.ListParts.{ends_list, string_in}
 use Rattle.bz_command.specs.Values.{value_of}
 use Rattle.bz_attribute.proofs.EditedAt.{edited_at, first_at, none_first, segs_join}
-use Rattle.bz_attribute.proofs.EndsBack.{plain_elements, no_beside_argument, no_beside_end, segment_long}
+use Rattle.bz_attribute.proofs.EndsBack.{argument_long, plain_elements, no_beside_argument, no_beside_end, segment_long}
 use Rattle.bz_attribute.proofs.Lengths.{above_passed, no_more_above, segs_ended}
 use Rattle.bz_attribute.proofs.RuleNodes.{rule_nodes}
 use Rattle.bz_attribute.proofs.RuleParts.{before_args}
 use Rattle.bz_attribute.proofs.PlaceFound.{answered, args_found, in_three, nodes_split, placed, post, pre, told}
-use Rattle.bz_attribute.proofs.FoundArgs.{split}
+use Rattle.bz_attribute.proofs.FoundArgs.{group_name, split}
 
 -- what comes after the elements of a list
 abbrev tail : List (List ℕ) → Bool → List Item → List RowPart → List RowPart
@@ -105,15 +105,7 @@ element_of s ss end one_comma items after ps at token to string read is to_is st
     ap segment_len n.read ∙ segment_long s (segs_parts (segs_of ss) ++ last) (beside_none ss end one_comma (value_parts items after)) in
     let both : segs_parts (segs_of (s ∷ ss)) ≡ own ++ segs_parts (segs_of ss) = segs_join (s ∷ []) ss in
     let cut : drop at ps ≡ own ++ (segs_parts (segs_of ss) ++ last) = read ∙ ap (λ (qs : List RowPart). qs ++ last) both ∙ append_assoc own (segs_parts (segs_of ss)) last in
-    let size : length own ≡ length s.before + (length (items_parts (items_of s.nodes)) + (1 + length (beside_part s.suffix))) =
-    omega (
-      arith,
-      length-map s.before above,
-      length-append (map above s.before) (items_parts (items_of s.nodes) ++ (segment_end ∷ (beside_part s.suffix ++ []))),
-      length-append (items_parts (items_of s.nodes)) (segment_end ∷ (beside_part s.suffix ++ [])),
-      length-append (beside_part s.suffix) [],
-    ) in
-    let place : to ≡ at + length own = omega (arith, to_is, long, size, n.begins) in
+    let place : to ≡ at + length own = omega (arith, to_is, long, argument_long s, length-map s.before above, n.begins) in
     let after_it : drop to ps ≡ segs_parts (segs_of ss) ++ last = ap (λ (k : ℕ). drop k ps) place ∙ sym (drop-drop (length own) at ps) ∙ ap (drop (length own)) cut ∙ drop-append_seam own (segs_parts (segs_of ss) ++ last) in
     record {
       element = s;
@@ -166,36 +158,37 @@ closed_there rest after ps at token none read is within =
       read = sym (drop-drop 1 token ps) ∙ ap (drop 1) close;
     }
 
--- an argument with a name
-pub record IsNamed (nodes : List Item) : Type 0 where
-  pub text : List ℕ
-  pub operator : List ℕ
-  pub are : nodes ≡ leaf Identifier text ∷ leaf Operator operator ∷ drop 2 nodes
+-- the nodes of a keyword argument
+pub record IsKeyword (nodes : List Item) : Type 0 where
+  pub name : Item
+  pub operator : Item
+  pub first : RowPart
+  pub second : RowPart
+  pub are : nodes ≡ name ∷ operator ∷ drop 2 nodes
+  pub parts : (more : List Item) → items_parts (items_of (name ∷ operator ∷ more)) ≡ first ∷ second ∷ items_parts (items_of more)
 
-no_name : {P : Type 0} (name : List ℕ) (b : Bool) → is_text name (if◌then◌else◌ {A = Option (List ℕ)} b None None) ≡ true → P
-no_name name true h = absurd (false≢true h)
-no_name name false h = absurd (false≢true h)
+pub is_keyword : (nodes : List Item) → is_some (name_of nodes) ≡ true → IsKeyword nodes
+is_keyword [] h = absurd (false≢true h)
+is_keyword (x ∷ []) h = absurd (false≢true h)
+is_keyword (leaf kind text ∷ leaf k t ∷ rest) h = record { name = leaf kind text; operator = leaf k t; first = a_token kind text; second = a_token k t; are = refl; parts = λ more. refl }
+is_keyword (leaf kind text ∷ group k segs one_comma end ∷ rest) h = absurd (false≢true h)
+is_keyword (group k segs one_comma end ∷ y ∷ rest) h = absurd (false≢true (sym (ap is_some (group_name k segs one_comma end y rest)) ∙ h))
 
-named_nodes : (name : List ℕ) (nodes : List Item) → is_text name (name_of nodes) ≡ true → IsNamed nodes
-named_nodes name [] h = absurd (false≢true h)
-named_nodes name (x ∷ []) h = absurd (false≢true h)
-named_nodes name (leaf Identifier text ∷ leaf Operator operator ∷ xs) h = record { text = text; operator = operator; are = refl }
-named_nodes name (leaf _ text ∷ leaf Operator operator ∷ xs) h = no_name name (is_operator_item (codes "=") (leaf Operator operator)) h
-named_nodes name (group k segs one_comma end ∷ leaf Operator operator ∷ xs) h = no_name name (is_operator_item (codes "=") (leaf Operator operator)) h
-named_nodes name (x ∷ leaf _ operator ∷ xs) h = absurd (false≢true h)
-named_nodes name (x ∷ group k segs one_comma end ∷ xs) h = absurd (false≢true h)
+named_some : (name : List ℕ) (o : Option (List ℕ)) → is_text name o ≡ true → is_some o ≡ true
+named_some name None h = h
+named_some name (Some text) h = refl
 
 -- the value of the first argument of a name
 pub value_there : (name : List ℕ) (s : Statement) (r : Rule) (ps : List RowPart) (at to : ℕ) → IsRuleRow s r ps → find_from name 0 false ps ≡ Some at → to ≡ at + 2 → IsValueAt name s r ps to
 value_there name s r ps at to h is to_is =
     let f = placed name s r at (args_found name s r) (answered name s r) (sym (told name s r ps h) ∙ is) in
     let a : Segment = f.arg.arg in
-    let n = named_nodes name a.nodes f.arg.is in
-    let two : List RowPart = a_token Identifier n.text ∷ a_token Operator n.operator ∷ [] in
+    let n = is_keyword a.nodes (named_some name (name_of a.nodes) f.arg.is) in
+    let two : List RowPart = n.first ∷ n.second ∷ [] in
     let first : List RowPart = pre s r f.arg.front ++ map above a.before in
     let front : List RowPart = first ++ two in
     let after : List RowPart = beside_part a.suffix ++ post s r f.arg.back in
-    let nodes : (v : List Item) → items_parts (items_of (leaf Identifier n.text ∷ leaf Operator n.operator ∷ v)) ++ segment_end ∷ after ≡ two ++ value_parts v after = λ v. refl in
+    let nodes : (v : List Item) → items_parts (items_of (n.name ∷ n.operator ∷ v)) ++ segment_end ∷ after ≡ two ++ value_parts v after = λ v. ap (λ (qs : List RowPart). qs ++ segment_end ∷ after) (n.parts v) in
     let own : items_parts (items_of a.nodes) ++ segment_end ∷ after ≡ two ++ value_parts (value a) after = ap (λ (xs : List Item). items_parts (items_of xs) ++ segment_end ∷ after) n.are ∙ nodes (value a) in
     let all : ps ≡ front ++ value_parts (value a) after =
     h.are ∙ in_three s r f.arg.front (a ∷ []) f.arg.back (rule_nodes [] s.nodes r h.rule) f.arg.are ∙ nodes_split s r f.arg.front f.arg.back a
@@ -210,7 +203,7 @@ value_there name s r ps at to h is to_is =
       read = (λ i. drop (place i) (all i)) ∙ drop-append_seam front (value_parts (value a) after);
       put = λ edit v made.
           let b : Segment = with_value v a in
-          let b_is : b ≡ record a { nodes = leaf Identifier n.text ∷ leaf Operator n.operator ∷ v } = ap (λ (xs : List Item). record a { nodes = take 2 xs ++ v }) n.are in
+          let b_is : b ≡ record a { nodes = n.name ∷ n.operator ∷ v } = ap (λ (xs : List Item). record a { nodes = take 2 xs ++ v }) n.are in
           let r2 : Rule = record r { args = edit_first (is_named name) edit r.args } in
           let args : r2.args ≡ f.arg.front ++ (b ∷ f.arg.back) =
           ap (edit_first (is_named name) edit) f.arg.are ∙ edited_at (is_named name) edit f.arg.front a f.arg.back f.arg.none f.arg.is ∙ ap (λ (zs : List Segment). f.arg.front ++ (zs ++ f.arg.back)) made in

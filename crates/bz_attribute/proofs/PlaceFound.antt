@@ -14,7 +14,7 @@ use Rattle.bz_attribute.specs.RowPlaces.{alone, IsLocal, IsPlaceOf, IsPlaceOfAll
 use Rattle.bz_attribute.specs.private.Ends.{arguments_begin, arguments_end, plain_len, segment_len}
 use Rattle.bz_attribute.proofs.RuleNodes.{rule_nodes}
 use Rattle.bz_attribute.proofs.EditedAt.{edited_at, first_at, none_first, segs_join}
-use Rattle.bz_attribute.proofs.EndsBack.{args_end, comments_at, end_alone, segment_long}
+use Rattle.bz_attribute.proofs.EndsBack.{argument_long, args_end, comments_at, end_alone, segment_long}
 use Rattle.bz_attribute.proofs.FoundArgs.{Answer, found, absent, answer, IsArgAt}
 use Rattle.bz_attribute.proofs.RuleParts.{after_args, before_args, head_passed, is_after, parts_cut, rule_dotted}
 
@@ -100,11 +100,6 @@ missing name s r none = record {
 pub nodes_split : (s : Statement) (r : Rule) (front back : List Segment) (a : Segment)
     → pre s r front ++ (segs_parts (segs_of (a ∷ [])) ++ post s r back) ≡ (pre s r front ++ map above a.before) ++ (items_parts (items_of a.nodes) ++ (segment_end ∷ (beside_part a.suffix ++ post s r back)))
 nodes_split s r front back a = simp append_assoc
-
-argument_long : (a : Segment) → length (segs_parts (segs_of (a ∷ []))) ≡ length (map above a.before) + (length (items_parts (items_of a.nodes)) + (1 + length (beside_part a.suffix)))
-argument_long a =
-    let nodes : List RowPart = items_parts (items_of a.nodes) in
-    omega (arith, length-append (map above a.before) (nodes ++ (segment_end ∷ (beside_part a.suffix ++ []))), length-append nodes (segment_end ∷ (beside_part a.suffix ++ [])), length-append (beside_part a.suffix) [])
 
 -- by what the finder told
 found_place : (name : List ℕ) (s : Statement) (r : Rule) (n at from to : ℕ) → rule_of s.nodes ≡ Some r → IsArgAt name r.args n → at ≡ length (before_args s r) + n

@@ -15,7 +15,6 @@ ghost use Rattle.bz_attribute.specs.Lists as lists;
 use crate::finder::find_argument;
 use crate::head_parts::{is_end, text_of};
 use crate::place::{comments_begin, comments_len, parts_len, segment_len};
-use crate::value::is_one_list;
 use bz_token::Kind;
 use bz_tree::{GroupKind, Part};
 
@@ -148,7 +147,6 @@ fn list_from(parts: &[Part<'_>], from: usize, whole: bool) -> Option<usize>
 }
 
 /// Where the elements of the first list part of a value begin.
-#[tactic(auto, using(crate::proofs::OnlyLists::alone_there, crate::proofs::Slices::rest_seen))]
 pub fn first_list(parts: &[Part<'_>], value: usize) -> Option<usize>
     requires { value ≤ length parts.now }
     ensures some { IfSome result (λ to. (nodes : List Item) (after : List RowPart)
@@ -158,10 +156,6 @@ pub fn first_list(parts: &[Part<'_>], value: usize) -> Option<usize>
         → drop value (map part_view parts.now) ≡ value_parts nodes after → HasNoList true nodes) }
     ensures within { IfSome result (λ to. (value < to) × (to ≤ length parts.now)) }
 {
-    // Most values are one list.
-    if is_one_list(&parts[value..]) {
-        return Some(value + 1);
-    }
     if !are_joints(parts, value) {
         return None;
     }

@@ -35,8 +35,8 @@ fn ends_value(parts: &[Part<'_>]) -> bool
     matches!(parts, [Part::End, ..])
 }
 
-/// The value that they begin with is one list.
-pub(crate) fn is_one_list(parts: &[Part<'_>]) -> bool
+// The value that they begin with is one list.
+fn is_one_list(parts: &[Part<'_>]) -> bool
     ensures told { (nodes : List Item) (after : List RowPart) → map part_view parts.now ≡ value_parts nodes after
         → result ≡ lists.is_only lists.is_list nodes }
     ensures some { result ≡ true → 0 < length parts.now }

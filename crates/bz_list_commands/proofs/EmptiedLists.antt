@@ -1,17 +1,17 @@
 -- A list that loses all its elements, told by its parts.
-use Rattle.std.proofs.Common.{◌≡◌, ℕ, ◌+◌, ◌≤◌, ◌<◌, List, [], ◌∷◌, ◌++◌, Bool, true, false, ◌&&◌, not, if◌then◌else◌, Option, Some, None, is_some, subst, length, map, drop, refl, ap, sym, ◌∙◌, arith, append_assoc, append-nil}
+use Rattle.std.proofs.Common.{◌≡◌, ℕ, ◌<◌, List, [], ◌∷◌, ◌++◌, Bool, true, false, ◌&&◌, not, if◌then◌else◌, Option, None, drop, refl, ap, sym, ◌∙◌, arith, append_assoc, append-nil}
 use Rattle.std.specs.Prelude.{nat_lt}
 use Rattle.std.proofs.lemmas.Bool.Decides.{nat_tests}
 use Rattle.std.proofs.lemmas.Grind.{flat_map-append}
-use Rattle.bz_tree.specs.Tree.{Item, leaf, group, Segment, Segs, items_of, segments, segs_of}
-use Rattle.bz_tree.specs.Rows.{RowPart, above, closing, opening, segment_end, items_parts, segs_parts}
+use Rattle.bz_tree.specs.Tree.{Item, Segment}
+use Rattle.bz_tree.specs.Rows.{RowPart}
 use Rattle.bz_attribute.specs.Elements.{IsElementOf, IsOnlyList, ListRest, list_item, rest_parts}
 use Rattle.bz_attribute.specs.Effects.{loses_all}
 use Rattle.bz_attribute.specs.Lists.{is_list, is_only}
 use Rattle.bz_attribute.proofs.Views.{segments_of}
 use Rattle.bz_list_commands.specs.private.StringEdits.{become, become_all}
 use Rattle.bz_token.specs.Common.{is_empty}
-use Rattle.bz_attribute.proofs.LabelsFound.{and_false}
+use Rattle.std.proofs.Math.Bool.{and-false, and-true}
 
 -- Some elements of a list were seen, and all are meant.
 pub record AreGone (p : Option (List ℕ) → Bool) (nodes : List Item) (after ps : List RowPart) (first at : ℕ) : Type 0 where
@@ -58,10 +58,6 @@ one_gone p nodes after ps first at token to string g e is later =
 alone : (f : List Segment → List Segment) (list : ListRest) → loses_all f (list_item list ∷ []) ≡ (not (is_empty list.elements) && is_empty (f list.elements))
 alone f list = (λ i. not (is_empty (segments_of list.elements i)) && is_empty (f (segments_of list.elements i)))
 
-and_true : (b : Bool) → (b && true) ≡ b
-and_true true = refl
-and_true false = refl
-
 pub one_stays : (p : Option (List ℕ) → Bool) (nodes : List Item) (after ps : List RowPart) (first at token to : ℕ) (string : Option (List ℕ)) → (g : AreGone p nodes after ps first at) → IsElementOf (record g.list { elements = g.others }) after ps at token to string → p string ≡ false
     → loses_all (become_all p None) nodes ≡ false
 one_stays p nodes after ps first at token to string g e is =
@@ -70,11 +66,11 @@ one_stays p nodes after ps first at token to string g e is =
     let stays : become p None s ≡ s ∷ [] = ap (λ (b : Bool). if b then [] else s ∷ []) (ap p (sym e.text) ∙ is) in
     let left : f g.list.elements ≡ s ∷ f e.others =
     ap f (g.elements ∙ ap (λ (zs : List Segment). g.front ++ zs) e.are) ∙ flat_map-append (become p None) g.front (s ∷ e.others) ∙ (λ i. g.gone i ++ (stays i ++ f e.others)) in
-    ap (loses_all f) g.are ∙ alone f g.list ∙ ap (λ (zs : List Segment). not (is_empty g.list.elements) && is_empty zs) left ∙ and_false (not (is_empty g.list.elements))
+    ap (loses_all f) g.are ∙ alone f g.list ∙ ap (λ (zs : List Segment). not (is_empty g.list.elements) && is_empty zs) left ∙ and-false (not (is_empty g.list.elements))
 
 pub all_gone : (p : Option (List ℕ) → Bool) (nodes : List Item) (after ps : List RowPart) (first at : ℕ) → (g : AreGone p nodes after ps first at) → g.others ≡ [] → nat_lt first at ≡ loses_all (become_all p None) nodes
 all_gone p nodes after ps first at g none =
     let f : List Segment → List Segment = become_all p None in
     let front : g.list.elements ≡ g.front = g.elements ∙ ap (λ (zs : List Segment). g.front ++ zs) none ∙ append-nil g.front in
-    g.some ∙ sym (and_true (not (is_empty g.front))) ∙ ap (λ (zs : List Segment). not (is_empty g.front) && is_empty zs) (sym g.gone)
+    g.some ∙ sym (and-true (not (is_empty g.front))) ∙ ap (λ (zs : List Segment). not (is_empty g.front) && is_empty zs) (sym g.gone)
     ∙ (λ i. not (is_empty (sym front i)) && is_empty (f (sym front i))) ∙ sym (ap (loses_all f) g.are ∙ alone f g.list)

@@ -1,12 +1,11 @@
 -- For private clauses alone: how far the elements of an argument were edited.
-use Rattle.std.specs.Prelude.{◌≡◌, ℕ, ◌+◌, List, [], ◌∷◌, ◌++◌, Bool, true, false, ◌||◌, Option, Some, None, length, drop}
+use Rattle.std.specs.Prelude.{◌≡◌, ℕ, ◌+◌, List, [], ◌∷◌, ◌++◌, Bool, ◌||◌, Option, Some, None, length, drop}
 use Rattle.std.specs.List.{list_any}
-use Rattle.bz_tree.specs.declared.stmt.GroupKind.TheVariants.{List as ListKind}
 use Rattle.bz_tree.specs.Tree.{Item, Segment, items_of, segs_of}
-use Rattle.bz_tree.specs.Rows.{RowPart, opening, segment_end, items_parts, segs_parts}
+use Rattle.bz_tree.specs.Rows.{RowPart, segment_end, items_parts, segs_parts}
 use Rattle.bz_attribute.specs.Elements.{HasNoList, IsElementOf, IsListIn, ListRest, edit_in, lists_in, rest_parts, value_parts}
 use Rattle.bz_attribute.specs.Lists.{edit_parts, parts}
-use Rattle.bz_list_commands.specs.private.StringEdits.{become, become_all, in_place, is_meant}
+use Rattle.bz_list_commands.specs.private.StringEdits.{become, become_all, is_meant}
 use Rattle.bz_list_commands.specs.private.WrittenParts.{IsWritten}
 use Rattle.bz_list_commands.specs.declared.rewriting.Written.{Written}
 
