@@ -1,14 +1,14 @@
 -- The first element that equals a word, looked for one by one.
-use Rattle.std.proofs.Common.{◌≡◌, ℕ, List, [], ◌∷◌, Bool, false, ◌||◌, Option, None, Some, is_some, drop, refl, ap, sym, ◌∙◌, option_and_then}
+use Rattle.std.proofs.Common.{◌≡◌, ℕ, List, Bool, false, ◌||◌, Option, None, Some, is_some, drop, ap, sym, ◌∙◌, option_and_then}
 use Rattle.std.specs.List.{list_any, flat_map}
 use Rattle.std.specs.Prelude.{IfNone, IfSome}
-use Rattle.std.proofs.lemmas.List.Folds.{list_any-append}
 use Rattle.bz_command.specs.Labels.{Package}
 use Rattle.bz_tree.specs.Tree.{Segment}
 use Rattle.bz_tree.specs.Rows.{RowPart}
 use Rattle.bz_attribute.specs.Elements.{IsFirstEqual, IsNextElement, ListRest, elements_left, rest_parts}
 use Rattle.bz_attribute.specs.Lists.{equals, same}
 use Rattle.bz_attribute.specs.private.ListParts.{HasSought}
+use Rattle.bz_attribute.proofs.LabelSets.{any_joined}
 use Rattle.bz_command.specs.Values.{value_of}
 use Rattle.bz_token.specs.Common.{map_or}
 
@@ -29,13 +29,6 @@ sought_more home word ps from at begin token to text sought next is = λ l after
     let other : equals home word n.element ≡ false = next_told home word ps at begin token to text h.left after false n is in
     record { left = n.left; read = n.read; same = sym (next_equals home word ps at begin token to text h.left after false n other) ∙ h.same; found = λ f. h.found f ∙ n.passed (equals home word) f other }
 
--- one search after another
-pub sought_on : (home : Package) (word : List ℕ) (ps : List RowPart) (from at to : ℕ) → HasSought home word ps from at → HasSought home word ps at to → HasSought home word ps from to
-sought_on home word ps from at to first second = λ l after read.
-    let h = first l after read in
-    let k = second h.left after h.read in
-    record { left = k.left; read = k.read; same = k.same ∙ h.same; found = λ f. h.found f ∙ k.found f }
-
 -- by what was found
 pub sought_told : (home : Package) (word : List ℕ) (ps : List RowPart) (from : ℕ) (o : Option ℕ) (b : Bool) → b ≡ is_some o
     → IfSome o (λ at. (l : ListRest) (after : List RowPart) → drop from ps ≡ rest_parts l after → IsFirstEqual home word l after ps from at)
@@ -46,5 +39,4 @@ sought_told home word ps from (Some at) b is some none l after read = is ∙ sym
 
 -- in one of the lists
 pub in_all : (home : Package) (word : List ℕ) (lists : List (List Segment)) → list_any (equals home word) (flat_map (λ ss. ss) lists) ≡ list_any (list_any (equals home word)) lists
-in_all home word [] = refl
-in_all home word (ss ∷ lists) = list_any-append (equals home word) ss (flat_map (λ ss. ss) lists) ∙ ap (λ (b : Bool). list_any (equals home word) ss || b) (in_all home word lists)
+in_all home word lists = any_joined (equals home word) lists

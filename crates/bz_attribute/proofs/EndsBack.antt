@@ -7,7 +7,7 @@ use Rattle.bz_tree.specs.declared.stmt.GroupKind.TheVariants.{RuleCall}
 use Rattle.bz_tree.specs.Tree.{Items, no_items, item, leaf, group, Segment, Statement, items_of, segs_of}
 use Rattle.bz_tree.specs.Rows.{RowPart, part_view, opening, closing, segment_end, above, beside, beside_part, items_parts, segs_parts}
 use Rattle.bz_attribute.specs.Rules.{Rule}
-use Rattle.bz_attribute.specs.private.Ends.{arguments_end, besides, end_len, is_above, is_stop, nodes_len, plain_len, segment_len}
+use Rattle.bz_attribute.specs.private.Ends.{arguments_end, besides, end_len, is_above, is_stop, parts_len, plain_len, segment_len}
 use Rattle.bz_attribute.proofs.Lengths.{nodes_ended}
 use Rattle.bz_attribute.proofs.RuleParts.{after_args, before_args}
 
@@ -62,6 +62,13 @@ plain_after xs (Some text) texts =
     let moved : (xs ++ (segment_end ∷ beside text ∷ [])) ++ map above texts ≡ (xs ++ segment_end ∷ []) ++ beside text ∷ map above texts = simp append_assoc in
     ap plain_len moved ∙ plain_at (xs ++ segment_end ∷ []) (beside text) texts refl ∙ omega (arith, length-append xs (segment_end ∷ []), length-append xs (segment_end ∷ beside text ∷ []))
 
+-- the comments at the end of a list are of no element
+pub plain_elements : (ss : List Segment) (texts : List (List ℕ)) → plain_len (segs_parts (segs_of ss) ++ map above texts) ≡ length (segs_parts (segs_of ss))
+plain_elements [] texts = plain_texts texts
+plain_elements (a ∷ ss) texts =
+    let last = last_argument a ss in
+    ap (λ (ps : List RowPart). plain_len (ps ++ map above texts)) last.are ∙ plain_after last.pre last.suffix texts ∙ sym (ap length last.are)
+
 -- what stands before an argument ends with no comment of it
 pub comments_at : (s : Statement) (r : Rule) (front : List Segment) (texts : List (List ℕ)) → plain_len ((before_args s r ++ segs_parts (segs_of front)) ++ map above texts) ≡ length (before_args s r ++ segs_parts (segs_of front))
 comments_at s r [] texts =
@@ -85,10 +92,15 @@ pub segment_long : (a : Segment) (back : List RowPart) → end_len (segment_end 
 segment_long a back h =
     let nodes : List RowPart = items_parts (items_of a.nodes) in
     let after : List RowPart = segment_end ∷ (beside_part a.suffix ++ back) in
-    let len : nodes_len 0 (nodes ++ after) ≡ length nodes = nodes_ended (items_of a.nodes) (beside_part a.suffix ++ back) in
+    let len : parts_len true 0 (nodes ++ after) ≡ length nodes = nodes_ended (items_of a.nodes) (beside_part a.suffix ++ back) in
     (λ i. len i + end_len (drop (len i) (nodes ++ after)))
     ∙ ap (λ (ps : List RowPart). length nodes + end_len ps) (drop-append_seam nodes after)
     ∙ ap (λ (k : ℕ). length nodes + k) (no_beside back a.suffix h)
+
+pub argument_long : (a : Segment) → length (segs_parts (segs_of (a ∷ []))) ≡ length (map above a.before) + (length (items_parts (items_of a.nodes)) + (1 + length (beside_part a.suffix)))
+argument_long a =
+    let rest : List RowPart = segment_end ∷ (beside_part a.suffix ++ []) in
+    omega (arith, length-append (map above a.before) (items_parts (items_of a.nodes) ++ rest), length-append (items_parts (items_of a.nodes)) rest, length-append (beside_part a.suffix) [])
 
 no_beside_node : (xs : Items) (rest : List RowPart) → end_len (segment_end ∷ (items_parts xs ++ segment_end ∷ rest)) ≡ 1
 no_beside_node no_items rest = refl

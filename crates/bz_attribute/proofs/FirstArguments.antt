@@ -1,5 +1,5 @@
 -- The first of some arguments among their parts.
-use Rattle.std.proofs.Common.{◌≡◌, ℕ, ◌+◌, List, [], ◌∷◌, ◌++◌, Option, length, map, drop, refl, ap, sym, ◌∙◌, arith, length-append}
+use Rattle.std.proofs.Common.{◌≡◌, ℕ, ◌+◌, List, [], ◌∷◌, ◌++◌, Option, length, map, drop, refl, ap, sym, ◌∙◌, arith}
 use Rattle.std.proofs.lemmas.List.{length-map}
 use Rattle.std.proofs.Math.Seq.{drop-append_seam}
 use Rattle.bz_tree.specs.Tree.{Segment, items_of, segs_of}
@@ -7,7 +7,7 @@ use Rattle.bz_tree.specs.Rows.{RowPart, segment_end, above, beside_part, items_p
 use Rattle.bz_attribute.specs.Finder.{flat_name}
 use Rattle.bz_attribute.specs.FirstArguments.{IsFirstArgument, argument_parts}
 use Rattle.bz_attribute.specs.private.Ends.{above_len, end_len, segment_len}
-use Rattle.bz_attribute.proofs.EndsBack.{no_beside_argument, segment_long}
+use Rattle.bz_attribute.proofs.EndsBack.{argument_long, no_beside_argument, segment_long}
 use Rattle.bz_attribute.proofs.FoundArgs.{named}
 use Rattle.bz_attribute.proofs.Lengths.{above_passed, no_more_above}
 
@@ -30,16 +30,6 @@ is_first a others ps nodes to name are begins ends is =
     let long : segment_len (drop nodes ps) ≡ length own + (1 + length (beside_part a.suffix)) = ap segment_len dropped ∙ segment_long a (segs_parts (segs_of others)) (end_before others) in
     record {
       begins = len;
-      ends =
-          omega (
-            arith,
-            ends,
-            long,
-            len,
-            seam,
-            length-append comments (own ++ (segment_end ∷ (beside_part a.suffix ++ []))),
-            length-append own (segment_end ∷ (beside_part a.suffix ++ [])),
-            length-append (beside_part a.suffix) [],
-          );
+      ends = omega (arith, ends, long, len, seam, argument_long a);
       named = is ∙ ap flat_name dropped ∙ named a.nodes more;
     }

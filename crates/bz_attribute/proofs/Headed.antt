@@ -10,7 +10,7 @@ use Rattle.bz_tree.specs.Tree.{Item, leaf, group, Segs, Statement, items_of, seg
 use Rattle.bz_tree.specs.Statement.{class_of, is_assign_operator, is_rule, is_rule_after, is_kept, is_load_word, is_call as is_call_kind, is_assign}
 use Rattle.bz_tree.specs.Rows.{RowPart, opening, closing, above, beside_part, item_parts, items_parts, segs_parts, parts_of}
 use Rattle.bz_attribute.specs.Rules.{Rule, rule_of, call_at, kind_text, dotted}
-use Rattle.bz_attribute.specs.private.HeadParts.{after_comments, after_tokens, token_texts, in_call, IsInCall}
+use Rattle.bz_attribute.specs.private.HeadParts.{after_comments, after_tokens, token_texts, opens_call}
 use Rattle.bz_attribute.proofs.Calls.{rule_from_end, no_call, is_rule_call}
 use Rattle.bz_attribute.proofs.RuleNodes.{rule_nodes}
 use Rattle.bz_attribute.specs.private.Ends.{above_len}
@@ -21,7 +21,6 @@ use Rattle.std.proofs.Math.Seq.{drop-append_seam}
 use Rattle.bz_token.specs.Common.{is_empty}
 use Rattle.std.specs.List.{list_any}
 use Rattle.bz_token.proofs.Classes.{same_bytes}
-use Rattle.bz_tree.proofs.FromParts.{segs_back}
 
 class_called : (nodes : List Item) → class_of nodes ≡ RuleClass → is_rule nodes ≡ true
 class_called [] h = absurd cc
@@ -135,39 +134,36 @@ begin s c =
     ∙ append_assoc (items_parts (items_of c.kind)) call (beside_part s.suffix))
     ∙ comments_dropped s.before c.kind c.k (inside s c)
 
-open_at : (s : Statement) (c : IsCalled true s.nodes) → in_call (after_tokens (after_comments (parts_of s))) ≡ in_call (opening c.k ∷ inside s c)
-open_at s c = ap (λ (ps : List RowPart). in_call (after_tokens ps)) (begin s c) ∙ ap in_call (tokens_dropped c.kind c.k (inside s c) (tokens true c.kind c.dots))
+open_at : (s : Statement) (c : IsCalled true s.nodes) → opens_call (after_tokens (after_comments (parts_of s))) ≡ opens_call (opening c.k ∷ inside s c)
+open_at s c = ap (λ (ps : List RowPart). opens_call (after_tokens ps)) (begin s c) ∙ ap opens_call (tokens_dropped c.kind c.k (inside s c) (tokens true c.kind c.dots))
 
-opened : (k : GroupKind) (rest qs : List RowPart) → in_call (opening k ∷ rest) ≡ Some qs → (k ≡ RuleCall) × (rest ≡ qs)
-opened RuleCall rest qs h = (refl, cc)
-opened _ rest qs h = absurd cc
+opened : (k : GroupKind) (rest : List RowPart) → opens_call (opening k ∷ rest) ≡ true → k ≡ RuleCall
+opened RuleCall rest h = refl
+opened _ rest h = absurd cc
 
-unopened : (k : GroupKind) (rest : List RowPart) (segs : Segs) (one_comma : Bool) (end : List (List ℕ)) → in_call (opening k ∷ rest) ≡ None → is_rule_call (group k segs one_comma end) ≡ false
+unopened : (k : GroupKind) (rest : List RowPart) (segs : Segs) (one_comma : Bool) (end : List (List ℕ)) → opens_call (opening k ∷ rest) ≡ false → is_rule_call (group k segs one_comma end) ≡ false
 unopened RuleCall rest segs one_comma end h = absurd cc
 unopened _ rest segs one_comma end h = refl
 
--- the rule, its kind and its arguments
-pub record IsHeaded (s : Statement) (args : List RowPart) : Type 0 where
+-- the rule and its kind
+pub record IsHeaded (s : Statement) : Type 0 where
   pub rule : Rule
   pub is : rule_of s.nodes ≡ Some rule
   pub kind_is : token_texts (after_comments (parts_of s)) ≡ kind_text rule.kind
-  pub args_are : IsInCall s rule args
 
-pub headed : (s : Statement) (args : List RowPart) → class_of s.nodes ≡ RuleClass → in_call (after_tokens (after_comments (parts_of s))) ≡ Some args → IsHeaded s args
-headed s args class h =
+pub headed : (s : Statement) → class_of s.nodes ≡ RuleClass → opens_call (after_tokens (after_comments (parts_of s))) ≡ true → IsHeaded s
+headed s class h =
     let c = called true s.nodes (class_called s.nodes class) in
-    let two = opened c.k (inside s c) args (sym (open_at s c) ∙ h) in
-    let closed : List RowPart = map above c.end ++ closing c.one_comma ∷ [] in
+    let call = opened c.k (inside s c) (sym (open_at s c) ∙ h) in
     let rule : Rule = record { kind = c.kind; args = segments c.segs; one_comma = c.one_comma; end = c.end } in
     record {
       rule = rule;
-      is = ap rule_of c.are ∙ rule_from_end [] c.kind (group c.k c.segs c.one_comma c.end) ∙ (λ i. call_at c.kind (group (two.0 i) c.segs c.one_comma c.end)) ∙ ap (λ (b : Bool). if b then Some rule else None) c.dots;
+      is = ap rule_of c.are ∙ rule_from_end [] c.kind (group c.k c.segs c.one_comma c.end) ∙ (λ i. call_at c.kind (group (call i) c.segs c.one_comma c.end)) ∙ ap (λ (b : Bool). if b then Some rule else None) c.dots;
       kind_is = ap token_texts (begin s c) ∙ texts_joined c.kind c.k (inside s c) (tokens true c.kind c.dots);
-      args_are = sym two.1 ∙ append_assoc (segs_parts c.segs) closed (beside_part s.suffix) ∙ ap (λ (ss : Segs). segs_parts ss ++ (closed ++ beside_part s.suffix)) (sym (segs_back c.segs));
     }
 
 -- another call than that of a rule, or none
-pub no_head : (s : Statement) → class_of s.nodes ≡ RuleClass → in_call (after_tokens (after_comments (parts_of s))) ≡ None → rule_of s.nodes ≡ None
+pub no_head : (s : Statement) → class_of s.nodes ≡ RuleClass → opens_call (after_tokens (after_comments (parts_of s))) ≡ false → rule_of s.nodes ≡ None
 no_head s class h =
     let c = called true s.nodes (class_called s.nodes class) in
     ap rule_of c.are ∙ rule_from_end [] c.kind (group c.k c.segs c.one_comma c.end)

@@ -1,5 +1,5 @@
 -- Items by their parts: where they end, and what the parts with which they begin tell.
-use Rattle.std.proofs.Common.{◌≡◌, ℕ, ◌+◌, ◌<◌, ◌≤◌, ◌-◌, min, List, [], ◌∷◌, ◌++◌, Bool, true, false, map, length, drop, get_or, refl, ap, sym, ◌∙◌, arith, append_assoc, length-append, length-drop, drop-drop}
+use Rattle.std.proofs.Common.{◌≡◌, ℕ, ◌+◌, ◌<◌, ◌≤◌, min, List, [], ◌∷◌, ◌++◌, Bool, true, false, map, length, drop, get_or, refl, ap, sym, ◌∙◌, arith, append_assoc, length-append, length-drop, drop-drop}
 use Rattle.std.specs.List.{drop-map}
 use Rattle.std.proofs.lemmas.Bool.{false≢true}
 use Rattle.std.proofs.lemmas.List.{drop_all, drop_more, length-map}
@@ -9,12 +9,12 @@ use Rattle.bz_tree.specs.declared.stmt.GroupKind.{GroupKind}
 use Rattle.bz_tree.specs.declared.stmt.GroupKind.TheVariants.{List as ListKind}
 use Rattle.bz_tree.specs.Tree.{Item, leaf, group, Segs, items_of, segs_of, segments}
 use Rattle.bz_tree.specs.Rows.{RowPart, part_view, a_token, opening, closing, segment_end, above, item_parts, items_parts, segs_parts}
-use Rattle.bz_attribute.specs.Elements.{AreElementsTo, ListRest, rest_parts, value_parts}
+use Rattle.bz_attribute.specs.Elements.{ListRest, rest_parts, value_parts}
 use Rattle.bz_attribute.specs.Lists as lists
 use Rattle.bz_attribute.specs.private.HeadParts.{is_end}
-use Rattle.bz_attribute.specs.private.Ends.{above_len}
+use Rattle.bz_attribute.specs.private.Ends.{parts_len}
 use Rattle.bz_attribute.specs.private.ListParts.{ItemEnds, ends_piece, is_joint, is_open, is_plus, opens_list}
-use Rattle.bz_attribute.proofs.Lengths.{above_passed}
+use Rattle.bz_attribute.proofs.Lengths.{segs_ended}
 use Rattle.bz_tree.proofs.FromParts.{segs_back}
 
 -- the part with which an item begins
@@ -59,33 +59,28 @@ token_ended ps at d h is (leaf kind text) xs after read = refl
 token_ended ps at d h is (group kind segs one_comma end) xs after read =
     absurd (false≢true (sym is ∙ ap is_open (sym (first_is (group kind segs one_comma end) xs after _ _ (sym read ∙ part_at ps at d h)))))
 
-pub group_ended : (ps : List Part) (at to token result : ℕ) (d : Part) → at < length ps → is_open (part_view (get_or ps at d)) ≡ true
-    → ((l : ListRest) (after : List RowPart) → drop (at + 1) (map part_view ps) ≡ rest_parts l after → AreElementsTo l (map part_view ps) (at + 1) to) → token ≡ to + above_len (drop to (map part_view ps))
-    → result ≡ min (length ps) (token + 1) → ItemEnds (map part_view ps) at result
-group_ended ps at to token result d h is elements token_is result_is (leaf kind text) xs after read =
-    absurd (false≢true (ap is_open (first_is (leaf kind text) xs after _ _ (sym read ∙ part_at ps at d h)) ∙ is))
-group_ended ps at to token result d h is elements token_is result_is (group kind segs one_comma end) xs after read =
+pub group_ended : (ps : List Part) (at close result : ℕ) (d : Part) → at < length ps → is_open (part_view (get_or ps at d)) ≡ true → close ≡ at + 1 + parts_len false 0 (drop (at + 1) (map part_view ps))
+    → result ≡ min (length ps) (close + 1) → ItemEnds (map part_view ps) at result
+group_ended ps at close result d h is close_is result_is (leaf kind text) xs after read = absurd (false≢true (ap is_open (first_is (leaf kind text) xs after _ _ (sym read ∙ part_at ps at d h)) ∙ is))
+group_ended ps at close result d h is close_is result_is (group kind segs one_comma end) xs after read =
     let qs : List RowPart = map part_view ps in
-    let l : ListRest = rest_of segs one_comma end xs in
-    let own : List RowPart = segs_parts (segs_of l.elements) in
-    let last : List RowPart = map above end ++ closing one_comma ∷ value_parts xs after in
-    let inside : drop (at + 1) qs ≡ rest_parts l after = sym (drop-drop 1 at qs) ∙ ap (drop 1) (read ∙ opened kind segs one_comma end xs after) in
-    let e : AreElementsTo l qs (at + 1) to = elements l after inside in
-    let left : drop to qs ≡ last = ap (λ (n : ℕ). drop n qs) e.size ∙ sym (drop-drop (length own) (at + 1) qs) ∙ ap (drop (length own)) inside ∙ drop-append_seam own last in
-    let long : above_len (drop to qs) ≡ length end = ap above_len left ∙ above_passed end (closing one_comma ∷ value_parts xs after) ∙ omega arith in
-    let more : length end + 1 ≤ length qs - to = omega (arith, ap length left, length-drop to qs, length-append (map above end) (closing one_comma ∷ value_parts xs after), length-map end above) in
+    let own : List RowPart = segs_parts (segs_of (segments segs)) in
+    let later : List RowPart = closing one_comma ∷ value_parts xs after in
+    let inside : drop (at + 1) qs ≡ own ++ (map above end ++ later) = sym (drop-drop 1 at qs) ∙ ap (drop 1) (read ∙ opened kind segs one_comma end xs after) in
     omega (
       arith,
-      e.size,
-      long,
-      token_is,
+      close_is,
       result_is,
-      more,
+      ap (parts_len false 0) inside,
+      segs_ended (segs_of (segments segs)) end one_comma (value_parts xs after),
+      ap length inside,
+      length-drop (at + 1) qs,
+      length-append own (map above end ++ later),
+      length-append (map above end) later,
       length-map ps part_view,
       ap (λ (ss : Segs). length (segs_parts ss)) (segs_back segs),
       length-append (segs_parts segs) (map above end ++ closing one_comma ∷ []),
       length-append (map above end) (closing one_comma ∷ []),
-      length-map end above,
     )
 
 -- an item begins at a place: what its first part tells, and where it ends

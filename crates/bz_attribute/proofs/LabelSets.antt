@@ -1,6 +1,7 @@
 -- Labels in a set.
-use Rattle.std.proofs.Common.{◌≡◌, ℕ, List, [], ◌∷◌, Bool, true, false, None, ◌||◌, refl}
-use Rattle.std.specs.List.{list_any}
+use Rattle.std.proofs.Common.{◌≡◌, ℕ, List, [], ◌∷◌, Bool, true, false, None, ◌||◌, refl, ap, ◌∙◌}
+use Rattle.std.specs.List.{list_any, flat_map}
+use Rattle.std.proofs.lemmas.List.Folds.{list_any-append}
 use Rattle.std.proofs.lemmas.Cmp.{nat_list_eq_equiv}
 use Rattle.bz_command.specs.Labels.{Package}
 use Rattle.bz_command.specs.Same.{completed}
@@ -15,9 +16,10 @@ pub none_same : (home : Package) (words : List (List ℕ)) → list_any (λ w. m
 none_same home [] = refl
 none_same home (w ∷ words) = none_same home words
 
-pub or_false : (a : Bool) → (a || false) ≡ a
-or_false true = refl
-or_false false = refl
+-- an element of one of the lists passes
+pub any_joined : {X : Type 0} (p : X → Bool) (lists : List (List X)) → list_any p (flat_map (λ xs. xs) lists) ≡ list_any (list_any p) lists
+any_joined p [] = refl
+any_joined p (xs ∷ lists) = list_any-append p xs (flat_map (λ xs. xs) lists) ∙ ap (λ (b : Bool). list_any p xs || b) (any_joined p lists)
 
 pub or_swap : (a b c : Bool) → (b || (a || c)) ≡ ((a || b) || c)
 or_swap true true c = refl

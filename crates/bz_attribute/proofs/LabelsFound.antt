@@ -1,7 +1,6 @@
 -- The labels of elements, found one by one.
 use Rattle.std.proofs.Common.{◌≡◌, ℕ, List, [], ◌∷◌, Bool, true, false, ◌&&◌, ◌||◌, if◌then◌else◌, Option, Some, None, drop, refl, ap, sym, ◌∙◌, option_and_then}
 use Rattle.std.specs.List.{list_any, flat_map}
-use Rattle.std.proofs.lemmas.List.Folds.{list_any-append}
 use Rattle.bz_tree.specs.Rows.{RowPart}
 use Rattle.bz_tree.specs.Tree.{Segment}
 use Rattle.bz_command.specs.Labels.{Package}
@@ -14,7 +13,8 @@ use Rattle.bz_attribute.specs.Elements.{AreListsAt, IsNextElement, ListRest, ele
 use Rattle.bz_attribute.specs.Lists.{same}
 use Rattle.bz_attribute.specs.Rules.{string_value}
 use Rattle.bz_attribute.specs.private.ElementSets.{HaveLabels, chooses, is_among, is_in, kept}
-use Rattle.bz_attribute.proofs.LabelSets.{or_false, or_swap, same_back}
+use Rattle.bz_attribute.proofs.LabelSets.{any_joined, or_swap, same_back}
+use Rattle.std.proofs.Math.Bool.{and-false, or-false}
 use Rattle.bz_command.specs.Values.{value_of}
 use Rattle.bz_token.specs.Common.{map_or}
 
@@ -27,19 +27,15 @@ abbrev chosen_value : Package → Moved → Option (List ℕ) → Bool
 chosen_value home All value = true
 chosen_value home (Values words) value = list_any (λ w. map_or false (λ value. same home value w) value) words
 
-pub and_false : (a : Bool) → (a && false) ≡ false
-and_false true = refl
-and_false false = refl
-
 chosen_some : (home : Package) (choice : Moved) (value : List ℕ) → chosen_value home choice (Some value) ≡ chooses home choice value
 chosen_some home All value = refl
 chosen_some home (Values words) value = refl
 
 value_told : (home : Package) (choice : Moved) (text : List ℕ) (value : Option (List ℕ)) → (chosen_value home choice value && (map_or false (λ value. same home value text) value || false)) ≡ is_kept home text (kept home choice value)
-value_told home choice text None = and_false (chosen_value home choice None)
+value_told home choice text None = and-false (chosen_value home choice None)
 value_told home choice text (Some value) =
     ap (λ (b : Bool). b && (same home value text || false)) (chosen_some home choice value)
-    ∙ elim (chooses home choice value) as (λ b. (b && (same home value text || false)) ≡ is_kept home text (if b then Some value else None)) [ true ↦ or_false (same home value text) | false ↦ refl ]
+    ∙ elim (chooses home choice value) as (λ b. (b && (same home value text || false)) ≡ is_kept home text (if b then Some value else None)) [ true ↦ or-false (same home value text) | false ↦ refl ]
 
 is_by_value : (home : Package) (choice : Moved) (s : Segment) → is_chosen home choice s ≡ chosen_value home choice (string_value s.nodes)
 is_by_value home All s = refl
@@ -52,7 +48,7 @@ pub none_labelled : (home : Package) (choice : Moved) (ps : List RowPart) (from 
 none_labelled home choice ps from set empty = λ l after read. record {
   left = l;
   read = read;
-  same = λ text. ap (λ (b : Bool). is_among home choice (elements_left l) text || b) (empty text) ∙ or_false (is_among home choice (elements_left l) text);
+  same = λ text. ap (λ (b : Bool). is_among home choice (elements_left l) text || b) (empty text) ∙ or-false (is_among home choice (elements_left l) text);
 }
 
 pub one_labelled : (home : Package) (choice : Moved) (ps : List RowPart) (from at begin token to : ℕ) (string : Option (List ℕ)) (value : Option (List ℕ)) (old new : LabelSet) → HaveLabels home choice ps from at old
@@ -82,15 +78,10 @@ pub not_gained : (home : Package) (v : Option (List ℕ)) (old new : LabelSet) �
 not_gained home v old new is same text = ap (λ (s : LabelSet). has s text) same ∙ ap (λ (o : Option (List ℕ)). is_kept home text o || has old text) is
 
 -- of all lists
-in_joined : (home : Package) (choice : Moved) (lists : List (List Segment)) (text : List ℕ) → is_among home choice (flat_map (λ ss. ss) lists) text ≡ is_in home choice lists text
-in_joined home choice [] text = refl
-in_joined home choice (ss ∷ lists) text =
-    list_any-append (λ s. is_chosen home choice s && is_chosen home (Values (text ∷ [])) s) ss (flat_map (λ ss. ss) lists) ∙ ap (λ (b : Bool). is_among home choice ss text || b) (in_joined home choice lists text)
-
 pub lists_labelled : (home : Package) (choice : Moved) (ps : List RowPart) (from : ℕ) (set : LabelSet) → ((l : ListRest) (after : List RowPart) → drop from ps ≡ rest_parts l after → (text : List ℕ) → has set text ≡ is_among home choice (elements_left l) text)
     → (lists : List (List Segment)) → AreListsAt ps from lists → (text : List ℕ) → has set text ≡ is_in home choice lists text
 lists_labelled home choice ps from set have lists are text =
-    have are.rest are.after are.read text ∙ ap (λ (ls : List (List Segment)). is_among home choice (flat_map (λ ss. ss) ls) text) (sym are.are) ∙ in_joined home choice lists text
+    have are.rest are.after are.read text ∙ ap (λ (ls : List (List Segment)). is_among home choice (flat_map (λ ss. ss) ls) text) (sym are.are) ∙ any_joined (λ s. is_chosen home choice s && is_chosen home (Values (text ∷ [])) s) lists
 
 pub no_lists : (home : Package) (choice : Moved) (set : LabelSet) (lists : List (List Segment)) → lists ≡ [] → ((text : List ℕ) → has set text ≡ false) → (text : List ℕ) → has set text ≡ is_in home choice lists text
 no_lists home choice set lists none empty text = empty text ∙ ap (λ (ls : List (List Segment)). is_in home choice ls text) (sym none)

@@ -20,7 +20,6 @@ pub mod ListWalk
 pub mod LiteralEnds
 pub mod Locals
 pub mod Mapped
-pub mod NameTexts
 pub mod OnlyLists
 pub mod Passed
 pub mod PlaceFound

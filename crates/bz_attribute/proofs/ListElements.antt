@@ -1,29 +1,30 @@
 -- The elements of a list part, and the value of an argument, by their parts.
-use Rattle.std.proofs.Common.{◌≡◌, ℕ, ◌+◌, ◌<◌, ◌≤◌, List, [], ◌∷◌, ◌++◌, Bool, true, false, if◌then◌else◌, Option, Some, None, map, length, length-drop, take, drop, refl, ap, sym, ◌∙◌, arith, append_assoc, length-append, drop-drop}
+use Rattle.std.proofs.Common.{is_some, ◌≡◌, ℕ, ◌+◌, ◌<◌, ◌≤◌, List, [], ◌∷◌, ◌++◌, Bool, true, false, if◌then◌else◌, Option, Some, None, map, length, length-drop, take, drop, refl, ap, sym, ◌∙◌, arith, append_assoc, length-append, drop-drop}
 use Rattle.std.proofs.lemmas.Bool.{false≢true}
 use Rattle.std.proofs.lemmas.List.{length-map}
 use Rattle.std.proofs.Math.Seq.{drop-append_seam, take-append_seam}
-use Rattle.std.specs.Prelude.{codes, is_some, option_map}
+use Rattle.std.specs.Prelude.{codes, option_and_then}
 use Rattle.bz_tree.specs.declared.stmt.GroupKind.{GroupKind}
 use Rattle.bz_tree.specs.Tree.{Item, leaf, group, Segment, Statement, items_of, segs_of}
-use Rattle.bz_tree.specs.Rows.{RowPart, a_token, opening, closing, segment_end, above, beside, beside_part, items_parts, segs_parts}
-use Rattle.bz_token.specs.declared.token.Kind.TheVariants.{Identifier, Operator, String}
-use Rattle.bz_attribute.specs.Elements.{IsElementOf, IsValueAt, ListRest, rest_parts, value_parts}
-use Rattle.bz_attribute.specs.Effects.{edit_first, with_args, nodes_after, nodes_of}
+use Rattle.bz_tree.specs.Rows.{RowPart, a_token, opening, closing, segment_end, above, beside_part, items_parts, segs_parts}
+use Rattle.bz_token.specs.declared.token.Kind.TheVariants.{String}
+use Rattle.bz_attribute.specs.Elements.{AreElementsTo, IsElementOf, IsValueAt, ListRest, rest_parts, value_parts}
+use Rattle.bz_attribute.specs.Effects.{edit_first, has, with_args, nodes_after, nodes_of}
 use Rattle.bz_attribute.specs.Finder.{find_from}
 use Rattle.bz_attribute.specs.Lists.{with_value}
 use Rattle.bz_attribute.specs.RowPlaces.{IsRuleRow}
-use Rattle.bz_attribute.specs.Rules.{Rule, first_named, is_named, is_operator_item, is_text, name_of, only_text, value}
-use Rattle.bz_attribute.specs.private.Ends.{above_len, end_len, segment_len}
+use Rattle.bz_attribute.specs.Rules.{Rule, first_named, is_named, is_text, name_in, name_of, only_text, string_value, value}
+use Rattle.bz_attribute.specs.private.Ends.{above_len, end_len, parts_len, plain_len, segment_len}
 use Rattle.bz_attribute.specs.private.HeadParts.{is_end}
-use Rattle.bz_attribute.specs.private.ListParts.{HasElement, bare_string, ends_list, string_in}
-use Rattle.bz_attribute.proofs.EditedAt.{edited_at, first_at, segs_join}
-use Rattle.bz_attribute.proofs.EndsBack.{no_beside_argument, no_beside_end, segment_long}
-use Rattle.bz_attribute.proofs.Lengths.{above_passed, no_more_above}
+use Rattle.bz_attribute.specs.private.ListParts.{ends_list, string_in}
+use Rattle.bz_command.specs.Values.{value_of}
+use Rattle.bz_attribute.proofs.EditedAt.{edited_at, first_at, none_first, segs_join}
+use Rattle.bz_attribute.proofs.EndsBack.{argument_long, plain_elements, no_beside_argument, no_beside_end, segment_long}
+use Rattle.bz_attribute.proofs.Lengths.{above_passed, no_more_above, segs_ended}
 use Rattle.bz_attribute.proofs.RuleNodes.{rule_nodes}
 use Rattle.bz_attribute.proofs.RuleParts.{before_args}
-use Rattle.bz_attribute.proofs.PlaceFound.{answered, argument_there, args_found, in_three, nodes_split, placed, post, pre, told}
-use Rattle.bz_attribute.proofs.FoundArgs.{split}
+use Rattle.bz_attribute.proofs.PlaceFound.{answered, args_found, in_three, nodes_split, placed, post, pre, told}
+use Rattle.bz_attribute.proofs.FoundArgs.{group_name, split}
 
 -- what comes after the elements of a list
 abbrev tail : List (List ℕ) → Bool → List Item → List RowPart → List RowPart
@@ -104,15 +105,7 @@ element_of s ss end one_comma items after ps at token to string read is to_is st
     ap segment_len n.read ∙ segment_long s (segs_parts (segs_of ss) ++ last) (beside_none ss end one_comma (value_parts items after)) in
     let both : segs_parts (segs_of (s ∷ ss)) ≡ own ++ segs_parts (segs_of ss) = segs_join (s ∷ []) ss in
     let cut : drop at ps ≡ own ++ (segs_parts (segs_of ss) ++ last) = read ∙ ap (λ (qs : List RowPart). qs ++ last) both ∙ append_assoc own (segs_parts (segs_of ss)) last in
-    let size : length own ≡ length s.before + (length (items_parts (items_of s.nodes)) + (1 + length (beside_part s.suffix))) =
-    omega (
-      arith,
-      length-map s.before above,
-      length-append (map above s.before) (items_parts (items_of s.nodes) ++ (segment_end ∷ (beside_part s.suffix ++ []))),
-      length-append (items_parts (items_of s.nodes)) (segment_end ∷ (beside_part s.suffix ++ [])),
-      length-append (beside_part s.suffix) [],
-    ) in
-    let place : to ≡ at + length own = omega (arith, to_is, long, size, n.begins) in
+    let place : to ≡ at + length own = omega (arith, to_is, long, argument_long s, length-map s.before above, n.begins) in
     let after_it : drop to ps ≡ segs_parts (segs_of ss) ++ last = ap (λ (k : ℕ). drop k ps) place ∙ sym (drop-drop (length own) at ps) ∙ ap (drop (length own)) cut ∙ drop-append_seam own (segs_parts (segs_of ss) ++ last) in
     record {
       element = s;
@@ -136,26 +129,18 @@ pub element_there : (rest : ListRest) (after ps : List RowPart) (at token to : �
     → to ≡ token + segment_len (drop token ps) → string ≡ string_in (drop token ps) → IsElementOf rest after ps at token to string
 element_there rest after ps at token to string read is more to_is string_is = element_in rest.elements rest.end rest.one_comma rest.items after ps at token to string read is more to_is string_is
 
--- one that is one string token, without comments
-record IsBare (qs : List RowPart) (text : List ℕ) : Type 0 where
-  above : above_len qs ≡ 0
-  more : ends_list qs ≡ false
-  long : segment_len qs ≡ 2
-  string : string_in qs ≡ Some text
-
-is_bare : (qs : List RowPart) (text : List ℕ) → bare_string qs ≡ Some text → IsBare qs text
-is_bare (a_token String t ∷ segment_end ∷ beside comment ∷ ps) text h = let clash : None ≡ Some text = h in absurd cc
-is_bare (a_token String t ∷ segment_end ∷ p ∷ ps) text h = record { above = refl; more = refl; long = refl; string = h }
-is_bare _ text h = let clash : None ≡ Some text = h in absurd cc
-
-pub bare_there : (ps : List RowPart) (at : ℕ) (text : List ℕ) → bare_string (drop at ps) ≡ Some text → HasElement ps at at (at + 2) (Some text)
-bare_there ps at text h = λ rest after read.
-    let b = is_bare (drop at ps) text h in
-    element_there rest after ps at at (at + 2) (Some text) read (omega (arith, b.above)) b.more (omega (arith, b.long)) (sym b.string)
-
-pub bare_some : {A : Type 0} (f : A → List ℕ) (o : Option A) (qs : List RowPart) → option_map f o ≡ bare_string qs → is_some o ≡ true → (text : List ℕ) × (bare_string qs ≡ Some text)
-bare_some f None qs told h = absurd (false≢true h)
-bare_some f (Some x) qs told h = (f x, sym told)
+-- where the elements end
+pub elements_told : (l : ListRest) (after ps : List RowPart) (from close end : ℕ) → drop from ps ≡ rest_parts l after → close ≡ parts_len false 0 (drop from ps) → end ≡ from + plain_len (take close (drop from ps)) → AreElementsTo l ps from end
+elements_told l after ps from close end read close_is end_is =
+    let own : List RowPart = segs_parts (segs_of l.elements) in
+    let comments : List RowPart = map above l.end in
+    let later : List RowPart = closing l.one_comma ∷ value_parts l.items after in
+    let long : close ≡ length (own ++ comments) =
+    omega (arith, close_is, ap (parts_len false 0) read, segs_ended (segs_of l.elements) l.end l.one_comma (value_parts l.items after), length-append own comments) in
+    let inside : take close (drop from ps) ≡ own ++ comments = (λ i. take (long i) ((read ∙ sym (append_assoc own comments later)) i)) ∙ take-append_seam (own ++ comments) later in
+    let size : end ≡ from + length own = end_is ∙ ap (λ (qs : List RowPart). from + plain_len qs) inside ∙ ap (λ (n : ℕ). from + n) (plain_elements l.elements l.end) in
+    let left : drop end ps ≡ comments ++ later = ap (λ (n : ℕ). drop n ps) size ∙ sym (drop-drop (length own) from ps) ∙ ap (drop (length own)) read ∙ drop-append_seam own (comments ++ later) in
+    record { are = read ∙ ap (λ (qs : List RowPart). own ++ qs) (sym left); size = size }
 
 -- the list ends
 pub record HasClosed (rest : ListRest) (after ps : List RowPart) (at token : ℕ) : Type 0 where
@@ -173,44 +158,37 @@ closed_there rest after ps at token none read is within =
       read = sym (drop-drop 1 token ps) ∙ ap (drop 1) close;
     }
 
--- an argument with a name
-pub record IsNamed (nodes : List Item) : Type 0 where
-  pub text : List ℕ
-  pub operator : List ℕ
-  pub are : nodes ≡ leaf Identifier text ∷ leaf Operator operator ∷ drop 2 nodes
+-- the nodes of a keyword argument
+pub record IsKeyword (nodes : List Item) : Type 0 where
+  pub name : Item
+  pub operator : Item
+  pub first : RowPart
+  pub second : RowPart
+  pub are : nodes ≡ name ∷ operator ∷ drop 2 nodes
+  pub parts : (more : List Item) → items_parts (items_of (name ∷ operator ∷ more)) ≡ first ∷ second ∷ items_parts (items_of more)
 
-no_name : {P : Type 0} (name : List ℕ) (b : Bool) → is_text name (if◌then◌else◌ {A = Option (List ℕ)} b None None) ≡ true → P
-no_name name true h = absurd (false≢true h)
-no_name name false h = absurd (false≢true h)
+pub is_keyword : (nodes : List Item) → is_some (name_of nodes) ≡ true → IsKeyword nodes
+is_keyword [] h = absurd (false≢true h)
+is_keyword (x ∷ []) h = absurd (false≢true h)
+is_keyword (leaf kind text ∷ leaf k t ∷ rest) h = record { name = leaf kind text; operator = leaf k t; first = a_token kind text; second = a_token k t; are = refl; parts = λ more. refl }
+is_keyword (leaf kind text ∷ group k segs one_comma end ∷ rest) h = absurd (false≢true h)
+is_keyword (group k segs one_comma end ∷ y ∷ rest) h = absurd (false≢true (sym (ap is_some (group_name k segs one_comma end y rest)) ∙ h))
 
-named_nodes : (name : List ℕ) (nodes : List Item) → is_text name (name_of nodes) ≡ true → IsNamed nodes
-named_nodes name [] h = absurd (false≢true h)
-named_nodes name (x ∷ []) h = absurd (false≢true h)
-named_nodes name (leaf Identifier text ∷ leaf Operator operator ∷ xs) h = record { text = text; operator = operator; are = refl }
-named_nodes name (leaf _ text ∷ leaf Operator operator ∷ xs) h = no_name name (is_operator_item (codes "=") (leaf Operator operator)) h
-named_nodes name (group k segs one_comma end ∷ leaf Operator operator ∷ xs) h = no_name name (is_operator_item (codes "=") (leaf Operator operator)) h
-named_nodes name (x ∷ leaf _ operator ∷ xs) h = absurd (false≢true h)
-named_nodes name (x ∷ group k segs one_comma end ∷ xs) h = absurd (false≢true h)
-
--- its name and the operator stand before it
-pub value_within : (name : List ℕ) (s : Statement) (r : Rule) (ps : List RowPart) (at : ℕ) → IsRuleRow s r ps → find_from name 0 false ps ≡ Some at → at + 2 ≤ length ps
-value_within name s r ps at h is =
-    let g = argument_there name s r ps at h is in
-    let n = named_nodes name g.arg.nodes g.is in
-    let two : drop at ps ≡ a_token Identifier n.text ∷ a_token Operator n.operator ∷ value_parts (value g.arg) g.more = g.parts ∙ ap (λ (xs : List Item). items_parts (items_of xs) ++ segment_end ∷ g.more) n.are in
-    omega (arith, ap length two, length-drop at ps)
+named_some : (name : List ℕ) (o : Option (List ℕ)) → is_text name o ≡ true → is_some o ≡ true
+named_some name None h = h
+named_some name (Some text) h = refl
 
 -- the value of the first argument of a name
 pub value_there : (name : List ℕ) (s : Statement) (r : Rule) (ps : List RowPart) (at to : ℕ) → IsRuleRow s r ps → find_from name 0 false ps ≡ Some at → to ≡ at + 2 → IsValueAt name s r ps to
 value_there name s r ps at to h is to_is =
     let f = placed name s r at (args_found name s r) (answered name s r) (sym (told name s r ps h) ∙ is) in
     let a : Segment = f.arg.arg in
-    let n = named_nodes name a.nodes f.arg.is in
-    let two : List RowPart = a_token Identifier n.text ∷ a_token Operator n.operator ∷ [] in
+    let n = is_keyword a.nodes (named_some name (name_of a.nodes) f.arg.is) in
+    let two : List RowPart = n.first ∷ n.second ∷ [] in
     let first : List RowPart = pre s r f.arg.front ++ map above a.before in
     let front : List RowPart = first ++ two in
     let after : List RowPart = beside_part a.suffix ++ post s r f.arg.back in
-    let nodes : (v : List Item) → items_parts (items_of (leaf Identifier n.text ∷ leaf Operator n.operator ∷ v)) ++ segment_end ∷ after ≡ two ++ value_parts v after = λ v. refl in
+    let nodes : (v : List Item) → items_parts (items_of (n.name ∷ n.operator ∷ v)) ++ segment_end ∷ after ≡ two ++ value_parts v after = λ v. ap (λ (qs : List RowPart). qs ++ segment_end ∷ after) (n.parts v) in
     let own : items_parts (items_of a.nodes) ++ segment_end ∷ after ≡ two ++ value_parts (value a) after = ap (λ (xs : List Item). items_parts (items_of xs) ++ segment_end ∷ after) n.are ∙ nodes (value a) in
     let all : ps ≡ front ++ value_parts (value a) after =
     h.are ∙ in_three s r f.arg.front (a ∷ []) f.arg.back (rule_nodes [] s.nodes r h.rule) f.arg.are ∙ nodes_split s r f.arg.front f.arg.back a
@@ -225,7 +203,7 @@ value_there name s r ps at to h is to_is =
       read = (λ i. drop (place i) (all i)) ∙ drop-append_seam front (value_parts (value a) after);
       put = λ edit v made.
           let b : Segment = with_value v a in
-          let b_is : b ≡ record a { nodes = leaf Identifier n.text ∷ leaf Operator n.operator ∷ v } = ap (λ (xs : List Item). record a { nodes = take 2 xs ++ v }) n.are in
+          let b_is : b ≡ record a { nodes = n.name ∷ n.operator ∷ v } = ap (λ (xs : List Item). record a { nodes = take 2 xs ++ v }) n.are in
           let r2 : Rule = record r { args = edit_first (is_named name) edit r.args } in
           let args : r2.args ≡ f.arg.front ++ (b ∷ f.arg.back) =
           ap (edit_first (is_named name) edit) f.arg.are ∙ edited_at (is_named name) edit f.arg.front a f.arg.back f.arg.none f.arg.is ∙ ap (λ (zs : List Segment). f.arg.front ++ (zs ++ f.arg.back)) made in
@@ -235,3 +213,16 @@ value_there name s r ps at to h is to_is =
           ap (λ (qs : List RowPart). qs ++ value_parts v after) taken ∙ append_assoc first two (value_parts v after) ∙ ap (λ (qs : List RowPart). first ++ qs) (sym own_now)
           ∙ sym (in_three (with_args (edit_first (is_named name) edit) s) r2 f.arg.front (b ∷ []) f.arg.back written args ∙ nodes_split s r f.arg.front f.arg.back b);
     }
+
+-- its name and the operator stand before it
+pub value_within : (name : List ℕ) (s : Statement) (r : Rule) (ps : List RowPart) (at : ℕ) → IsRuleRow s r ps → find_from name 0 false ps ≡ Some at → at + 2 ≤ length ps
+value_within name s r ps at h is =
+    let v = value_there name s r ps at (at + 2) h is refl in
+    omega (arith, ap length v.read, length-drop (at + 2) ps, length-append (items_parts (items_of (value v.arg))) (segment_end ∷ v.after))
+
+-- the string that it is
+pub string_told : (s : Statement) (r : Rule) (ps : List RowPart) (at : ℕ) → IsValueAt (codes "name") s r ps at → option_and_then value_of (string_in (drop at ps)) ≡ name_in r.args
+string_told s r ps at v = ap (option_and_then value_of) (ap string_in v.read ∙ text_told (value v.arg) v.after) ∙ sym (ap (option_and_then (λ a. string_value (value a))) v.first)
+
+pub none_told : (args : List Segment) → has (codes "name") args ≡ false → option_and_then value_of None ≡ name_in args
+none_told args none = sym (ap (option_and_then (λ a. string_value (value a))) (none_first (codes "name") args none))

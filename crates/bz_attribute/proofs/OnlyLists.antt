@@ -5,19 +5,18 @@ use Rattle.std.proofs.Math.Seq.{drop-append_seam}
 use Rattle.bz_tree.specs.declared.stmt.GroupKind.TheVariants.{List as ListKind}
 use Rattle.bz_tree.specs.Tree.{Item, leaf, group, Segs, items_of}
 use Rattle.bz_tree.specs.Rows.{RowPart, segment_end, item_parts, items_parts}
-use Rattle.bz_attribute.specs.Elements.{IsListIn, IsOnlyList, list_item, value_parts}
+use Rattle.bz_attribute.specs.Elements.{IsOnlyList, value_parts}
 use Rattle.bz_attribute.specs.Lists.{is_list, is_only}
-use Rattle.bz_attribute.specs.private.Ends.{nodes_len}
+use Rattle.bz_attribute.specs.private.Ends.{parts_len}
 use Rattle.bz_attribute.specs.private.ListParts.{ItemEnds, begins_list, ends_value}
 use Rattle.bz_attribute.proofs.ItemParts.{opened, rest_of}
 use Rattle.bz_attribute.proofs.Lengths.{nodes_ended}
-use Rattle.bz_attribute.proofs.ListWalk.{found_here}
 use Rattle.bz_tree.proofs.FromParts.{segs_back}
 
-pub value_ended : (nodes : List Item) (after ps : List RowPart) (value end : ℕ) → drop value ps ≡ value_parts nodes after → end ≡ value + nodes_len 0 (drop value ps) → drop end ps ≡ segment_end ∷ after
+pub value_ended : (nodes : List Item) (after ps : List RowPart) (value end : ℕ) → drop value ps ≡ value_parts nodes after → end ≡ value + parts_len true 0 (drop value ps) → drop end ps ≡ segment_end ∷ after
 value_ended nodes after ps value end read is =
     let own : List RowPart = items_parts (items_of nodes) in
-    let size : end ≡ value + length own = is ∙ ap (λ (n : ℕ). value + n) (ap (nodes_len 0) read ∙ nodes_ended (items_of nodes) after) in
+    let size : end ≡ value + length own = is ∙ ap (λ (n : ℕ). value + n) (ap (parts_len true 0) read ∙ nodes_ended (items_of nodes) after) in
     ap (λ (n : ℕ). drop n ps) size ∙ sym (drop-drop (length own) value ps) ∙ ap (drop (length own)) read ∙ drop-append_seam own (segment_end ∷ after)
 
 begins_told : (x : Item) (xs : List Item) (after : List RowPart) → begins_list (value_parts (x ∷ xs) after) ≡ is_list x
@@ -56,24 +55,3 @@ only_there (group ListKind segs one_comma end ∷ []) after ps value to read to_
 }
 only_there (group _ segs one_comma end ∷ []) after ps value to read to_is is = absurd (false≢true is)
 only_there (x ∷ y ∷ xs) after ps value to read to_is is = absurd (false≢true is)
-
--- so it is the first list part
-pub alone_there : (nodes : List Item) (after ps : List RowPart) (value to : ℕ) → drop value ps ≡ value_parts nodes after → to ≡ value + 1 → is_only is_list nodes ≡ true → IsListIn true nodes after ps value to
-alone_there [] after ps value to read to_is is = absurd (false≢true is)
-alone_there (leaf kind text ∷ []) after ps value to read to_is is = absurd (false≢true is)
-alone_there (group ListKind segs one_comma end ∷ []) after ps value to read to_is is =
-    let same : group ListKind segs one_comma end ∷ [] ≡ list_item (rest_of segs one_comma end []) ∷ [] = ap (λ (ss : Segs). group ListKind ss one_comma end ∷ []) (sym (segs_back segs)) in
-    record {
-      front = [];
-      list = rest_of segs one_comma end [];
-      are = same;
-      begins = to_is;
-      read = ap (λ (n : ℕ). drop n ps) to_is ∙ sym (drop-drop 1 value ps) ∙ ap (drop 1) (read ∙ opened ListKind segs one_comma end [] after);
-      lists = refl;
-      ends = refl;
-      edit = λ f. refl;
-      first = λ f. refl;
-      found = λ p f. found_here p f segs one_comma end [] refl;
-    }
-alone_there (group _ segs one_comma end ∷ []) after ps value to read to_is is = absurd (false≢true is)
-alone_there (x ∷ y ∷ xs) after ps value to read to_is is = absurd (false≢true is)

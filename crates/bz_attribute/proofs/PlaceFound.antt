@@ -1,7 +1,7 @@
 -- The place of an argument among the parts of its rule.
 use Rattle.std.proofs.Common.{◌≡◌, ℕ, suc, ◌+◌, ◌-◌, ◌≤◌, Bool, List, [], ◌∷◌, ◌++◌, true, false, Option, Some, None, length, map, take, drop, option_map, refl, ap, sym, ◌∙◌, subst, arith, append_assoc, append-nil, length-append}
 use Rattle.std.specs.Prelude.{option_to_list}
-use Rattle.std.proofs.Math.Seq.{drop-append-add, drop-append_seam, take-append_seam}
+use Rattle.std.proofs.Math.Seq.{drop-append_seam, take-append_seam}
 use Rattle.std.proofs.lemmas.Bool.{false≢true, and_parts}
 use Rattle.bz_token.specs.declared.token.Kind.TheVariants.{Identifier}
 use Rattle.bz_tree.specs.declared.stmt.GroupKind.TheVariants.{RuleCall}
@@ -14,7 +14,7 @@ use Rattle.bz_attribute.specs.RowPlaces.{alone, IsLocal, IsPlaceOf, IsPlaceOfAll
 use Rattle.bz_attribute.specs.private.Ends.{arguments_begin, arguments_end, plain_len, segment_len}
 use Rattle.bz_attribute.proofs.RuleNodes.{rule_nodes}
 use Rattle.bz_attribute.proofs.EditedAt.{edited_at, first_at, none_first, segs_join}
-use Rattle.bz_attribute.proofs.EndsBack.{args_end, comments_at, end_alone, segment_long}
+use Rattle.bz_attribute.proofs.EndsBack.{argument_long, args_end, comments_at, end_alone, segment_long}
 use Rattle.bz_attribute.proofs.FoundArgs.{Answer, found, absent, answer, IsArgAt}
 use Rattle.bz_attribute.proofs.RuleParts.{after_args, before_args, head_passed, is_after, parts_cut, rule_dotted}
 
@@ -101,11 +101,6 @@ pub nodes_split : (s : Statement) (r : Rule) (front back : List Segment) (a : Se
     → pre s r front ++ (segs_parts (segs_of (a ∷ [])) ++ post s r back) ≡ (pre s r front ++ map above a.before) ++ (items_parts (items_of a.nodes) ++ (segment_end ∷ (beside_part a.suffix ++ post s r back)))
 nodes_split s r front back a = simp append_assoc
 
-argument_long : (a : Segment) → length (segs_parts (segs_of (a ∷ []))) ≡ length (map above a.before) + (length (items_parts (items_of a.nodes)) + (1 + length (beside_part a.suffix)))
-argument_long a =
-    let nodes : List RowPart = items_parts (items_of a.nodes) in
-    omega (arith, length-append (map above a.before) (nodes ++ (segment_end ∷ (beside_part a.suffix ++ []))), length-append nodes (segment_end ∷ (beside_part a.suffix ++ [])), length-append (beside_part a.suffix) [])
-
 -- by what the finder told
 found_place : (name : List ℕ) (s : Statement) (r : Rule) (n at from to : ℕ) → rule_of s.nodes ≡ Some r → IsArgAt name r.args n → at ≡ length (before_args s r) + n
     → from ≡ plain_len (take at (parts_of s)) → to ≡ at + segment_len (drop at (parts_of s)) → IsPlaceOf name s r (parts_of s) from to
@@ -147,52 +142,6 @@ nowhere name s r o (absent on none) h = none
 
 pub answered : (name : List ℕ) (s : Statement) (r : Rule) → Answer name r.args (args_found name s r)
 answered name s r = answer name r.args (after_args s r) (is_after s r)
-
--- an argument of this name, the first one, is that with whose nodes the parts begin
-pub record IsArgument (name : List ℕ) (r : Rule) (ps : List RowPart) : Type 0 where
-  pub arg : Segment
-  pub more : List RowPart
-  pub named : first_named name r.args ≡ Some arg
-  pub is : is_named name arg ≡ true
-  pub parts : ps ≡ items_parts (items_of arg.nodes) ++ segment_end ∷ more
-
-at_argument : (name : List ℕ) (s : Statement) (r : Rule) (n : ℕ) → IsArgAt name r.args n → IsArgument name r (drop n (segs_parts (segs_of r.args) ++ after_args s r))
-at_argument name s r n at =
-    let a : Segment = at.arg in
-    let first : List RowPart = segs_parts (segs_of at.front) ++ map above a.before in
-    let more : List RowPart = beside_part a.suffix ++ post s r at.back in
-    let rest : List RowPart = items_parts (items_of a.nodes) ++ (segment_end ∷ more) in
-    let moved : (segs_parts (segs_of at.front) ++ segs_parts (segs_of (a ∷ at.back))) ++ after_args s r ≡ first ++ rest = simp append_assoc in
-    let all : segs_parts (segs_of r.args) ++ after_args s r ≡ first ++ rest =
-    ap (λ (zs : List Segment). segs_parts (segs_of zs) ++ after_args s r) at.are ∙ ap (λ (ps : List RowPart). ps ++ after_args s r) (segs_join at.front (a ∷ at.back)) ∙ moved in
-    let begins : n ≡ length first = omega (arith, at.at, length-append (segs_parts (segs_of at.front)) (map above a.before)) in
-    record {
-      arg = a;
-      more = more;
-      named = ap (first_named name) at.are ∙ first_at name at.front a at.back at.none at.is;
-      is = at.is;
-      parts = (λ i. drop (begins i) (all i)) ∙ drop-append_seam first rest;
-    }
-
-answered_at : (name : List ℕ) (s : Statement) (r : Rule) (n : ℕ) (o : Option ℕ) → Answer name r.args o → o ≡ Some n → IsArgAt name r.args n
-answered_at name s r n o (found m on arg) h =
-    let same : m ≡ n = let both : Some m ≡ Some n = sym on ∙ h in cc in
-    subst (λ (k : ℕ). IsArgAt name r.args k) same arg
-answered_at name s r n o (absent on none) h = let clash : None ≡ Some n = sym on ∙ h in absurd cc
-
--- by what the finder told
-pub argument_in : (name : List ℕ) (s : Statement) (r : Rule) (n : ℕ) → args_found name s r ≡ Some n → IsArgument name r (drop n (segs_parts (segs_of r.args) ++ after_args s r))
-argument_in name s r n h = at_argument name s r n (answered_at name s r n (args_found name s r) (answered name s r) h)
-
-pub argument_there : (name : List ℕ) (s : Statement) (r : Rule) (ps : List RowPart) (at : ℕ) → IsRuleRow s r ps → find_from name 0 false ps ≡ Some at → IsArgument name r (drop at ps)
-argument_there name s r ps at h is =
-    let f = placed name s r at (args_found name s r) (answered name s r) (sym (told name s r ps h) ∙ is) in
-    let all : ps ≡ before_args s r ++ (segs_parts (segs_of r.args) ++ after_args s r) = h.are ∙ parts_cut s r (rule_nodes [] s.nodes r h.rule) in
-    let dropped : drop at ps ≡ drop f.n (segs_parts (segs_of r.args) ++ after_args s r) = (λ i. drop (f.is i) (all i)) ∙ drop-append-add (before_args s r) (segs_parts (segs_of r.args) ++ after_args s r) f.n in
-    subst (λ (qs : List RowPart). IsArgument name r qs) (sym dropped) (at_argument name s r f.n f.arg)
-
-pub none_there : (name : List ℕ) (s : Statement) (r : Rule) (ps : List RowPart) → IsRuleRow s r ps → find_from name 0 false ps ≡ None → first_named name r.args ≡ None
-none_there name s r ps h is = none_first name r.args (nowhere name s r (args_found name s r) (answered name s r) (sym (told name s r ps h) ∙ is))
 
 over : (name : List ℕ) (s : Statement) (r : Rule) (ps : List RowPart) (from to : ℕ) → IsRuleRow s r ps → IsPlaceOf name s r (parts_of s) from to → IsPlaceOf name s r ps from to
 over name s r ps from to h p = subst (λ (qs : List RowPart). IsPlaceOf name s r qs from to) (sym h.are) p

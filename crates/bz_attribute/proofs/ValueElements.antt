@@ -1,5 +1,5 @@
 -- A walk over all elements of a value.
-use Rattle.std.proofs.Common.{◌≡◌, ℕ, ◌+◌, ◌-◌, List, [], ◌∷◌, ◌++◌, Bool, true, false, ◌||◌, if◌then◌else◌, Option, None, Some, is_some, map, length, take, drop, refl, ap, sym, ◌∙◌, arith, append_assoc, length-append, drop-drop, take-add}
+use Rattle.std.proofs.Common.{◌≡◌, ℕ, ◌+◌, ◌-◌, List, [], ◌∷◌, ◌++◌, Bool, true, false, ◌||◌, if◌then◌else◌, Option, None, Some, is_some, map, length, take, drop, ap, sym, ◌∙◌, arith, append_assoc, length-append, drop-drop, take-add}
 use Rattle.std.specs.Prelude.{IfNone}
 use Rattle.std.specs.List.{list_any, flat_map}
 use Rattle.std.proofs.lemmas.List.{length-map, map-append}
@@ -10,31 +10,9 @@ use Rattle.bz_attribute.specs.Comment.{edit_element_from, with_comment}
 use Rattle.bz_attribute.specs.Effects.{edit_first}
 use Rattle.bz_attribute.specs.Elements.{IsElementOf, IsListIn, IsNextElement, ListRest, elements_left, found_rest, rest_parts, value_parts}
 use Rattle.bz_attribute.specs.Lists.{parts_from}
-use Rattle.bz_attribute.specs.private.ListParts.{HasElement, HasEmptied, HasPassedTo}
+use Rattle.bz_attribute.specs.private.ListParts.{HasElement, HasEmptied}
 use Rattle.bz_attribute.proofs.EditedAt.{segs_join}
 use Rattle.bz_attribute.proofs.ListEdits.{ended, long_opened, opened}
-
--- one list part
-pub none_passed : (ps : List RowPart) (from : ℕ) → HasPassedTo ps from from
-none_passed ps from = λ l after read. record { seen = []; left = l; elements = refl; own = refl; size = omega arith; read = read }
-
-pub one_passed : (ps : List RowPart) (from at token to : ℕ) (string : Option (List ℕ)) → HasPassedTo ps from at → ((rest : ListRest) (after : List RowPart) → drop at ps ≡ rest_parts rest after → IsElementOf rest after ps at token to string) → HasPassedTo ps from to
-one_passed ps from at token to string passed next = λ l after read.
-    let p = passed l after read in
-    let e = next p.left after p.read in
-    let one : List Segment = e.element ∷ [] in
-    let both : segs_parts (segs_of (p.seen ++ one)) ≡ segs_parts (segs_of p.seen) ++ segs_parts (segs_of one) = segs_join p.seen one in
-    record {
-      seen = p.seen ++ one;
-      left = record p.left { elements = e.others };
-      elements = p.elements ∙ ap (λ (ss : List Segment). p.seen ++ ss) e.are ∙ sym (append_assoc p.seen one e.others);
-      own =
-          p.own ∙ ap (λ (qs : List RowPart). segs_parts (segs_of p.seen) ++ qs) e.own
-          ∙ sym (append_assoc (segs_parts (segs_of p.seen)) (segs_parts (segs_of one)) (drop to ps))
-          ∙ ap (λ (qs : List RowPart). qs ++ drop to ps) (sym both);
-      size = omega (arith, p.size, e.ends, ap length both, length-append (segs_parts (segs_of p.seen)) (segs_parts (segs_of one)));
-      read = e.read;
-    }
 
 -- the next list part
 abbrev last : ListRest → List RowPart → List RowPart

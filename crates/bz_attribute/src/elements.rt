@@ -14,8 +14,7 @@ ghost use Rattle.bz_attribute.specs.Lists as lists;
 
 use crate::finder::find_argument;
 use crate::head_parts::{is_end, text_of};
-use crate::place::{comments_len, segment_len};
-use crate::value::is_one_list;
+use crate::place::{comments_begin, comments_len, parts_len, segment_len};
 use bz_token::Kind;
 use bz_tree::{GroupKind, Part};
 
@@ -64,8 +63,7 @@ pub(crate) fn item_end(parts: &[Part<'_>], at: usize) -> usize
     if !opens(&parts[at]) {
         return at + 1;
     }
-    let end = elements_end(parts, at + 1);
-    let close = end + comments_len(&parts[end..]);
+    let close = at + 1 + parts_len(&parts[at + 1..], false);
     parts.len().min(close + 1)
 }
 
@@ -149,7 +147,6 @@ fn list_from(parts: &[Part<'_>], from: usize, whole: bool) -> Option<usize>
 }
 
 /// Where the elements of the first list part of a value begin.
-#[tactic(auto, using(crate::proofs::OnlyLists::alone_there, crate::proofs::Slices::rest_seen))]
 pub fn first_list(parts: &[Part<'_>], value: usize) -> Option<usize>
     requires { value ≤ length parts.now }
     ensures some { IfSome result (λ to. (nodes : List Item) (after : List RowPart)
@@ -159,10 +156,6 @@ pub fn first_list(parts: &[Part<'_>], value: usize) -> Option<usize>
         → drop value (map part_view parts.now) ≡ value_parts nodes after → HasNoList true nodes) }
     ensures within { IfSome result (λ to. (value < to) × (to ≤ length parts.now)) }
 {
-    // Most values are one list.
-    if is_one_list(&parts[value..]) {
-        return Some(value + 1);
-    }
     if !are_joints(parts, value) {
         return None;
     }
@@ -196,7 +189,7 @@ fn ends_list(parts: &[Part<'_>]) -> bool
 
 // The text of the segment that they begin with, where it is one string token.
 #[inline(always)]
-fn string_in<'a>(parts: &[Part<'a>]) -> Option<&'a str>
+pub(crate) fn string_in<'a>(parts: &[Part<'a>]) -> Option<&'a str>
     ensures { option_map (λ text. text.now) result ≡ spec.string_in (map part_view parts.now) }
 {
     match parts {
@@ -230,40 +223,7 @@ pub fn next_element<'a>(parts: &[Part<'a>], at: usize) -> Option<Element<'a>>
     })
 }
 
-/// The text of the element that they begin with, where it is one string token without comments: its parts are two.
-#[inline(always)]
-pub(crate) fn bare_string<'a>(parts: &[Part<'a>]) -> Option<&'a str>
-    ensures text { option_map (λ text. text.now) result ≡ spec.bare_string (map part_view parts.now) }
-    ensures within { IfSome result (λ text. 2 ≤ length parts.now) }
-{
-    match parts {
-        [Part::Token(Kind::String, text), Part::End, next, ..] => match next {
-            Part::Beside(_) => None,
-            _ => Some(*text),
-        },
-        _ => None,
-    }
-}
-
-// Where the element ends that begins at a place in a list part. None: its elements end there.
-fn next_end(parts: &[Part<'_>], at: usize) -> Option<usize>
-    requires { at ≤ length parts.now }
-    ensures some { IfSome result (λ to. spec.EndsAt (map part_view parts.now) at to) }
-    ensures none { IfNone result ((rest : ListRest) (after : List RowPart)
-        → drop at (map part_view parts.now) ≡ rest_parts rest after → rest.elements ≡ []) }
-    ensures within { IfSome result (λ to. (at < to) × (to ≤ length parts.now)) }
-{
-    if bare_string(&parts[at..]).is_some() {
-        return Some(at + 2);
-    }
-    match next_element(parts, at) {
-        None => None,
-        Some(element) => Some(element.to),
-    }
-}
-
 /// Where the elements of a list part end, which begin at a place.
-#[tactic(auto, using(crate::proofs::ValueElements::none_passed))]
 pub fn elements_end(parts: &[Part<'_>], from: usize) -> usize
     requires { from ≤ length parts.now }
     ensures elements { (rest : ListRest) (after : List RowPart)
@@ -271,11 +231,9 @@ pub fn elements_end(parts: &[Part<'_>], from: usize) -> usize
         → AreElementsTo rest (map part_view parts.now) from result }
     ensures within { (from ≤ result) × (result ≤ length parts.now) }
 {
-    let mut at = from;
-    while let Some(to) = next_end(parts, at) {
-        at = to;
-    }
-    at
+    let rest = &parts[from..];
+    let close = parts_len(rest, false);
+    from + comments_begin(&rest[..close])
 }
 
 /// The next element of a value, from a place in a list part of it on. None: no element is left in any.

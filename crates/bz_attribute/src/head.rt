@@ -9,7 +9,7 @@ ghost use Rattle.bz_attribute.specs.Heads.{HasHead, IsHeadOf};
 ghost use Rattle.bz_attribute.specs.Marks as marks;
 ghost use Rattle.bz_attribute.specs.Texts.{shown_text};
 
-use crate::head_parts::{after_comments, in_call, kind_of, name_text, value_in};
+use crate::head_parts::{after_comments, is_called, kind_of, name_text, value_in};
 use crate::texts::push_home;
 use bumpalo::Bump;
 use bz_command::{Marked, Package, Target};
@@ -61,11 +61,11 @@ impl<'a> Head<'a> {
             → map part_view parts.now ≡ parts_of s → s.start ≡ start → s.end ≡ end → HasHead found s) }
     {
         let first = after_comments(parts);
-        let Some(args) = in_call(first) else {
+        if !is_called(first) {
             return Ok(None);
-        };
+        }
         let kind = kind_of(alloc, bump, first)?;
-        let name = value_in(alloc, bump, name_text(parts, args))?;
+        let name = value_in(alloc, bump, name_text(parts))?;
         Ok(Some(Head {
             kind,
             name,

@@ -4,13 +4,12 @@ ghost use Rattle.std.specs.Prelude.{◌≡◌, codes, map, option_map, IfOk, opt
 ghost use Rattle.bz_tree.specs.Tree.{Statement};
 ghost use Rattle.bz_tree.specs.Rows.{part_view};
 ghost use Rattle.bz_attribute.specs.RowPlaces.{IsRuleRow};
-ghost use Rattle.bz_attribute.specs.Rules.{Rule, is_text};
+ghost use Rattle.bz_attribute.specs.Rules.{Rule};
 ghost use Rattle.bz_attribute.specs.Rules as rules;
 ghost use Rattle.bz_attribute.specs.private.HeadParts as spec;
-ghost use Rattle.bz_attribute.specs.private.HeadParts.{IsInCall};
 ghost use Rattle.bz_command.specs.Values.{value_of};
 
-use crate::finder::find_argument;
+use crate::elements::{string_in, value_place};
 use crate::place::comments_len;
 use crate::row_kind::tokens_len;
 use bumpalo::Bump;
@@ -36,15 +35,11 @@ fn after_tokens<'p, 'a>(parts: &'p [Part<'a>]) -> &'p [Part<'a>]
     &parts[tokens_len(parts)..]
 }
 
-/// The parts within the call of a rule, which opens after the tokens with which these begin.
-pub(crate) fn in_call<'p, 'a>(parts: &'p [Part<'a>]) -> Option<&'p [Part<'a>]>
-    ensures { option_map (λ args. map part_view args.now) result
-        ≡ spec.in_call (spec.after_tokens (map part_view parts.now)) }
+/// The call of a rule opens after the tokens with which these begin.
+pub(crate) fn is_called(parts: &[Part<'_>]) -> bool
+    ensures { result ≡ spec.opens_call (spec.after_tokens (map part_view parts.now)) }
 {
-    match after_tokens(parts) {
-        [Part::Open(GroupKind::RuleCall), args @ ..] => Some(args),
-        _ => None,
-    }
+    matches!(after_tokens(parts), [Part::Open(GroupKind::RuleCall), ..])
 }
 
 /// The texts of the tokens with which parts begin: a slice where it is one, and else a new text in the arena.
@@ -73,19 +68,14 @@ fn joined_tokens<'a>(alloc: Global, bump: &'a Bump, parts: &[Part<'a>]) -> Resul
     alloc_str(bump, kind.as_str())
 }
 
-/// The string that the first argument `name` of a rule is, where it is one. Most often that is the first argument of
-/// all.
-#[tactic(auto, using(crate::proofs::NameTexts::name_first, crate::proofs::NameTexts::name_later, crate::proofs::NameTexts::name_absent, crate::proofs::Slices::rest_seen))]
-pub(crate) fn name_text<'a>(parts: &[Part<'a>], args: &[Part<'a>]) -> Option<&'a str>
+/// The string that the first argument `name` of a rule is, where it is one.
+#[tactic(auto, using(crate::proofs::ListElements::none_told))]
+pub(crate) fn name_text<'a>(parts: &[Part<'a>]) -> Option<&'a str>
     ensures { (s : Statement) (r : Rule) → IsRuleRow s r (map part_view parts.now)
-        → IsInCall s r (map part_view args.now)
         → option_and_then value_of (option_map (λ text. text.now) result) ≡ rules.name_in r.args }
 {
-    if let Some(text) = name_literal(args) {
-        return Some(text);
-    }
-    let at = find_argument(parts, "name")?;
-    name_literal(&parts[at..])
+    let value = value_place(parts, "name")?;
+    string_in(&parts[value..])
 }
 
 /// The value of a text: a slice where it has no escapes, and else a new text in the arena.
@@ -109,36 +99,12 @@ pub(crate) fn value_in<'a>(
     }
 }
 
-/// The literal of a segment `name = literal` with which the parts begin.
-fn name_literal<'a>(parts: &[Part<'a>]) -> Option<&'a str>
-    ensures { option_map (λ text. text.now) result ≡ spec.name_literal (map part_view parts.now) }
-{
-    match parts {
-        [name, equals, literal, end, ..] => {
-            if is_name(name) && is_equals(equals) && is_end(end) {
-                return text_of(literal);
-            }
-            None
-        }
-        _ => None,
-    }
-}
-
 pub(crate) fn ident_of<'a>(part: &Part<'a>) -> Option<&'a str>
     ensures { option_map (λ text. text.now) result ≡ spec.ident_of (part_view part.now) }
 {
     match part {
         Part::Token(Kind::Identifier, text) => Some(*text),
         _ => None,
-    }
-}
-
-fn is_name(part: &Part<'_>) -> bool
-    ensures { result ≡ is_text (codes "name") (spec.ident_of (part_view part.now)) }
-{
-    match part {
-        Part::Token(Kind::Identifier, text) => *text == "name",
-        _ => false,
     }
 }
 

@@ -19,16 +19,17 @@ pub struct Place {
     pub to: usize,
 }
 
-// How many parts stand before the end of the segment that they begin with.
-pub(crate) fn nodes_len(parts: &[Part<'_>]) -> usize
-    ensures len { result ≡ spec.nodes_len 0 (map part_view parts.now) }
+// How many parts stand before the bracket that closes, or where `at_end` before the end of the segment that they begin
+// with.
+pub(crate) fn parts_len(parts: &[Part<'_>], at_end: bool) -> usize
+    ensures len { result ≡ spec.parts_len at_end 0 (map part_view parts.now) }
     ensures within { result ≤ length parts.now }
 {
     let mut depth: usize = 0;
     let mut count = 0;
     while count < parts.len() {
         match parts[count] {
-            Part::End if depth == 0 => return count,
+            Part::End if at_end && depth == 0 => return count,
             Part::Close(_) if depth == 0 => return count,
             Part::Open(_) => depth += 1,
             Part::Close(_) => depth -= 1,
@@ -83,7 +84,7 @@ fn long_segment_len(parts: &[Part<'_>]) -> usize
     ensures len { result ≡ spec.segment_len (map part_view parts.now) }
     ensures within { result ≤ length parts.now }
 {
-    let nodes = nodes_len(parts);
+    let nodes = parts_len(parts, true);
     nodes + end_len(&parts[nodes..])
 }
 

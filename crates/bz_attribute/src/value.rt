@@ -8,7 +8,7 @@ ghost use Rattle.bz_attribute.specs.Lists as lists;
 ghost use Rattle.bz_attribute.specs.private.ListParts as spec;
 
 use crate::elements::item_end;
-use crate::place::nodes_len;
+use crate::place::parts_len;
 use bz_tree::{GroupKind, Part};
 
 /// Where a value ends.
@@ -20,7 +20,7 @@ pub fn value_end(parts: &[Part<'_>], value: usize) -> usize
         → drop result (map part_view parts.now) ≡ segment_end ∷ after }
     ensures within { (value ≤ result) × (result ≤ length parts.now) }
 {
-    value + nodes_len(&parts[value..])
+    value + parts_len(&parts[value..], true)
 }
 
 fn begins_list(parts: &[Part<'_>]) -> bool
@@ -35,8 +35,8 @@ fn ends_value(parts: &[Part<'_>]) -> bool
     matches!(parts, [Part::End, ..])
 }
 
-/// The value that they begin with is one list.
-pub(crate) fn is_one_list(parts: &[Part<'_>]) -> bool
+// The value that they begin with is one list.
+fn is_one_list(parts: &[Part<'_>]) -> bool
     ensures told { (nodes : List Item) (after : List RowPart) → map part_view parts.now ≡ value_parts nodes after
         → result ≡ lists.is_only lists.is_list nodes }
     ensures some { result ≡ true → 0 < length parts.now }

@@ -1,29 +1,28 @@
 -- The arguments of a rule, edited one by one among their parts.
-use Rattle.std.proofs.Common.{◌≡◌, ℕ, ◌+◌, ◌≤◌, ◌<◌, List, [], ◌∷◌, ◌++◌, Bool, true, false, ◌||◌, ◌&&◌, not, if◌then◌else◌, Option, Some, None, is_some, length, map, take, drop, refl, ap, sym, subst, ◌∙◌, arith, append_assoc, append-nil, length-append, length-drop, length-take-le, take-add}
-use Rattle.std.specs.Prelude.{codes}
+use Rattle.std.proofs.Common.{◌≡◌, ℕ, ◌+◌, ◌≤◌, ◌<◌, List, [], ◌∷◌, ◌++◌, Bool, true, false, ◌||◌, ◌&&◌, not, if◌then◌else◌, Option, Some, None, length, map, take, drop, refl, ap, sym, subst, ◌∙◌, arith, append_assoc, append-nil, length-append, length-drop}
 use Rattle.std.specs.List.{flat_map, list_any}
 use Rattle.std.proofs.lemmas.Bool.{false≢true}
 use Rattle.std.proofs.lemmas.Grind.{flat_map-append}
 use Rattle.std.proofs.lemmas.List.{length-map}
 use Rattle.std.proofs.lemmas.List.Folds.{list_any-append}
 use Rattle.bz_token.specs.declared.token.Kind.TheVariants.{String}
-use Rattle.std.proofs.Math.Seq.{drop-append_seam, take-append_seam}
 use Rattle.bz_tree.specs.declared.stmt.GroupKind.TheVariants.{List as ListKind}
 use Rattle.bz_tree.specs.Tree.{Item, leaf, group, Segment, items_of, segments, segs_of}
-use Rattle.bz_tree.specs.Rows.{RowPart, a_token, above, beside_part, segment_end, items_parts, segs_parts}
+use Rattle.bz_tree.specs.Rows.{RowPart, above, beside_part, segment_end, items_parts, segs_parts}
 use Rattle.bz_attribute.specs.Elements.{value_parts}
 use Rattle.bz_attribute.specs.Effects.{filtered, loses_all}
 use Rattle.bz_attribute.specs.FirstArguments.{IsFirstArgument, argument_parts}
 use Rattle.bz_attribute.specs.Lists.{edit_parts, is_attribute, is_list, parts, with_value}
-use Rattle.bz_attribute.specs.Rules.{elements, ident_of, is_operator_item, name_of, value}
+use Rattle.bz_attribute.specs.Rules.{elements, value}
 use Rattle.bz_attribute.proofs.EditedAt.{segs_join}
-use Rattle.bz_attribute.proofs.LabelSets.{or_false}
+use Rattle.bz_attribute.proofs.ListElements.{IsKeyword, is_keyword}
+use Rattle.std.proofs.Math.Bool.{or-false, or-true}
 use Rattle.bz_list_commands.specs.declared.rewriting.Written.{Written}
 use Rattle.bz_list_commands.specs.private.ArgumentEdits.{HasEdited, HasEditedAll, HasEditedSome, edited, is_changed}
 use Rattle.bz_list_commands.specs.private.ElementEdits.{HasEditedValue}
 use Rattle.bz_list_commands.specs.private.StringEdits.{become_all, changes, is_meant}
 use Rattle.bz_list_commands.specs.private.WrittenParts.{HasPut, IsWithin, IsWritten}
-use Rattle.bz_list_commands.proofs.ElementEdits.{after_them, and_them, or_true}
+use Rattle.bz_list_commands.proofs.ElementEdits.{after_them, and_them}
 use Rattle.bz_list_commands.proofs.WrittenParts.{passed}
 use Rattle.bz_token.specs.Common.{is_empty}
 
@@ -41,7 +40,7 @@ stays f t a others w nodes to n name ps out within are first same none =
     let size : w.at + to ≡ w.at + length (segs_parts (segs_of (a ∷ []))) = ap (λ (k : ℕ). w.at + k) first.ends in
     record {
       read = after_argument a others ps w.at (w.at + to) are size;
-      changed = sym (ap (λ (b : Bool). w.changed || b) none ∙ or_false w.changed);
+      changed = sym (ap (λ (b : Bool). w.changed || b) none ∙ or-false w.changed);
       written = λ target h.
           subst (λ (ss : List Segment). IsWritten (record w { at = w.at + to }) ps out (target ++ segs_parts (segs_of ss))) (sym same)
           (passed w ps out target (segs_parts (segs_of (a ∷ []))) (w.at + to) n within h (and_them ps (segs_parts (segs_of (a ∷ []))) (segs_parts (segs_of others)) w.at (w.at + to) (are ∙ apart a others) size) size);
@@ -52,37 +51,9 @@ pub goes_away : (f : Segment → List Segment) (t : Segment → Bool) (a : Segme
     → drop w.at ps ≡ argument_parts a others → IsFirstArgument a nodes to name → f a ≡ [] → t a ≡ true → HasEdited f t a others w next ps before out
 goes_away f t a others w next nodes to name ps before out put are first gone is = record {
   read = after_argument a others ps w.at next.at are (put.at ∙ ap (λ (k : ℕ). w.at + k) first.ends);
-  changed = put.changed ∙ sym (ap (λ (b : Bool). w.changed || b) is ∙ or_true w.changed);
+  changed = put.changed ∙ sym (ap (λ (b : Bool). w.changed || b) is ∙ or-true w.changed);
   written = λ target h. subst (λ (ss : List Segment). IsWritten next ps out (target ++ segs_parts (segs_of ss))) (sym gone) (put.are target h);
 }
-
--- the nodes of a keyword argument
-pub record IsKeyword (nodes : List Item) : Type 0 where
-  pub name : Item
-  pub operator : Item
-  pub rest : List Item
-  pub first : RowPart
-  pub second : RowPart
-  pub are : nodes ≡ name ∷ operator ∷ rest
-  pub parts : (more : List Item) → items_parts (items_of (name ∷ operator ∷ more)) ≡ first ∷ second ∷ items_parts (items_of more)
-
-no_keyword : (x y : Item) → is_some (if is_operator_item (codes "=") y then ident_of x else None) ≡ true → is_some (ident_of x) ≡ true
-no_keyword x y h = elim (is_operator_item (codes "=") y) as (λ b. is_some (if b then ident_of x else None) ≡ true → is_some (ident_of x) ≡ true) [ true ↦ λ k. k | false ↦ λ k. absurd (false≢true k) ] h
-
-pub is_keyword : (nodes : List Item) → is_some (name_of nodes) ≡ true → IsKeyword nodes
-is_keyword [] h = absurd (false≢true h)
-is_keyword (x ∷ []) h = absurd (false≢true h)
-is_keyword (leaf kind text ∷ leaf k t ∷ rest) h = record {
-  name = leaf kind text;
-  operator = leaf k t;
-  rest = rest;
-  first = a_token kind text;
-  second = a_token k t;
-  are = refl;
-  parts = λ more. refl;
-}
-is_keyword (leaf kind text ∷ group k segs one_comma end ∷ rest) h = absurd (false≢true h)
-is_keyword (group k segs one_comma end ∷ y ∷ rest) h = absurd (false≢true (no_keyword (group k segs one_comma end) y h))
 
 -- where the value of a keyword argument begins
 abbrev pub name_parts : (a : Segment) → is_attribute a ≡ true → List RowPart
@@ -99,9 +70,8 @@ cut_name : (a : Segment) (h : is_attribute a ≡ true) (after : List RowPart) �
 cut_name a h after =
     let k : IsKeyword a.nodes = is_keyword a.nodes h in
     ap (λ (nodes : List Item). map above a.before ++ (items_parts (items_of nodes) ++ after)) k.are
-    ∙ ap (λ (qs : List RowPart). map above a.before ++ (qs ++ after)) (k.parts k.rest)
-    ∙ move_name (map above a.before) (items_parts (items_of k.rest)) after k.first k.second
-    ∙ ap (λ (nodes : List Item). (map above a.before ++ k.first ∷ k.second ∷ []) ++ (items_parts (items_of nodes) ++ after)) (sym (ap (drop 2) k.are))
+    ∙ ap (λ (qs : List RowPart). map above a.before ++ (qs ++ after)) (k.parts (value a))
+    ∙ move_name (map above a.before) (items_parts (items_of (value a))) after k.first k.second
 
 name_long : (a : Segment) (h : is_attribute a ≡ true) → length (name_parts a h) ≡ length a.before + 2
 name_long a h = omega (arith, length-append (map above a.before) ((is_keyword a.nodes h).first ∷ (is_keyword a.nodes h).second ∷ []), length-map a.before above)
@@ -127,7 +97,7 @@ any_gone p (s ∷ ss) h = elim (is_meant p s) as (λ b. is_empty ((if b then [] 
 
 pub lost_changes : (p : Option (List ℕ) → Bool) (nodes : List Item) → loses_all (become_all p None) nodes ≡ true → list_any (list_any (is_meant p)) (parts nodes) ≡ true
 lost_changes p [] h = absurd (false≢true h)
-lost_changes p (group ListKind segs one_comma end ∷ []) h = or_false (list_any (is_meant p) (segments segs)) ∙ any_gone p (segments segs) h
+lost_changes p (group ListKind segs one_comma end ∷ []) h = or-false (list_any (is_meant p) (segments segs)) ∙ any_gone p (segments segs) h
 lost_changes p (group _ segs one_comma end ∷ []) h = absurd (false≢true h)
 lost_changes p (leaf k text ∷ []) h = absurd (false≢true h)
 lost_changes p (x ∷ y ∷ xs) h = absurd (false≢true h)
@@ -207,7 +177,7 @@ one_at f t args front (a ∷ more) mid next ps one two are read changed written 
       others = more;
       are = are ∙ sym (append_assoc front (a ∷ []) more);
       read = made.read;
-      changed = made.changed ∙ ap (λ (b : Bool). b || t a) changed ∙ sym (list_any-append t front (a ∷ []) ∙ ap (λ (b : Bool). list_any t front || b) (or_false (t a)));
+      changed = made.changed ∙ ap (λ (b : Bool). b || t a) changed ∙ sym (list_any-append t front (a ∷ []) ∙ ap (λ (b : Bool). list_any t front || b) (or-false (t a)));
       written = subst (λ (qs : List RowPart). IsWritten next ps two qs)
           (sym (segs_join (flat_map f front) (f a)) ∙ ap (λ (ss : List Segment). segs_parts (segs_of ss)) (sym (flat_map-append f front (a ∷ []) ∙ ap (λ (ss : List Segment). flat_map f front ++ ss) (append-nil (f a)))))
           (made.written (segs_parts (segs_of (flat_map f front))) written);
@@ -231,32 +201,6 @@ all_edited f t args next ps out s ends =
       changed = s.changed ∙ ap (list_any t) (sym all);
       written = subst (λ (zs : List Segment). IsWritten next ps out (segs_parts (segs_of (flat_map f zs)))) (sym all) s.written;
     }
-
--- the value of an argument with what ends it, among the parts up to there
-pub own_value : (a : Segment) (h : is_attribute a ≡ true) (others : List Segment) (ps : List RowPart) (at v nodes to : ℕ) (name : Option (List ℕ)) → drop at ps ≡ argument_parts a others → IsFirstArgument a nodes to name → v ≡ at + nodes + 2 → at + to ≤ length ps
-    → drop v (take (at + to) ps) ≡ value_parts (value a) (beside_part a.suffix)
-own_value a h others ps at v nodes to name are first is fits =
-    let own : List RowPart = value_parts (value a) (beside_part a.suffix) in
-    let tail : List RowPart = segs_parts (segs_of others) in
-    let rest : List RowPart = segment_end ∷ (beside_part a.suffix ++ []) in
-    let size : at + to ≡ v + length own =
-    omega (
-      arith,
-      is,
-      first.begins,
-      first.ends,
-      ap length (cut_name a h rest),
-      name_long a h,
-      length-append (name_parts a h) (items_parts (items_of (value a)) ++ rest),
-      length-append (items_parts (items_of (value a))) rest,
-      length-append (items_parts (items_of (value a))) (segment_end ∷ beside_part a.suffix),
-      length-append (beside_part a.suffix) [],
-    ) in
-    let here : drop v ps ≡ own ++ tail = value_reads a h others ps at v nodes to name are first is ∙ sym (append_assoc (items_parts (items_of (value a))) (segment_end ∷ beside_part a.suffix) tail) in
-    let front : length (take v ps) ≡ v = length-take-le v ps (omega (arith, size, fits)) in
-    ap (λ (n : ℕ). drop v (take n ps)) size ∙ ap (drop v) (take-add v (length own) ps)
-    ∙ ap (λ (n : ℕ). drop n (take v ps ++ take (length own) (drop v ps))) (sym front) ∙ drop-append_seam (take v ps) (take (length own) (drop v ps))
-    ∙ ap (take (length own)) here ∙ take-append_seam own tail
 
 -- a keyword argument, and any
 pub of_keyword : (p : Option (List ℕ) → Bool) (literal : Option (List ℕ)) (a : Segment) (others : List Segment) (w next : Written) (ps before out : List RowPart) → is_attribute a ≡ true → HasEdited (filtered (become_all p literal)) (changes p) a others w next ps before out

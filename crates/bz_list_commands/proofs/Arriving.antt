@@ -15,7 +15,8 @@ use Rattle.bz_command.specs.declared.arguments.Moved.TheVariants.{All}
 use Rattle.bz_attribute.specs.Lists.{equals, same}
 use Rattle.bz_attribute.specs.Move.{arrivals}
 use Rattle.bz_attribute.specs.Rules.{string_value}
-use Rattle.bz_attribute.proofs.LabelSets.{or_false}
+use Rattle.bz_attribute.proofs.LabelSets.{any_joined}
+use Rattle.std.proofs.Math.Bool.{or-false}
 use Rattle.bz_list_commands.specs.private.MoveSteps.{AreArriving, HaveArrivals, arrivals_by, has_value, parts_at}
 use Rattle.bz_token.specs.Common.{map_or}
 use Rattle.bz_command.specs.LabelSetViews.{has}
@@ -92,12 +93,8 @@ told home p known there (s ∷ ss) h =
     ]
 
 -- all labels of the elements that are there
-any_joined : (p : Segment → Bool) (lists : List (List Segment)) → list_any p (flat_map (λ ss. ss) lists) ≡ list_any (list_any p) lists
-any_joined p [] = refl
-any_joined p (ss ∷ lists) = list_any-append p ss (flat_map (λ ss. ss) lists) ∙ ap (λ (b : Bool). list_any p ss || b) (any_joined p lists)
-
 in_joined : (home : Package) (lists : List (List Segment)) (text : List ℕ) → is_in home All lists text ≡ list_any (equals home text) (flat_map (λ ss. ss) lists)
-in_joined home lists text = (λ j. list_any (list_any (λ (s : Segment). or_false (equals home text s) j)) lists) ∙ sym (any_joined (equals home text) lists)
+in_joined home lists text = (λ j. list_any (list_any (λ (s : Segment). or-false (equals home text s) j)) lists) ∙ sym (any_joined (equals home text) lists)
 
 -- element by element
 pub none_arrived : (home : Package) (p : Option (List ℕ) → Bool) (at : Lists) (ps : List RowPart) (set : LabelSet)

@@ -14,14 +14,14 @@ use Rattle.bz_attribute.specs.Rules.{only_text}
 use Rattle.bz_attribute.specs.Elements.{HasNoList, IsElementOf, IsListIn, ListRest, list_item, rest_parts, value_parts}
 use Rattle.bz_attribute.specs.Lists.{parts_from, edit_from}
 use Rattle.bz_attribute.proofs.EditedAt.{segs_join}
-use Rattle.bz_attribute.proofs.LabelSets.{or_false}
+use Rattle.std.proofs.Math.Bool.{or-false, or-true, or_assoc}
 use Rattle.bz_list_commands.specs.declared.rewriting.Written.{Written}
 use Rattle.bz_list_commands.specs.private.StringEdits.{become, become_all, in_place, is_meant, literal_in, means_in}
 use Rattle.bz_list_commands.specs.declared.string_edit.Meant.{Meant}
 use Rattle.bz_list_commands.specs.declared.string_edit.Meant.TheVariants.{Any, Unlike, Word, Words}
 use Rattle.bz_command.specs.Labels.{Package}
 use Rattle.bz_list_commands.specs.private.WrittenParts.{HasPut, IsWithin, IsWritten}
-use Rattle.bz_list_commands.specs.private.ElementEdits.{HasEditedElement, HasEditedFront, HasEditedList, HasEditedLists, HasEditedValue, HasPutElement}
+use Rattle.bz_list_commands.specs.private.ElementEdits.{HasEditedElement, HasEditedFront, HasEditedList, HasEditedLists, HasEditedValue}
 use Rattle.bz_list_commands.proofs.WrittenParts.{passed}
 use Rattle.bz_attribute.proofs.ListEdits.{items_join}
 
@@ -53,20 +53,16 @@ strings_only home (Word word) literal h = refl
 strings_only home (Words set) literal h = refl
 strings_only home (Unlike old new) literal h = refl
 
--- an element goes
-pub element_gone : (p : Option (List ℕ) → Bool) (w next : Written) (token to : ℕ) (string : Option (List ℕ)) (ps before out : List RowPart) → HasPut w next to None ps before out → HasPutElement p None w next token to string ps before out
-element_gone p w next token to string ps before out put = record { at = put.at; changed = put.changed; are = λ list after e is target h. put.are target h }
-
 joined : (a b c d : List RowPart) → ((a ++ b) ++ c) ++ d ≡ a ++ (b ++ (c ++ d))
 joined a b c d = simp append_assoc
 
 -- its string becomes another
-pub element_put : (p : Option (List ℕ) → Bool) (literal : List ℕ) (w next : Written) (token to n : ℕ) (string : Option (List ℕ)) (ps before out : List RowPart) → p None ≡ false → IsWithin w n → w.at ≤ token → IsWithin next n
-    → HasPut (record w { at = token }) next (token + 1) (Some literal) ps before out → HasPutElement p (Some literal) w (record next { at = to }) token to string ps before out
-element_put p literal w next token to n string ps before out none within order within2 put = record {
+pub element_put : (p : Option (List ℕ) → Bool) (literal : List ℕ) (w next : Written) (token to n : ℕ) (string : Option (List ℕ)) (ps before out : List RowPart) → p None ≡ false → p string ≡ true → IsWithin w n → w.at ≤ token → IsWithin next n
+    → HasPut (record w { at = token }) next (token + 1) (Some literal) ps before out → HasEditedElement p (Some literal) w (record next { at = to }) token to string ps before out
+element_put p literal w next token to n string ps before out none is within order within2 put = record {
   at = refl;
-  changed = put.changed;
-  are = λ list after e is target h.
+  changed = put.changed ∙ sym (ap (λ (b : Bool). w.changed || b) is ∙ or-true w.changed);
+  are = λ list after e target h.
       let s : Segment = e.element in
       let one : IsString s.nodes = is_string s.nodes p none (ap p (sym e.text) ∙ is) in
       let comments : List RowPart = map above s.before in
@@ -82,36 +78,21 @@ element_put p literal w next token to n string ps before out none within order w
       let second = put.are (target ++ comments) first in
       let third = passed next ps out ((target ++ comments) ++ a_token String literal ∷ []) last to n within2 second (ap (λ (k : ℕ). drop k ps) put.at ∙ at_last) (omega (arith, ends, put.at)) in
       let whole : ((target ++ comments) ++ a_token String literal ∷ []) ++ last ≡ target ++ (comments ++ a_token String literal ∷ last) = joined target comments (a_token String literal ∷ []) last in
-      subst (λ (t : List RowPart). IsWritten (record next { at = to }) ps out t) whole third;
+      let goes : become p (Some literal) s ≡ in_place (Some literal) s = ap (λ (b : Bool). if b then in_place (Some literal) s else s ∷ []) (ap p (sym e.text) ∙ is) in
+      subst (λ (t : List RowPart). IsWritten (record next { at = to }) ps out t) (whole ∙ ap (λ (ss : List Segment). target ++ segs_parts (segs_of ss)) (sym goes)) third;
 }
-
-pub or_true : (b : Bool) → (b || true) ≡ true
-or_true true = refl
-or_true false = refl
 
 -- an element that is no such string stays
 pub element_passed : (p : Option (List ℕ) → Bool) (literal : Option (List ℕ)) (w : Written) (token to n : ℕ) (string : Option (List ℕ)) (ps out : List RowPart) → IsWithin w n → p string ≡ false
     → HasEditedElement p literal w (record w { at = to }) token to string ps out out
 element_passed p literal w token to n string ps out within none = record {
   at = refl;
-  changed = sym (ap (λ (b : Bool). w.changed || b) none ∙ or_false w.changed);
+  changed = sym (ap (λ (b : Bool). w.changed || b) none ∙ or-false w.changed);
   are = λ list after e target h.
       let s : Segment = e.element in
       let stays : become p literal s ≡ s ∷ [] = ap (λ (o : Option (List ℕ)). if p o then in_place literal s else s ∷ []) (sym e.text) ∙ ap (λ (b : Bool). if b then in_place literal s else s ∷ []) none in
       subst (λ (ss : List Segment). IsWritten (record w { at = to }) ps out (target ++ segs_parts (segs_of ss))) (sym stays)
       (passed w ps out target (segs_parts (segs_of (s ∷ []))) to n within h e.own e.ends);
-}
-
--- one that is such a string was written
-pub element_edited : (p : Option (List ℕ) → Bool) (literal : Option (List ℕ)) (w next : Written) (token to : ℕ) (string : Option (List ℕ)) (ps before out : List RowPart) → p string ≡ true → HasPutElement p literal w next token to string ps before out
-    → HasEditedElement p literal w next token to string ps before out
-element_edited p literal w next token to string ps before out is put = record {
-  at = put.at;
-  changed = put.changed ∙ sym (ap (λ (b : Bool). w.changed || b) is ∙ or_true w.changed);
-  are = λ list after e target h.
-      let s : Segment = e.element in
-      let goes : become p literal s ≡ in_place literal s = ap (λ (o : Option (List ℕ)). if p o then in_place literal s else s ∷ []) (sym e.text) ∙ ap (λ (b : Bool). if b then in_place literal s else s ∷ []) is in
-      subst (λ (ss : List Segment). IsWritten next ps out (target ++ segs_parts (segs_of ss))) (sym goes) (put.are list after e is target h);
 }
 
 -- the walk over the elements of a list part
@@ -121,13 +102,13 @@ none_edited p literal list after w ps out read = record {
   others = list.elements;
   are = refl;
   read = read;
-  changed = sym (or_false w.changed);
+  changed = sym (or-false w.changed);
   written = λ target h. subst (λ (t : List RowPart). IsWritten w ps out t) (sym (append-nil target)) h;
 }
 
 any_last : (p : Segment → Bool) (ss : List Segment) (s : Segment) (b : Bool) → ((b || list_any p ss) || p s) ≡ (b || list_any p (ss ++ s ∷ []))
 any_last p ss s true = refl
-any_last p ss s false = sym (list_any-append p ss (s ∷ []) ∙ ap (λ (b : Bool). list_any p ss || b) (or_false (p s)))
+any_last p ss s false = sym (list_any-append p ss (s ∷ []) ∙ ap (λ (b : Bool). list_any p ss || b) (or-false (p s)))
 
 one_on : (p : Option (List ℕ) → Bool) (literal : Option (List ℕ)) (ss : List Segment) (s : Segment) (target : List RowPart)
     → (target ++ segs_parts (segs_of (become_all p literal ss))) ++ segs_parts (segs_of (become p literal s)) ≡ target ++ segs_parts (segs_of (become_all p literal (ss ++ s ∷ [])))
@@ -197,10 +178,6 @@ list_before list front lag after =
     ap (λ (qs : List RowPart). lag ++ (qs ++ segment_end ∷ after)) (items_join front (list_item list ∷ list.items))
     ∙ moved_list lag (items_parts (items_of front)) (segs_parts (segs_of list.elements)) (map above list.end) (items_parts (items_of list.items)) after (opening ListKind) (closing list.one_comma) segment_end
 
-or_or : (a b c : Bool) → ((a || b) || c) ≡ (a || (b || c))
-or_or true b c = refl
-or_or false b c = refl
-
 split_list : (done lag before els ends later : List RowPart) (x : RowPart) → (done ++ ((lag ++ (before ++ x ∷ [])) ++ els)) ++ (ends ++ later) ≡ done ++ (lag ++ (before ++ ((x ∷ (els ++ ends)) ++ later)))
 split_list done lag before els ends later x = simp append_assoc
 
@@ -229,7 +206,7 @@ one_list p literal nodes after w mid next from n more ps before one two ls withi
       lag = list_end list;
       done = ls.done ++ (up ++ els);
       read = made.read ∙ sym (moved_end (map above list.end) (value_parts list.items after) (closing list.one_comma));
-      changed = ap (λ (b : Bool). b || any (parts_from false list.items)) made.changed ∙ or_or mid.changed (list_any (is_meant p) list.elements) (any (parts_from false list.items))
+      changed = ap (λ (b : Bool). b || any (parts_from false list.items)) made.changed ∙ or_assoc mid.changed (list_any (is_meant p) list.elements) (any (parts_from false list.items))
           ∙ ap (λ (zs : List (List Segment)). mid.changed || any zs) (sym il.lists) ∙ ls.changed;
       total = split_list ls.done ls.lag (items_parts (items_of il.front)) els (list_end list) (items_parts (items_of later)) (opening ListKind)
           ∙ ap (λ (qs : List RowPart). ls.done ++ (ls.lag ++ qs)) (sym (items_join il.front (list_item (record list { elements = f list.elements }) ∷ later)))
@@ -250,7 +227,7 @@ all_lists p literal nodes after w next list ps before out ls is =
       rest = ls.lag ++ own;
       done = ls.done;
       read = ls.read ∙ sym (append_assoc ls.lag own (segment_end ∷ after));
-      changed = sym (or_false next.changed) ∙ ap (λ (zs : List (List Segment)). next.changed || list_any (list_any (is_meant p)) zs) (sym no.none) ∙ ls.changed;
+      changed = sym (or-false next.changed) ∙ ap (λ (zs : List (List Segment)). next.changed || list_any (list_any (is_meant p)) zs) (sym no.none) ∙ ls.changed;
       total = ap (λ (zs : List Item). ls.done ++ (ls.lag ++ items_parts (items_of zs))) (sym (no.same (become_all p literal))) ∙ ls.total;
       written = ls.written;
     }

@@ -17,10 +17,10 @@ use Rattle.bz_attribute.specs.Rules.{string_value}
 use Rattle.bz_attribute.specs.Effects.{is_chosen}
 use Rattle.bz_attribute.specs.Add.{is_fresh}
 use Rattle.bz_attribute.specs.private.ElementSets.{is_in}
-use Rattle.bz_attribute.proofs.LabelSets.{or_false}
+use Rattle.std.proofs.Math.Bool.{or-false}
 use Rattle.bz_list_commands.specs.private.AddSteps.{Knows}
 use Rattle.bz_token.specs.Common.{map_or}
-use Rattle.bz_attribute.proofs.LabelsFound.{and_false}
+use Rattle.std.proofs.Math.Bool.{and-false}
 
 or_last : (a b c : Bool) → (c || (a || b)) ≡ (a || (b || (c || false)))
 or_last true b true = refl
@@ -33,14 +33,14 @@ or_last false false false = refl
 same_for : (home : Package) (words : List (List ℕ)) (text : List ℕ) (value : Option (List ℕ)) → list_any (same home text) words ≡ true → (map_or false (λ value. same home value text) value || false) ≡ true → list_any (λ w. map_or false (λ value. same home value w) value) words ≡ true
 same_for home words text None among is = absurd (false≢true is)
 same_for home words text (Some value) among is =
-    let alike : completed home value ≡ completed home text = same_bytes (completed home value) (completed home text) (sym (or_false (same home value text)) ∙ is) in
+    let alike : completed home value ≡ completed home text = same_bytes (completed home value) (completed home text) (sym (or-false (same home value text)) ∙ is) in
     (λ j. list_any (λ w. bytes_eq (alike j) (completed home w)) words) ∙ among
 
 -- words choose each element that is the same label as one of them
 one_word : (home : Package) (words : List (List ℕ)) (text : List ℕ) → list_any (same home text) words ≡ true → (s : Segment) → (is_chosen home (Values words) s && is_chosen home (Values (text ∷ [])) s) ≡ is_chosen home (Values (text ∷ [])) s
 one_word home words text among s = elim (cases_Bool (is_chosen home (Values (text ∷ [])) s)) [
   | inl is ↦ rw is (ap (λ (b : Bool). b && true) (same_for home words text (string_value s.nodes) among is))
-  | inr differs ↦ rw differs (and_false (is_chosen home (Values words) s))
+  | inr differs ↦ rw differs (and-false (is_chosen home (Values words) s))
 ]
 
 -- so among all elements it is the same label as one exactly where it is among those
@@ -51,7 +51,7 @@ among_chosen home words lists text among = λ j. list_any (list_any (λ (s : Seg
 pub known_first : (home : Package) (lists : List (List Segment)) (values words : List (List ℕ)) (set : LabelSet) → words ≡ values → set.home.now ≡ home → ((text : List ℕ) → has set text ≡ is_in home (Values words) lists text) → Knows home lists values 0 set
 known_first home lists values words set same of all = record {
   of = of;
-  all = λ text. all text ∙ ap (λ (ws : List (List ℕ)). is_in home (Values ws) lists text) same ∙ sym (or_false (is_in home (Values values) lists text));
+  all = λ text. all text ∙ ap (λ (ws : List (List ℕ)). is_in home (Values ws) lists text) same ∙ sym (or-false (is_in home (Values values) lists text));
 }
 
 -- with the value at i

@@ -19,7 +19,8 @@ use Rattle.bz_attribute.specs.Replace.{is_replaced, replace, replaced, replaced_
 use Rattle.bz_attribute.specs.RowEdits.{IsRowEdit}
 use Rattle.bz_attribute.specs.Rules.{first_named, is_named, is_text, only_text, value}
 use Rattle.bz_attribute.specs.declared.edit.Edit.{Edit}
-use Rattle.bz_attribute.proofs.LabelSets.{none_same, or_false}
+use Rattle.bz_attribute.proofs.LabelSets.{none_same}
+use Rattle.std.proofs.Math.Bool.{or-false}
 use Rattle.bz_list_commands.specs.private.ArgumentEdits.{edited, goes_by, kept}
 use Rattle.bz_list_commands.specs.private.PlaceEdits.{changes_first, changes_in, edited_in}
 use Rattle.bz_list_commands.specs.private.StringEdits.{become, become_all, equals_one, equals_word, is_meant, is_unlike, passes}
@@ -84,7 +85,7 @@ rows_removed home attributes v more values p ps new e are is h =
 
 -- one word
 pub one_word : (home : Package) (word : List ℕ) → passes (equals_word home word) ≡ passes (equals_one home (word ∷ []))
-one_word home word = λ i. passes (λ text. sym (or_false (equals_word home word text)) i)
+one_word home word = λ i. passes (λ text. sym (or-false (equals_word home word text)) i)
 
 -- lists of one, and of more
 pub one_alone : (values : List (List ℕ)) (v d : List ℕ) → 1 ≤ length values → length values < 2 → v ≡ get_or values 0 d → values ≡ v ∷ []

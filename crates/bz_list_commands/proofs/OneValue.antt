@@ -10,7 +10,7 @@ use Rattle.bz_attribute.specs.Effects.{is_chosen, string}
 use Rattle.bz_attribute.specs.Elements.{AreListsAt, ListRest, elements_left, rest_parts}
 use Rattle.bz_attribute.specs.Lists.{equals}
 use Rattle.bz_attribute.proofs.ElementSearch.{in_all}
-use Rattle.bz_attribute.proofs.LabelSets.{or_false}
+use Rattle.std.proofs.Math.Bool.{or-false}
 
 -- whether an element of any list equals the word
 pub lists_sought : (home : Package) (word : List ℕ) (ps : List RowPart) (from : ℕ) (b : Bool) → ((l : ListRest) (after : List RowPart) → drop from ps ≡ rest_parts l after → b ≡ list_any (equals home word) (elements_left l))
@@ -21,7 +21,7 @@ lists_sought home word ps from b sought lists are =
 -- what is new
 one_fresh : (home : Package) (lists : List (List Segment)) (word : List ℕ) (b : Bool) → b ≡ list_any (list_any (equals home word)) lists → is_fresh home lists [] word ≡ not b
 one_fresh home lists word b is =
-    ap not (or_false (list_any (list_any (is_chosen home (Values (word ∷ [])))) lists) ∙ (λ j. list_any (list_any (λ (s : Segment). or_false (equals home word s) j)) lists) ∙ sym is)
+    ap not (or-false (list_any (list_any (is_chosen home (Values (word ∷ [])))) lists) ∙ (λ j. list_any (list_any (λ (s : Segment). or-false (equals home word s) j)) lists) ∙ sym is)
 
 pub none_missing : (home : Package) (lists : List (List Segment)) (word : List ℕ) → true ≡ list_any (list_any (equals home word)) lists → new_elements home lists (word ∷ []) ≡ []
 none_missing home lists word is = rw (one_fresh home lists word true is) refl

@@ -11,7 +11,7 @@ use Rattle.bz_attribute.specs.RowPlaces.{alone, IsPlaceOf, IsPlaceOfAll, IsRuleR
 use Rattle.bz_attribute.specs.Rules.{Rule, first_named, is_named, is_text, name_of}
 use Rattle.bz_attribute.specs.declared.edit.Edit.{Edit}
 use Rattle.bz_attribute.specs.declared.place.Place.{Place}
-use Rattle.bz_attribute.proofs.LabelSets.{or_false}
+use Rattle.std.proofs.Math.Bool.{or-false}
 use Rattle.bz_attribute.proofs.Locals.{edit_local, is_first_named}
 use Rattle.bz_list_commands.specs.private.ArgumentEdits.{HasEditedAll, edited, is_changed}
 use Rattle.bz_list_commands.specs.private.PlaceEdits.{AreThere, IsPlaceEdit, changes_first}
@@ -66,7 +66,7 @@ edited_alone p literal name args (Some a) h =
 
 told_alone : (p : Option (List ℕ) → Bool) (name : List ℕ) (args : List Segment) (o : Option Segment) → first_named name args ≡ o → list_any (is_changed p) (option_to_list o) ≡ changes_first p o
 told_alone p name args None h = refl
-told_alone p name args (Some a) h = or_false (is_changed p a) ∙ ap (λ (b : Bool). b && changes p a) (has_name name (name_of a.nodes) (is_first_named name args a h))
+told_alone p name args (Some a) h = or-false (is_changed p a) ∙ ap (λ (b : Bool). b && changes p a) (has_name name (name_of a.nodes) (is_first_named name args a h))
 
 pub named_row : (p : Option (List ℕ) → Bool) (literal : Option (List ℕ)) (name : List ℕ) (place : Place) (ps new : List RowPart) (e : Edit) → IsPlaceEdit (edited p literal) (is_changed p) place ps new e
     → ((s : Statement) (r : Rule) → IsRuleRow s r ps → IsPlaceOf name s r ps place.from place.to)

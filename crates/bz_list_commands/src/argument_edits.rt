@@ -59,7 +59,7 @@ fn edit_keyword<'a>(
 {
     let to = written.at + argument.to;
     let value = to.min(written.at + argument.nodes + 2);
-    if loses_all(edit, &parts[..to], value) {
+    if loses_all(edit, parts, value) {
         return put(parts, written, to, None, out);
     }
     let start = Written {

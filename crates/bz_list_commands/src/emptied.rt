@@ -1,35 +1,27 @@
 //! Whether a value is one list that loses all its elements.
 
-ghost use Rattle.std.specs.Prelude.{◌≡◌, ◌≤◌, List, ℕ, Option, None as Nothing, map, length, drop};
+ghost use Rattle.std.specs.Prelude.{◌≡◌, ◌≤◌, List, None as Nothing, map, length, drop};
 ghost use Rattle.bz_tree.specs.Tree.{Item};
-ghost use Rattle.bz_tree.specs.Rows.{beside_part, part_view};
+ghost use Rattle.bz_tree.specs.Rows.{RowPart, part_view};
 ghost use Rattle.bz_attribute.specs.Elements.{value_parts};
 ghost use Rattle.bz_attribute.specs.Effects.{loses_all};
 ghost use Rattle.bz_list_commands.specs.private.StringEdits.{become_all, literal_of, means};
-ghost use Rattle.bz_list_commands.specs.private.ElementEdits as spec;
 
 use crate::string_edit::StringEdit;
 use bz_attribute::{next_element, only_list};
-use bz_tree::{GroupKind, Part};
-
-fn begins_list(parts: &[Part<'_>]) -> bool
-    ensures { result ≡ spec.begins_list (map part_view parts.now) }
-{
-    matches!(parts, [Part::Open(GroupKind::List), ..])
-}
+use bz_tree::Part;
 
 // The same where they go.
-#[tactic(auto, using(crate::proofs::EmptiedLists::no_list, crate::proofs::EmptiedLists::begins_some, crate::proofs::EmptiedLists::none_gone, bz_attribute::proofs::Slices::rest_seen))]
+#[tactic(auto, using(crate::proofs::EmptiedLists::no_list))]
 fn all_go(edit: StringEdit<'_, '_, '_>, parts: &[Part<'_>], value: usize) -> bool
     requires { value ≤ length parts.now }
-    ensures { (nodes : List Item) (suffix : Option (List ℕ))
-        → drop value (map part_view parts.now) ≡ value_parts nodes (beside_part suffix)
+    ensures { (nodes : List Item) (after : List RowPart)
+        → drop value (map part_view parts.now) ≡ value_parts nodes after
         → result ≡ loses_all (become_all (means edit.entry) Nothing) nodes }
 {
-    if !begins_list(&parts[value..]) {
+    let Some(first) = only_list(parts, value) else {
         return false;
-    }
-    let first = value + 1;
+    };
     let mut at = first;
     while let Some(element) = next_element(parts, at) {
         if !edit.means(element.string) {
@@ -37,18 +29,14 @@ fn all_go(edit: StringEdit<'_, '_, '_>, parts: &[Part<'_>], value: usize) -> boo
         }
         at = element.to;
     }
-    if at == first {
-        return false;
-    }
-    only_list(parts, value).is_some()
+    first < at
 }
 
-/// The value of an argument is one list, and no element of it is left, where it has some. The parts end with the
-/// argument.
+/// The value of an argument is one list, and no element of it is left, where it has some.
 pub fn loses_all(edit: StringEdit<'_, '_, '_>, parts: &[Part<'_>], value: usize) -> bool
     requires { value ≤ length parts.now }
-    ensures { (nodes : List Item) (suffix : Option (List ℕ))
-        → drop value (map part_view parts.now) ≡ value_parts nodes (beside_part suffix)
+    ensures { (nodes : List Item) (after : List RowPart)
+        → drop value (map part_view parts.now) ≡ value_parts nodes after
         → result ≡ loses_all (become_all (means edit.entry) (literal_of edit.entry)) nodes }
 {
     match edit.new() {

@@ -7,15 +7,15 @@ abbrev pub above_len : List RowPart → ℕ
 above_len (above text ∷ ps) = suc (above_len ps)
 above_len _ = 0
 
--- how many parts there are before the end of a segment, with so many brackets open
-abbrev pub nodes_len : ℕ → List RowPart → ℕ
-nodes_len d [] = 0
-nodes_len zero (segment_end ∷ ps) = 0
-nodes_len (suc d) (segment_end ∷ ps) = suc (nodes_len (suc d) ps)
-nodes_len d (opening kind ∷ ps) = suc (nodes_len (suc d) ps)
-nodes_len zero (closing one_comma ∷ ps) = 0
-nodes_len (suc d) (closing one_comma ∷ ps) = suc (nodes_len d ps)
-nodes_len d (p ∷ ps) = suc (nodes_len d ps)
+-- how many parts there are, with so many brackets open, before the bracket that closes, or where `at_end` before the end of a segment
+abbrev pub parts_len : Bool → ℕ → List RowPart → ℕ
+parts_len at_end d [] = 0
+parts_len at_end zero (segment_end ∷ ps) = if at_end then 0 else suc (parts_len at_end zero ps)
+parts_len at_end (suc d) (segment_end ∷ ps) = suc (parts_len at_end (suc d) ps)
+parts_len at_end d (opening kind ∷ ps) = suc (parts_len at_end (suc d) ps)
+parts_len at_end zero (closing one_comma ∷ ps) = 0
+parts_len at_end (suc d) (closing one_comma ∷ ps) = suc (parts_len at_end d ps)
+parts_len at_end d (p ∷ ps) = suc (parts_len at_end d ps)
 
 -- the end of a segment and the comment beside it
 abbrev pub end_len : List RowPart → ℕ
@@ -25,7 +25,7 @@ end_len [] = 0
 
 -- how many parts a segment has from its first node on
 abbrev pub segment_len : List RowPart → ℕ
-segment_len ps = nodes_len 0 ps + end_len (drop (nodes_len 0 ps) ps)
+segment_len ps = parts_len true 0 ps + end_len (drop (parts_len true 0 ps) ps)
 
 abbrev pub is_above : RowPart → Bool
 is_above (above text) = true

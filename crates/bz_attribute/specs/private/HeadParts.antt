@@ -1,8 +1,8 @@
 -- For private clauses: the kind and the arguments of a rule, as they stand in its parts.
-use Rattle.std.specs.Prelude.{◌≡◌, ℕ, List, [], ◌∷◌, ◌++◌, map, drop, Bool, true, false, ◌&&◌, if◌then◌else◌, Option, None, Some, codes}
+use Rattle.std.specs.Prelude.{ℕ, List, [], ◌∷◌, ◌++◌, drop, Bool, true, false, Option, None}
 use Rattle.bz_tree.specs.declared.stmt.GroupKind.TheVariants.{RuleCall}
-use Rattle.bz_tree.specs.Tree.{leaf, Statement, segs_of}
-use Rattle.bz_tree.specs.Rows.{RowPart, a_token, opening, closing, segment_end, above, beside_part, segs_parts}
+use Rattle.bz_tree.specs.Tree.{leaf}
+use Rattle.bz_tree.specs.Rows.{RowPart, a_token, opening, segment_end}
 use Rattle.bz_attribute.specs.Rules.{Rule}
 use Rattle.bz_attribute.specs.private.Ends.{above_len, tokens_len}
 use Rattle.bz_attribute.specs.Rules as rules
@@ -20,14 +20,10 @@ abbrev pub token_texts : List RowPart → List ℕ
 token_texts (a_token kind text ∷ ps) = text ++ token_texts ps
 token_texts ps = []
 
--- the parts within the call of a rule that opens there
-abbrev pub in_call : List RowPart → Option (List RowPart)
-in_call (opening RuleCall ∷ ps) = Some ps
-in_call ps = None
-
--- the parts of the arguments of a rule, and those after them
-abbrev pub IsInCall : Statement → Rule → List RowPart → Type 0
-IsInCall s r ps = ps ≡ segs_parts (segs_of r.args) ++ ((map above r.end ++ closing r.one_comma ∷ []) ++ beside_part s.suffix)
+-- the call of a rule opens there
+abbrev pub opens_call : List RowPart → Bool
+opens_call (opening RuleCall ∷ ps) = true
+opens_call ps = false
 
 abbrev pub ident_of : RowPart → Option (List ℕ)
 ident_of (a_token kind text) = rules.ident_of (leaf kind text)
@@ -44,9 +40,3 @@ text_of _ = None
 abbrev pub is_end : RowPart → Bool
 is_end segment_end = true
 is_end _ = false
-
--- the literal of a segment `name = literal` with which the parts begin
-abbrev pub name_literal : List RowPart → Option (List ℕ)
-name_literal (name ∷ equals ∷ literal ∷ end ∷ ps) =
-    if rules.is_text (codes "name") (ident_of name) && is_operator_item (codes "=") equals && is_end end then text_of literal else None
-name_literal _ = None

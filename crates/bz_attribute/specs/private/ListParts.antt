@@ -1,10 +1,9 @@
 -- For private clauses alone: the items of a value, by their parts.
-use Rattle.std.specs.Prelude.{◌≡◌, ℕ, ◌+◌, List, [], ◌∷◌, ◌++◌, Bool, true, false, ◌||◌, if◌then◌else◌, Option, None, Some, length, drop, take}
+use Rattle.std.specs.Prelude.{◌≡◌, ℕ, ◌+◌, List, [], ◌∷◌, ◌++◌, Bool, true, false, ◌||◌, if◌then◌else◌, Option, None, length, drop, take}
 use Rattle.std.specs.List.{list_all, list_any}
 use Rattle.bz_tree.specs.declared.stmt.GroupKind.TheVariants.{List as ListKind}
-use Rattle.bz_tree.specs.Tree.{Item, leaf, Segment, items_of, segs_of}
-use Rattle.bz_token.specs.declared.token.Kind.TheVariants.{String}
-use Rattle.bz_tree.specs.Rows.{RowPart, a_token, beside, closing, opening, segment_end, item_parts, items_parts, segs_parts}
+use Rattle.bz_tree.specs.Tree.{Item, leaf, Segment, items_of}
+use Rattle.bz_tree.specs.Rows.{RowPart, a_token, closing, opening, segment_end, item_parts, items_parts}
 use Rattle.bz_command.specs.Labels.{Package}
 use Rattle.bz_attribute.specs.Elements.{IsElementOf, ListRest, elements_left, found_rest, rest_parts, value_parts}
 use Rattle.bz_attribute.specs.Lists as lists
@@ -56,21 +55,9 @@ abbrev pub string_in : List RowPart → Option (List ℕ)
 string_in (p ∷ q ∷ ps) = if is_end q then text_of p else None
 string_in _ = None
 
--- the text of the element that they begin with, where it is one string token without comments
-abbrev pub bare_text : RowPart → List ℕ → Option (List ℕ)
-bare_text (beside comment) text = None
-bare_text _ text = Some text
-
-abbrev pub bare_string : List RowPart → Option (List ℕ)
-bare_string (a_token String text ∷ segment_end ∷ p ∷ ps) = bare_text p text
-bare_string _ = None
-
 -- the element that begins at a place in a list part ends there
 abbrev pub HasElement : List RowPart → ℕ → ℕ → ℕ → Option (List ℕ) → Type 0
 HasElement ps at token to string = (rest : ListRest) (after : List RowPart) → drop at ps ≡ rest_parts rest after → IsElementOf rest after ps at token to string
-
-abbrev pub EndsAt : List RowPart → ℕ → ℕ → Type 0
-EndsAt ps at to = (token : ℕ) × (string : Option (List ℕ)) × HasElement ps at token to string
 
 -- an edit of items, of which `start` says whether a piece begins with the first: where that is no list part, it stays
 abbrev pub KeepsOthers : (Bool → List Item → List Item) → Type 0
@@ -97,18 +84,6 @@ pub record AreJoints (nodes : List Item) (after ps : List RowPart) (at : ℕ) : 
 
 abbrev pub HasJoints : List RowPart → ℕ → ℕ → Type 0
 HasJoints ps from at = (nodes : List Item) (after : List RowPart) → drop from ps ≡ value_parts nodes after → AreJoints nodes after ps at
-
--- the elements of a list part up to a place
-pub record IsPassedTo (l : ListRest) (after ps : List RowPart) (from at : ℕ) : Type 0 where
-  pub seen : List Segment
-  pub left : ListRest
-  pub elements : l.elements ≡ seen ++ left.elements
-  pub own : drop from ps ≡ segs_parts (segs_of seen) ++ drop at ps
-  pub size : at ≡ from + length (segs_parts (segs_of seen))
-  pub read : drop at ps ≡ rest_parts left after
-
-abbrev pub HasPassedTo : List RowPart → ℕ → ℕ → Type 0
-HasPassedTo ps from at = (l : ListRest) (after : List RowPart) → drop from ps ≡ rest_parts l after → IsPassedTo l after ps from at
 
 -- no element is left of the list part that `at` is in, and of the value what was left before
 pub record IsEmptiedTo (l : ListRest) (after ps : List RowPart) (from at : ℕ) : Type 0 where

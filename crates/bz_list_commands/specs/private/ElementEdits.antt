@@ -1,25 +1,13 @@
 -- For private clauses alone: how far the elements of an argument were edited.
-use Rattle.std.specs.Prelude.{◌≡◌, ℕ, ◌+◌, List, [], ◌∷◌, ◌++◌, Bool, true, false, ◌||◌, Option, Some, None, length, drop}
+use Rattle.std.specs.Prelude.{◌≡◌, ℕ, ◌+◌, List, [], ◌∷◌, ◌++◌, Bool, ◌||◌, Option, Some, None, length, drop}
 use Rattle.std.specs.List.{list_any}
-use Rattle.bz_tree.specs.declared.stmt.GroupKind.TheVariants.{List as ListKind}
 use Rattle.bz_tree.specs.Tree.{Item, Segment, items_of, segs_of}
-use Rattle.bz_tree.specs.Rows.{RowPart, opening, segment_end, items_parts, segs_parts}
+use Rattle.bz_tree.specs.Rows.{RowPart, segment_end, items_parts, segs_parts}
 use Rattle.bz_attribute.specs.Elements.{HasNoList, IsElementOf, IsListIn, ListRest, edit_in, lists_in, rest_parts, value_parts}
 use Rattle.bz_attribute.specs.Lists.{edit_parts, parts}
-use Rattle.bz_list_commands.specs.private.StringEdits.{become, become_all, in_place, is_meant}
+use Rattle.bz_list_commands.specs.private.StringEdits.{become, become_all, is_meant}
 use Rattle.bz_list_commands.specs.private.WrittenParts.{IsWritten}
 use Rattle.bz_list_commands.specs.declared.rewriting.Written.{Written}
-
-abbrev pub begins_list : List RowPart → Bool
-begins_list (opening ListKind ∷ ps) = true
-begins_list _ = false
-
--- an element that is meant is written
-pub record HasPutElement (p : Option (List ℕ) → Bool) (literal : Option (List ℕ)) (w next : Written) (token to : ℕ) (string : Option (List ℕ)) (ps before out : List RowPart) : Type 0 where
-  pub at : next.at ≡ to
-  pub changed : next.changed ≡ true
-  pub are : (list : ListRest) (after : List RowPart) (e : IsElementOf list after ps w.at token to string) → p string ≡ true
-      → (target : List RowPart) → IsWritten w ps before target → IsWritten next ps out (target ++ segs_parts (segs_of (in_place literal e.element)))
 
 -- an element is passed or written
 pub record HasEditedElement (p : Option (List ℕ) → Bool) (literal : Option (List ℕ)) (w next : Written) (token to : ℕ) (string : Option (List ℕ)) (ps before out : List RowPart) : Type 0 where

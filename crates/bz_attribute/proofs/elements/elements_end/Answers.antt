@@ -1,11 +1,15 @@
-use Rattle.std.proofs.Common.{rules, map}
+use Rattle.std.proofs.Common.{false, ℕ, ◌+◌, map, take, ap, ◌∙◌}
 use Rattle.bz_tree.specs.Rows.{part_view}
-use Rattle.bz_attribute.proofs.ValueElements.{one_passed}
+use Rattle.bz_attribute.specs.private.Ends.{parts_len, plain_len}
+use Rattle.bz_attribute.proofs.ListElements.{elements_told}
+use Rattle.bz_attribute.proofs.Slices.{front_seen, rest_seen}
 use Rattle.bz_attribute.proofs.elements.elements_end.Goals as goal
 
-pub loop-to-preserved : goal.loop-to-preserved
-loop-to-preserved c = record {
-  within = search rules;
-  after = search rules;
-  passed = one_passed (map part_view c.args.parts.now) c.args.from c.loop-to.at c.in-Some.ensures.some.0 c.in-Some.to c.in-Some.ensures.some.1 c.loop-to.invariant.passed c.in-Some.ensures.some.2;
-}
+pub returns-clause-elements : goal.returns-clause-elements
+returns-clause-elements c rest after read =
+    let ps = map part_view c.args.parts.now in
+    let from : ℕ = c.args.from in
+    let close : ℕ = c.parts_len-close.result in
+    let seen = rest_seen c.args.parts.now from in
+    elements_told rest after ps from close _ read (c.parts_len-close.ensures.len ∙ ap (parts_len false 0) seen)
+    (ap (λ (n : ℕ). from + n) (c.comments_begin.ensures.begin ∙ ap plain_len (front_seen _ close ∙ ap (take close) seen)))

@@ -3,7 +3,7 @@ use Rattle.bz_tree.specs.Rows.{part_view}
 use Rattle.bz_command.specs.Values.{quoted}
 use Rattle.bz_list_commands.specs.private.StringEdits.{literal_of, means}
 use Rattle.bz_list_commands.specs.private.WrittenParts.{HasPut}
-use Rattle.bz_list_commands.proofs.ElementEdits.{element_edited, element_passed, element_put, strings_only}
+use Rattle.bz_list_commands.proofs.ElementEdits.{element_passed, element_put, strings_only}
 use Rattle.bz_list_commands.proofs.element_edits.edit_element.Goals as goal
 
 pub returns-then-not-means-clause-edited : goal.returns-then-not-means-clause-edited
@@ -17,7 +17,6 @@ returns-in_ok-next-in-Some-clause-edited c =
     let ps = map part_view c.args.parts.now in
     let out = map part_view c.args.out.now.items in
     rw (sym c.in-Some.ensures)
-    (element_edited p (Some (quoted c.in-Some.value.now)) c.args.written _ c.args.element.token c.args.element.to _ ps out (map part_view c.put-in-Some.new.out.items) (sym c.means.ensures ∙ c.if-not-means.false)
     (element_put p (quoted c.in-Some.value.now) c.args.written c.in_ok-next-in-Some.next c.args.element.token c.args.element.to (length c.args.parts.now) _ ps out (map part_view c.put-in-Some.new.out.items)
-    (strings_only c.args.edit.env.home.now c.args.edit.meant (quoted c.in-Some.value.now) (sym c.in-Some.ensures)) c.requires.within c.requires.order.0 c.in_ok-next-in-Some.ensures.within
-    (subst (λ (t : List ℕ). HasPut (record c.args.written { at = c.args.element.token }) c.in_ok-next-in-Some.next (c.args.element.token + 1) (Some t) ps out (map part_view c.put-in-Some.new.out.items)) c.in_ok-text-in-Some.ensures c.in_ok-next-in-Some.ensures.put)))
+    (strings_only c.args.edit.env.home.now c.args.edit.meant (quoted c.in-Some.value.now) (sym c.in-Some.ensures)) (sym c.means.ensures ∙ c.if-not-means.false) c.requires.within c.requires.order.0 c.in_ok-next-in-Some.ensures.within
+    (subst (λ (t : List ℕ). HasPut (record c.args.written { at = c.args.element.token }) c.in_ok-next-in-Some.next (c.args.element.token + 1) (Some t) ps out (map part_view c.put-in-Some.new.out.items)) c.in_ok-text-in-Some.ensures c.in_ok-next-in-Some.ensures.put))

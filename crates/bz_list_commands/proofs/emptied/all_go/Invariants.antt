@@ -1,6 +1,6 @@
-use Rattle.std.proofs.Common.{◌≡◌, ◌≤◌, ◌-◌, ℕ, List, Option, length, map, drop}
+use Rattle.std.proofs.Common.{◌≡◌, ◌≤◌, ◌-◌, List, length, map, drop}
 use Rattle.bz_tree.specs.Tree.{Item}
-use Rattle.bz_tree.specs.Rows.{beside_part, part_view}
+use Rattle.bz_tree.specs.Rows.{RowPart, part_view}
 use Rattle.bz_attribute.specs.Elements.{value_parts}
 use Rattle.bz_list_commands.specs.private.StringEdits.{means}
 use Rattle.bz_list_commands.proofs.EmptiedLists.{AreGone}
@@ -10,7 +10,7 @@ abbrev pub invariant-loop-element : goal.invariant-loop-element
 invariant-loop-element l = record {
   order : l.first ≤ l.at;
   within : l.at ≤ length l.parts;
-  left : (nodes : List Item) (suffix : Option (List ℕ)) → drop l.value (map part_view l.parts) ≡ value_parts nodes (beside_part suffix) → AreGone (means l.edit) nodes (beside_part suffix) (map part_view l.parts) l.first l.at;
+  left : (nodes : List Item) (after : List RowPart) → drop l.value (map part_view l.parts) ≡ value_parts nodes after → AreGone (means l.edit) nodes after (map part_view l.parts) l.first l.at;
 }
 
 abbrev pub decreases-loop-element : goal.decreases-loop-element
