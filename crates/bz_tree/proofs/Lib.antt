@@ -1,6 +1,5 @@
 pub mod Views
 pub mod Walking
-pub mod ByLines
 pub mod ByOwns
 pub mod OneBracket
 pub mod Complete
