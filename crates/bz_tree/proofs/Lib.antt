@@ -17,7 +17,6 @@ pub mod RowParts
 pub mod FromParts
 pub mod RowWalk
 pub mod RowClass
-pub mod RowLoad
 pub mod RowFound
 pub mod RowNone
 pub mod RowBatches

@@ -8,7 +8,7 @@ use Rattle.bz_token.specs.declared.token.Kind.{Kind}
 use Rattle.bz_token.specs.declared.token.Kind.TheVariants.{Keyword, Operator as OperatorToken, Kept}
 use Rattle.bz_tree.specs.declared.stmt.GroupKind.{GroupKind}
 use Rattle.bz_tree.specs.declared.stmt.GroupKind.TheVariants.{Call, RuleCall}
-use Rattle.bz_tree.specs.declared.stmt.Class.TheVariants.{Assign, Rule, Other}
+use Rattle.bz_tree.specs.declared.stmt.Class.TheVariants.{Assign, Rule, Other, Load as LoadClass}
 use Rattle.bz_tree.specs.declared.role.Role.TheVariants.{Dot, Comma, Colon, Equals, Augmented, If, Else, For, In, Not, Tilde, Sum, Star, Stars, Operator, Stray}
 use Rattle.bz_tree.specs.declared.stage.Goal.TheVariants.{Left}
 use Rattle.bz_tree.specs.declared.stage.Stage.{Stage}
@@ -19,7 +19,7 @@ use Rattle.bz_tree.specs.declared.spot.Read.{Read}
 use Rattle.bz_tree.specs.Tree.{Item, leaf, group, Segs, items_of}
 use Rattle.bz_tree.specs.Grammar.{leaf_role, word_role, operator_role, is_infix, is_assignment}
 use Rattle.bz_tree.specs.Statement.{is_ident, is_call, is_rule, is_rule_after, as_rule_call, rule_call, is_assign_operator, is_assign, is_load_word, is_kept, class_of, is_augmented}
-use Rattle.bz_tree.specs.private.Machine.{next, accepts}
+use Rattle.bz_tree.specs.private.Machine.{next, accepts, is_load, is_load_group}
 use Rattle.bz_tree.specs.private.RowSteps.{named, called, is_rule_read, is_lost, read_class}
 use Rattle.bz_tree.proofs.Accepted.{refused}
 use Rattle.bz_tree.proofs.RowParts.{read_item, read_items, shown_item, shown}
@@ -266,3 +266,15 @@ class_is xs r name none h =
     ap (λ b. cond b Assign (cond (is_rule_read (read_items r xs).naming) Rule Other)) (read_assigns xs r ∙ ap (λ b. b || list_any is_assign xs) none)
     ∙ ap (λ b. cond (list_any is_assign xs) Assign (cond b Rule Other)) (rule_read xs r ∙ ap (λ n. from n xs) name) in
     read ∙ (ap (λ b. cond b Assign (cond (is_rule xs) Rule Other)) (sym same.1) ∙ (ap (λ b. cond (list_any is_assign (with_rule xs)) Assign (cond b Rule Other)) (sym same.2) ∙ sym (accepted_class (with_rule xs) (same.0 ∙ h))))
+
+-- the class of a load
+word_is : (x : Item) → is_load_word x ≡ true → is_kept x ≡ false
+word_is (leaf Keyword text) h = refl
+word_is (leaf _ text) h = absurd (false≢true h)
+word_is (group kind segs one_comma end) h = absurd (false≢true h)
+
+pub load_class : (xs : List Item) → is_load (items_of xs) ≡ true → class_of xs ≡ LoadClass
+load_class [] h = absurd (false≢true h)
+load_class (w ∷ []) h = absurd (false≢true h)
+load_class (w ∷ g ∷ []) h = let p = and_parts (is_load_word w) (is_load_group g) h in rw (word_is w p.0, p.0) refl
+load_class (w ∷ g ∷ y ∷ ys) h = absurd (false≢true h)
