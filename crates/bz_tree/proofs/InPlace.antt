@@ -1,6 +1,7 @@
 -- Brackets that are walked over while they are open have the inside that they have where they are walked over when they are closed.
 use Rattle.std.proofs.Common.{◌≡◌, ℕ, List, [], ◌∷◌, ◌++◌, Bool, true, false, not, cond, ◌&&◌, ◌||◌, Option, Some, None, option_map, option_and_then, refl, sym, ap, ◌∙◌}
 use Rattle.std.proofs.lemmas.Bool.{false≢true}
+use Rattle.std.proofs.Math.Bool.{or-false}
 use Rattle.bz_tree.specs.declared.stmt.GroupKind.{GroupKind}
 use Rattle.bz_tree.specs.declared.kinds.Shape.{Shape}
 use Rattle.bz_tree.specs.declared.kinds.Shape.TheVariants.{Round, Square, Curly}
@@ -17,6 +18,7 @@ use Rattle.bz_tree.specs.Statement.{segment_with}
 use Rattle.bz_tree.specs.private.Steps.{Walked, at_start, after_own, after_node, after_comma, after_comment, commented, to_last, done, Level, Levels, is_for, is_in_first, has_one, as_comprehension, shape_of, with_own, new_level, closed, next_at, finish, run}
 use Rattle.bz_tree.proofs.ByOwns.{after, walk, content}
 use Rattle.bz_tree.proofs.ByOwns as by_owns
+use Rattle.bz_tree.proofs.Sound.{some_injective, same_shape_is}
 use Rattle.bz_token.specs.Common.{is_filled}
 
 -- the steps of a walk, without its end
@@ -81,11 +83,7 @@ same_items (comma t ∷ os) none = absurd (false≢true (sym none))
 same_items (comment line text ∷ os) none = ap (λ ps. comment line text ∷ ps) (same_items os none)
 
 for_push : (os : List Own) (o : Own) → has_for (os ++ o ∷ []) ≡ has_for os || (not (has_comma os) && is_for o)
-for_push [] (node line x) = or_none (is_for_item x)
-  where
-    or_none : (b : Bool) → b || false ≡ b
-    or_none true = refl
-    or_none false = refl
+for_push [] (node line x) = or-false (is_for_item x)
 for_push [] (comma t) = refl
 for_push [] (comment line text) = refl
 for_push (node line x ∷ os) o = first (for_push os o) (is_for_item x)
@@ -115,11 +113,7 @@ filled_commented (end_of_comma end) false text w = refl
 
 -- whether a comma was met
 not_first : (os : List Own) (w : Walked) → is_in_first (steps w (own_items false os)) ≡ not (is_filled w.segs || has_comma os)
-not_first [] w = or_none (is_filled w.segs)
-  where
-    or_none : (b : Bool) → not b ≡ not (b || false)
-    or_none true = refl
-    or_none false = refl
+not_first [] w = ap not (sym (or-false (is_filled w.segs)))
 not_first (node line x ∷ os) w = not_first os (after_node line x w)
 not_first (comment line text ∷ os) w = not_first os (after_comment line text w) ∙ ap (λ b. not (b || has_comma os)) (filled_commented w.last (is_on w.last line) text w)
 not_first (comma t ∷ os) w = at_nodes (λ v. not_first os v) w.nodes refl
@@ -252,17 +246,6 @@ shapes_stay (Some s) b h = ap Some (shape_stays s b h)
 closed_same : (k : GroupKind) (owns : List Own) → closed (Some k) (walked_by (is_one k) owns) ≡ option_map (group_with k) (content (is_one k) owns)
 closed_same k owns = ap (option_map (group_with k)) (sym (walk_is_steps (own_items (is_one k) owns) at_start))
 
-same_shape_is : (r s : Shape) → same_shape (Some r) s ≡ true → r ≡ s
-same_shape_is Round Round h = refl
-same_shape_is Square Square h = refl
-same_shape_is Curly Curly h = refl
-same_shape_is Round Square h = absurd (false≢true h)
-same_shape_is Round Curly h = absurd (false≢true h)
-same_shape_is Square Round h = absurd (false≢true h)
-same_shape_is Square Curly h = absurd (false≢true h)
-same_shape_is Curly Round h = absurd (false≢true h)
-same_shape_is Curly Square h = absurd (false≢true h)
-
 -- a step, here and there
 close_same : (s : Shape) (t : Placed) (o : Option Shape) (owns : List Own) (at : Preceding) (below : by_owns.Level) (outer : List by_owns.Level)
     → next_at (Close s) t (image below.at (record { shape = o; owns = owns; at = at })) (images (below ∷ outer))
@@ -281,7 +264,7 @@ close_same s t (Some r) owns at below outer =
         ≡ option_map image_of (cond fits (option_map (λ g. (by_owns.with_own below (node t.line g), outer)) (by_owns.closed s below.at owns)) None)
     at_shape false e = refl
     at_shape true e =
-        ap (option_map (λ g. (with_own (image (before_of outer) below) (node t.line g), images outer))) (closed_same (group_kind r below.at (has_for owns)) owns ∙ ap (λ q. by_owns.closed q below.at owns) (same_shape_is r s e))
+        ap (option_map (λ g. (with_own (image (before_of outer) below) (node t.line g), images outer))) (closed_same (group_kind r below.at (has_for owns)) owns ∙ ap (λ q. by_owns.closed q below.at owns) (some_injective r s (same_shape_is (Some r) s e)))
         ∙ at_group (by_owns.closed s below.at owns)
 
 next_same : (m : Mark) (t : Placed) (top : by_owns.Level) (outer : List by_owns.Level) → next_at m t (image (before_of outer) top) (images outer) ≡ option_map image_of (by_owns.next_at m t top outer)
@@ -289,9 +272,7 @@ next_same Newline t top outer = refl
 next_same (Open s) t top outer = refl
 next_same (Close s) t top [] = refl
 next_same (Close s) t top (below ∷ outer) = close_same s t top.shape top.owns top.at below outer
-next_same Comma t top outer = ap (λ (l : Level). Some (l, images outer)) (own_same top.shape (before_of outer) top.owns top.at (own_of Comma t))
-next_same Comment t top outer = ap (λ (l : Level). Some (l, images outer)) (own_same top.shape (before_of outer) top.owns top.at (own_of Comment t))
-next_same Plain t top outer = ap (λ (l : Level). Some (l, images outer)) (own_same top.shape (before_of outer) top.owns top.at (own_of Plain t))
+next_same m t top outer = ap (λ (l : Level). Some (l, images outer)) (own_same top.shape (before_of outer) top.owns top.at (own_of m t))
 
 finish_same : (o : Option Shape) (b : Preceding) (owns : List Own) (outer : List by_owns.Level) → finish (kind_by o b (has_for owns)) (walked_by (has_one (kind_by o b (has_for owns))) owns) (images outer) ≡ by_owns.finish o owns outer
 finish_same None b owns [] = ap (option_map segment_with) (sym (walk_is_steps (own_items true owns) at_start))

@@ -1,5 +1,5 @@
 -- What the recognizer accepts is in the grammar.
-use Rattle.std.proofs.Common.{◌≡◌, ℕ, List, Bool, true, false, not, ◌&&◌, cond, refl, sym, ap, subst, ◌∙◌, ◌⊎◌, inl, inr}
+use Rattle.std.proofs.Common.{arith, ◌≡◌, ℕ, List, Bool, true, false, not, ◌&&◌, cond, refl, sym, ap, subst, ◌∙◌, ◌⊎◌, inl, inr}
 use Rattle.std.proofs.lemmas.Bool.{false≢true, and_parts}
 use Rattle.bz_token.specs.declared.token.Kind.{Kind}
 use Rattle.bz_token.specs.declared.token.Kind.TheVariants.{Keyword as KeywordToken, Operator as OperatorToken}
@@ -206,15 +206,7 @@ RoleMeans r x = token_role x ≡ r
 wanted_whole : (p : Goal) (xs : Items) → Wanted p false xs → Whole p xs
 wanted_whole Target xs w = record { head = w.chain; rest = w.rest; is = w.is; is_head = w.is_chain; follow = w.after }
 wanted_whole Clause xs w = record { head = w.chain; rest = w.rest; is = w.is; is_head = w.is_chain; follow = w.after }
-wanted_whole Left xs w = record { head = join w.chain w.after.tail; rest = w.after.rest; is = w.is ∙ ap (join w.chain) w.after.is ∙ sym (join_assoc w.chain w.after.tail w.after.rest); is_head = test_from w.chain w.after.tail w.is_chain w.after.is_tail; follow = w.after.follow }
-wanted_whole Right xs w = record { head = join w.chain w.after.tail; rest = w.after.rest; is = w.is ∙ ap (join w.chain) w.after.is ∙ sym (join_assoc w.chain w.after.tail w.after.rest); is_head = test_from w.chain w.after.tail w.is_chain w.after.is_tail; follow = w.after.follow }
-wanted_whole Alone xs w = record { head = join w.chain w.after.tail; rest = w.after.rest; is = w.is ∙ ap (join w.chain) w.after.is ∙ sym (join_assoc w.chain w.after.tail w.after.rest); is_head = test_from w.chain w.after.tail w.is_chain w.after.is_tail; follow = w.after.follow }
-wanted_whole Key xs w = record { head = join w.chain w.after.tail; rest = w.after.rest; is = w.is ∙ ap (join w.chain) w.after.is ∙ sym (join_assoc w.chain w.after.tail w.after.rest); is_head = test_from w.chain w.after.tail w.is_chain w.after.is_tail; follow = w.after.follow }
-wanted_whole Element xs w = record { head = join w.chain w.after.tail; rest = w.after.rest; is = w.is ∙ ap (join w.chain) w.after.is ∙ sym (join_assoc w.chain w.after.tail w.after.rest); is_head = test_from w.chain w.after.tail w.is_chain w.after.is_tail; follow = w.after.follow }
-wanted_whole EntryKey xs w = record { head = join w.chain w.after.tail; rest = w.after.rest; is = w.is ∙ ap (join w.chain) w.after.is ∙ sym (join_assoc w.chain w.after.tail w.after.rest); is_head = test_from w.chain w.after.tail w.is_chain w.after.is_tail; follow = w.after.follow }
-wanted_whole From xs w = record { head = join w.chain w.after.tail; rest = w.after.rest; is = w.is ∙ ap (join w.chain) w.after.is ∙ sym (join_assoc w.chain w.after.tail w.after.rest); is_head = test_from w.chain w.after.tail w.is_chain w.after.is_tail; follow = w.after.follow }
-wanted_whole To xs w = record { head = join w.chain w.after.tail; rest = w.after.rest; is = w.is ∙ ap (join w.chain) w.after.is ∙ sym (join_assoc w.chain w.after.tail w.after.rest); is_head = test_from w.chain w.after.tail w.is_chain w.after.is_tail; follow = w.after.follow }
-wanted_whole Step xs w = record { head = join w.chain w.after.tail; rest = w.after.rest; is = w.is ∙ ap (join w.chain) w.after.is ∙ sym (join_assoc w.chain w.after.tail w.after.rest); is_head = test_from w.chain w.after.tail w.is_chain w.after.is_tail; follow = w.after.follow }
+wanted_whole _ xs w = record { head = join w.chain w.after.tail; rest = w.after.rest; is = w.is ∙ ap (join w.chain) w.after.is ∙ sym (join_assoc w.chain w.after.tail w.after.rest); is_head = test_from w.chain w.after.tail w.is_chain w.after.is_tail; follow = w.after.follow }
 
 at_empty : (xs t r : Items) → xs ≡ join t r → r ≡ no_items → t ≡ xs
 at_empty xs t r is empty = sym (is ∙ ap (join t) empty ∙ join_empty t)
@@ -532,10 +524,7 @@ part_end From h = tail From no_items (inl refl)
 part_end To h = tail To no_items (inl refl)
 part_end Step h = tail Step no_items refl
 part_end Clause h = no_clause
-part_end Key h = absurd (false≢true h)
-part_end Element h = absurd (false≢true h)
-part_end EntryKey h = absurd (false≢true h)
-part_end Target h = absurd (false≢true h)
+part_end _ h = absurd (false≢true h)
 
 had_end : (p : Goal) (c d : Bool) → (not c && ends p) ≡ true → Had p c d no_items
 had_end p false d h = after_had p false d no_items (part_end p h)
@@ -552,11 +541,7 @@ end_means (Has p c) h = had_end p c true h
 end_means (HasNumber p c) h = had_end p c false h
 end_means (Begins p) h = begun_end p h
 end_means Keyword h = without_value (had_end Alone false true refl)
-end_means Refused h = absurd (false≢true h)
-end_means (Wants p c) h = absurd (false≢true h)
-end_means (Names p c) h = absurd (false≢true h)
-end_means (Excludes p c) h = absurd (false≢true h)
-end_means Argument h = absurd (false≢true h)
+end_means _ h = absurd (false≢true h)
 
 -- groups
 abbrev EachMeans : Stage → Segs → Type 0
@@ -613,34 +598,11 @@ abbrev is_suffix_role : Role → Bool
 is_suffix_role Suffix = true
 is_suffix_role _ = false
 
-word_chain : (a b c d e f : Bool) → is_suffix_role (cond a If (cond b Else (cond c For (cond d In (cond e Not (cond f Operator Stray)))))) ≡ false
-word_chain true b c d e f = refl
-word_chain false true c d e f = refl
-word_chain false false true d e f = refl
-word_chain false false false true e f = refl
-word_chain false false false false true f = refl
-word_chain false false false false false true = refl
-word_chain false false false false false false = refl
-
-operator_chain : (a b c d e f g h i j : Bool) → is_suffix_role (cond a Dot (cond b Comma (cond c Colon (cond d Equals (cond e Tilde (cond f Star (cond g Stars (cond h Sum (cond i Augmented (cond j Operator Stray)))))))))) ≡ false
-operator_chain true b c d e f g h i j = refl
-operator_chain false true c d e f g h i j = refl
-operator_chain false false true d e f g h i j = refl
-operator_chain false false false true e f g h i j = refl
-operator_chain false false false false true f g h i j = refl
-operator_chain false false false false false true g h i j = refl
-operator_chain false false false false false false true h i j = refl
-operator_chain false false false false false false false true i j = refl
-operator_chain false false false false false false false false true j = refl
-operator_chain false false false false false false false false false true = refl
-operator_chain false false false false false false false false false false = refl
-
 word_plain : (word : List ℕ) → is_suffix_role (word_role word) ≡ false
-word_plain word = word_chain (bytes_eq word (codes "if")) (bytes_eq word (codes "else")) (bytes_eq word (codes "for")) (bytes_eq word (codes "in")) (bytes_eq word (codes "not")) (is_one_of (codes "and" ∷ codes "or" ∷ []) word)
+word_plain word = grind arith
 
 operator_plain : (word : List ℕ) → is_suffix_role (operator_role word) ≡ false
-operator_plain word =
-    operator_chain (bytes_eq word (codes ".")) (bytes_eq word (codes ",")) (bytes_eq word (codes ":")) (bytes_eq word (codes "=")) (bytes_eq word (codes "~")) (bytes_eq word (codes "*")) (bytes_eq word (codes "**")) (is_one_of (codes "+" ∷ codes "-" ∷ []) word) (is_one_of (codes "+=" ∷ codes "-=" ∷ codes "*=" ∷ codes "/=" ∷ codes "//=" ∷ codes "%=" ∷ codes "&=" ∷ codes "|=" ∷ codes "^=" ∷ codes "<<=" ∷ codes ">>=" ∷ []) word) (is_one_of (codes "==" ∷ codes "!=" ∷ codes "<" ∷ codes ">" ∷ codes "<=" ∷ codes ">=" ∷ codes "|" ∷ codes "^" ∷ codes "&" ∷ codes "<<" ∷ codes ">>" ∷ codes "/" ∷ codes "//" ∷ codes "%" ∷ []) word)
+operator_plain word = grind arith
 
 leaf_plain : (kind : Kind) (word : List ℕ) → is_suffix_role (leaf_role kind word) ≡ false
 leaf_plain KeywordToken word = word_plain word

@@ -1,5 +1,5 @@
 -- The class of a statement, by its nodes one at a time, and the nodes of a rule as they are shown.
-use Rattle.std.proofs.Common.{◌≡◌, ℕ, List, [], ◌∷◌, Bool, true, false, cond, ◌&&◌, ◌||◌, refl, sym, ap, ◌∙◌}
+use Rattle.std.proofs.Common.{arith, ◌≡◌, ℕ, List, [], ◌∷◌, Bool, true, false, cond, ◌&&◌, ◌||◌, refl, sym, ap, ◌∙◌}
 use Rattle.std.specs.Prelude.{codes}
 use Rattle.std.specs.Str.{bytes_eq}
 use Rattle.std.proofs.lemmas.Bool.{false≢true, and_parts}
@@ -179,17 +179,8 @@ operator_assigns text =
     (λ e. no_assign text (codes ".") e refl) (λ e. no_assign text (codes ",") e refl) (λ e. no_assign text (codes ":") e refl) (λ e. no_assign text (codes "~") e refl) (λ e. no_assign text (codes "*") e refl) (λ e. no_assign text (codes "**") e refl)
     (λ e. no_assign_among text (codes "+") (codes "-") (bytes_eq text (codes "+")) refl e refl refl) refl
 
-word_chain : (a b c d e f : Bool) → is_assignment (cond a If (cond b Else (cond c For (cond d In (cond e Not (cond f Operator Stray)))))) ≡ false
-word_chain true b c d e f = refl
-word_chain false true c d e f = refl
-word_chain false false true d e f = refl
-word_chain false false false true e f = refl
-word_chain false false false false true f = refl
-word_chain false false false false false true = refl
-word_chain false false false false false false = refl
-
 word_assigns : (text : List ℕ) → is_assignment (word_role text) ≡ false
-word_assigns text = word_chain (bytes_eq text (codes "if")) (bytes_eq text (codes "else")) (bytes_eq text (codes "for")) (bytes_eq text (codes "in")) (bytes_eq text (codes "not")) (is_one_of (codes "and" ∷ codes "or" ∷ []) text)
+word_assigns text = grind arith
 
 leaf_assigns : (kind : Kind) (text : List ℕ) → is_assignment (leaf_role kind text) ≡ is_assign (leaf kind text)
 leaf_assigns OperatorToken text = operator_assigns text

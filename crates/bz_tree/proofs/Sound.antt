@@ -118,13 +118,7 @@ pub same_shape_is : (o : Option Shape) (s : Shape) → same_shape o s ≡ true �
 same_shape_is (Some Round) Round h = refl
 same_shape_is (Some Square) Square h = refl
 same_shape_is (Some Curly) Curly h = refl
-same_shape_is None s h = absurd (false≢true h)
-same_shape_is (Some Round) Square h = absurd (false≢true h)
-same_shape_is (Some Round) Curly h = absurd (false≢true h)
-same_shape_is (Some Square) Round h = absurd (false≢true h)
-same_shape_is (Some Square) Curly h = absurd (false≢true h)
-same_shape_is (Some Curly) Round h = absurd (false≢true h)
-same_shape_is (Some Curly) Square h = absurd (false≢true h)
+same_shape_is _ _ h = absurd (false≢true h)
 
 -- a bracket that could be closed
 abbrev items_at : Shape → Preceding → List Own → List Own
@@ -225,11 +219,7 @@ finish_found (Some o) elems outer s same well = absurd (none_is_some s same)
 
 step_tokens_are : (m : Mark) (t : Placed) (ts : List Placed) → step_tokens m t ++ ts ≡ cond (is_line m) ts (t ∷ ts)
 step_tokens_are Newline t ts = refl
-step_tokens_are Comma t ts = refl
-step_tokens_are Comment t ts = refl
-step_tokens_are Plain t ts = refl
-step_tokens_are (Open s) t ts = refl
-step_tokens_are (Close s) t ts = refl
+step_tokens_are _ t ts = refl
 
 abbrev RunFound : List Placed → Type 0
 RunFound ts = (top : Raw) (outer : List Raw) (s : Segment) → run (image top) (map image outer) ts ≡ Some s → IsWellRaw top → AreWellRaws outer → Found (all_tokens top outer ++ without_lines ts) s

@@ -57,18 +57,8 @@ gap_front inside [] h = tt
 gap_front inside (b ∷ bs) h = gap_byte (is_white inside b) inside b bs refl h
 
 -- only a newline is one
-not_line : (a b c d e f g : Bool) → is_line (cond a (Open Round) (cond b (Open Square) (cond c (Open Curly) (cond d (Close Round) (cond e (Close Square) (cond f (Close Curly) (cond g Comma Plain))))))) ≡ false
-not_line true b c d e f g = refl
-not_line false true c d e f g = refl
-not_line false false true d e f g = refl
-not_line false false false true e f g = refl
-not_line false false false false true f g = refl
-not_line false false false false false true g = refl
-not_line false false false false false false true = refl
-not_line false false false false false false false = refl
-
 operator_no_line : (t : List ℕ) → is_line (operator_mark t) ≡ false
-operator_no_line t = not_line (bytes_eq t (codes "(")) (bytes_eq t (codes "[")) (bytes_eq t (codes "{")) (bytes_eq t (codes ")")) (bytes_eq t (codes "]")) (bytes_eq t (codes "}")) (bytes_eq t (codes ","))
+operator_no_line t = grind arith
 
 newline_front : (t after : List ℕ) → t ≡ 10 ∷ [] → IsAsciiFront (t ++ after)
 newline_front t after is = subst (λ x. IsAsciiFront (x ++ after)) (sym is) (let h : 10 < 128 = omega arith in h)
@@ -174,7 +164,7 @@ line_aside Newline t is = refl
 line_aside Operator t is = absurd (false≢true (sym (operator_no_line t) ∙ is))
 line_aside _ t is = absurd (false≢true is)
 
-bare_empty : (ts : List Placed) → without_lines ts ≡ [] → bare_tokens ts ≡ []
+pub bare_empty : (ts : List Placed) → without_lines ts ≡ [] → bare_tokens ts ≡ []
 bare_empty [] e = refl
 bare_empty (t ∷ ts) e =
     let line = empty_line (is_line (mark_of t)) t (without_lines ts) e in
