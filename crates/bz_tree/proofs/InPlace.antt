@@ -1,5 +1,5 @@
 -- Brackets that are walked over while they are open have the inside that they have where they are walked over when they are closed.
-use Rattle.std.proofs.Common.{◌≡◌, ℕ, List, [], ◌∷◌, ◌++◌, Bool, true, false, not, cond, ◌&&◌, ◌||◌, Option, Some, None, option_map, option_and_then, refl, sym, ap, ◌∙◌}
+use Rattle.std.proofs.Common.{arith, ◌≡◌, ℕ, List, [], ◌∷◌, ◌++◌, Bool, true, false, not, cond, ◌&&◌, ◌||◌, Option, Some, None, option_map, option_and_then, refl, sym, ap, ◌∙◌}
 use Rattle.std.proofs.lemmas.Bool.{false≢true}
 use Rattle.std.proofs.Math.Bool.{or-false}
 use Rattle.bz_tree.specs.declared.stmt.GroupKind.{GroupKind}
@@ -55,17 +55,7 @@ abbrev walked_by : Bool → List Own → Option Walked
 walked_by one owns = steps at_start (own_items one owns)
 
 after_item : (one : Bool) (o : Own) (p : Option Walked) → option_and_then (after (own_item one o)) p ≡ after_own one o p
-after_item true (node line x) None = refl
-after_item true (node line x) (Some w) = refl
-after_item false (node line x) None = refl
-after_item false (node line x) (Some w) = refl
-after_item true (comment line text) None = refl
-after_item true (comment line text) (Some w) = refl
-after_item false (comment line text) None = refl
-after_item false (comment line text) (Some w) = refl
-after_item true (comma t) None = refl
-after_item true (comma t) (Some w) = refl
-after_item false (comma t) p = refl
+after_item va vb vc = grind arith
 
 walked_push : (one : Bool) (os : List Own) (o : Own) → walked_by one (os ++ o ∷ []) ≡ after_own one o (walked_by one os)
 walked_push one os o = ap (steps at_start) (items_push one os o) ∙ (steps_push (own_items one os) at_start (own_item one o) ∙ after_item one o (walked_by one os))
@@ -99,17 +89,10 @@ filled_push [] s = refl
 filled_push (r ∷ ss) s = refl
 
 pub filled_last : (text : List ℕ) (ss : List Segment) → is_filled (to_last text ss) ≡ is_filled ss
-filled_last text [] = refl
-filled_last text (s ∷ []) = refl
-filled_last text (s ∷ r ∷ ss) = refl
+filled_last va vb = grind arith
 
 filled_commented : (last : Last) (on : Bool) (text : List ℕ) (w : Walked) → is_filled (commented last on text w).segs ≡ is_filled w.segs
-filled_commented (end_of_node end) true text w = refl
-filled_commented (end_of_comma end) true text w = filled_last text w.segs
-filled_commented no_token true text w = refl
-filled_commented no_token false text w = refl
-filled_commented (end_of_node end) false text w = refl
-filled_commented (end_of_comma end) false text w = refl
+filled_commented va vb vc vd = grind arith
 
 -- whether a comma was met
 not_first : (os : List Own) (w : Walked) → is_in_first (steps w (own_items false os)) ≡ not (is_filled w.segs || has_comma os)
@@ -170,9 +153,7 @@ stays k e owns at own =
     level_is _ k _ (walked_by (has_one k) (owns ++ own ∷ [])) (preceding at own) (same_either (is_for own && is_in_first (walked_by (has_one k) owns)) k (as_comprehension k) e) (sym (walked_push (has_one k) owns own))
 
 after_for : (own : Own) → is_for own ≡ true → (p : Option Walked) → after_own false own p ≡ after_own true own p
-after_for (node line x) e p = refl
-after_for (comma t) e p = absurd (false≢true e)
-after_for (comment line text) e p = refl
+after_for va vb vc = grind arith
 
 -- a bracket that `for` makes a comprehension
 abbrev pick : GroupKind → GroupKind → Bool → GroupKind
@@ -228,20 +209,10 @@ abbrev image_of : by_owns.Levels → Levels
 image_of ls = (image (before_of ls.1) ls.0, images ls.1)
 
 shape_stays : (s : Shape) (b : Preceding) (h : Bool) → shape_of (group_kind s b h) ≡ s
-shape_stays Round Operand h = refl
-shape_stays Round LoadWord h = refl
-shape_stays Round Other h = refl
-shape_stays Square Operand h = refl
-shape_stays Square LoadWord true = refl
-shape_stays Square LoadWord false = refl
-shape_stays Square Other true = refl
-shape_stays Square Other false = refl
-shape_stays Curly b true = refl
-shape_stays Curly b false = refl
+shape_stays va vb vc = grind arith
 
 shapes_stay : (o : Option Shape) (b : Preceding) (h : Bool) → option_map shape_of (kind_by o b h) ≡ o
-shapes_stay None b h = refl
-shapes_stay (Some s) b h = ap Some (shape_stays s b h)
+shapes_stay va vb vc = grind arith
 
 closed_same : (k : GroupKind) (owns : List Own) → closed (Some k) (walked_by (is_one k) owns) ≡ option_map (group_with k) (content (is_one k) owns)
 closed_same k owns = ap (option_map (group_with k)) (sym (walk_is_steps (own_items (is_one k) owns) at_start))

@@ -1,5 +1,5 @@
 -- The walk over one bracket finds its inside.
-use Rattle.std.proofs.Common.{◌≡◌, ℕ, ◌==◌, List, [], ◌∷◌, ◌++◌, Bool, true, false, not, cond, ◌&&◌, Option, Some, None, refl, sym, ap, ◌∙◌, append_assoc, append-nil, drop}
+use Rattle.std.proofs.Common.{arith, ◌≡◌, ℕ, ◌==◌, List, [], ◌∷◌, ◌++◌, Bool, true, false, not, cond, ◌&&◌, Option, Some, None, refl, sym, ap, ◌∙◌, append_assoc, append-nil, drop}
 use Rattle.std.proofs.lemmas.Bool.{false≢true}
 use Rattle.std.proofs.Math.Bool.{and-false}
 use Rattle.bz_token.specs.Places.{Placed}
@@ -56,10 +56,7 @@ beside_none (a_node x ∷ es) h = absurd (false≢true (sym h))
 beside_none (_ ∷ es) h = beside_none es h
 
 line_parted : (es : List Entry) → comments_in es ≡ same_line es ++ comments_in (later_lines es)
-line_parted [] = refl
-line_parted (a_comment true text ∷ es) = refl
-line_parted (a_comment false text ∷ es) = refl
-line_parted (_ ∷ es) = refl
+line_parted va = grind arith
 
 parted : (es : List Entry) → comments_in es ≡ above_last es ++ (beside_last es ++ below_last es)
 parted [] = refl
@@ -114,16 +111,10 @@ above_same (a_comment beside other ∷ es) on text = rw (has_same es on text, ab
 above_same (_ ∷ es) on text = above_same es on text
 
 line_same : (es : List Entry) (text : List ℕ) → same_line (es ++ a_comment false text ∷ []) ≡ same_line es
-line_same [] text = refl
-line_same (a_comment true other ∷ es) text = refl
-line_same (a_comment false other ∷ es) text = refl
-line_same (_ ∷ es) text = refl
+line_same va vb = grind arith
 
 later_more : (es : List Entry) (text : List ℕ) → later_lines (es ++ a_comment false text ∷ []) ≡ later_lines es ++ a_comment false text ∷ []
-later_more [] text = refl
-later_more (a_comment true other ∷ es) text = refl
-later_more (a_comment false other ∷ es) text = refl
-later_more (_ ∷ es) text = refl
+later_more va vb = grind arith
 
 beside_same : (es : List Entry) (text : List ℕ) → beside_last (es ++ a_comment false text ∷ []) ≡ beside_last es
 beside_same [] text = refl
@@ -131,8 +122,7 @@ beside_same (a_node x ∷ es) text = rw (has_same es false text, beside_same es 
 beside_same (_ ∷ es) text = beside_same es text
 
 push_either : (b : Bool) (ts us : List (List ℕ)) (text : List ℕ) → cond b (ts ++ text ∷ []) (us ++ text ∷ []) ≡ cond b ts us ++ text ∷ []
-push_either true ts us text = refl
-push_either false ts us text = refl
+push_either va vb vc vd = grind arith
 
 below_more : (es : List Entry) (text : List ℕ) → below_last (es ++ a_comment false text ∷ []) ≡ below_last es ++ text ∷ []
 below_more [] text = refl
@@ -159,22 +149,16 @@ trails b cell [] = b && not (has_node cell)
 trails b cell (next ∷ cells) = has_trailing_comma (next ∷ cells)
 
 pub trails_comma : (cell : List Entry) (cells : List (List Entry)) → trails true cell cells ≡ has_trailing_comma (cell ∷ cells)
-trails_comma cell [] = refl
-trails_comma cell (next ∷ cells) = refl
+trails_comma va vb = grind arith
 
 pub trails_comment : (b on : Bool) (text : List ℕ) (cell : List Entry) (cells : List (List Entry)) → trails b cell cells ≡ trails b (a_comment on text ∷ cell) cells
-trails_comment b on text cell [] = refl
-trails_comment b on text cell (next ∷ cells) = refl
+trails_comment va vb vc vd ve = grind arith
 
 pub trailed_is : (cell : List Entry) (cells : List (List Entry)) → trails false cell cells ≡ has_trailing_comma cells
-trailed_is cell [] = refl
-trailed_is cell (next ∷ cells) = refl
+trailed_is va vb = grind arith
 
 trails_off : (cell : List Entry) (cells : List (List Entry)) → trails true (later_lines cell) cells ≡ has_trailing_comma (cell ∷ cells)
-trails_off (a_comment true text ∷ es) cells = trails_comment true true text es cells ∙ trails_comma (a_comment true text ∷ es) cells
-trails_off [] cells = trails_comma [] cells
-trails_off (a_comment false text ∷ es) cells = trails_comma (a_comment false text ∷ es) cells
-trails_off (e ∷ es) cells = trails_comma (e ∷ es) cells
+trails_off va vb = grind arith
 
 -- what was walked over: these segments, and this cell so far; whether a comma stands before it
 abbrev state : List Segment → Bool → List Entry → Last → Walked

@@ -1,5 +1,5 @@
 -- The recognizer accepts the statements of the grammar, and nothing else.
-use Rattle.std.proofs.Common.{◌≡◌, ℕ, List, Bool, true, false, ◌&&◌, ◌||◌, refl, ap, ◌∙◌, inl, inr}
+use Rattle.std.proofs.Common.{arith, ◌≡◌, ℕ, List, Bool, true, false, ◌&&◌, ◌||◌, refl, ap, ◌∙◌, inl, inr}
 use Rattle.std.proofs.lemmas.Bool.{false≢true, and_parts, or_left, or_right, or_cases, and_from}
 use Rattle.bz_tree.specs.declared.stmt.GroupKind.TheVariants.{Load}
 use Rattle.bz_tree.specs.declared.role.Role.{Role}
@@ -27,8 +27,7 @@ operator_run s _ e is xs h = absurd (false≢true is)
 
 -- loads
 string_item : (x : Item) → token_role x ≡ Value → is_string_item x ≡ true
-string_item (leaf kind text) e = ap is_value e
-string_item (group kind segs one_comma end) e = ap is_value e
+string_item va vb = grind arith
 
 string_run : {xs : Items} → IsString xs → is_string xs ≡ true
 string_run (string {x} e) = string_item x e
@@ -58,16 +57,13 @@ statement_accepted (assignment {xs} {a} {b} s is ea es eb) =
 
 -- and the other way
 value_is : (r : Role) → is_value r ≡ true → r ≡ Value
-value_is Value h = refl
-value_is _ h = absurd (false≢true h)
+value_is va vb = grind arith
 
 name_is : (r : Role) → is_name r ≡ true → r ≡ Name
-name_is Name h = refl
-name_is _ h = absurd (false≢true h)
+name_is va vb = grind arith
 
 equals_is : (r : Role) → is_equals r ≡ true → r ≡ Equals
-equals_is Equals h = refl
-equals_is _ h = absurd (false≢true h)
+equals_is va vb = grind arith
 
 string_item_means : (x : Item) → is_string_item x ≡ true → token_role x ≡ Value
 string_item_means (leaf kind text) h = value_is (leaf_role kind text) h

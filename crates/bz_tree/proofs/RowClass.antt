@@ -43,39 +43,15 @@ naming_item n (leaf kind text) = named n kind text
 naming_item n (group kind segs one_comma end) = called n kind
 
 naming_is : (x : Item) (r : Read) → (read_item x r).naming ≡ naming_item r.naming x
-naming_is (leaf kind text) r = refl
-naming_is (group kind segs one_comma end) r = refl
-
-after_name : (b : Bool) (xs : List Item) → (b && is_rule_after xs) ≡ from (cond b Join Never) xs
-after_name true xs = refl
-after_name false xs = refl
-
-after_dot : (b : Bool) (xs : List Item) → (b && is_rule xs) ≡ from (cond b Name Never) xs
-after_dot true xs = refl
-after_dot false xs = refl
-
-after_call : (b : Bool) (xs : List Item) → (b && is_empty xs) ≡ from (cond b End Never) xs
-after_call true xs = refl
-after_call false xs = refl
+naming_is va vb = grind arith
 
 from_step : (n : Naming) (x : Item) (xs : List Item) → from n (x ∷ xs) ≡ from (naming_item n x) xs
-from_step Name (leaf kind text) xs = after_name (is_ident kind) xs
-from_step Name (group kind segs one_comma end) xs = refl
-from_step Join (leaf kind text) xs = after_dot (is_operator_at (codes ".") kind text) xs
-from_step Join (group kind segs one_comma end) xs = after_call (is_call kind) xs
-from_step Never (leaf kind text) xs = refl
-from_step Never (group kind segs one_comma end) xs = refl
-from_step End (leaf kind text) xs = refl
-from_step End (group kind segs one_comma end) xs = refl
-from_step Lost (leaf kind text) xs = refl
-from_step Lost (group kind segs one_comma end) xs = refl
+from_step Name x xs = grind arith
+from_step Join x xs = grind arith
+from_step _ x xs = grind arith
 
 ended : (n : Naming) → is_rule_read n ≡ from n []
-ended Name = refl
-ended Join = refl
-ended Never = refl
-ended End = refl
-ended Lost = refl
+ended va = grind arith
 
 rule_read : (xs : List Item) (r : Read) → is_rule_read (read_items r xs).naming ≡ from r.naming xs
 rule_read [] r = ended r.naming
@@ -83,20 +59,14 @@ rule_read (x ∷ xs) r = rule_read xs (read_item x r) ∙ (ap (λ n. from n xs) 
 
 -- what stands after a rule is lost for good
 lost_stays : (n : Naming) (x : Item) → is_lost (naming_item n x) ≡ false → is_lost n ≡ false
-lost_stays Name x h = refl
-lost_stays Join x h = refl
-lost_stays Never x h = refl
-lost_stays End x h = refl
-lost_stays Lost (leaf kind text) h = h
-lost_stays Lost (group kind segs one_comma end) h = h
+lost_stays va vb vc = grind arith
 
 never_lost : (xs : List Item) (r : Read) → is_lost (read_items r xs).naming ≡ false → is_lost r.naming ≡ false
 never_lost [] r h = h
 never_lost (x ∷ xs) r h = lost_stays r.naming x (ap is_lost (sym (naming_is x r)) ∙ never_lost xs (read_item x r) h)
 
 after_end : (x : Item) → is_lost (naming_item End x) ≡ true
-after_end (leaf kind text) = refl
-after_end (group kind segs one_comma end) = refl
+after_end va = grind arith
 
 -- a node that another one follows
 call_goes_on : (b : Bool) (kind : GroupKind) (segs : Segs) (one_comma : Bool) (end : List (List ℕ)) (y : Item) → is_lost (naming_item (cond b End Never) y) ≡ false → group (cond b RuleCall kind) segs one_comma end ≡ group kind segs one_comma end
@@ -104,28 +74,16 @@ call_goes_on true kind segs one_comma end y h = absurd (false≢true (sym h ∙ 
 call_goes_on false kind segs one_comma end y h = refl
 
 goes_on : (n : Naming) (x y : Item) → is_lost (naming_item (naming_item n x) y) ≡ false → shown_item n x ≡ x
-goes_on n (leaf kind text) y h = refl
-goes_on Join (group kind segs one_comma end) y h = call_goes_on (is_call kind) kind segs one_comma end y h
-goes_on Name (group kind segs one_comma end) y h = refl
-goes_on Never (group kind segs one_comma end) y h = refl
-goes_on End (group kind segs one_comma end) y h = refl
-goes_on Lost (group kind segs one_comma end) y h = refl
+goes_on va vb vc vd = grind arith
 
 call_last : (b : Bool) (kind : GroupKind) (segs : Segs) (one_comma : Bool) (end : List (List ℕ)) → group (cond b RuleCall kind) segs one_comma end ∷ [] ≡ cond (b && true) (group RuleCall segs one_comma end ∷ []) (group kind segs one_comma end ∷ [])
-call_last true kind segs one_comma end = refl
-call_last false kind segs one_comma end = refl
+call_last va vb vc vd ve = grind arith
 
 at_last : (n : Naming) (x : Item) → shown_item n x ∷ [] ≡ cond (from n (x ∷ [])) (as_rule_call x ∷ []) (x ∷ [])
-at_last n (leaf kind text) = sym (same_either (from n (leaf kind text ∷ [])) (leaf kind text ∷ []))
-at_last Join (group kind segs one_comma end) = call_last (is_call kind) kind segs one_comma end
-at_last Name (group kind segs one_comma end) = refl
-at_last Never (group kind segs one_comma end) = refl
-at_last End (group kind segs one_comma end) = refl
-at_last Lost (group kind segs one_comma end) = refl
+at_last va vb = grind arith
 
 cons_either : (x : Item) (b : Bool) (xs ys : List Item) → x ∷ cond b xs ys ≡ cond b (x ∷ xs) (x ∷ ys)
-cons_either x true xs ys = refl
-cons_either x false xs ys = refl
+cons_either va vb vc vd = grind arith
 
 -- the nodes as they are shown
 shown_from : (xs : List Item) (r : Read) → is_lost (read_items r xs).naming ≡ false → shown r xs ≡ cond (from r.naming xs) (rule_call xs) xs
@@ -209,9 +167,7 @@ after_leaf n kind text s y ys same = record {
 }
 
 call_same : (kind : GroupKind) (segs : Segs) (one_comma : Bool) (end : List (List ℕ)) (s : Stage) → is_call kind ≡ true → Same Join s (group kind segs one_comma end ∷ [])
-call_same Call segs one_comma end s h = record { accepts_same = refl; assigns_same = refl; rule_same = refl }
-call_same RuleCall segs one_comma end s h = record { accepts_same = refl; assigns_same = refl; rule_same = refl }
-call_same _ segs one_comma end s h = absurd (false≢true h)
+call_same va vb vc vd ve vf = grind arith
 
 same_from : (xs : List Item) (n : Naming) (s : Stage) → from n xs ≡ true → Same n s xs
 same_from [] n s h = record { accepts_same = refl; assigns_same = refl; rule_same = refl }

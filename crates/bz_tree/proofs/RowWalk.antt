@@ -112,10 +112,7 @@ node_walked one x line segs (some before y ys end) h = ap (λ bs. Some (record {
 node_walked one x line segs (over before y ys suffix after) h = absurd (false≢true (sym h))
 
 nodes_added : (x : Item) (line : ℕ) (place : Place) → is_ended (at_place place) ≡ false → nodes_of (add_node x line place) ≡ nodes_of place ++ x ∷ []
-nodes_added x line (none after) h = refl
-nodes_added x line (fresh end) h = refl
-nodes_added x line (some before y ys end) h = refl
-nodes_added x line (over before y ys suffix after) h = absurd (false≢true (sym h))
+nodes_added va vb vc vd = grind arith
 
 read_added : (kind : Option GroupKind) (x : Item) (line : ℕ) (place : Place) → is_ended (at_place place) ≡ false → read_items (start kind) (nodes_of (add_node x line place)) ≡ read_item x (read_items (start kind) (nodes_of place))
 read_added kind x line place h = ap (read_items (start kind)) (nodes_added x line place h) ∙ read_push (nodes_of place) (start kind) x
@@ -132,10 +129,7 @@ parts_added kind x line (some before y ys end) h =
 parts_added kind x line (over before y ys suffix after) h = absurd (false≢true (sym h))
 
 here_added : (x : Item) (line : ℕ) (place : Place) → is_ended (at_place place) ≡ false → at_place (add_node x line place) ≡ at_place (some [] x [] line)
-here_added x line (none after) h = refl
-here_added x line (fresh end) h = refl
-here_added x line (some before y ys end) h = refl
-here_added x line (over before y ys suffix after) h = absurd (false≢true (sym h))
+here_added va vb vc vd = grind arith
 
 good_added : (kind : Option GroupKind) (segs : List Segment) (x : Item) (line : ℕ) (place : Place) → is_ended (at_place place) ≡ false → IsGoodAt kind segs place → IsGoodAt kind segs (add_node x line place)
 good_added None segs x line (none after) h good = (good.0, refl)
@@ -298,9 +292,7 @@ group_role_is kind i no_one all = rw (no_one, all) refl
 
 -- `(x,)`
 and_false : (a b : Bool) → (a && b && false) ≡ false
-and_false true true = refl
-and_false true false = refl
-and_false false b = refl
+and_false va vb = grind arith
 
 long : (n : ℕ) → (suc (suc n) == 1) ≡ false
 long n = grind (arith, nat_tests)

@@ -1,5 +1,5 @@
 -- What the steps answer is the statement of the tokens.
-use Rattle.std.proofs.Common.{◌≡◌, List, [], ◌∷◌, ◌++◌, map, Bool, true, false, cond, Option, Some, None, option_map, option_and_then, refl, sym, ap, subst, ◌∙◌, append_assoc, append-nil}
+use Rattle.std.proofs.Common.{arith, ◌≡◌, List, [], ◌∷◌, ◌++◌, map, Bool, true, false, cond, Option, Some, None, option_map, option_and_then, refl, sym, ap, subst, ◌∙◌, append_assoc, append-nil}
 use Rattle.std.proofs.lemmas.Bool.{false≢true}
 use Rattle.bz_tree.specs.declared.kinds.Shape.{Shape}
 use Rattle.bz_tree.specs.declared.kinds.Shape.TheVariants.{Round, Square, Curly}
@@ -115,10 +115,7 @@ single_leads m t is alone top outer new same well wells =
     push_leads top outer (single t) (t ∷ []) new refl (ap is_single is ∙ alone) well wells (ap (λ k. (with_own (image top) (own_of k t), map image outer)) is ∙ some_injective _ new same)
 
 pub same_shape_is : (o : Option Shape) (s : Shape) → same_shape o s ≡ true → o ≡ Some s
-same_shape_is (Some Round) Round h = refl
-same_shape_is (Some Square) Square h = refl
-same_shape_is (Some Curly) Curly h = refl
-same_shape_is _ _ h = absurd (false≢true h)
+same_shape_is va vb vc = grind arith
 
 -- a bracket that could be closed
 abbrev items_at : Shape → Preceding → List Own → List Own
