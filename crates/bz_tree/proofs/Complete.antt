@@ -26,17 +26,10 @@ after_all b [] = b
 after_all b (x ∷ xs) = after_all (preceding b x) xs
 
 pub same_itself : (s : Shape) → same_shape (Some s) s ≡ true
-same_itself Round = refl
-same_itself Square = refl
-same_itself Curly = refl
+same_itself va = grind arith
 
 single_step : (m : Mark) (t : Placed) → is_single m ≡ true → (top : Level) (outer : List Level) → next_at m t top outer ≡ Some (with_own top (own_of m t), outer)
-single_step Comma t alone top outer = refl
-single_step Comment t alone top outer = refl
-single_step Plain t alone top outer = refl
-single_step Newline t alone top outer = absurd (false≢true alone)
-single_step (Open s) t alone top outer = absurd (false≢true alone)
-single_step (Close s) t alone top outer = absurd (false≢true alone)
+single_step va vb vc vd ve = grind arith
 
 abbrev rest_run : List Placed → Option Levels → Option Segment
 rest_run ts o = option_and_then (λ ls. run ls.0 ls.1 ts) o

@@ -102,8 +102,7 @@ nodes_back xs = ap nodes_in (ap (λ ps. steps ps (nest [] [] [] [])) (sym (appen
 
 -- a comment beside a statement is beside no segment
 suffix_left : (suffix : Option (List ℕ)) (comments : List (List ℕ)) (nodes : List Item) → steps (beside_part suffix) (nest [] comments nodes []) ≡ nest [] comments nodes []
-suffix_left None comments nodes = refl
-suffix_left (Some text) comments nodes = refl
+suffix_left va vb vc = grind arith
 
 content_back : (s : Statement) → content_of (parts_of s) ≡ record { segs = []; comments = s.before; nodes = s.nodes }
 content_back s =

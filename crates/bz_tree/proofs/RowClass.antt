@@ -69,15 +69,8 @@ after_end : (x : Item) → is_lost (naming_item End x) ≡ true
 after_end va = grind arith
 
 -- a node that another one follows
-call_goes_on : (b : Bool) (kind : GroupKind) (segs : Segs) (one_comma : Bool) (end : List (List ℕ)) (y : Item) → is_lost (naming_item (cond b End Never) y) ≡ false → group (cond b RuleCall kind) segs one_comma end ≡ group kind segs one_comma end
-call_goes_on true kind segs one_comma end y h = absurd (false≢true (sym h ∙ after_end y))
-call_goes_on false kind segs one_comma end y h = refl
-
 goes_on : (n : Naming) (x y : Item) → is_lost (naming_item (naming_item n x) y) ≡ false → shown_item n x ≡ x
 goes_on va vb vc vd = grind arith
-
-call_last : (b : Bool) (kind : GroupKind) (segs : Segs) (one_comma : Bool) (end : List (List ℕ)) → group (cond b RuleCall kind) segs one_comma end ∷ [] ≡ cond (b && true) (group RuleCall segs one_comma end ∷ []) (group kind segs one_comma end ∷ [])
-call_last va vb vc vd ve = grind arith
 
 at_last : (n : Naming) (x : Item) → shown_item n x ∷ [] ≡ cond (from n (x ∷ [])) (as_rule_call x ∷ []) (x ∷ [])
 at_last va vb = grind arith
@@ -119,17 +112,7 @@ no_assign_among text first second false is h none_first none_second = at_second 
 
 operator_chain : (a b c d e f g h i j : Bool) (v : Bool) → (a ≡ true → v ≡ false) → (b ≡ true → v ≡ false) → (c ≡ true → v ≡ false) → (e ≡ true → v ≡ false) → (f ≡ true → v ≡ false) → (g ≡ true → v ≡ false) → (h ≡ true → v ≡ false) → v ≡ (d || i)
     → is_assignment (cond a Dot (cond b Comma (cond c Colon (cond d Equals (cond e Tilde (cond f Star (cond g Stars (cond h Sum (cond i Augmented (cond j Operator Stray)))))))))) ≡ v
-operator_chain true b c d e f g h i j v na nb nc ne nf ng nh is = sym (na refl)
-operator_chain false true c d e f g h i j v na nb nc ne nf ng nh is = sym (nb refl)
-operator_chain false false true d e f g h i j v na nb nc ne nf ng nh is = sym (nc refl)
-operator_chain false false false true e f g h i j v na nb nc ne nf ng nh is = sym is
-operator_chain false false false false true f g h i j v na nb nc ne nf ng nh is = sym (ne refl)
-operator_chain false false false false false true g h i j v na nb nc ne nf ng nh is = sym (nf refl)
-operator_chain false false false false false false true h i j v na nb nc ne nf ng nh is = sym (ng refl)
-operator_chain false false false false false false false true i j v na nb nc ne nf ng nh is = sym (nh refl)
-operator_chain false false false false false false false false true j v na nb nc ne nf ng nh is = sym is
-operator_chain false false false false false false false false false true v na nb nc ne nf ng nh is = sym is
-operator_chain false false false false false false false false false false v na nb nc ne nf ng nh is = sym is
+operator_chain va vb vc vd ve vf vg vh vi vj vk vl vm vn vo vp vq vr vs = grind arith
 
 operator_assigns : (text : List ℕ) → is_assignment (operator_role text) ≡ is_assign_operator text
 operator_assigns text =
@@ -216,9 +199,7 @@ class_is xs r name none h =
 
 -- the class of a load
 word_is : (x : Item) → is_load_word x ≡ true → is_kept x ≡ false
-word_is (leaf Keyword text) h = refl
-word_is (leaf _ text) h = absurd (false≢true h)
-word_is (group kind segs one_comma end) h = absurd (false≢true h)
+word_is va vb = grind arith
 
 pub load_class : (xs : List Item) → is_load (items_of xs) ≡ true → class_of xs ≡ LoadClass
 load_class [] h = absurd (false≢true h)

@@ -167,8 +167,7 @@ leaf_leads t g gs new same good goods =
 
 -- a comma at the top
 comma_operator : (kind : Kind) (text : List ℕ) → kind_mark kind text ≡ Comma → (is_for_at kind text ≡ false) × (kind_after kind text ≡ Other)
-comma_operator Operator text e = (refl, refl)
-comma_operator _ text e = cc
+comma_operator va vb vc = grind arith
 
 top_comma_leads : (t : Placed) → mark_of t ≡ Comma → (segs : List Segment) (place : Place) (gs : List Bracket) (new : RowState) → row_next_at Comma t (image (bracket None segs place) gs) ≡ Some new
     → IsGoodAt None segs place → AreGood gs → Leads (next_at Comma t (level_of (bracket None segs place)) (map level_of gs)) new
@@ -350,10 +349,7 @@ read_group_is : (kind : GroupKind) (segs : List Segment) (place : Place) (r : Re
 read_group_is kind segs place r is = ap (λ role. record { stage = next r.stage role; at = Operand; naming = called r.naming kind; assigns = r.assigns }) (sym is)
 
 around_ended : (a : At) → is_ended (cond (is_ended a) an_end nothing) ≡ is_ended a
-around_ended nothing = refl
-around_ended (a_comma line) = refl
-around_ended (a_node line) = refl
-around_ended an_end = refl
+around_ended va = grind arith
 
 close_leads_at : (shape : Shape) (t : Placed) (kind : GroupKind) (segs : List Segment) (place : Place) (h : Bracket) (hs : List Bracket) (ends : List RowPart) (new : RowState) → shape_of kind ≡ shape
     → last_end (at_place place) (may_end (read_items (start (Some kind)) (nodes_of place)).stage) ≡ Some ends

@@ -160,9 +160,7 @@ last_found first (p ∷ ps) = λ depth before lines opened bs rest last reading 
 
 -- a list without tokens has no first one
 line_aside : (kind : Kind) (t : List ℕ) → is_line (kind_mark kind t) ≡ true → is_aside kind ≡ true
-line_aside Newline t is = refl
-line_aside Operator t is = absurd (false≢true (sym (operator_no_line t) ∙ is))
-line_aside _ t is = absurd (false≢true is)
+line_aside va vb vc = grind (arith, operator_no_line)
 
 pub bare_empty : (ts : List Placed) → without_lines ts ≡ [] → bare_tokens ts ≡ []
 bare_empty [] e = refl
@@ -256,9 +254,7 @@ both_from first p ps depth before lines opened bs rest header last reading gap h
 
 -- a token that counts is no newline
 counted_mark : (kind : Kind) (t : List ℕ) → is_aside kind ≡ false → is_line (kind_mark kind t) ≡ false
-counted_mark Operator t e = operator_no_line t
-counted_mark Newline t e = absurd (false≢true (sym e))
-counted_mark _ t e = refl
+counted_mark va vb vc = grind (arith, operator_no_line)
 
 both_found : (first : ℕ) (ps : List Piece) → BothFound first ps
 both_found first [] = λ depth before lines opened bs rest header last reading gap some is. absurd (none_is_some last is)
