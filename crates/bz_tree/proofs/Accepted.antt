@@ -6,7 +6,7 @@ use Rattle.bz_tree.specs.declared.stmt.GroupKind.TheVariants.{Call, RuleCall, Pa
 use Rattle.bz_tree.specs.declared.role.Role.{Role}
 use Rattle.bz_tree.specs.declared.role.Role.TheVariants.{Name, Number, Value, Suffix, Dot, Comma, Colon, Equals, If, Else, For, In, Not, Tilde, Sum, Star, Stars, Operator, Stray}
 use Rattle.bz_tree.specs.declared.stage.Goal.{Goal}
-use Rattle.bz_tree.specs.declared.stage.Goal.TheVariants.{Left, Right, Alone, Key, Element, EntryKey, From, To, Step, Target, Clause}
+use Rattle.bz_tree.specs.declared.stage.Goal.TheVariants.{Alone, Key, Element, EntryKey, From, To, Step, Target, Clause}
 use Rattle.bz_tree.specs.declared.stage.Stage.{Stage}
 use Rattle.bz_tree.specs.declared.stage.Stage.TheVariants.{Refused, Wants, Has, HasNumber, Names, Excludes, Begins, Argument, Keyword}
 use Rattle.bz_tree.specs.Tree.{Item, leaf, group, Items, no_items, item, Segs, no_segs, seg}

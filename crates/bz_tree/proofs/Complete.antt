@@ -1,8 +1,6 @@
 -- Where a tree of brackets has these tokens, the steps find its statement.
 use Rattle.std.proofs.Common.{arith, ◌≡◌, List, [], ◌∷◌, ◌++◌, true, false, cond, Option, Some, None, option_map, option_and_then, refl, sym, ap, ◌∙◌, append_assoc, append-nil}
-use Rattle.std.proofs.lemmas.Bool.{false≢true}
 use Rattle.bz_tree.specs.declared.kinds.Shape.{Shape}
-use Rattle.bz_tree.specs.declared.kinds.Shape.TheVariants.{Round, Square, Curly}
 use Rattle.bz_tree.specs.declared.kinds.Mark.{Mark}
 use Rattle.bz_tree.specs.declared.kinds.Mark.TheVariants.{Open, Close, Comma, Comment, Newline, Plain}
 use Rattle.bz_tree.specs.declared.kinds.Preceding.{Preceding}

@@ -14,12 +14,9 @@ use Rattle.bz_tree.specs.declared.stage.Stage.TheVariants.{Refused, Wants, Has, 
 use Rattle.bz_tree.specs.Tree.{Item, leaf, group, Items, no_items, item, Segs, no_segs, seg}
 use Rattle.bz_tree.specs.Grammar.{token_role, is_prefix, is_operator, is_star, is_assignment, join, is_dot_role, begins_dot, IsBinOp, operator, not_in, IsTest, plain, conditional, IsChain, single, binary, IsTerm, primary, unary, IsPrimary, number, operand, AreSuffixes, no_suffix, member, suffix, IsSuffix, call, index, IsOperand, ident, text, paren, list, dict, list_comp, dict_comp, AreTests, no_test, one_test, AreArgs, no_arg, one_arg, IsArg, positional, keyword, starred, AreEntries, no_entry, one_entry, IsEntry, entry, IsElement, element, IsEntryElement, entry_element, IsFor, for, AreTargets, last_target, target, AreClauses, no_clause, for_clause, if_clause, IsIndex, at, slice, IsRange, upper, stepped, IsOptional, nothing, some}
 use Rattle.bz_tree.specs.private.Machine.{ends, is_target, in_chain, after_part, next_wanted, next_after, next_after_number, next_begun, next_argument, next_keyword, next, accepts, role_of, each, is_whole, group_role, begin}
-use Rattle.std.specs.Prelude.{codes, [], ◌∷◌}
-use Rattle.std.specs.Str.{bytes_eq}
 use Rattle.bz_tree.specs.Grammar.{leaf_role, word_role, operator_role, IsExpr, last_test, test}
-use Rattle.bz_tree.specs.private.Machine.{may_end, may_be_empty, is_single, leaves, after_left, after_right, after_element, after_target, after_clause, at_colon, at_end, after_condition, next_name, next_excluded}
+use Rattle.bz_tree.specs.private.Machine.{may_end, may_be_empty, is_single, leaves, after_left, after_right, after_element, after_target, after_clause, at_colon, after_condition, next_name, next_excluded}
 use Rattle.bz_tree.proofs.Accepted.{join_empty, join_assoc}
-use Rattle.bz_token.specs.Lexical.{is_one_of}
 
 -- the operators and operands after the first of a chain
 data ChainRest : Items → Type 0 where
@@ -304,11 +301,11 @@ right_tail x xs Comma k m = tail Right (item x xs) (right_comma x refl k (expr_o
 right_tail x xs If k m = condition_tail Right x xs m.chain m.rest m.is m.is_chain m.after k m.after.whole.is_head
 right_tail x xs _ k m = absurd m
 
-alone_tail : (x : Item) (xs : Items) (r : Role) → RoleMeans r x → Means (at_end Alone r) xs → TestTail Alone (item x xs)
+alone_tail : (x : Item) (xs : Items) (r : Role) → RoleMeans r x → Means (at_colon Alone Refused r) xs → TestTail Alone (item x xs)
 alone_tail x xs If k m = condition_tail Alone x xs m.chain m.rest m.is m.is_chain m.after k m.after.whole.is_head
 alone_tail x xs _ k m = absurd m
 
-step_tail : (x : Item) (xs : Items) (r : Role) → RoleMeans r x → Means (at_end Step r) xs → TestTail Step (item x xs)
+step_tail : (x : Item) (xs : Items) (r : Role) → RoleMeans r x → Means (at_colon Step Refused r) xs → TestTail Step (item x xs)
 step_tail x xs If k m = condition_tail Step x xs m.chain m.rest m.is m.is_chain m.after k m.after.whole.is_head
 step_tail x xs _ k m = absurd m
 
@@ -561,19 +558,16 @@ entries_of no_segs m = no_entry
 entries_of (seg before nodes beside segs) m = one_entry (entry_of nodes (wanted_whole Key nodes m.0)) (entries_of segs m.1)
 
 index_of : (segs : Segs) (one_comma : Bool) (end : List (List ℕ)) → is_single segs ≡ true → EachMeans (Begins From) segs → IsSuffix (group Index segs one_comma end)
-index_of no_segs one_comma end alone m = absurd (false≢true alone)
 index_of (seg before nodes beside no_segs) one_comma end alone m = index m.0
-index_of (seg before nodes beside (seg more others last segs)) one_comma end alone m = absurd (false≢true alone)
+index_of _ one_comma end alone m = absurd (false≢true alone)
 
 list_comp_of : (segs : Segs) (one_comma : Bool) (end : List (List ℕ)) → is_single segs ≡ true → EachMeans (Wants Element false) segs → IsOperand (group ListComp segs one_comma end)
-list_comp_of no_segs one_comma end alone m = absurd (false≢true alone)
 list_comp_of (seg before nodes beside no_segs) one_comma end alone m = list_comp (element_of nodes (wanted_whole Element nodes m.0))
-list_comp_of (seg before nodes beside (seg more others last segs)) one_comma end alone m = absurd (false≢true alone)
+list_comp_of _ one_comma end alone m = absurd (false≢true alone)
 
 dict_comp_of : (segs : Segs) (one_comma : Bool) (end : List (List ℕ)) → is_single segs ≡ true → EachMeans (Wants EntryKey false) segs → IsOperand (group DictComp segs one_comma end)
-dict_comp_of no_segs one_comma end alone m = absurd (false≢true alone)
 dict_comp_of (seg before nodes beside no_segs) one_comma end alone m = dict_comp (entry_element_of nodes (wanted_whole EntryKey nodes m.0))
-dict_comp_of (seg before nodes beside (seg more others last segs)) one_comma end alone m = absurd (false≢true alone)
+dict_comp_of _ one_comma end alone m = absurd (false≢true alone)
 
 -- a group whose segments mean something is what its role says
 sound_group : (kind : GroupKind) (segs : Segs) (one_comma : Bool) (end : List (List ℕ)) → is_whole kind segs ≡ true → EachMeans (begin kind) segs → RoleMeans (group_role kind) (group kind segs one_comma end)

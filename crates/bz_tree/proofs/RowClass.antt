@@ -1,5 +1,5 @@
 -- The class of a statement, by its nodes one at a time, and the nodes of a rule as they are shown.
-use Rattle.std.proofs.Common.{arith, ◌≡◌, ℕ, List, [], ◌∷◌, Bool, true, false, cond, ◌&&◌, ◌||◌, refl, sym, ap, ◌∙◌}
+use Rattle.std.proofs.Common.{arith, ◌≡◌, ℕ, List, [], ◌∷◌, Bool, true, false, cond, ◌||◌, refl, sym, ap, ◌∙◌}
 use Rattle.std.specs.Prelude.{codes}
 use Rattle.std.specs.Str.{bytes_eq}
 use Rattle.std.proofs.lemmas.Bool.{false≢true, and_parts}
@@ -7,9 +7,8 @@ use Rattle.std.proofs.lemmas.Slice.Eq.{bytes_eq-Decides}
 use Rattle.bz_token.specs.declared.token.Kind.{Kind}
 use Rattle.bz_token.specs.declared.token.Kind.TheVariants.{Keyword, Operator as OperatorToken, Kept}
 use Rattle.bz_tree.specs.declared.stmt.GroupKind.{GroupKind}
-use Rattle.bz_tree.specs.declared.stmt.GroupKind.TheVariants.{Call, RuleCall}
 use Rattle.bz_tree.specs.declared.stmt.Class.TheVariants.{Assign, Rule, Other, Load as LoadClass}
-use Rattle.bz_tree.specs.declared.role.Role.TheVariants.{Dot, Comma, Colon, Equals, Augmented, If, Else, For, In, Not, Tilde, Sum, Star, Stars, Operator, Stray}
+use Rattle.bz_tree.specs.declared.role.Role.TheVariants.{Dot, Comma, Colon, Equals, Augmented, Tilde, Sum, Star, Stars, Operator, Stray}
 use Rattle.bz_tree.specs.declared.stage.Goal.TheVariants.{Left}
 use Rattle.bz_tree.specs.declared.stage.Stage.{Stage}
 use Rattle.bz_tree.specs.declared.stage.Stage.TheVariants.{Wants}
@@ -18,14 +17,13 @@ use Rattle.bz_tree.specs.declared.spot.Naming.TheVariants.{Name, Join, End, Neve
 use Rattle.bz_tree.specs.declared.spot.Read.{Read}
 use Rattle.bz_tree.specs.Tree.{Item, leaf, group, Segs, items_of}
 use Rattle.bz_tree.specs.Grammar.{leaf_role, word_role, operator_role, is_infix, is_assignment}
-use Rattle.bz_tree.specs.Statement.{is_ident, is_call, is_rule, is_rule_after, as_rule_call, rule_call, is_assign_operator, is_assign, is_load_word, is_kept, class_of, is_augmented}
+use Rattle.bz_tree.specs.Statement.{is_call, is_rule, is_rule_after, as_rule_call, rule_call, is_assign_operator, is_assign, is_load_word, is_kept, class_of, is_augmented}
 use Rattle.bz_tree.specs.private.Machine.{next, accepts, is_load, is_load_group}
 use Rattle.bz_tree.specs.private.RowSteps.{named, called, is_rule_read, is_lost, read_class}
 use Rattle.bz_tree.proofs.Accepted.{refused}
 use Rattle.bz_tree.proofs.RowParts.{read_item, read_items, shown_item, shown}
 use Rattle.bz_token.specs.Common.{is_empty}
 use Rattle.bz_token.specs.Lexical.{is_one_of}
-use Rattle.bz_tree.specs.Kinds.{is_operator_at}
 use Rattle.std.specs.List.{list_any}
 use Rattle.std.proofs.Math.Bool.{and-false, or-false, or_assoc}
 use Rattle.bz_tree.proofs.OneBracket.{same_either}
@@ -157,15 +155,8 @@ same_from [] n s h = record { accepts_same = refl; assigns_same = refl; rule_sam
 same_from (leaf kind text ∷ []) n s h = record { accepts_same = refl; assigns_same = refl; rule_same = refl }
 same_from (leaf kind text ∷ y ∷ ys) n s h = after_leaf n kind text s y ys (same_from (y ∷ ys) (named n kind text) (next s (leaf_role kind text)) (sym (from_step n (leaf kind text) (y ∷ ys)) ∙ h))
 same_from (group kind segs one_comma end ∷ []) Join s h = call_same kind segs one_comma end s (and_parts (is_call kind) true h).0
-same_from (group kind segs one_comma end ∷ []) Name s h = absurd (false≢true h)
-same_from (group kind segs one_comma end ∷ []) Never s h = absurd (false≢true h)
-same_from (group kind segs one_comma end ∷ []) End s h = absurd (false≢true h)
-same_from (group kind segs one_comma end ∷ []) Lost s h = absurd (false≢true h)
 same_from (group kind segs one_comma end ∷ y ∷ ys) Join s h = absurd (false≢true (sym (and-false (is_call kind)) ∙ h))
-same_from (group kind segs one_comma end ∷ y ∷ ys) Name s h = absurd (false≢true h)
-same_from (group kind segs one_comma end ∷ y ∷ ys) Never s h = absurd (false≢true h)
-same_from (group kind segs one_comma end ∷ y ∷ ys) End s h = absurd (false≢true h)
-same_from (group kind segs one_comma end ∷ y ∷ ys) Lost s h = absurd (false≢true h)
+same_from (group kind segs one_comma end ∷ xs) _ s h = absurd (false≢true h)
 
 with_same : (xs : List Item) (s : Stage) (b : Bool) → is_rule xs ≡ b → (accepts s (items_of (cond b (rule_call xs) xs)) ≡ accepts s (items_of xs)) × (list_any is_assign (cond b (rule_call xs) xs) ≡ list_any is_assign xs) × (is_rule (cond b (rule_call xs) xs) ≡ is_rule xs)
 with_same xs s true e = let same = same_from xs Name s e in (same.accepts_same, same.assigns_same, same.rule_same)
@@ -202,7 +193,5 @@ word_is : (x : Item) → is_load_word x ≡ true → is_kept x ≡ false
 word_is va vb = grind arith
 
 pub load_class : (xs : List Item) → is_load (items_of xs) ≡ true → class_of xs ≡ LoadClass
-load_class [] h = absurd (false≢true h)
-load_class (w ∷ []) h = absurd (false≢true h)
 load_class (w ∷ g ∷ []) h = let p = and_parts (is_load_word w) (is_load_group g) h in rw (word_is w p.0, p.0) refl
-load_class (w ∷ g ∷ y ∷ ys) h = absurd (false≢true h)
+load_class _ h = absurd (false≢true h)

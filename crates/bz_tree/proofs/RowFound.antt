@@ -23,7 +23,7 @@ use Rattle.bz_tree.specs.FromParts.{nodes_of_parts}
 use Rattle.bz_tree.specs.private.RowSteps.{start, RowState, row_next, RowView, row_view, read_class, is_lost, row_end, row_run, row_start, is_upright}
 use Rattle.bz_tree.proofs.Plain.{plain_is}
 use Rattle.bz_tree.proofs.Sound.{none_is_some, some_injective}
-use Rattle.bz_tree.proofs.RowParts.{Place, none, fresh, some, over, Bracket, bracket, read_items, shown, nodes_parts, accepts_read}
+use Rattle.bz_tree.proofs.RowParts.{Place, none, some, over, Bracket, bracket, read_items, shown, nodes_parts, accepts_read}
 use Rattle.bz_tree.proofs.RowClass.{with_rule, shown_rule, with_rule_accepts, class_is, load_class}
 use Rattle.bz_tree.proofs.FromParts.{statement_back}
 use Rattle.bz_tree.proofs.RowWalk.{level_of, image, IsGoodAt, IsGood, AreGood, next_leads}
@@ -92,7 +92,6 @@ top_found (none after) r good same =
       class_is = ap (λ (v : RowView). v.class) (sym e);
       grammar = refl;
     }
-top_found (fresh line) r good same = absurd (false≢true good.1)
 top_found (some before x xs line) r good same =
     segment_found before (x ∷ xs) None _ _ r
     (ap (λ bs. Some (record { before = bs; nodes = with_rule (x ∷ xs); suffix = None })) (append-nil before))
@@ -103,14 +102,13 @@ top_found (over before x xs suffix []) r good same =
     (ap (λ bs. Some (record { before = bs; nodes = with_rule (x ∷ xs); suffix = suffix })) (append-nil before))
     (ap (λ ps. map above before ++ (nodes_parts (shown (start None) (x ∷ xs)) ++ ps)) (append-nil (beside_part suffix)))
     (may_end (read_items (start None) (x ∷ xs)).stage) refl same
-top_found (over before x xs suffix (text ∷ texts)) r good same = absurd (false≢true good.1)
+top_found _ r good same = absurd (false≢true good.1)
 
 end_found : (kind : Option GroupKind) (segs : List Segment) (place : Place) (gs : List Bracket) (r : RowView) → IsGoodAt kind segs place → row_run (image (bracket kind segs place) gs) [] ≡ Some r
     → Found (run (level_of (bracket kind segs place)) (map level_of gs) []) r
 end_found None segs place [] r good same =
     subst (λ ss. Found (run (level_of (bracket None ss place)) [] []) r) (sym good.0) (top_found place r (refl, good.1) (ap (λ ss. row_end None [] (image (bracket None ss place) [])) (sym good.0) ∙ same))
-end_found None segs place (g ∷ gs) r good same = absurd (none_is_some r same)
-end_found (Some kind) segs place gs r good same = absurd (none_is_some r same)
+end_found _ segs place gs r good same = absurd (none_is_some r same)
 
 abbrev RunFound : List Placed → Type 0
 RunFound ts = (g : Bracket) (gs : List Bracket) (r : RowView) → row_run (image g gs) ts ≡ Some r → IsGood g → AreGood gs → Found (run (level_of g) (map level_of gs) ts) r

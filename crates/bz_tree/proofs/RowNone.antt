@@ -1,5 +1,5 @@
 -- Where the walk has no row.
-use Rattle.std.proofs.Common.{arith, ◌≡◌, List, Bool, true, false, ◌&&◌, ◌⊎◌, Option, Some, None, IfNone, option_map, inl, refl, sym, ap}
+use Rattle.std.proofs.Common.{arith, ◌≡◌, List, Bool, false, ◌&&◌, ◌⊎◌, Option, Some, None, IfNone, option_map, inl, sym, ap}
 use Rattle.std.specs.Prelude.{is_some}
 use Rattle.bz_token.specs.Places.{Placed}
 use Rattle.bz_tree.specs.declared.row.Row.{Row}

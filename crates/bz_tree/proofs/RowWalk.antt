@@ -4,7 +4,6 @@ use Rattle.std.proofs.lemmas.List.{map-append}
 use Rattle.std.proofs.lemmas.Bool.{false≢true, or_parts}
 use Rattle.std.proofs.lemmas.Bool.Decides.{nat_tests}
 use Rattle.bz_token.specs.declared.token.Kind.{Kind}
-use Rattle.bz_token.specs.declared.token.Kind.TheVariants.{Operator}
 use Rattle.bz_token.specs.Places.{Placed}
 use Rattle.bz_tree.specs.declared.stmt.GroupKind.{GroupKind}
 use Rattle.bz_tree.specs.declared.kinds.Shape.{Shape}
@@ -20,7 +19,7 @@ use Rattle.bz_tree.specs.Brackets.{leaf_of, is_for_item, is_paren, group_with, e
 use Rattle.bz_tree.specs.Rows.{RowPart, opening, closing, segment_end, above, beside, beside_part, item_parts}
 use Rattle.bz_tree.specs.private.Machine.{next, may_end, begin, each, role_of, group_role}
 use Rattle.bz_tree.specs.private.Steps.{Walked, after_own, commented, to_last, done, has_one, kind_with, shape_of, Level, Levels, with_own, next_at}
-use Rattle.bz_tree.specs.private.RowSteps.{At, nothing, a_comma, a_node, an_end, is_ended, called, shown_kind, start, read_group, Stand, around, with_node, with_here, RowState, step_to, is_refused, comment_part, after_comment_next, last_end, is_single, is_one_comma, close_on, close_below, row_next_at}
+use Rattle.bz_tree.specs.private.RowSteps.{At, nothing, an_end, is_ended, called, shown_kind, start, read_group, Stand, around, with_node, with_here, RowState, step_to, is_refused, comment_part, after_comment_next, last_end, is_single, is_one_comma, close_on, close_below, row_next_at}
 use Rattle.bz_tree.proofs.Complete.{same_itself}
 use Rattle.bz_tree.proofs.InPlace.{filled_push, filled_last}
 use Rattle.bz_tree.proofs.Sound.{none_is_some, some_injective, same_shape_is}
@@ -192,9 +191,6 @@ segment_good kind segs before nodes suffix all ends = each_push segs _ (begin ki
 
 segment_leads : (t : Placed) (kind : GroupKind) (segs : List Segment) (place : Place) (gs : List Bracket) (new : RowState) → row_next_at Comma t (image (bracket (Some kind) segs place) gs) ≡ Some new
     → IsGoodAt (Some kind) segs place → AreGood gs → Leads (next_at Comma t (level_of (bracket (Some kind) segs place)) (map level_of gs)) new
-segment_leads t kind segs (none after) gs new same good goods = absurd (none_is_some new same)
-segment_leads t kind segs (fresh end) gs new same good goods = absurd (none_is_some new same)
-segment_leads t kind segs (over before x xs suffix after) gs new same good goods = absurd (none_is_some new same)
 segment_leads t kind segs (some before x xs end) gs new same good goods =
     let p = cond_some (may_end (read_items (start (Some kind)) (x ∷ xs)).stage) _ new same in
     let rr = with_last segs before (x ∷ xs) None in
@@ -208,6 +204,7 @@ segment_leads t kind segs (some before x xs end) gs new same good goods =
     (append-nil (all_segs_parts rr) ∙ segment_parts kind segs before x xs end)
     (ap (λ v. Some (leveled (Some kind) v Other, map level_of gs)) own)
     (good.0, segment_good kind segs before (x ∷ xs) None good.1 p.0, open_push segs before (x ∷ xs)) goods
+segment_leads t kind segs _ gs new same good goods = absurd (none_is_some new same)
 
 -- a comment
 above_leads : (t : Placed) (kind : Option GroupKind) (segs : List Segment) (after : List (List ℕ)) (gs : List Bracket) (new : RowState) → row_next_at Comment t (image (bracket kind segs (none after)) gs) ≡ Some new

@@ -1,8 +1,6 @@
 -- What the steps answer is the statement of the tokens.
 use Rattle.std.proofs.Common.{arith, ◌≡◌, List, [], ◌∷◌, ◌++◌, map, Bool, true, false, cond, Option, Some, None, option_map, option_and_then, refl, sym, ap, subst, ◌∙◌, append_assoc, append-nil}
-use Rattle.std.proofs.lemmas.Bool.{false≢true}
 use Rattle.bz_tree.specs.declared.kinds.Shape.{Shape}
-use Rattle.bz_tree.specs.declared.kinds.Shape.TheVariants.{Round, Square, Curly}
 use Rattle.bz_tree.specs.declared.kinds.Mark.{Mark}
 use Rattle.bz_tree.specs.declared.kinds.Mark.TheVariants.{Open, Close, Comma, Comment, Newline, Plain}
 use Rattle.bz_tree.specs.declared.kinds.Preceding.{Preceding}
@@ -211,8 +209,7 @@ finish_found None elems [] s same well = record {
   well = well;
   is = some_injective s (segment_of (owns_of elems)) (sym same ∙ top_found (owns_of elems));
 }
-finish_found None elems (r ∷ outer) s same well = absurd (none_is_some s same)
-finish_found (Some o) elems outer s same well = absurd (none_is_some s same)
+finish_found _ elems outer s same well = absurd (none_is_some s same)
 
 step_tokens_are : (m : Mark) (t : Placed) (ts : List Placed) → step_tokens m t ++ ts ≡ cond (is_line m) ts (t ∷ ts)
 step_tokens_are Newline t ts = refl

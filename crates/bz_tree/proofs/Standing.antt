@@ -11,8 +11,6 @@ use Rattle.bz_token.specs.Places.{Placed, line_at}
 use Rattle.bz_token.specs.Lexical.{is_text}
 use Rattle.bz_token.specs.Brackets.{is_inside, open_after_token}
 use Rattle.bz_token.specs.Reading.{is_white, is_gap, continues_gap, Piece, IsReading, token_of, tokens_of, AreTokensOf}
-use Rattle.bz_tree.specs.declared.kinds.Shape.TheVariants.{Round, Square, Curly}
-use Rattle.bz_tree.specs.declared.kinds.Mark.TheVariants.{Open, Close, Comma, Plain}
 use Rattle.bz_tree.specs.Kinds.{operator_mark, kind_mark, mark_of}
 use Rattle.bz_tree.specs.Brackets.{is_line, without_lines}
 use Rattle.bz_tree.specs.Statement.{is_aside, bare_tokens, last_of, EndsFit}
