@@ -1,13 +1,11 @@
 -- A chunk gives one answer.
 use Rattle.bz_memory.specs.NoMemory.{no_memory}
-use Rattle.std.proofs.Common.{◌≡◌, ℕ, List, [], ◌∷◌, Bool, true, false, cond, refl, sym, ◌∙◌, ap, subst, ◌⊎◌, inl, inr}
-use Rattle.std.specs.Prelude.{codes, Option, None, Some, Result, Ok, Err, IsSome, IsNone}
-use Rattle.std.specs.Str.{bytes_eq, IsUtf8, IsValidUpTo}
+use Rattle.std.proofs.Common.{◌≡◌, ℕ, List, [], ◌∷◌, false, refl, sym, ◌∙◌, ap, subst, ◌⊎◌, inl, inr}
+use Rattle.std.specs.Prelude.{Option, None, Some, Result, Ok, Err, IsSome, IsNone}
+use Rattle.std.specs.Str.{IsUtf8, IsValidUpTo}
 use Rattle.std.proofs.lemmas.Bool.{false≢true}
 use Rattle.std.proofs.lemmas.Option.{none-some}
 use Rattle.std.proofs.lemmas.Str.{utf8_valid_len-IsValidUpTo}
-use Rattle.bz_token.specs.declared.token.Kind.{Kind}
-use Rattle.bz_token.specs.declared.token.Kind.TheVariants.{Newline, Operator}
 use Rattle.bz_token.specs.declared.fault.LexFault.{LexFault}
 use Rattle.bz_token.specs.declared.fault.LexFault.TheVariants as lex
 use Rattle.bz_token.specs.Places.{Placed}
@@ -15,15 +13,13 @@ use Rattle.bz_token.specs.Reading.{AreTokensOf}
 use Rattle.bz_token.specs.Faults.{IsFault}
 use Rattle.bz_token.proofs.OneFault.{one_fault, one_tokens, no_fault}
 use Rattle.bz_tree.specs.declared.fault.ParseFault.TheVariants as parse
-use Rattle.bz_tree.specs.declared.kinds.Shape.TheVariants.{Round, Square, Curly}
-use Rattle.bz_tree.specs.declared.kinds.Mark.TheVariants.{Open, Close, Comma, Plain}
 use Rattle.bz_tree.specs.Tree.{Statement}
-use Rattle.bz_tree.specs.Kinds.{operator_mark, kind_mark, mark_of}
-use Rattle.bz_tree.specs.Brackets.{no_elems, is_line, without_lines}
-use Rattle.bz_tree.specs.Statement.{is_aside, bare_tokens, first_seen, segment_of, statement_with}
+use Rattle.bz_tree.specs.Brackets.{no_elems, without_lines}
+use Rattle.bz_tree.specs.Statement.{bare_tokens, first_seen, segment_of, statement_with}
 use Rattle.bz_tree.specs.Grammar.{comments}
 use Rattle.bz_tree.specs.Chunk.{IsPlain, IsOneOf, indent_at, indent_fault, IsChunkOf, IsReadAs, IsNoStatement, IsLexical}
 use Rattle.bz_tree.proofs.Sound.{some_injective}
+use Rattle.bz_tree.proofs.Standing.{bare_empty}
 use Rattle.bz_tree_laws.proofs.ChunkLaws.{chunk_same}
 use Rattle.bz_engine.specs.declared.report.SyntaxFault.{SyntaxFault}
 use Rattle.bz_engine.specs.declared.report.SyntaxFault.TheVariants.{NotUtf8, Parse}
@@ -31,39 +27,13 @@ use Rattle.bz_engine.specs.File.{not_utf8, Gives}
 use Rattle.bz_token.specs.Common.{first_of, map_or}
 use Rattle.bz_tree.specs.Blocks.{is_block_word}
 
--- only a newline is one
-not_line : (a b c d e f g : Bool) → is_line (cond a (Open Round) (cond b (Open Square) (cond c (Open Curly) (cond d (Close Round) (cond e (Close Square) (cond f (Close Curly) (cond g Comma Plain))))))) ≡ false
-not_line true b c d e f g = refl
-not_line false true c d e f g = refl
-not_line false false true d e f g = refl
-not_line false false false true e f g = refl
-not_line false false false false true f g = refl
-not_line false false false false false true g = refl
-not_line false false false false false false true = refl
-not_line false false false false false false false = refl
-
-operator_no_line : (t : List ℕ) → is_line (operator_mark t) ≡ false
-operator_no_line t = not_line (bytes_eq t (codes "(")) (bytes_eq t (codes "[")) (bytes_eq t (codes "{")) (bytes_eq t (codes ")")) (bytes_eq t (codes "]")) (bytes_eq t (codes "}")) (bytes_eq t (codes ","))
-
-line_aside : (kind : Kind) (t : List ℕ) → is_line (kind_mark kind t) ≡ true → is_aside kind ≡ true
-line_aside Newline t is = refl
-line_aside Operator t is = absurd (false≢true (sym (operator_no_line t) ∙ is))
-line_aside _ t is = absurd (false≢true is)
-
--- tokens of which none is seen are newlines
-none_seen : (l : Bool) (t : Placed) (ts : List Placed) → IsNone (first_of (cond l ts (t ∷ ts))) → (l ≡ true) × IsNone (first_of ts)
-none_seen true t ts h = (refl, h)
-none_seen false t ts h = absurd (false≢true (sym h))
-
-none_counts : (ts : List Placed) → IsNone (first_seen ts) → bare_tokens ts ≡ []
-none_counts [] h = refl
-none_counts (t ∷ ts) h =
-    let none = none_seen (is_line (mark_of t)) t (without_lines ts) h in
-    ap (λ b. cond b (bare_tokens ts) (t ∷ bare_tokens ts)) (line_aside t.kind t.text none.0) ∙ none_counts ts none.1
-
 nothing_seen : (l : List Placed) → IsNone (first_of l) → l ≡ []
 nothing_seen [] h = refl
 nothing_seen (t ∷ ts) h = absurd (false≢true (sym h))
+
+-- tokens of which none is seen are newlines
+none_counts : (ts : List Placed) → IsNone (first_seen ts) → bare_tokens ts ≡ []
+none_counts ts h = bare_empty ts (nothing_seen (without_lines ts) h)
 
 -- They are a statement of nothing, and it is not that they are indented.
 blank_plain : (ts : List Placed) → without_lines ts ≡ [] → IsPlain ts (statement_with ts (segment_of []))

@@ -2,7 +2,6 @@
 use Rattle.std.proofs.Common.{◌≡◌, ℕ, ◌≤◌, List, [], ◌∷◌, ◌++◌, Bool, true, false, None, Some, IsSome, refl, sym, ap, subst, ◌∙◌}
 use Rattle.std.proofs.lemmas.Bool.{false≢true}
 use Rattle.std.specs.Prelude.{if◌then◌else◌}
-use Rattle.bz_token.specs.Brackets.{is_line}
 use Rattle.bz_token.specs.Places.{Placed}
 use Rattle.bz_token.specs.Reading.{tokens_of}
 use Rattle.bz_token.proofs.OneFault.{one_tokens}
@@ -26,17 +25,9 @@ use Rattle.bz_layout_laws.proofs.Shapes.{own_stands}
 use Rattle.bz_layout_laws.proofs.ReadStatement.{none_there, reads_by, statement_only}
 use Rattle.bz_layout_laws.proofs.SameGrammar.{free_grammar_stays}
 use Rattle.bz_layout_laws.proofs.TokensBack.{tokens_back, read_lines, tokens_by, lines_by, lines_are_tokens}
-use Rattle.bz_layout_laws.proofs.Unlined.{line_mark, line_aside}
 use Rattle.bz_token.specs.Common.{first_of, is_filled, map_or}
+use Rattle.bz_tree.proofs.Standing.{bare_empty}
 use Rattle.bz_tree.specs.Blocks.{is_block_word}
-
-bare_empty : (ts : List Placed) → without_lines ts ≡ [] → bare_tokens ts ≡ []
-bare_empty [] h = refl
-bare_empty (t ∷ ts) h = by (is_line t.kind) refl (sym (ap (λ b. if b then without_lines ts else t ∷ without_lines ts) (line_mark t.kind t.text)) ∙ h) (bare_empty ts)
-  where
-    by : (b : Bool) → is_line t.kind ≡ b → (if b then without_lines ts else t ∷ without_lines ts) ≡ [] → (without_lines ts ≡ [] → bare_tokens ts ≡ []) → bare_tokens (t ∷ ts) ≡ []
-    by true is none rest = ap (λ b. if b then bare_tokens ts else t ∷ bare_tokens ts) (line_aside t.kind is) ∙ rest none
-    by false is none rest = absurd (false≢true (sym (ap is_filled none)))
 
 -- where a token stands that is no comment, something stands
 seen_some : (ts : List Placed) (t : Placed) → first_token ts ≡ Some t → IsSome (first_seen ts)

@@ -1,12 +1,12 @@
 -- What is in the grammar is accepted by the recognizer.
-use Rattle.std.proofs.Common.{◌≡◌, ℕ, List, Bool, true, false, cond, refl, sym, ap, ◌∙◌}
+use Rattle.std.proofs.Common.{arith, ◌≡◌, ℕ, List, Bool, true, false, cond, refl, sym, ap, ◌∙◌}
 use Rattle.std.proofs.lemmas.Bool.{false≢true, and_from}
 use Rattle.bz_tree.specs.declared.stmt.GroupKind.{GroupKind}
 use Rattle.bz_tree.specs.declared.stmt.GroupKind.TheVariants.{Call, RuleCall, Paren, List as ListKind, Dict, ListComp, DictComp}
 use Rattle.bz_tree.specs.declared.role.Role.{Role}
 use Rattle.bz_tree.specs.declared.role.Role.TheVariants.{Name, Number, Value, Suffix, Dot, Comma, Colon, Equals, If, Else, For, In, Not, Tilde, Sum, Star, Stars, Operator, Stray}
 use Rattle.bz_tree.specs.declared.stage.Goal.{Goal}
-use Rattle.bz_tree.specs.declared.stage.Goal.TheVariants.{Left, Right, Alone, Key, Element, EntryKey, From, To, Step, Target, Clause}
+use Rattle.bz_tree.specs.declared.stage.Goal.TheVariants.{Alone, Key, Element, EntryKey, From, To, Step, Target, Clause}
 use Rattle.bz_tree.specs.declared.stage.Stage.{Stage}
 use Rattle.bz_tree.specs.declared.stage.Stage.TheVariants.{Refused, Wants, Has, HasNumber, Names, Excludes, Begins, Argument, Keyword}
 use Rattle.bz_tree.specs.Tree.{Item, leaf, group, Items, no_items, item, Segs, no_segs, seg}
@@ -57,21 +57,10 @@ is_test_part Clause = false
 is_test_part _ = true
 
 test_is_no_target : (p : Goal) → is_test_part p ≡ true → is_target p ≡ false
-test_is_no_target Target h = absurd (false≢true h)
-test_is_no_target _ h = refl
+test_is_no_target va vb = grind arith
 
 after_if : (p : Goal) → is_test_part p ≡ true → after_part p If ≡ Wants p true
-after_if Left h = refl
-after_if Right h = refl
-after_if Alone h = refl
-after_if Key h = refl
-after_if Element h = refl
-after_if EntryKey h = refl
-after_if From h = refl
-after_if To h = refl
-after_if Step h = refl
-after_if Target h = absurd (false≢true h)
-after_if Clause h = absurd (false≢true h)
+after_if va vb = grind arith
 
 prefix_step : (q : Item) (r : Role) → token_role q ≡ r → is_prefix r ≡ true → (p : Goal) (c : Bool) (xs : Items) → is_target p ≡ false → accepts (Wants p c) xs ≡ true → accepts (Wants p c) (item q xs) ≡ true
 prefix_step q Sum e is p c xs free h = step (Wants p c) q xs Sum (role_known q Sum e refl) (ap (λ s. accepts s xs) (chained p (Wants p c) free) ∙ h)

@@ -1,8 +1,6 @@
 -- Where a tree of brackets has these tokens, the steps find its statement.
-use Rattle.std.proofs.Common.{◌≡◌, List, [], ◌∷◌, ◌++◌, true, false, cond, Option, Some, None, option_map, option_and_then, refl, sym, ap, ◌∙◌, append_assoc, append-nil}
-use Rattle.std.proofs.lemmas.Bool.{false≢true}
+use Rattle.std.proofs.Common.{arith, ◌≡◌, List, [], ◌∷◌, ◌++◌, true, false, cond, Option, Some, None, option_map, option_and_then, refl, sym, ap, ◌∙◌, append_assoc, append-nil}
 use Rattle.bz_tree.specs.declared.kinds.Shape.{Shape}
-use Rattle.bz_tree.specs.declared.kinds.Shape.TheVariants.{Round, Square, Curly}
 use Rattle.bz_tree.specs.declared.kinds.Mark.{Mark}
 use Rattle.bz_tree.specs.declared.kinds.Mark.TheVariants.{Open, Close, Comma, Comment, Newline, Plain}
 use Rattle.bz_tree.specs.declared.kinds.Preceding.{Preceding}
@@ -26,17 +24,10 @@ after_all b [] = b
 after_all b (x ∷ xs) = after_all (preceding b x) xs
 
 pub same_itself : (s : Shape) → same_shape (Some s) s ≡ true
-same_itself Round = refl
-same_itself Square = refl
-same_itself Curly = refl
+same_itself va = grind arith
 
 single_step : (m : Mark) (t : Placed) → is_single m ≡ true → (top : Level) (outer : List Level) → next_at m t top outer ≡ Some (with_own top (own_of m t), outer)
-single_step Comma t alone top outer = refl
-single_step Comment t alone top outer = refl
-single_step Plain t alone top outer = refl
-single_step Newline t alone top outer = absurd (false≢true alone)
-single_step (Open s) t alone top outer = absurd (false≢true alone)
-single_step (Close s) t alone top outer = absurd (false≢true alone)
+single_step va vb vc vd ve = grind arith
 
 abbrev rest_run : List Placed → Option Levels → Option Segment
 rest_run ts o = option_and_then (λ ls. run ls.0 ls.1 ts) o

@@ -102,20 +102,16 @@ nodes_back xs = ap nodes_in (ap (λ ps. steps ps (nest [] [] [] [])) (sym (appen
 
 -- a comment beside a statement is beside no segment
 suffix_left : (suffix : Option (List ℕ)) (comments : List (List ℕ)) (nodes : List Item) → steps (beside_part suffix) (nest [] comments nodes []) ≡ nest [] comments nodes []
-suffix_left None comments nodes = refl
-suffix_left (Some text) comments nodes = refl
-
-pub statement_back : (s : Statement) → nodes_of_parts (parts_of s) ≡ s.nodes
-statement_back s =
-    ap nodes_in (read_above s.before [] [] [] [] (items_parts (items_of s.nodes) ++ beside_part s.suffix)
-    ∙ (read_items (items_of s.nodes) [] s.before [] [] (beside_part s.suffix) ∙ suffix_left s.suffix s.before (list_of (items_of s.nodes))))
-    ∙ listed_back s.nodes
+suffix_left va vb vc = grind arith
 
 content_back : (s : Statement) → content_of (parts_of s) ≡ record { segs = []; comments = s.before; nodes = s.nodes }
 content_back s =
     ap (λ (n : Nest). n.here) (read_above s.before [] [] [] [] (items_parts (items_of s.nodes) ++ beside_part s.suffix)
     ∙ (read_items (items_of s.nodes) [] s.before [] [] (beside_part s.suffix) ∙ suffix_left s.suffix s.before (list_of (items_of s.nodes))))
     ∙ ap (λ (nodes : List Item). record { segs = []; comments = s.before; nodes = nodes }) (listed_back s.nodes)
+
+pub statement_back : (s : Statement) → nodes_of_parts (parts_of s) ≡ s.nodes
+statement_back s = ap (λ (c : Content). c.nodes) (content_back s)
 
 last_is : (ps : List RowPart) (p : RowPart) → last_beside (ps ++ p ∷ []) ≡ beside_text p
 last_is [] p = refl

@@ -1,22 +1,24 @@
 -- Brackets that are walked over while they are open have the inside that they have where they are walked over when they are closed.
-use Rattle.std.proofs.Common.{◌≡◌, ℕ, List, [], ◌∷◌, ◌++◌, Bool, true, false, not, cond, ◌&&◌, ◌||◌, Option, Some, None, option_map, option_and_then, refl, sym, ap, ◌∙◌}
+use Rattle.std.proofs.Common.{arith, ◌≡◌, ℕ, List, [], ◌∷◌, ◌++◌, Bool, true, false, not, cond, ◌&&◌, ◌||◌, Option, Some, None, option_map, option_and_then, refl, sym, ap, ◌∙◌}
 use Rattle.std.proofs.lemmas.Bool.{false≢true}
+use Rattle.std.proofs.Math.Bool.{or-false}
 use Rattle.bz_tree.specs.declared.stmt.GroupKind.{GroupKind}
 use Rattle.bz_tree.specs.declared.kinds.Shape.{Shape}
 use Rattle.bz_tree.specs.declared.kinds.Shape.TheVariants.{Round, Square, Curly}
 use Rattle.bz_tree.specs.declared.kinds.Mark.{Mark}
-use Rattle.bz_tree.specs.declared.kinds.Mark.TheVariants.{Open, Close, Comma, Comment, Newline, Plain}
+use Rattle.bz_tree.specs.declared.kinds.Mark.TheVariants.{Open, Close, Newline}
 use Rattle.bz_tree.specs.declared.kinds.Preceding.{Preceding}
 use Rattle.bz_tree.specs.declared.kinds.Preceding.TheVariants.{Operand, LoadWord, Other}
 use Rattle.bz_token.specs.Places.{Placed}
 use Rattle.bz_tree.specs.Tree.{Item, Segment}
 use Rattle.bz_tree.specs.Kinds.{mark_of, group_kind, is_one, same_shape}
-use Rattle.bz_tree.specs.Owners.{Own, node, comma, comment, Last, no_token, end_of_node, end_of_comma, is_on}
+use Rattle.bz_tree.specs.Owners.{Own, node, comma, comment, Last, end_of_comma, is_on}
 use Rattle.bz_tree.specs.Brackets.{own_item, own_items, own_of, preceding, has_for, is_for_item, group_with}
 use Rattle.bz_tree.specs.Statement.{segment_with}
 use Rattle.bz_tree.specs.private.Steps.{Walked, at_start, after_own, after_node, after_comma, after_comment, commented, to_last, done, Level, Levels, is_for, is_in_first, has_one, as_comprehension, shape_of, with_own, new_level, closed, next_at, finish, run}
 use Rattle.bz_tree.proofs.ByOwns.{after, walk, content}
 use Rattle.bz_tree.proofs.ByOwns as by_owns
+use Rattle.bz_tree.proofs.Sound.{some_injective, same_shape_is}
 use Rattle.bz_token.specs.Common.{is_filled}
 
 -- the steps of a walk, without its end
@@ -53,17 +55,7 @@ abbrev walked_by : Bool → List Own → Option Walked
 walked_by one owns = steps at_start (own_items one owns)
 
 after_item : (one : Bool) (o : Own) (p : Option Walked) → option_and_then (after (own_item one o)) p ≡ after_own one o p
-after_item true (node line x) None = refl
-after_item true (node line x) (Some w) = refl
-after_item false (node line x) None = refl
-after_item false (node line x) (Some w) = refl
-after_item true (comment line text) None = refl
-after_item true (comment line text) (Some w) = refl
-after_item false (comment line text) None = refl
-after_item false (comment line text) (Some w) = refl
-after_item true (comma t) None = refl
-after_item true (comma t) (Some w) = refl
-after_item false (comma t) p = refl
+after_item va vb vc = grind arith
 
 walked_push : (one : Bool) (os : List Own) (o : Own) → walked_by one (os ++ o ∷ []) ≡ after_own one o (walked_by one os)
 walked_push one os o = ap (steps at_start) (items_push one os o) ∙ (steps_push (own_items one os) at_start (own_item one o) ∙ after_item one o (walked_by one os))
@@ -81,11 +73,7 @@ same_items (comma t ∷ os) none = absurd (false≢true (sym none))
 same_items (comment line text ∷ os) none = ap (λ ps. comment line text ∷ ps) (same_items os none)
 
 for_push : (os : List Own) (o : Own) → has_for (os ++ o ∷ []) ≡ has_for os || (not (has_comma os) && is_for o)
-for_push [] (node line x) = or_none (is_for_item x)
-  where
-    or_none : (b : Bool) → b || false ≡ b
-    or_none true = refl
-    or_none false = refl
+for_push [] (node line x) = or-false (is_for_item x)
 for_push [] (comma t) = refl
 for_push [] (comment line text) = refl
 for_push (node line x ∷ os) o = first (for_push os o) (is_for_item x)
@@ -101,25 +89,14 @@ filled_push [] s = refl
 filled_push (r ∷ ss) s = refl
 
 pub filled_last : (text : List ℕ) (ss : List Segment) → is_filled (to_last text ss) ≡ is_filled ss
-filled_last text [] = refl
-filled_last text (s ∷ []) = refl
-filled_last text (s ∷ r ∷ ss) = refl
+filled_last va vb = grind arith
 
 filled_commented : (last : Last) (on : Bool) (text : List ℕ) (w : Walked) → is_filled (commented last on text w).segs ≡ is_filled w.segs
-filled_commented (end_of_node end) true text w = refl
-filled_commented (end_of_comma end) true text w = filled_last text w.segs
-filled_commented no_token true text w = refl
-filled_commented no_token false text w = refl
-filled_commented (end_of_node end) false text w = refl
-filled_commented (end_of_comma end) false text w = refl
+filled_commented va vb vc vd = grind arith
 
 -- whether a comma was met
 not_first : (os : List Own) (w : Walked) → is_in_first (steps w (own_items false os)) ≡ not (is_filled w.segs || has_comma os)
-not_first [] w = or_none (is_filled w.segs)
-  where
-    or_none : (b : Bool) → not b ≡ not (b || false)
-    or_none true = refl
-    or_none false = refl
+not_first [] w = ap not (sym (or-false (is_filled w.segs)))
 not_first (node line x ∷ os) w = not_first os (after_node line x w)
 not_first (comment line text ∷ os) w = not_first os (after_comment line text w) ∙ ap (λ b. not (b || has_comma os)) (filled_commented w.last (is_on w.last line) text w)
 not_first (comma t ∷ os) w = at_nodes (λ v. not_first os v) w.nodes refl
@@ -176,9 +153,7 @@ stays k e owns at own =
     level_is _ k _ (walked_by (has_one k) (owns ++ own ∷ [])) (preceding at own) (same_either (is_for own && is_in_first (walked_by (has_one k) owns)) k (as_comprehension k) e) (sym (walked_push (has_one k) owns own))
 
 after_for : (own : Own) → is_for own ≡ true → (p : Option Walked) → after_own false own p ≡ after_own true own p
-after_for (node line x) e p = refl
-after_for (comma t) e p = absurd (false≢true e)
-after_for (comment line text) e p = refl
+after_for va vb vc = grind arith
 
 -- a bracket that `for` makes a comprehension
 abbrev pick : GroupKind → GroupKind → Bool → GroupKind
@@ -234,34 +209,13 @@ abbrev image_of : by_owns.Levels → Levels
 image_of ls = (image (before_of ls.1) ls.0, images ls.1)
 
 shape_stays : (s : Shape) (b : Preceding) (h : Bool) → shape_of (group_kind s b h) ≡ s
-shape_stays Round Operand h = refl
-shape_stays Round LoadWord h = refl
-shape_stays Round Other h = refl
-shape_stays Square Operand h = refl
-shape_stays Square LoadWord true = refl
-shape_stays Square LoadWord false = refl
-shape_stays Square Other true = refl
-shape_stays Square Other false = refl
-shape_stays Curly b true = refl
-shape_stays Curly b false = refl
+shape_stays va vb vc = grind arith
 
 shapes_stay : (o : Option Shape) (b : Preceding) (h : Bool) → option_map shape_of (kind_by o b h) ≡ o
-shapes_stay None b h = refl
-shapes_stay (Some s) b h = ap Some (shape_stays s b h)
+shapes_stay va vb vc = grind arith
 
 closed_same : (k : GroupKind) (owns : List Own) → closed (Some k) (walked_by (is_one k) owns) ≡ option_map (group_with k) (content (is_one k) owns)
 closed_same k owns = ap (option_map (group_with k)) (sym (walk_is_steps (own_items (is_one k) owns) at_start))
-
-same_shape_is : (r s : Shape) → same_shape (Some r) s ≡ true → r ≡ s
-same_shape_is Round Round h = refl
-same_shape_is Square Square h = refl
-same_shape_is Curly Curly h = refl
-same_shape_is Round Square h = absurd (false≢true h)
-same_shape_is Round Curly h = absurd (false≢true h)
-same_shape_is Square Round h = absurd (false≢true h)
-same_shape_is Square Curly h = absurd (false≢true h)
-same_shape_is Curly Round h = absurd (false≢true h)
-same_shape_is Curly Square h = absurd (false≢true h)
 
 -- a step, here and there
 close_same : (s : Shape) (t : Placed) (o : Option Shape) (owns : List Own) (at : Preceding) (below : by_owns.Level) (outer : List by_owns.Level)
@@ -281,7 +235,7 @@ close_same s t (Some r) owns at below outer =
         ≡ option_map image_of (cond fits (option_map (λ g. (by_owns.with_own below (node t.line g), outer)) (by_owns.closed s below.at owns)) None)
     at_shape false e = refl
     at_shape true e =
-        ap (option_map (λ g. (with_own (image (before_of outer) below) (node t.line g), images outer))) (closed_same (group_kind r below.at (has_for owns)) owns ∙ ap (λ q. by_owns.closed q below.at owns) (same_shape_is r s e))
+        ap (option_map (λ g. (with_own (image (before_of outer) below) (node t.line g), images outer))) (closed_same (group_kind r below.at (has_for owns)) owns ∙ ap (λ q. by_owns.closed q below.at owns) (some_injective r s (same_shape_is (Some r) s e)))
         ∙ at_group (by_owns.closed s below.at owns)
 
 next_same : (m : Mark) (t : Placed) (top : by_owns.Level) (outer : List by_owns.Level) → next_at m t (image (before_of outer) top) (images outer) ≡ option_map image_of (by_owns.next_at m t top outer)
@@ -289,9 +243,7 @@ next_same Newline t top outer = refl
 next_same (Open s) t top outer = refl
 next_same (Close s) t top [] = refl
 next_same (Close s) t top (below ∷ outer) = close_same s t top.shape top.owns top.at below outer
-next_same Comma t top outer = ap (λ (l : Level). Some (l, images outer)) (own_same top.shape (before_of outer) top.owns top.at (own_of Comma t))
-next_same Comment t top outer = ap (λ (l : Level). Some (l, images outer)) (own_same top.shape (before_of outer) top.owns top.at (own_of Comment t))
-next_same Plain t top outer = ap (λ (l : Level). Some (l, images outer)) (own_same top.shape (before_of outer) top.owns top.at (own_of Plain t))
+next_same m t top outer = ap (λ (l : Level). Some (l, images outer)) (own_same top.shape (before_of outer) top.owns top.at (own_of m t))
 
 finish_same : (o : Option Shape) (b : Preceding) (owns : List Own) (outer : List by_owns.Level) → finish (kind_by o b (has_for owns)) (walked_by (has_one (kind_by o b (has_for owns))) owns) (images outer) ≡ by_owns.finish o owns outer
 finish_same None b owns [] = ap (option_map segment_with) (sym (walk_is_steps (own_items true owns) at_start))

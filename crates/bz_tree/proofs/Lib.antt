@@ -1,6 +1,5 @@
 pub mod Views
 pub mod Walking
-pub mod ByLines
 pub mod ByOwns
 pub mod OneBracket
 pub mod Complete
@@ -18,7 +17,6 @@ pub mod RowParts
 pub mod FromParts
 pub mod RowWalk
 pub mod RowClass
-pub mod RowLoad
 pub mod RowFound
 pub mod RowNone
 pub mod RowBatches

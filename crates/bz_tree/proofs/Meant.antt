@@ -1,5 +1,5 @@
 -- What the recognizer accepts is in the grammar.
-use Rattle.std.proofs.Common.{◌≡◌, ℕ, List, Bool, true, false, not, ◌&&◌, cond, refl, sym, ap, subst, ◌∙◌, ◌⊎◌, inl, inr}
+use Rattle.std.proofs.Common.{arith, ◌≡◌, ℕ, List, Bool, true, false, not, ◌&&◌, cond, refl, sym, ap, subst, ◌∙◌, ◌⊎◌, inl, inr}
 use Rattle.std.proofs.lemmas.Bool.{false≢true, and_parts}
 use Rattle.bz_token.specs.declared.token.Kind.{Kind}
 use Rattle.bz_token.specs.declared.token.Kind.TheVariants.{Keyword as KeywordToken, Operator as OperatorToken}
@@ -14,12 +14,9 @@ use Rattle.bz_tree.specs.declared.stage.Stage.TheVariants.{Refused, Wants, Has, 
 use Rattle.bz_tree.specs.Tree.{Item, leaf, group, Items, no_items, item, Segs, no_segs, seg}
 use Rattle.bz_tree.specs.Grammar.{token_role, is_prefix, is_operator, is_star, is_assignment, join, is_dot_role, begins_dot, IsBinOp, operator, not_in, IsTest, plain, conditional, IsChain, single, binary, IsTerm, primary, unary, IsPrimary, number, operand, AreSuffixes, no_suffix, member, suffix, IsSuffix, call, index, IsOperand, ident, text, paren, list, dict, list_comp, dict_comp, AreTests, no_test, one_test, AreArgs, no_arg, one_arg, IsArg, positional, keyword, starred, AreEntries, no_entry, one_entry, IsEntry, entry, IsElement, element, IsEntryElement, entry_element, IsFor, for, AreTargets, last_target, target, AreClauses, no_clause, for_clause, if_clause, IsIndex, at, slice, IsRange, upper, stepped, IsOptional, nothing, some}
 use Rattle.bz_tree.specs.private.Machine.{ends, is_target, in_chain, after_part, next_wanted, next_after, next_after_number, next_begun, next_argument, next_keyword, next, accepts, role_of, each, is_whole, group_role, begin}
-use Rattle.std.specs.Prelude.{codes, [], ◌∷◌}
-use Rattle.std.specs.Str.{bytes_eq}
 use Rattle.bz_tree.specs.Grammar.{leaf_role, word_role, operator_role, IsExpr, last_test, test}
-use Rattle.bz_tree.specs.private.Machine.{may_end, may_be_empty, is_single, leaves, after_left, after_right, after_element, after_target, after_clause, at_colon, at_end, after_condition, next_name, next_excluded}
+use Rattle.bz_tree.specs.private.Machine.{may_end, may_be_empty, is_single, leaves, after_left, after_right, after_element, after_target, after_clause, at_colon, after_condition, next_name, next_excluded}
 use Rattle.bz_tree.proofs.Accepted.{join_empty, join_assoc}
-use Rattle.bz_token.specs.Lexical.{is_one_of}
 
 -- the operators and operands after the first of a chain
 data ChainRest : Items → Type 0 where
@@ -206,15 +203,7 @@ RoleMeans r x = token_role x ≡ r
 wanted_whole : (p : Goal) (xs : Items) → Wanted p false xs → Whole p xs
 wanted_whole Target xs w = record { head = w.chain; rest = w.rest; is = w.is; is_head = w.is_chain; follow = w.after }
 wanted_whole Clause xs w = record { head = w.chain; rest = w.rest; is = w.is; is_head = w.is_chain; follow = w.after }
-wanted_whole Left xs w = record { head = join w.chain w.after.tail; rest = w.after.rest; is = w.is ∙ ap (join w.chain) w.after.is ∙ sym (join_assoc w.chain w.after.tail w.after.rest); is_head = test_from w.chain w.after.tail w.is_chain w.after.is_tail; follow = w.after.follow }
-wanted_whole Right xs w = record { head = join w.chain w.after.tail; rest = w.after.rest; is = w.is ∙ ap (join w.chain) w.after.is ∙ sym (join_assoc w.chain w.after.tail w.after.rest); is_head = test_from w.chain w.after.tail w.is_chain w.after.is_tail; follow = w.after.follow }
-wanted_whole Alone xs w = record { head = join w.chain w.after.tail; rest = w.after.rest; is = w.is ∙ ap (join w.chain) w.after.is ∙ sym (join_assoc w.chain w.after.tail w.after.rest); is_head = test_from w.chain w.after.tail w.is_chain w.after.is_tail; follow = w.after.follow }
-wanted_whole Key xs w = record { head = join w.chain w.after.tail; rest = w.after.rest; is = w.is ∙ ap (join w.chain) w.after.is ∙ sym (join_assoc w.chain w.after.tail w.after.rest); is_head = test_from w.chain w.after.tail w.is_chain w.after.is_tail; follow = w.after.follow }
-wanted_whole Element xs w = record { head = join w.chain w.after.tail; rest = w.after.rest; is = w.is ∙ ap (join w.chain) w.after.is ∙ sym (join_assoc w.chain w.after.tail w.after.rest); is_head = test_from w.chain w.after.tail w.is_chain w.after.is_tail; follow = w.after.follow }
-wanted_whole EntryKey xs w = record { head = join w.chain w.after.tail; rest = w.after.rest; is = w.is ∙ ap (join w.chain) w.after.is ∙ sym (join_assoc w.chain w.after.tail w.after.rest); is_head = test_from w.chain w.after.tail w.is_chain w.after.is_tail; follow = w.after.follow }
-wanted_whole From xs w = record { head = join w.chain w.after.tail; rest = w.after.rest; is = w.is ∙ ap (join w.chain) w.after.is ∙ sym (join_assoc w.chain w.after.tail w.after.rest); is_head = test_from w.chain w.after.tail w.is_chain w.after.is_tail; follow = w.after.follow }
-wanted_whole To xs w = record { head = join w.chain w.after.tail; rest = w.after.rest; is = w.is ∙ ap (join w.chain) w.after.is ∙ sym (join_assoc w.chain w.after.tail w.after.rest); is_head = test_from w.chain w.after.tail w.is_chain w.after.is_tail; follow = w.after.follow }
-wanted_whole Step xs w = record { head = join w.chain w.after.tail; rest = w.after.rest; is = w.is ∙ ap (join w.chain) w.after.is ∙ sym (join_assoc w.chain w.after.tail w.after.rest); is_head = test_from w.chain w.after.tail w.is_chain w.after.is_tail; follow = w.after.follow }
+wanted_whole _ xs w = record { head = join w.chain w.after.tail; rest = w.after.rest; is = w.is ∙ ap (join w.chain) w.after.is ∙ sym (join_assoc w.chain w.after.tail w.after.rest); is_head = test_from w.chain w.after.tail w.is_chain w.after.is_tail; follow = w.after.follow }
 
 at_empty : (xs t r : Items) → xs ≡ join t r → r ≡ no_items → t ≡ xs
 at_empty xs t r is empty = sym (is ∙ ap (join t) empty ∙ join_empty t)
@@ -312,11 +301,11 @@ right_tail x xs Comma k m = tail Right (item x xs) (right_comma x refl k (expr_o
 right_tail x xs If k m = condition_tail Right x xs m.chain m.rest m.is m.is_chain m.after k m.after.whole.is_head
 right_tail x xs _ k m = absurd m
 
-alone_tail : (x : Item) (xs : Items) (r : Role) → RoleMeans r x → Means (at_end Alone r) xs → TestTail Alone (item x xs)
+alone_tail : (x : Item) (xs : Items) (r : Role) → RoleMeans r x → Means (at_colon Alone Refused r) xs → TestTail Alone (item x xs)
 alone_tail x xs If k m = condition_tail Alone x xs m.chain m.rest m.is m.is_chain m.after k m.after.whole.is_head
 alone_tail x xs _ k m = absurd m
 
-step_tail : (x : Item) (xs : Items) (r : Role) → RoleMeans r x → Means (at_end Step r) xs → TestTail Step (item x xs)
+step_tail : (x : Item) (xs : Items) (r : Role) → RoleMeans r x → Means (at_colon Step Refused r) xs → TestTail Step (item x xs)
 step_tail x xs If k m = condition_tail Step x xs m.chain m.rest m.is m.is_chain m.after k m.after.whole.is_head
 step_tail x xs _ k m = absurd m
 
@@ -532,10 +521,7 @@ part_end From h = tail From no_items (inl refl)
 part_end To h = tail To no_items (inl refl)
 part_end Step h = tail Step no_items refl
 part_end Clause h = no_clause
-part_end Key h = absurd (false≢true h)
-part_end Element h = absurd (false≢true h)
-part_end EntryKey h = absurd (false≢true h)
-part_end Target h = absurd (false≢true h)
+part_end _ h = absurd (false≢true h)
 
 had_end : (p : Goal) (c d : Bool) → (not c && ends p) ≡ true → Had p c d no_items
 had_end p false d h = after_had p false d no_items (part_end p h)
@@ -552,11 +538,7 @@ end_means (Has p c) h = had_end p c true h
 end_means (HasNumber p c) h = had_end p c false h
 end_means (Begins p) h = begun_end p h
 end_means Keyword h = without_value (had_end Alone false true refl)
-end_means Refused h = absurd (false≢true h)
-end_means (Wants p c) h = absurd (false≢true h)
-end_means (Names p c) h = absurd (false≢true h)
-end_means (Excludes p c) h = absurd (false≢true h)
-end_means Argument h = absurd (false≢true h)
+end_means _ h = absurd (false≢true h)
 
 -- groups
 abbrev EachMeans : Stage → Segs → Type 0
@@ -576,19 +558,16 @@ entries_of no_segs m = no_entry
 entries_of (seg before nodes beside segs) m = one_entry (entry_of nodes (wanted_whole Key nodes m.0)) (entries_of segs m.1)
 
 index_of : (segs : Segs) (one_comma : Bool) (end : List (List ℕ)) → is_single segs ≡ true → EachMeans (Begins From) segs → IsSuffix (group Index segs one_comma end)
-index_of no_segs one_comma end alone m = absurd (false≢true alone)
 index_of (seg before nodes beside no_segs) one_comma end alone m = index m.0
-index_of (seg before nodes beside (seg more others last segs)) one_comma end alone m = absurd (false≢true alone)
+index_of _ one_comma end alone m = absurd (false≢true alone)
 
 list_comp_of : (segs : Segs) (one_comma : Bool) (end : List (List ℕ)) → is_single segs ≡ true → EachMeans (Wants Element false) segs → IsOperand (group ListComp segs one_comma end)
-list_comp_of no_segs one_comma end alone m = absurd (false≢true alone)
 list_comp_of (seg before nodes beside no_segs) one_comma end alone m = list_comp (element_of nodes (wanted_whole Element nodes m.0))
-list_comp_of (seg before nodes beside (seg more others last segs)) one_comma end alone m = absurd (false≢true alone)
+list_comp_of _ one_comma end alone m = absurd (false≢true alone)
 
 dict_comp_of : (segs : Segs) (one_comma : Bool) (end : List (List ℕ)) → is_single segs ≡ true → EachMeans (Wants EntryKey false) segs → IsOperand (group DictComp segs one_comma end)
-dict_comp_of no_segs one_comma end alone m = absurd (false≢true alone)
 dict_comp_of (seg before nodes beside no_segs) one_comma end alone m = dict_comp (entry_element_of nodes (wanted_whole EntryKey nodes m.0))
-dict_comp_of (seg before nodes beside (seg more others last segs)) one_comma end alone m = absurd (false≢true alone)
+dict_comp_of _ one_comma end alone m = absurd (false≢true alone)
 
 -- a group whose segments mean something is what its role says
 sound_group : (kind : GroupKind) (segs : Segs) (one_comma : Bool) (end : List (List ℕ)) → is_whole kind segs ≡ true → EachMeans (begin kind) segs → RoleMeans (group_role kind) (group kind segs one_comma end)
@@ -613,34 +592,11 @@ abbrev is_suffix_role : Role → Bool
 is_suffix_role Suffix = true
 is_suffix_role _ = false
 
-word_chain : (a b c d e f : Bool) → is_suffix_role (cond a If (cond b Else (cond c For (cond d In (cond e Not (cond f Operator Stray)))))) ≡ false
-word_chain true b c d e f = refl
-word_chain false true c d e f = refl
-word_chain false false true d e f = refl
-word_chain false false false true e f = refl
-word_chain false false false false true f = refl
-word_chain false false false false false true = refl
-word_chain false false false false false false = refl
-
-operator_chain : (a b c d e f g h i j : Bool) → is_suffix_role (cond a Dot (cond b Comma (cond c Colon (cond d Equals (cond e Tilde (cond f Star (cond g Stars (cond h Sum (cond i Augmented (cond j Operator Stray)))))))))) ≡ false
-operator_chain true b c d e f g h i j = refl
-operator_chain false true c d e f g h i j = refl
-operator_chain false false true d e f g h i j = refl
-operator_chain false false false true e f g h i j = refl
-operator_chain false false false false true f g h i j = refl
-operator_chain false false false false false true g h i j = refl
-operator_chain false false false false false false true h i j = refl
-operator_chain false false false false false false false true i j = refl
-operator_chain false false false false false false false false true j = refl
-operator_chain false false false false false false false false false true = refl
-operator_chain false false false false false false false false false false = refl
-
 word_plain : (word : List ℕ) → is_suffix_role (word_role word) ≡ false
-word_plain word = word_chain (bytes_eq word (codes "if")) (bytes_eq word (codes "else")) (bytes_eq word (codes "for")) (bytes_eq word (codes "in")) (bytes_eq word (codes "not")) (is_one_of (codes "and" ∷ codes "or" ∷ []) word)
+word_plain word = grind arith
 
 operator_plain : (word : List ℕ) → is_suffix_role (operator_role word) ≡ false
-operator_plain word =
-    operator_chain (bytes_eq word (codes ".")) (bytes_eq word (codes ",")) (bytes_eq word (codes ":")) (bytes_eq word (codes "=")) (bytes_eq word (codes "~")) (bytes_eq word (codes "*")) (bytes_eq word (codes "**")) (is_one_of (codes "+" ∷ codes "-" ∷ []) word) (is_one_of (codes "+=" ∷ codes "-=" ∷ codes "*=" ∷ codes "/=" ∷ codes "//=" ∷ codes "%=" ∷ codes "&=" ∷ codes "|=" ∷ codes "^=" ∷ codes "<<=" ∷ codes ">>=" ∷ []) word) (is_one_of (codes "==" ∷ codes "!=" ∷ codes "<" ∷ codes ">" ∷ codes "<=" ∷ codes ">=" ∷ codes "|" ∷ codes "^" ∷ codes "&" ∷ codes "<<" ∷ codes ">>" ∷ codes "/" ∷ codes "//" ∷ codes "%" ∷ []) word)
+operator_plain word = grind arith
 
 leaf_plain : (kind : Kind) (word : List ℕ) → is_suffix_role (leaf_role kind word) ≡ false
 leaf_plain KeywordToken word = word_plain word

@@ -1,5 +1,5 @@
 -- The recognizer accepts the statements of the grammar, and nothing else.
-use Rattle.std.proofs.Common.{◌≡◌, ℕ, List, Bool, true, false, ◌&&◌, ◌||◌, refl, ap, ◌∙◌, inl, inr}
+use Rattle.std.proofs.Common.{arith, ◌≡◌, ℕ, List, Bool, true, false, ◌&&◌, ◌||◌, refl, ap, ◌∙◌, inl, inr}
 use Rattle.std.proofs.lemmas.Bool.{false≢true, and_parts, or_left, or_right, or_cases, and_from}
 use Rattle.bz_tree.specs.declared.stmt.GroupKind.TheVariants.{Load}
 use Rattle.bz_tree.specs.declared.role.Role.{Role}
@@ -27,8 +27,7 @@ operator_run s _ e is xs h = absurd (false≢true is)
 
 -- loads
 string_item : (x : Item) → token_role x ≡ Value → is_string_item x ≡ true
-string_item (leaf kind text) e = ap is_value e
-string_item (group kind segs one_comma end) e = ap is_value e
+string_item va vb = grind arith
 
 string_run : {xs : Items} → IsString xs → is_string xs ≡ true
 string_run (string {x} e) = string_item x e
@@ -58,35 +57,28 @@ statement_accepted (assignment {xs} {a} {b} s is ea es eb) =
 
 -- and the other way
 value_is : (r : Role) → is_value r ≡ true → r ≡ Value
-value_is Value h = refl
-value_is _ h = absurd (false≢true h)
+value_is va vb = grind arith
 
 name_is : (r : Role) → is_name r ≡ true → r ≡ Name
-name_is Name h = refl
-name_is _ h = absurd (false≢true h)
+name_is va vb = grind arith
 
 equals_is : (r : Role) → is_equals r ≡ true → r ≡ Equals
-equals_is Equals h = refl
-equals_is _ h = absurd (false≢true h)
+equals_is va vb = grind arith
 
 string_item_means : (x : Item) → is_string_item x ≡ true → token_role x ≡ Value
 string_item_means (leaf kind text) h = value_is (leaf_role kind text) h
 string_item_means (group kind segs one_comma end) h = absurd (false≢true h)
 
 string_means : (xs : Items) → is_string xs ≡ true → IsString xs
-string_means no_items h = absurd (false≢true h)
 string_means (item x no_items) h = string (string_item_means x h)
-string_means (item x (item y xs)) h = absurd (false≢true h)
+string_means _ h = absurd (false≢true h)
 
 renamed_means : (xs : Items) → is_renamed xs ≡ true → IsLoadArg xs
-renamed_means no_items h = absurd (false≢true h)
-renamed_means (item n no_items) h = absurd (false≢true h)
-renamed_means (item n (item e no_items)) h = absurd (false≢true h)
 renamed_means (item n (item e (item x no_items))) h =
     let p = and_parts (is_name (role_of n) && is_equals (role_of e)) (is_string_item x) h in
     let q = and_parts (is_name (role_of n)) (is_equals (role_of e)) p.0 in
     renamed (named_token n (name_is (role_of n) q.0)) (equals_token e (equals_is (role_of e) q.1)) (string (string_item_means x p.1))
-renamed_means (item n (item e (item x (item y xs)))) h = absurd (false≢true h)
+renamed_means _ h = absurd (false≢true h)
 
 load_arg_means : (xs : Items) → is_load_argument xs ≡ true → IsLoadArg xs
 load_arg_means xs h = elim (or_cases (is_string xs) (is_renamed xs) h) [ inl l ↦ loaded (string_means xs l) | inr r ↦ renamed_means xs r ]
@@ -105,10 +97,8 @@ load_group_means w (group Load segs one_comma end) is h = loaded_means w segs on
 load_group_means w (group _ segs one_comma end) is h = absurd (false≢true h)
 
 load_means : (xs : Items) → is_load xs ≡ true → IsLoad xs
-load_means no_items h = absurd (false≢true h)
-load_means (item w no_items) h = absurd (false≢true h)
 load_means (item w (item g no_items)) h = let p = and_parts (is_load_word w) (is_load_group g) h in load_group_means w g p.0 p.1
-load_means (item w (item g (item y xs))) h = absurd (false≢true h)
+load_means _ h = absurd (false≢true h)
 
 nothing_means : (xs : Items) → is_nothing xs ≡ true → IsStatement xs
 nothing_means no_items h = comments

@@ -1,5 +1,5 @@
 -- The class of a statement, by its nodes one at a time, and the nodes of a rule as they are shown.
-use Rattle.std.proofs.Common.{◌≡◌, ℕ, List, [], ◌∷◌, Bool, true, false, cond, ◌&&◌, ◌||◌, refl, sym, ap, ◌∙◌}
+use Rattle.std.proofs.Common.{arith, ◌≡◌, ℕ, List, [], ◌∷◌, Bool, true, false, cond, ◌||◌, refl, sym, ap, ◌∙◌}
 use Rattle.std.specs.Prelude.{codes}
 use Rattle.std.specs.Str.{bytes_eq}
 use Rattle.std.proofs.lemmas.Bool.{false≢true, and_parts}
@@ -7,9 +7,8 @@ use Rattle.std.proofs.lemmas.Slice.Eq.{bytes_eq-Decides}
 use Rattle.bz_token.specs.declared.token.Kind.{Kind}
 use Rattle.bz_token.specs.declared.token.Kind.TheVariants.{Keyword, Operator as OperatorToken, Kept}
 use Rattle.bz_tree.specs.declared.stmt.GroupKind.{GroupKind}
-use Rattle.bz_tree.specs.declared.stmt.GroupKind.TheVariants.{Call, RuleCall}
-use Rattle.bz_tree.specs.declared.stmt.Class.TheVariants.{Assign, Rule, Other}
-use Rattle.bz_tree.specs.declared.role.Role.TheVariants.{Dot, Comma, Colon, Equals, Augmented, If, Else, For, In, Not, Tilde, Sum, Star, Stars, Operator, Stray}
+use Rattle.bz_tree.specs.declared.stmt.Class.TheVariants.{Assign, Rule, Other, Load as LoadClass}
+use Rattle.bz_tree.specs.declared.role.Role.TheVariants.{Dot, Comma, Colon, Equals, Augmented, Tilde, Sum, Star, Stars, Operator, Stray}
 use Rattle.bz_tree.specs.declared.stage.Goal.TheVariants.{Left}
 use Rattle.bz_tree.specs.declared.stage.Stage.{Stage}
 use Rattle.bz_tree.specs.declared.stage.Stage.TheVariants.{Wants}
@@ -18,14 +17,13 @@ use Rattle.bz_tree.specs.declared.spot.Naming.TheVariants.{Name, Join, End, Neve
 use Rattle.bz_tree.specs.declared.spot.Read.{Read}
 use Rattle.bz_tree.specs.Tree.{Item, leaf, group, Segs, items_of}
 use Rattle.bz_tree.specs.Grammar.{leaf_role, word_role, operator_role, is_infix, is_assignment}
-use Rattle.bz_tree.specs.Statement.{is_ident, is_call, is_rule, is_rule_after, as_rule_call, rule_call, is_assign_operator, is_assign, is_load_word, is_kept, class_of, is_augmented}
-use Rattle.bz_tree.specs.private.Machine.{next, accepts}
+use Rattle.bz_tree.specs.Statement.{is_call, is_rule, is_rule_after, as_rule_call, rule_call, is_assign_operator, is_assign, is_load_word, is_kept, class_of, is_augmented}
+use Rattle.bz_tree.specs.private.Machine.{next, accepts, is_load, is_load_group}
 use Rattle.bz_tree.specs.private.RowSteps.{named, called, is_rule_read, is_lost, read_class}
 use Rattle.bz_tree.proofs.Accepted.{refused}
 use Rattle.bz_tree.proofs.RowParts.{read_item, read_items, shown_item, shown}
 use Rattle.bz_token.specs.Common.{is_empty}
 use Rattle.bz_token.specs.Lexical.{is_one_of}
-use Rattle.bz_tree.specs.Kinds.{is_operator_at}
 use Rattle.std.specs.List.{list_any}
 use Rattle.std.proofs.Math.Bool.{and-false, or-false, or_assoc}
 use Rattle.bz_tree.proofs.OneBracket.{same_either}
@@ -43,39 +41,15 @@ naming_item n (leaf kind text) = named n kind text
 naming_item n (group kind segs one_comma end) = called n kind
 
 naming_is : (x : Item) (r : Read) → (read_item x r).naming ≡ naming_item r.naming x
-naming_is (leaf kind text) r = refl
-naming_is (group kind segs one_comma end) r = refl
-
-after_name : (b : Bool) (xs : List Item) → (b && is_rule_after xs) ≡ from (cond b Join Never) xs
-after_name true xs = refl
-after_name false xs = refl
-
-after_dot : (b : Bool) (xs : List Item) → (b && is_rule xs) ≡ from (cond b Name Never) xs
-after_dot true xs = refl
-after_dot false xs = refl
-
-after_call : (b : Bool) (xs : List Item) → (b && is_empty xs) ≡ from (cond b End Never) xs
-after_call true xs = refl
-after_call false xs = refl
+naming_is va vb = grind arith
 
 from_step : (n : Naming) (x : Item) (xs : List Item) → from n (x ∷ xs) ≡ from (naming_item n x) xs
-from_step Name (leaf kind text) xs = after_name (is_ident kind) xs
-from_step Name (group kind segs one_comma end) xs = refl
-from_step Join (leaf kind text) xs = after_dot (is_operator_at (codes ".") kind text) xs
-from_step Join (group kind segs one_comma end) xs = after_call (is_call kind) xs
-from_step Never (leaf kind text) xs = refl
-from_step Never (group kind segs one_comma end) xs = refl
-from_step End (leaf kind text) xs = refl
-from_step End (group kind segs one_comma end) xs = refl
-from_step Lost (leaf kind text) xs = refl
-from_step Lost (group kind segs one_comma end) xs = refl
+from_step Name x xs = grind arith
+from_step Join x xs = grind arith
+from_step _ x xs = grind arith
 
 ended : (n : Naming) → is_rule_read n ≡ from n []
-ended Name = refl
-ended Join = refl
-ended Never = refl
-ended End = refl
-ended Lost = refl
+ended va = grind arith
 
 rule_read : (xs : List Item) (r : Read) → is_rule_read (read_items r xs).naming ≡ from r.naming xs
 rule_read [] r = ended r.naming
@@ -83,49 +57,24 @@ rule_read (x ∷ xs) r = rule_read xs (read_item x r) ∙ (ap (λ n. from n xs) 
 
 -- what stands after a rule is lost for good
 lost_stays : (n : Naming) (x : Item) → is_lost (naming_item n x) ≡ false → is_lost n ≡ false
-lost_stays Name x h = refl
-lost_stays Join x h = refl
-lost_stays Never x h = refl
-lost_stays End x h = refl
-lost_stays Lost (leaf kind text) h = h
-lost_stays Lost (group kind segs one_comma end) h = h
+lost_stays va vb vc = grind arith
 
 never_lost : (xs : List Item) (r : Read) → is_lost (read_items r xs).naming ≡ false → is_lost r.naming ≡ false
 never_lost [] r h = h
 never_lost (x ∷ xs) r h = lost_stays r.naming x (ap is_lost (sym (naming_is x r)) ∙ never_lost xs (read_item x r) h)
 
 after_end : (x : Item) → is_lost (naming_item End x) ≡ true
-after_end (leaf kind text) = refl
-after_end (group kind segs one_comma end) = refl
+after_end va = grind arith
 
 -- a node that another one follows
-call_goes_on : (b : Bool) (kind : GroupKind) (segs : Segs) (one_comma : Bool) (end : List (List ℕ)) (y : Item) → is_lost (naming_item (cond b End Never) y) ≡ false → group (cond b RuleCall kind) segs one_comma end ≡ group kind segs one_comma end
-call_goes_on true kind segs one_comma end y h = absurd (false≢true (sym h ∙ after_end y))
-call_goes_on false kind segs one_comma end y h = refl
-
 goes_on : (n : Naming) (x y : Item) → is_lost (naming_item (naming_item n x) y) ≡ false → shown_item n x ≡ x
-goes_on n (leaf kind text) y h = refl
-goes_on Join (group kind segs one_comma end) y h = call_goes_on (is_call kind) kind segs one_comma end y h
-goes_on Name (group kind segs one_comma end) y h = refl
-goes_on Never (group kind segs one_comma end) y h = refl
-goes_on End (group kind segs one_comma end) y h = refl
-goes_on Lost (group kind segs one_comma end) y h = refl
-
-call_last : (b : Bool) (kind : GroupKind) (segs : Segs) (one_comma : Bool) (end : List (List ℕ)) → group (cond b RuleCall kind) segs one_comma end ∷ [] ≡ cond (b && true) (group RuleCall segs one_comma end ∷ []) (group kind segs one_comma end ∷ [])
-call_last true kind segs one_comma end = refl
-call_last false kind segs one_comma end = refl
+goes_on va vb vc vd = grind arith
 
 at_last : (n : Naming) (x : Item) → shown_item n x ∷ [] ≡ cond (from n (x ∷ [])) (as_rule_call x ∷ []) (x ∷ [])
-at_last n (leaf kind text) = sym (same_either (from n (leaf kind text ∷ [])) (leaf kind text ∷ []))
-at_last Join (group kind segs one_comma end) = call_last (is_call kind) kind segs one_comma end
-at_last Name (group kind segs one_comma end) = refl
-at_last Never (group kind segs one_comma end) = refl
-at_last End (group kind segs one_comma end) = refl
-at_last Lost (group kind segs one_comma end) = refl
+at_last va vb = grind arith
 
 cons_either : (x : Item) (b : Bool) (xs ys : List Item) → x ∷ cond b xs ys ≡ cond b (x ∷ xs) (x ∷ ys)
-cons_either x true xs ys = refl
-cons_either x false xs ys = refl
+cons_either va vb vc vd = grind arith
 
 -- the nodes as they are shown
 shown_from : (xs : List Item) (r : Read) → is_lost (read_items r xs).naming ≡ false → shown r xs ≡ cond (from r.naming xs) (rule_call xs) xs
@@ -161,17 +110,7 @@ no_assign_among text first second false is h none_first none_second = at_second 
 
 operator_chain : (a b c d e f g h i j : Bool) (v : Bool) → (a ≡ true → v ≡ false) → (b ≡ true → v ≡ false) → (c ≡ true → v ≡ false) → (e ≡ true → v ≡ false) → (f ≡ true → v ≡ false) → (g ≡ true → v ≡ false) → (h ≡ true → v ≡ false) → v ≡ (d || i)
     → is_assignment (cond a Dot (cond b Comma (cond c Colon (cond d Equals (cond e Tilde (cond f Star (cond g Stars (cond h Sum (cond i Augmented (cond j Operator Stray)))))))))) ≡ v
-operator_chain true b c d e f g h i j v na nb nc ne nf ng nh is = sym (na refl)
-operator_chain false true c d e f g h i j v na nb nc ne nf ng nh is = sym (nb refl)
-operator_chain false false true d e f g h i j v na nb nc ne nf ng nh is = sym (nc refl)
-operator_chain false false false true e f g h i j v na nb nc ne nf ng nh is = sym is
-operator_chain false false false false true f g h i j v na nb nc ne nf ng nh is = sym (ne refl)
-operator_chain false false false false false true g h i j v na nb nc ne nf ng nh is = sym (nf refl)
-operator_chain false false false false false false true h i j v na nb nc ne nf ng nh is = sym (ng refl)
-operator_chain false false false false false false false true i j v na nb nc ne nf ng nh is = sym (nh refl)
-operator_chain false false false false false false false false true j v na nb nc ne nf ng nh is = sym is
-operator_chain false false false false false false false false false true v na nb nc ne nf ng nh is = sym is
-operator_chain false false false false false false false false false false v na nb nc ne nf ng nh is = sym is
+operator_chain va vb vc vd ve vf vg vh vi vj vk vl vm vn vo vp vq vr vs = grind arith
 
 operator_assigns : (text : List ℕ) → is_assignment (operator_role text) ≡ is_assign_operator text
 operator_assigns text =
@@ -179,17 +118,8 @@ operator_assigns text =
     (λ e. no_assign text (codes ".") e refl) (λ e. no_assign text (codes ",") e refl) (λ e. no_assign text (codes ":") e refl) (λ e. no_assign text (codes "~") e refl) (λ e. no_assign text (codes "*") e refl) (λ e. no_assign text (codes "**") e refl)
     (λ e. no_assign_among text (codes "+") (codes "-") (bytes_eq text (codes "+")) refl e refl refl) refl
 
-word_chain : (a b c d e f : Bool) → is_assignment (cond a If (cond b Else (cond c For (cond d In (cond e Not (cond f Operator Stray)))))) ≡ false
-word_chain true b c d e f = refl
-word_chain false true c d e f = refl
-word_chain false false true d e f = refl
-word_chain false false false true e f = refl
-word_chain false false false false true f = refl
-word_chain false false false false false true = refl
-word_chain false false false false false false = refl
-
 word_assigns : (text : List ℕ) → is_assignment (word_role text) ≡ false
-word_assigns text = word_chain (bytes_eq text (codes "if")) (bytes_eq text (codes "else")) (bytes_eq text (codes "for")) (bytes_eq text (codes "in")) (bytes_eq text (codes "not")) (is_one_of (codes "and" ∷ codes "or" ∷ []) text)
+word_assigns text = grind arith
 
 leaf_assigns : (kind : Kind) (text : List ℕ) → is_assignment (leaf_role kind text) ≡ is_assign (leaf kind text)
 leaf_assigns OperatorToken text = operator_assigns text
@@ -218,24 +148,15 @@ after_leaf n kind text s y ys same = record {
 }
 
 call_same : (kind : GroupKind) (segs : Segs) (one_comma : Bool) (end : List (List ℕ)) (s : Stage) → is_call kind ≡ true → Same Join s (group kind segs one_comma end ∷ [])
-call_same Call segs one_comma end s h = record { accepts_same = refl; assigns_same = refl; rule_same = refl }
-call_same RuleCall segs one_comma end s h = record { accepts_same = refl; assigns_same = refl; rule_same = refl }
-call_same _ segs one_comma end s h = absurd (false≢true h)
+call_same va vb vc vd ve vf = grind arith
 
 same_from : (xs : List Item) (n : Naming) (s : Stage) → from n xs ≡ true → Same n s xs
 same_from [] n s h = record { accepts_same = refl; assigns_same = refl; rule_same = refl }
 same_from (leaf kind text ∷ []) n s h = record { accepts_same = refl; assigns_same = refl; rule_same = refl }
 same_from (leaf kind text ∷ y ∷ ys) n s h = after_leaf n kind text s y ys (same_from (y ∷ ys) (named n kind text) (next s (leaf_role kind text)) (sym (from_step n (leaf kind text) (y ∷ ys)) ∙ h))
 same_from (group kind segs one_comma end ∷ []) Join s h = call_same kind segs one_comma end s (and_parts (is_call kind) true h).0
-same_from (group kind segs one_comma end ∷ []) Name s h = absurd (false≢true h)
-same_from (group kind segs one_comma end ∷ []) Never s h = absurd (false≢true h)
-same_from (group kind segs one_comma end ∷ []) End s h = absurd (false≢true h)
-same_from (group kind segs one_comma end ∷ []) Lost s h = absurd (false≢true h)
 same_from (group kind segs one_comma end ∷ y ∷ ys) Join s h = absurd (false≢true (sym (and-false (is_call kind)) ∙ h))
-same_from (group kind segs one_comma end ∷ y ∷ ys) Name s h = absurd (false≢true h)
-same_from (group kind segs one_comma end ∷ y ∷ ys) Never s h = absurd (false≢true h)
-same_from (group kind segs one_comma end ∷ y ∷ ys) End s h = absurd (false≢true h)
-same_from (group kind segs one_comma end ∷ y ∷ ys) Lost s h = absurd (false≢true h)
+same_from (group kind segs one_comma end ∷ xs) _ s h = absurd (false≢true h)
 
 with_same : (xs : List Item) (s : Stage) (b : Bool) → is_rule xs ≡ b → (accepts s (items_of (cond b (rule_call xs) xs)) ≡ accepts s (items_of xs)) × (list_any is_assign (cond b (rule_call xs) xs) ≡ list_any is_assign xs) × (is_rule (cond b (rule_call xs) xs) ≡ is_rule xs)
 with_same xs s true e = let same = same_from xs Name s e in (same.accepts_same, same.assigns_same, same.rule_same)
@@ -266,3 +187,11 @@ class_is xs r name none h =
     ap (λ b. cond b Assign (cond (is_rule_read (read_items r xs).naming) Rule Other)) (read_assigns xs r ∙ ap (λ b. b || list_any is_assign xs) none)
     ∙ ap (λ b. cond (list_any is_assign xs) Assign (cond b Rule Other)) (rule_read xs r ∙ ap (λ n. from n xs) name) in
     read ∙ (ap (λ b. cond b Assign (cond (is_rule xs) Rule Other)) (sym same.1) ∙ (ap (λ b. cond (list_any is_assign (with_rule xs)) Assign (cond b Rule Other)) (sym same.2) ∙ sym (accepted_class (with_rule xs) (same.0 ∙ h))))
+
+-- the class of a load
+word_is : (x : Item) → is_load_word x ≡ true → is_kept x ≡ false
+word_is va vb = grind arith
+
+pub load_class : (xs : List Item) → is_load (items_of xs) ≡ true → class_of xs ≡ LoadClass
+load_class (w ∷ g ∷ []) h = let p = and_parts (is_load_word w) (is_load_group g) h in rw (word_is w p.0, p.0) refl
+load_class _ h = absurd (false≢true h)

@@ -19,13 +19,13 @@ use Rattle.bz_tree.specs.Chunk.{indent_at, IsOneOf, IsStatementIn}
 use Rattle.bz_tree.specs.Rows.{RowPart, above, beside_part, IsRowOf}
 use Rattle.bz_tree.specs.private.Machine.{accepts, may_end, is_load, is_nothing, is_statement}
 use Rattle.bz_tree.specs.private.Steps.{new_level, run}
-use Rattle.bz_tree.specs.private.LoadSteps.{is_load_row}
+use Rattle.bz_tree.specs.FromParts.{nodes_of_parts}
 use Rattle.bz_tree.specs.private.RowSteps.{start, RowState, row_next, RowView, row_view, read_class, is_lost, row_end, row_run, row_start, is_upright}
 use Rattle.bz_tree.proofs.Plain.{plain_is}
 use Rattle.bz_tree.proofs.Sound.{none_is_some, some_injective}
-use Rattle.bz_tree.proofs.RowParts.{Place, none, fresh, some, over, Bracket, bracket, read_items, shown, nodes_parts, accepts_read}
-use Rattle.bz_tree.proofs.RowClass.{with_rule, shown_rule, with_rule_accepts, class_is}
-use Rattle.bz_tree.proofs.RowLoad.{load_parts, load_class}
+use Rattle.bz_tree.proofs.RowParts.{Place, none, some, over, Bracket, bracket, read_items, shown, nodes_parts, accepts_read}
+use Rattle.bz_tree.proofs.RowClass.{with_rule, shown_rule, with_rule_accepts, class_is, load_class}
+use Rattle.bz_tree.proofs.FromParts.{statement_back}
 use Rattle.bz_tree.proofs.RowWalk.{level_of, image, IsGoodAt, IsGood, AreGood, next_leads}
 use Rattle.bz_token.specs.Common.{map_or}
 
@@ -55,7 +55,7 @@ abbrev shown_parts : List (List ℕ) → List Item → Option (List ℕ) → Lis
 shown_parts before nodes suffix = map above before ++ (nodes_parts (shown (start None) nodes) ++ beside_part suffix)
 
 abbrev class_when : Bool → Read → List RowPart → Option Class
-class_when ends r ps = cond ends (then_some (not (is_lost r.naming)) (read_class r)) (then_some (not (is_lost r.naming) && is_load_row ps) Load)
+class_when ends r ps = cond ends (then_some (not (is_lost r.naming)) (read_class r)) (then_some (not (is_lost r.naming) && is_load (items_of (nodes_of_parts ps))) Load)
 
 segment_found : (before : List (List ℕ)) (nodes : List Item) (suffix : Option (List ℕ)) (answer : Option Segment) (ps : List RowPart) (r : RowView) → answer ≡ Some (record { before = before; nodes = with_rule nodes; suffix = suffix })
     → ps ≡ shown_parts before nodes suffix → (ends : Bool) → may_end (read_items (start None) nodes).stage ≡ ends → option_map (row_of ps) (class_when ends (read_items (start None) nodes) ps) ≡ Some r → Found answer r
@@ -70,9 +70,10 @@ segment_found before nodes suffix answer ps r answer_is ps_are true ends same =
       grammar = or_right (is_nothing (items_of (with_rule nodes)) || is_load (items_of (with_rule nodes))) _ (with_rule_accepts nodes (Wants Left false) ∙ accepted);
     }
 segment_found before nodes suffix answer ps r answer_is ps_are false ends same =
-    let p = load_ends (is_lost (read_items (start None) nodes).naming) (is_load_row ps) ps Load r same in
+    let p = load_ends (is_lost (read_items (start None) nodes).naming) (is_load (items_of (nodes_of_parts ps))) ps Load r same in
     let are : ps ≡ map above before ++ (nodes_parts (with_rule nodes) ++ beside_part suffix) = ps_are ∙ ap (λ xs. map above before ++ (nodes_parts xs ++ beside_part suffix)) (shown_rule nodes (start None) refl p.0) in
-    let loads : is_load (items_of (with_rule nodes)) ≡ true = load_parts before (with_rule nodes) suffix (ap is_load_row (sym are) ∙ p.1) in
+    let loads : is_load (items_of (with_rule nodes)) ≡ true =
+    ap (λ xs. is_load (items_of xs)) (sym (ap nodes_of_parts are ∙ statement_back (record { before = before; nodes = with_rule nodes; suffix = suffix; class = Load; start = 0; end = 0 }))) ∙ p.1 in
     record {
       segment = record { before = before; nodes = with_rule nodes; suffix = suffix };
       answer_is = answer_is;
@@ -91,7 +92,6 @@ top_found (none after) r good same =
       class_is = ap (λ (v : RowView). v.class) (sym e);
       grammar = refl;
     }
-top_found (fresh line) r good same = absurd (false≢true good.1)
 top_found (some before x xs line) r good same =
     segment_found before (x ∷ xs) None _ _ r
     (ap (λ bs. Some (record { before = bs; nodes = with_rule (x ∷ xs); suffix = None })) (append-nil before))
@@ -102,14 +102,13 @@ top_found (over before x xs suffix []) r good same =
     (ap (λ bs. Some (record { before = bs; nodes = with_rule (x ∷ xs); suffix = suffix })) (append-nil before))
     (ap (λ ps. map above before ++ (nodes_parts (shown (start None) (x ∷ xs)) ++ ps)) (append-nil (beside_part suffix)))
     (may_end (read_items (start None) (x ∷ xs)).stage) refl same
-top_found (over before x xs suffix (text ∷ texts)) r good same = absurd (false≢true good.1)
+top_found _ r good same = absurd (false≢true good.1)
 
 end_found : (kind : Option GroupKind) (segs : List Segment) (place : Place) (gs : List Bracket) (r : RowView) → IsGoodAt kind segs place → row_run (image (bracket kind segs place) gs) [] ≡ Some r
     → Found (run (level_of (bracket kind segs place)) (map level_of gs) []) r
 end_found None segs place [] r good same =
     subst (λ ss. Found (run (level_of (bracket None ss place)) [] []) r) (sym good.0) (top_found place r (refl, good.1) (ap (λ ss. row_end None [] (image (bracket None ss place) [])) (sym good.0) ∙ same))
-end_found None segs place (g ∷ gs) r good same = absurd (none_is_some r same)
-end_found (Some kind) segs place gs r good same = absurd (none_is_some r same)
+end_found _ segs place gs r good same = absurd (none_is_some r same)
 
 abbrev RunFound : List Placed → Type 0
 RunFound ts = (g : Bracket) (gs : List Bracket) (r : RowView) → row_run (image g gs) ts ≡ Some r → IsGood g → AreGood gs → Found (run (level_of g) (map level_of gs) ts) r

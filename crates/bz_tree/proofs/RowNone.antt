@@ -1,5 +1,5 @@
 -- Where the walk has no row.
-use Rattle.std.proofs.Common.{◌≡◌, List, Bool, true, false, ◌&&◌, ◌⊎◌, Option, Some, None, IfNone, option_map, inl, refl, sym, ap}
+use Rattle.std.proofs.Common.{arith, ◌≡◌, List, Bool, false, ◌&&◌, ◌⊎◌, Option, Some, None, IfNone, option_map, inl, sym, ap}
 use Rattle.std.specs.Prelude.{is_some}
 use Rattle.bz_token.specs.Places.{Placed}
 use Rattle.bz_tree.specs.declared.row.Row.{Row}
@@ -8,9 +8,7 @@ use Rattle.bz_tree.specs.RowReads.{has_row}
 use Rattle.bz_tree.specs.private.RowSteps.{row_run, row_start, row_view, is_upright}
 
 last_off : (a b c : Bool) → c ≡ false → (a && (b && c)) ≡ false
-last_off true true c off = off
-last_off true false c off = refl
-last_off false b c off = refl
+last_off va vb vc vd = grind arith
 
 pub walk_stops : (ts : List Placed) → row_run row_start ts ≡ None → has_row ts ≡ false
 walk_stops ts none = last_off (is_some (first_seen ts)) (is_upright (first_token ts)) (is_some (row_run row_start ts)) (ap is_some none)

@@ -1,5 +1,5 @@
 -- The parts of a bracket that is open, one more thing at a time.
-use Rattle.std.proofs.Common.{◌≡◌, ℕ, List, [], ◌∷◌, ◌++◌, map, Bool, true, false, ◌&&◌, Option, Some, None, refl, sym, ap, ◌∙◌, append_assoc, append-nil}
+use Rattle.std.proofs.Common.{arith, ◌≡◌, ℕ, List, [], ◌∷◌, ◌++◌, map, Bool, true, false, ◌&&◌, Option, Some, None, refl, sym, ap, ◌∙◌, append_assoc, append-nil}
 use Rattle.std.proofs.lemmas.Bool.{false≢true, and_parts, and_from}
 use Rattle.bz_tree.specs.declared.stmt.GroupKind.{GroupKind}
 use Rattle.bz_tree.specs.declared.kinds.Preceding.TheVariants.{Operand}
@@ -120,12 +120,10 @@ nodes_more [] ys = refl
 nodes_more (x ∷ xs) ys = ap (λ ps. item_parts x ++ ps) (nodes_more xs ys) ∙ sym (append_assoc (item_parts x) (nodes_parts xs) (nodes_parts ys))
 
 pub item_at : (x : Item) (r : Read) → (read_item x r).at ≡ after_item x
-item_at (leaf kind text) r = refl
-item_at (group kind segs one_comma end) r = refl
+item_at va vb = grind arith
 
 item_stage : (x : Item) (r : Read) → (read_item x r).stage ≡ next r.stage (role_of x)
-item_stage (leaf kind text) r = refl
-item_stage (group kind segs one_comma end) r = refl
+item_stage va vb = grind arith
 
 -- what the recognizer says of the nodes
 pub accepts_read : (xs : List Item) (r : Read) → accepts r.stage (items_of xs) ≡ may_end (read_items r xs).stage
@@ -158,9 +156,7 @@ each_push [] s stage all here = and_from _ _ here refl
 each_push (r ∷ ss) s stage all here = let p = and_parts _ _ all in and_from _ _ p.0 (each_push ss s stage p.1 here)
 
 pub done_push : (ss : List Segment) (s : Segment) → done_of (ss ++ s ∷ []) ≡ one_more (done_of ss)
-done_push [] s = refl
-done_push (r ∷ []) s = refl
-done_push (r ∷ q ∷ ss) s = refl
+done_push va vb = grind arith
 
 -- a comment beside the last segment, which has none
 abbrev pub is_open : List Segment → Bool
@@ -189,8 +185,7 @@ beside_last (s ∷ r ∷ ss) text h = ap (λ ps. map above s.before ++ (nodes_pa
 
 each_beside : (before : List (List ℕ)) (nodes : List Item) (suffix : Option (List ℕ)) (text : List ℕ) (stage : Stage)
     → each stage (segs_of (to_last text (record { before = before; nodes = nodes; suffix = suffix } ∷ []))) ≡ each stage (segs_of (record { before = before; nodes = nodes; suffix = suffix } ∷ []))
-each_beside before nodes None text stage = refl
-each_beside before nodes (Some other) text stage = refl
+each_beside va vb vc vd ve = grind arith
 
 pub each_last : (ss : List Segment) (text : List ℕ) (stage : Stage) → each stage (segs_of (to_last text ss)) ≡ each stage (segs_of ss)
 each_last [] text stage = refl
@@ -198,7 +193,4 @@ each_last (s ∷ []) text stage = each_beside s.before s.nodes s.suffix text sta
 each_last (s ∷ r ∷ ss) text stage = ap (λ b. accepts stage (items_of s.nodes) && b) (each_last (r ∷ ss) text stage)
 
 pub done_last : (ss : List Segment) (text : List ℕ) → done_of (to_last text ss) ≡ done_of ss
-done_last [] text = refl
-done_last (s ∷ []) text = refl
-done_last (s ∷ r ∷ []) text = refl
-done_last (s ∷ r ∷ q ∷ ss) text = refl
+done_last va vb = grind arith

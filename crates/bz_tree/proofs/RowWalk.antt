@@ -4,7 +4,6 @@ use Rattle.std.proofs.lemmas.List.{map-append}
 use Rattle.std.proofs.lemmas.Bool.{false≢true, or_parts}
 use Rattle.std.proofs.lemmas.Bool.Decides.{nat_tests}
 use Rattle.bz_token.specs.declared.token.Kind.{Kind}
-use Rattle.bz_token.specs.declared.token.Kind.TheVariants.{Operator}
 use Rattle.bz_token.specs.Places.{Placed}
 use Rattle.bz_tree.specs.declared.stmt.GroupKind.{GroupKind}
 use Rattle.bz_tree.specs.declared.kinds.Shape.{Shape}
@@ -20,7 +19,7 @@ use Rattle.bz_tree.specs.Brackets.{leaf_of, is_for_item, is_paren, group_with, e
 use Rattle.bz_tree.specs.Rows.{RowPart, opening, closing, segment_end, above, beside, beside_part, item_parts}
 use Rattle.bz_tree.specs.private.Machine.{next, may_end, begin, each, role_of, group_role}
 use Rattle.bz_tree.specs.private.Steps.{Walked, after_own, commented, to_last, done, has_one, kind_with, shape_of, Level, Levels, with_own, next_at}
-use Rattle.bz_tree.specs.private.RowSteps.{At, nothing, a_comma, a_node, an_end, is_ended, called, shown_kind, start, read_group, Stand, around, with_node, with_here, RowState, step_to, is_refused, comment_part, after_comment_next, last_end, is_single, is_one_comma, close_on, close_below, row_next_at}
+use Rattle.bz_tree.specs.private.RowSteps.{At, nothing, an_end, is_ended, called, shown_kind, start, read_group, Stand, around, with_node, with_here, RowState, step_to, is_refused, comment_part, after_comment_next, last_end, is_single, is_one_comma, close_on, close_below, row_next_at}
 use Rattle.bz_tree.proofs.Complete.{same_itself}
 use Rattle.bz_tree.proofs.InPlace.{filled_push, filled_last}
 use Rattle.bz_tree.proofs.Sound.{none_is_some, some_injective, same_shape_is}
@@ -112,10 +111,7 @@ node_walked one x line segs (some before y ys end) h = ap (λ bs. Some (record {
 node_walked one x line segs (over before y ys suffix after) h = absurd (false≢true (sym h))
 
 nodes_added : (x : Item) (line : ℕ) (place : Place) → is_ended (at_place place) ≡ false → nodes_of (add_node x line place) ≡ nodes_of place ++ x ∷ []
-nodes_added x line (none after) h = refl
-nodes_added x line (fresh end) h = refl
-nodes_added x line (some before y ys end) h = refl
-nodes_added x line (over before y ys suffix after) h = absurd (false≢true (sym h))
+nodes_added va vb vc vd = grind arith
 
 read_added : (kind : Option GroupKind) (x : Item) (line : ℕ) (place : Place) → is_ended (at_place place) ≡ false → read_items (start kind) (nodes_of (add_node x line place)) ≡ read_item x (read_items (start kind) (nodes_of place))
 read_added kind x line place h = ap (read_items (start kind)) (nodes_added x line place h) ∙ read_push (nodes_of place) (start kind) x
@@ -132,10 +128,7 @@ parts_added kind x line (some before y ys end) h =
 parts_added kind x line (over before y ys suffix after) h = absurd (false≢true (sym h))
 
 here_added : (x : Item) (line : ℕ) (place : Place) → is_ended (at_place place) ≡ false → at_place (add_node x line place) ≡ at_place (some [] x [] line)
-here_added x line (none after) h = refl
-here_added x line (fresh end) h = refl
-here_added x line (some before y ys end) h = refl
-here_added x line (over before y ys suffix after) h = absurd (false≢true (sym h))
+here_added va vb vc vd = grind arith
 
 good_added : (kind : Option GroupKind) (segs : List Segment) (x : Item) (line : ℕ) (place : Place) → is_ended (at_place place) ≡ false → IsGoodAt kind segs place → IsGoodAt kind segs (add_node x line place)
 good_added None segs x line (none after) h good = (good.0, refl)
@@ -173,8 +166,7 @@ leaf_leads t g gs new same good goods =
 
 -- a comma at the top
 comma_operator : (kind : Kind) (text : List ℕ) → kind_mark kind text ≡ Comma → (is_for_at kind text ≡ false) × (kind_after kind text ≡ Other)
-comma_operator Operator text e = (refl, refl)
-comma_operator _ text e = cc
+comma_operator va vb vc = grind arith
 
 top_comma_leads : (t : Placed) → mark_of t ≡ Comma → (segs : List Segment) (place : Place) (gs : List Bracket) (new : RowState) → row_next_at Comma t (image (bracket None segs place) gs) ≡ Some new
     → IsGoodAt None segs place → AreGood gs → Leads (next_at Comma t (level_of (bracket None segs place)) (map level_of gs)) new
@@ -199,9 +191,6 @@ segment_good kind segs before nodes suffix all ends = each_push segs _ (begin ki
 
 segment_leads : (t : Placed) (kind : GroupKind) (segs : List Segment) (place : Place) (gs : List Bracket) (new : RowState) → row_next_at Comma t (image (bracket (Some kind) segs place) gs) ≡ Some new
     → IsGoodAt (Some kind) segs place → AreGood gs → Leads (next_at Comma t (level_of (bracket (Some kind) segs place)) (map level_of gs)) new
-segment_leads t kind segs (none after) gs new same good goods = absurd (none_is_some new same)
-segment_leads t kind segs (fresh end) gs new same good goods = absurd (none_is_some new same)
-segment_leads t kind segs (over before x xs suffix after) gs new same good goods = absurd (none_is_some new same)
 segment_leads t kind segs (some before x xs end) gs new same good goods =
     let p = cond_some (may_end (read_items (start (Some kind)) (x ∷ xs)).stage) _ new same in
     let rr = with_last segs before (x ∷ xs) None in
@@ -215,6 +204,7 @@ segment_leads t kind segs (some before x xs end) gs new same good goods =
     (append-nil (all_segs_parts rr) ∙ segment_parts kind segs before x xs end)
     (ap (λ v. Some (leveled (Some kind) v Other, map level_of gs)) own)
     (good.0, segment_good kind segs before (x ∷ xs) None good.1 p.0, open_push segs before (x ∷ xs)) goods
+segment_leads t kind segs _ gs new same good goods = absurd (none_is_some new same)
 
 -- a comment
 above_leads : (t : Placed) (kind : Option GroupKind) (segs : List Segment) (after : List (List ℕ)) (gs : List Bracket) (new : RowState) → row_next_at Comment t (image (bracket kind segs (none after)) gs) ≡ Some new
@@ -298,9 +288,7 @@ group_role_is kind i no_one all = rw (no_one, all) refl
 
 -- `(x,)`
 and_false : (a b : Bool) → (a && b && false) ≡ false
-and_false true true = refl
-and_false true false = refl
-and_false false b = refl
+and_false va vb = grind arith
 
 long : (n : ℕ) → (suc (suc n) == 1) ≡ false
 long n = grind (arith, nat_tests)
@@ -358,10 +346,7 @@ read_group_is : (kind : GroupKind) (segs : List Segment) (place : Place) (r : Re
 read_group_is kind segs place r is = ap (λ role. record { stage = next r.stage role; at = Operand; naming = called r.naming kind; assigns = r.assigns }) (sym is)
 
 around_ended : (a : At) → is_ended (cond (is_ended a) an_end nothing) ≡ is_ended a
-around_ended nothing = refl
-around_ended (a_comma line) = refl
-around_ended (a_node line) = refl
-around_ended an_end = refl
+around_ended va = grind arith
 
 close_leads_at : (shape : Shape) (t : Placed) (kind : GroupKind) (segs : List Segment) (place : Place) (h : Bracket) (hs : List Bracket) (ends : List RowPart) (new : RowState) → shape_of kind ≡ shape
     → last_end (at_place place) (may_end (read_items (start (Some kind)) (nodes_of place)).stage) ≡ Some ends

@@ -1,8 +1,6 @@
 -- What the steps answer is the statement of the tokens.
-use Rattle.std.proofs.Common.{◌≡◌, List, [], ◌∷◌, ◌++◌, map, Bool, true, false, cond, Option, Some, None, option_map, option_and_then, refl, sym, ap, subst, ◌∙◌, append_assoc, append-nil}
-use Rattle.std.proofs.lemmas.Bool.{false≢true}
+use Rattle.std.proofs.Common.{arith, ◌≡◌, List, [], ◌∷◌, ◌++◌, map, Bool, true, false, cond, Option, Some, None, option_map, option_and_then, refl, sym, ap, subst, ◌∙◌, append_assoc, append-nil}
 use Rattle.bz_tree.specs.declared.kinds.Shape.{Shape}
-use Rattle.bz_tree.specs.declared.kinds.Shape.TheVariants.{Round, Square, Curly}
 use Rattle.bz_tree.specs.declared.kinds.Mark.{Mark}
 use Rattle.bz_tree.specs.declared.kinds.Mark.TheVariants.{Open, Close, Comma, Comment, Newline, Plain}
 use Rattle.bz_tree.specs.declared.kinds.Preceding.{Preceding}
@@ -115,16 +113,7 @@ single_leads m t is alone top outer new same well wells =
     push_leads top outer (single t) (t ∷ []) new refl (ap is_single is ∙ alone) well wells (ap (λ k. (with_own (image top) (own_of k t), map image outer)) is ∙ some_injective _ new same)
 
 pub same_shape_is : (o : Option Shape) (s : Shape) → same_shape o s ≡ true → o ≡ Some s
-same_shape_is (Some Round) Round h = refl
-same_shape_is (Some Square) Square h = refl
-same_shape_is (Some Curly) Curly h = refl
-same_shape_is None s h = absurd (false≢true h)
-same_shape_is (Some Round) Square h = absurd (false≢true h)
-same_shape_is (Some Round) Curly h = absurd (false≢true h)
-same_shape_is (Some Square) Round h = absurd (false≢true h)
-same_shape_is (Some Square) Curly h = absurd (false≢true h)
-same_shape_is (Some Curly) Round h = absurd (false≢true h)
-same_shape_is (Some Curly) Square h = absurd (false≢true h)
+same_shape_is va vb vc = grind arith
 
 -- a bracket that could be closed
 abbrev items_at : Shape → Preceding → List Own → List Own
@@ -220,16 +209,11 @@ finish_found None elems [] s same well = record {
   well = well;
   is = some_injective s (segment_of (owns_of elems)) (sym same ∙ top_found (owns_of elems));
 }
-finish_found None elems (r ∷ outer) s same well = absurd (none_is_some s same)
-finish_found (Some o) elems outer s same well = absurd (none_is_some s same)
+finish_found _ elems outer s same well = absurd (none_is_some s same)
 
 step_tokens_are : (m : Mark) (t : Placed) (ts : List Placed) → step_tokens m t ++ ts ≡ cond (is_line m) ts (t ∷ ts)
 step_tokens_are Newline t ts = refl
-step_tokens_are Comma t ts = refl
-step_tokens_are Comment t ts = refl
-step_tokens_are Plain t ts = refl
-step_tokens_are (Open s) t ts = refl
-step_tokens_are (Close s) t ts = refl
+step_tokens_are _ t ts = refl
 
 abbrev RunFound : List Placed → Type 0
 RunFound ts = (top : Raw) (outer : List Raw) (s : Segment) → run (image top) (map image outer) ts ≡ Some s → IsWellRaw top → AreWellRaws outer → Found (all_tokens top outer ++ without_lines ts) s

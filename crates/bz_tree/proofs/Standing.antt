@@ -11,8 +11,6 @@ use Rattle.bz_token.specs.Places.{Placed, line_at}
 use Rattle.bz_token.specs.Lexical.{is_text}
 use Rattle.bz_token.specs.Brackets.{is_inside, open_after_token}
 use Rattle.bz_token.specs.Reading.{is_white, is_gap, continues_gap, Piece, IsReading, token_of, tokens_of, AreTokensOf}
-use Rattle.bz_tree.specs.declared.kinds.Shape.TheVariants.{Round, Square, Curly}
-use Rattle.bz_tree.specs.declared.kinds.Mark.TheVariants.{Open, Close, Comma, Plain}
 use Rattle.bz_tree.specs.Kinds.{operator_mark, kind_mark, mark_of}
 use Rattle.bz_tree.specs.Brackets.{is_line, without_lines}
 use Rattle.bz_tree.specs.Statement.{is_aside, bare_tokens, last_of, EndsFit}
@@ -57,18 +55,8 @@ gap_front inside [] h = tt
 gap_front inside (b ∷ bs) h = gap_byte (is_white inside b) inside b bs refl h
 
 -- only a newline is one
-not_line : (a b c d e f g : Bool) → is_line (cond a (Open Round) (cond b (Open Square) (cond c (Open Curly) (cond d (Close Round) (cond e (Close Square) (cond f (Close Curly) (cond g Comma Plain))))))) ≡ false
-not_line true b c d e f g = refl
-not_line false true c d e f g = refl
-not_line false false true d e f g = refl
-not_line false false false true e f g = refl
-not_line false false false false true f g = refl
-not_line false false false false false true g = refl
-not_line false false false false false false true = refl
-not_line false false false false false false false = refl
-
 operator_no_line : (t : List ℕ) → is_line (operator_mark t) ≡ false
-operator_no_line t = not_line (bytes_eq t (codes "(")) (bytes_eq t (codes "[")) (bytes_eq t (codes "{")) (bytes_eq t (codes ")")) (bytes_eq t (codes "]")) (bytes_eq t (codes "}")) (bytes_eq t (codes ","))
+operator_no_line t = grind arith
 
 newline_front : (t after : List ℕ) → t ≡ 10 ∷ [] → IsAsciiFront (t ++ after)
 newline_front t after is = subst (λ x. IsAsciiFront (x ++ after)) (sym is) (let h : 10 < 128 = omega arith in h)
@@ -170,11 +158,9 @@ last_found first (p ∷ ps) = λ depth before lines opened bs rest last reading 
 
 -- a list without tokens has no first one
 line_aside : (kind : Kind) (t : List ℕ) → is_line (kind_mark kind t) ≡ true → is_aside kind ≡ true
-line_aside Newline t is = refl
-line_aside Operator t is = absurd (false≢true (sym (operator_no_line t) ∙ is))
-line_aside _ t is = absurd (false≢true is)
+line_aside va vb vc = grind (arith, operator_no_line)
 
-bare_empty : (ts : List Placed) → without_lines ts ≡ [] → bare_tokens ts ≡ []
+pub bare_empty : (ts : List Placed) → without_lines ts ≡ [] → bare_tokens ts ≡ []
 bare_empty [] e = refl
 bare_empty (t ∷ ts) e =
     let line = empty_line (is_line (mark_of t)) t (without_lines ts) e in
@@ -266,9 +252,7 @@ both_from first p ps depth before lines opened bs rest header last reading gap h
 
 -- a token that counts is no newline
 counted_mark : (kind : Kind) (t : List ℕ) → is_aside kind ≡ false → is_line (kind_mark kind t) ≡ false
-counted_mark Operator t e = operator_no_line t
-counted_mark Newline t e = absurd (false≢true (sym e))
-counted_mark _ t e = refl
+counted_mark va vb vc = grind (arith, operator_no_line)
 
 both_found : (first : ℕ) (ps : List Piece) → BothFound first ps
 both_found first [] = λ depth before lines opened bs rest header last reading gap some is. absurd (none_is_some last is)

@@ -1,14 +1,10 @@
 -- The view of a node, a group and a segment, level by level.
 use Rattle.std.proofs.Common.{◌≡◌, option_map, rules}
-use Rattle.bz_tree.specs.declared.stmt.Leaf.{Leaf}
-use Rattle.bz_tree.specs.declared.stmt.Node.{Token, Group, the_lemmas}
+use Rattle.bz_tree.specs.declared.stmt.Node.{Group, the_lemmas}
 use Rattle.bz_tree.specs.declared.stmt.Group.{Group as GroupValue, out-Group}
 use Rattle.bz_tree.specs.declared.stmt.Seg.{Seg}
-use Rattle.bz_tree.specs.Tree.{leaf, group, segs_of}
+use Rattle.bz_tree.specs.Tree.{group, segs_of}
 use Rattle.bz_tree.specs.View.{text_of, node_view, group_view, seg_view, nodes_view, segs_view, texts}
-
-pub view-Token : (t : Leaf) → node_view (Token t) ≡ leaf t.kind (text_of t.text)
-view-Token t = search (rules, the_lemmas)
 
 pub view-Group : (g : GroupValue) → node_view (Group g) ≡ group_view g
 view-Group g = search (rules, the_lemmas)

@@ -1,5 +1,4 @@
 pub mod BlockSteps
-pub mod LoadSteps
 pub mod Machine
 pub mod PartSteps
 pub mod RowSteps

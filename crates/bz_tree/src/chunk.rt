@@ -5,11 +5,10 @@ ghost use Rattle.bz_token.specs.Places.{placed};
 ghost use Rattle.bz_token.specs.Reading.{AreTokensOf};
 ghost use Rattle.bz_tree.specs.Tree.{Statement};
 ghost use Rattle.bz_tree.specs.View.{texts, view, seg_view};
-ghost use Rattle.bz_tree.specs.Statement.{EndsFit, statement_with, first_token, first_seen, last_seen};
-ghost use Rattle.bz_tree.specs.Blocks.{kept_statement, is_block_word};
+ghost use Rattle.bz_tree.specs.Statement.{EndsFit, statement_with, first_seen, last_seen};
+ghost use Rattle.bz_tree.specs.Blocks.{kept_statement};
 ghost use Rattle.bz_tree.specs.Chunk.{IsPlain, indent_fault, IsChunkOf, IsStatementIn, IsBlank, IsFaultIn};
 ghost use Rattle.bz_tree.specs.private.BlockSteps.{AreStanding};
-ghost use Rattle.bz_token.specs.Common.{map_or};
 
 use crate::block::{block_indent, comments_above, is_block, is_block_word};
 use crate::build::run;
@@ -95,15 +94,6 @@ fn kept_statement<'a>(
     })
 }
 
-fn begins_block(tokens: &[Token<'_>]) -> bool
-    ensures { result ≡ map_or false is_block_word (first_token (map placed tokens.now)) }
-{
-    match first_token(tokens) {
-        Some(token) => is_block_word(&token),
-        None => false,
-    }
-}
-
 // The statement of a chunk's tokens, a block or not. None: they have none.
 fn chunk_statement<'a>(alloc: Global, chunk: &Chunk<'a, '_>) -> Result<Option<Stmt<'a>>, NoMemory>
     requires lines { chunk.now.first_line + count_by (λ b. b == 10) chunk.now.text.now < 2 ^ 64 }
@@ -119,15 +109,13 @@ fn chunk_statement<'a>(alloc: Global, chunk: &Chunk<'a, '_>) -> Result<Option<St
         first_line,
         tokens,
     } = *chunk;
-    if !begins_block(tokens) {
-        return plain_statement(alloc, tokens);
-    }
+    let header = match first_token(tokens) {
+        Some(token) if is_block_word(&token) => token,
+        _ => return plain_statement(alloc, tokens),
+    };
     if !is_block(tokens) {
         return Ok(None);
     }
-    let Some(header) = first_token(tokens) else {
-        return Ok(None);
-    };
     let Some(last) = last_seen(tokens) else {
         return Ok(None);
     };

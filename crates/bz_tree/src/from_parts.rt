@@ -111,10 +111,7 @@ impl<'a> Nesting<'a> {
         ensures { OnOk result (nest self.new ≡ step (part_view part.entry) (nest self.old)) }
     {
         match part {
-            Part::Token(kind, text) => {
-                let text = text;
-                self.here.add_node(Node::Token(Leaf { kind, text }))
-            }
+            Part::Token(kind, text) => self.here.add_node(Node::Token(Leaf { kind, text })),
             Part::Open(kind) => self.open(alloc, kind),
             Part::Close(one_comma) => self.close(one_comma),
             Part::End => self.here.end_segment(alloc),

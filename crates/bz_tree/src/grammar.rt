@@ -138,7 +138,8 @@ fn is_load_group(node: &Node<'_>) -> bool
     }
 }
 
-fn is_load(nodes: &[Node<'_>]) -> bool
+/// Whether the nodes are those of a load.
+pub(crate) fn is_load(nodes: &[Node<'_>]) -> bool
     ensures { result ≡ is_load (items_of (nodes_view nodes.now)) }
 {
     match nodes {

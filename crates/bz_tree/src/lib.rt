@@ -11,7 +11,6 @@ mod grammar;
 mod kept;
 mod kinds;
 pub mod laws;
-mod load;
 mod owners;
 mod parts;
 mod read;

@@ -94,13 +94,6 @@ fn put_above<'a>(before: &mut Vec<&'a str>, after: &mut Vec<&'a str>) -> Result<
     append(before, after)
 }
 
-#[inline(always)]
-fn put_suffix<'a>(suffix: &mut Option<&'a str>, text: &'a str)
-    ensures { suffix.new ≡ Some text.entry }
-{
-    *suffix = Some(text);
-}
-
 // Whether what begins on a line and ends some lines later ends on that other line.
 #[inline(always)]
 pub(crate) fn ends_on(line: u64, newlines: u64, at: u64) -> bool
@@ -186,7 +179,7 @@ impl<'a> Walk<'a> {
     {
         match mem::replace(&mut self.last, Before::Nothing) {
             Before::Node(begin, token) if ends_on(begin, newlines(token), line) => {
-                put_suffix(&mut self.here.suffix, text);
+                self.here.suffix = Some(text);
                 Ok(())
             }
             Before::Comma(end) if end == line => add_to_last(&mut self.segs, text),

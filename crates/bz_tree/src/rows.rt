@@ -31,6 +31,7 @@ use crate::stmt::GroupKind;
 use bumpalo::Bump;
 use bz_memory::{NoMemory, push, with_room_within};
 use bz_token::{Kind, Token};
+use std::alloc::Global;
 use std::cmp::min;
 
 // The most room beside a part for each token.
@@ -286,21 +287,28 @@ impl<'a> RowWalk<'a> {
     }
 
     /// The statement's first token is on the line `start`, and its last ends on `end`.
-    pub(crate) fn finish(self, start: u64, end: u64) -> Option<Row<'a>>
-        ensures row { option_map row_view result ≡ row_run (row_state self.entry) [] }
-        ensures lines { IfSome result (λ row. (row.start ≡ start) × (row.end ≡ end)) }
+    pub(crate) fn finish(
+        self,
+        alloc: Global,
+        start: u64,
+        end: u64,
+    ) -> Result<Option<Row<'a>>, NoMemory>
+        ensures row { IfOk result (λ o. option_map row_view o ≡ row_run (row_state self.entry) []) }
+        ensures lines { IfOk result (λ o. IfSome o (λ row. (row.start ≡ start) × (row.end ≡ end))) }
     {
         let RowWalk { parts, outer, top } = self;
         if top.kind.is_some() || !outer.is_empty() {
-            return None;
+            return Ok(None);
         }
-        let class = top.class(&parts)?;
-        Some(Row {
+        let Some(class) = top.class(alloc, &parts)? else {
+            return Ok(None);
+        };
+        Ok(Some(Row {
             parts,
             class,
             start,
             end,
-        })
+        }))
     }
 }
 
@@ -337,7 +345,11 @@ pub(crate) fn is_upright(first: Option<Token<'_>>) -> bool
 /// statement has these tokens, or it is one of those that `parse_tokens` alone reads: a block, a comprehension, an
 /// index, more after what would be a rule, a comment in the middle of a segment or before its comma. `Err`: memory was
 /// refused.
-pub fn read_row<'a>(bump: &'a Bump, tokens: &[Token<'a>]) -> Result<Option<Row<'a>>, NoMemory>
+pub fn read_row<'a>(
+    alloc: Global,
+    bump: &'a Bump,
+    tokens: &[Token<'a>],
+) -> Result<Option<Row<'a>>, NoMemory>
     ensures row { IfOk result (λ o. IfSome o (λ row. (first depth : ℕ) (text : List ℕ)
         → AreTokensOf first depth text (map placed tokens.now)
         → (s : Statement) × IsStatementIn first depth text s × IsRowOf s row)) }
@@ -358,5 +370,6 @@ pub fn read_row<'a>(bump: &'a Bump, tokens: &[Token<'a>]) -> Result<Option<Row<'
     if !walk.add_tokens(tokens)? {
         return Ok(None);
     }
-    Ok(walk.finish(start_of(tokens), end))
+    let row = walk.finish(alloc, start_of(tokens), end)?;
+    Ok(row)
 }

@@ -1,20 +1,25 @@
 //! Where the walk that reads a row stands in a bracket, or at the top.
 
-ghost use Rattle.std.specs.Prelude.{◌≡◌, not, ◌&&◌, map};
+ghost use Rattle.std.specs.Prelude.{◌≡◌, not, ◌&&◌, map, IfOk};
 ghost use Rattle.std.specs.Bool.{then_some};
 ghost use Rattle.bz_tree.specs.Grammar.{leaf_role};
+ghost use Rattle.bz_tree.specs.Tree.{items_of};
 ghost use Rattle.bz_tree.specs.Rows.{part_view};
-ghost use Rattle.bz_tree.specs.private.LoadSteps.{is_load_row};
+ghost use Rattle.bz_tree.specs.FromParts.{nodes_of_parts};
+ghost use Rattle.bz_tree.specs.private.Machine.{is_load};
 ghost use Rattle.bz_tree.specs.private.RowSteps.{here_view, is_ended, named, called, shown_kind, start, read_leaf, read_group, one_more, new_stand, stand, with_comma, is_lost, read_class, end_class, is_one_comma};
 
 use crate::class::{is_call, is_dot_at};
+use crate::from_parts::nodes_of_parts;
+use crate::grammar::is_load;
 use crate::kinds::{Preceding, kind_after};
-use crate::load::is_load_row;
 use crate::role::Role;
 use crate::row::Part as RowPart;
 use crate::stage::{Goal, Stage, advance, begin, group_role, may_end};
 use crate::stmt::{Class, GroupKind};
+use bz_memory::NoMemory;
 use bz_token::Kind;
+use std::alloc::Global;
 
 // What the top is so far: the beginning of a rule, a rule, or none.
 #[derive(Clone, Copy)]
@@ -181,15 +186,16 @@ impl Read {
         }
     }
 
-    // The class of a statement that is a load, or nothing.
-    fn load_class(&self, parts: &[RowPart<'_>]) -> Option<Class>
-        ensures { result
-            ≡ then_some (not (is_lost self.now.naming) && is_load_row (map part_view parts.now)) Class.Load }
+    // The class of a statement that is a load, or nothing. Loads are rare, so their nodes may be made for this.
+    fn load_class(&self, alloc: Global, parts: &[RowPart<'_>]) -> Result<Option<Class>, NoMemory>
+        ensures { IfOk result (λ class. class ≡ then_some
+            (not (is_lost self.now.naming) && is_load (items_of (nodes_of_parts (map part_view parts.now))))
+            Class.Load) }
     {
-        if matches!(self.naming, Naming::Lost) || !is_load_row(parts) {
-            return None;
+        if matches!(self.naming, Naming::Lost) || !is_load(&nodes_of_parts(alloc, parts)?) {
+            return Ok(None);
         }
-        Some(Class::Load)
+        Ok(Some(Class::Load))
     }
 }
 
@@ -223,13 +229,18 @@ impl<'a> Spot<'a> {
     }
 
     // The class of a statement of these parts that ends here. None: it is left to its tree.
-    pub(crate) fn class(&self, parts: &[RowPart<'_>]) -> Option<Class>
-        ensures { result ≡ end_class (here_view self.now.here) self.now.read (map part_view parts.now) }
+    pub(crate) fn class(
+        &self,
+        alloc: Global,
+        parts: &[RowPart<'_>],
+    ) -> Result<Option<Class>, NoMemory>
+        ensures { IfOk result
+            (λ class. class ≡ end_class (here_view self.now.here) self.now.read (map part_view parts.now)) }
     {
         match self.here {
-            Here::Nothing => Some(Class::Comment),
-            _ if may_end(self.read.stage) => self.read.class(),
-            _ => self.read.load_class(parts),
+            Here::Nothing => Ok(Some(Class::Comment)),
+            _ if may_end(self.read.stage) => Ok(self.read.class()),
+            _ => self.read.load_class(alloc, parts),
         }
     }
 

@@ -2,7 +2,7 @@
 //! `rows.rt` of rows.
 
 ghost use Rattle.std.specs.Prelude.{◌≡◌, true, false};
-ghost use Rattle.bz_tree.specs.private.Machine.{ends, may_be_empty, may_end, after_left, after_right, after_element, after_target, after_clause, at_colon, at_end, after_part, leaves, in_chain, next_wanted, next_after, next_after_number, next_begun, next_argument, next_keyword, next, begin, group_role};
+ghost use Rattle.bz_tree.specs.private.Machine.{ends, may_end, after_left, after_right, after_element, after_target, after_clause, at_colon, after_part, leaves, in_chain, next_wanted, next_after, next_after_number, next_begun, next_argument, next, begin, group_role};
 
 use crate::role::Role;
 use crate::stmt::GroupKind;
@@ -66,12 +66,6 @@ fn ends(part: Goal) -> bool
     )
 }
 
-fn may_be_empty(part: Goal) -> bool
-    ensures { result ≡ may_be_empty part }
-{
-    matches!(part, Goal::To | Goal::Step)
-}
-
 /// Whether a segment may end here.
 #[inline(always)]
 pub(crate) fn may_end(stage: Stage) -> bool
@@ -79,7 +73,7 @@ pub(crate) fn may_end(stage: Stage) -> bool
 {
     match stage {
         Stage::Has(part, asked) | Stage::HasNumber(part, asked) => !asked && ends(part),
-        Stage::Begins(part) => may_be_empty(part),
+        Stage::Begins(part) => matches!(part, Goal::To | Goal::Step),
         Stage::Keyword => true,
         _ => false,
     }
@@ -136,22 +130,12 @@ fn after_clause(role: Role) -> Stage
     }
 }
 
-// A part that ends at a colon.
+// A part that ends at a colon, or, where nothing comes next, at the end.
 fn at_colon(part: Goal, next: Stage, role: Role) -> Stage
     ensures { result ≡ at_colon part next role }
 {
     match role {
         Role::Colon => next,
-        Role::If => Stage::Wants(part, true),
-        _ => Stage::Refused,
-    }
-}
-
-// Nothing but a condition may follow.
-fn at_end(part: Goal, role: Role) -> Stage
-    ensures { result ≡ at_end part role }
-{
-    match role {
         Role::If => Stage::Wants(part, true),
         _ => Stage::Refused,
     }
@@ -164,13 +148,13 @@ fn after_part(part: Goal, role: Role) -> Stage
     match part {
         Goal::Left => after_left(role),
         Goal::Right => after_right(role),
-        Goal::Alone => at_end(Goal::Alone, role),
+        Goal::Alone => at_colon(Goal::Alone, Stage::Refused, role),
         Goal::Key => at_colon(Goal::Key, Stage::Wants(Goal::Alone, false), role),
         Goal::Element => after_element(role),
         Goal::EntryKey => at_colon(Goal::EntryKey, Stage::Wants(Goal::Element, false), role),
         Goal::From => at_colon(Goal::From, Stage::Begins(Goal::To), role),
         Goal::To => at_colon(Goal::To, Stage::Begins(Goal::Step), role),
-        Goal::Step => at_end(Goal::Step, role),
+        Goal::Step => at_colon(Goal::Step, Stage::Refused, role),
         Goal::Target => after_target(role),
         Goal::Clause => after_clause(role),
     }
@@ -252,15 +236,6 @@ fn next_argument(role: Role) -> Stage
     }
 }
 
-fn next_keyword(role: Role) -> Stage
-    ensures { result ≡ next_keyword role }
-{
-    match role {
-        Role::Equals => Stage::Wants(Goal::Alone, false),
-        _ => next_after(Goal::Alone, false, role),
-    }
-}
-
 /// The stage after a node of this role.
 #[inline(always)]
 pub(crate) fn next(stage: Stage, role: Role) -> Stage
@@ -274,7 +249,8 @@ pub(crate) fn next(stage: Stage, role: Role) -> Stage
         Stage::Excludes(part, asked) if matches!(role, Role::In) => Stage::Wants(part, asked),
         Stage::Begins(part) => next_begun(part, role),
         Stage::Argument => next_argument(role),
-        Stage::Keyword => next_keyword(role),
+        Stage::Keyword if matches!(role, Role::Equals) => Stage::Wants(Goal::Alone, false),
+        Stage::Keyword => next_after(Goal::Alone, false, role),
         _ => Stage::Refused,
     }
 }

@@ -1,4 +1,4 @@
-//! Statements. Every text is a slice of the chunk that it was read from, or owned where a command made it.
+//! Statements. Every text is a slice of the chunk that it was read from, or of the arena where a command made it.
 
 use bz_token::Kind;
 

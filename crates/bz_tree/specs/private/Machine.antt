@@ -62,27 +62,22 @@ after_clause For = Wants Target false
 after_clause If = Wants Clause false
 after_clause _ = Refused
 
--- a part that ends at a colon
+-- a part that ends at a colon, or, where nothing comes next, at the end
 abbrev pub at_colon : Goal → Stage → Role → Stage
 at_colon part next Colon = next
 at_colon part next If = Wants part true
 at_colon part next _ = Refused
 
--- nothing but a condition may follow
-abbrev pub at_end : Goal → Role → Stage
-at_end part If = Wants part true
-at_end part _ = Refused
-
 abbrev pub after_part : Goal → Role → Stage
 after_part Left r = after_left r
 after_part Right r = after_right r
-after_part Alone r = at_end Alone r
+after_part Alone r = at_colon Alone Refused r
 after_part Key r = at_colon Key (Wants Alone false) r
 after_part Element r = after_element r
 after_part EntryKey r = at_colon EntryKey (Wants Element false) r
 after_part From r = at_colon From (Begins To) r
 after_part To r = at_colon To (Begins Step) r
-after_part Step r = at_end Step r
+after_part Step r = at_colon Step Refused r
 after_part Target r = after_target r
 after_part Clause r = after_clause r
 

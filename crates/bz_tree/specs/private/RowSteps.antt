@@ -29,13 +29,13 @@ use Rattle.bz_tree.specs.declared.row.Row.{Row}
 use Rattle.bz_tree.specs.Kinds.{mark_of, kind_after, is_for_at, group_kind, is_one, same_shape, is_operator_at}
 use Rattle.bz_tree.specs.Brackets.{is_paren, end_line}
 use Rattle.bz_tree.specs.Blocks.{is_block_word}
-use Rattle.bz_tree.specs.Tree.{leaf}
+use Rattle.bz_tree.specs.Tree.{leaf, items_of}
 use Rattle.bz_tree.specs.Grammar.{leaf_role, is_assignment}
 use Rattle.bz_tree.specs.Statement.{is_ident, is_call, is_load_word}
 use Rattle.bz_tree.specs.Rows.{RowPart, a_token, opening, closing, segment_end, above, beside, part_view}
-use Rattle.bz_tree.specs.private.Machine.{next, begin, may_end, group_role}
+use Rattle.bz_tree.specs.FromParts.{nodes_of_parts}
+use Rattle.bz_tree.specs.private.Machine.{next, begin, may_end, group_role, is_load}
 use Rattle.bz_tree.specs.private.Steps.{shape_of}
-use Rattle.bz_tree.specs.private.LoadSteps.{is_load_row}
 
 -- Where the walk stands in a bracket: no node of a segment has come, and no comma directly before; directly after a comma on this
 -- line; directly after a node that ends on this line; after the end of the last segment.
@@ -262,7 +262,7 @@ abbrev pub end_class : At → Read → List RowPart → Option Class
 end_class nothing r parts = Some CommentClass
 end_class _ r parts =
     if may_end r.stage then then_some (not (is_lost r.naming)) (read_class r)
-    else then_some (not (is_lost r.naming) && is_load_row parts) LoadClass
+    else then_some (not (is_lost r.naming) && is_load (items_of (nodes_of_parts parts))) LoadClass
 
 abbrev pub row_end : Option GroupKind → List Stand → RowState → Option RowView
 row_end None [] s = option_map (λ class. record { parts = s.parts; class = class }) (end_class s.top.here s.top.read s.parts)
