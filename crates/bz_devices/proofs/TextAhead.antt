@@ -63,3 +63,9 @@ taken_fits bytes text k n m within is fits some =
     let size : length text ≡ k = ap length is ∙ length-take-le k bytes within in
     let all : n + m ≤ length text = fits some in
     omega arith
+
+-- the bytes that were not taken begin before they end
+pub start_within : (items : List ℕ) (start k end : ℕ) → start + k ≤ length (take end items) → end ≤ length items → start ≤ end
+start_within items start k end within fits =
+    let size : length (take end items) ≡ end = length-take-le end items fits in
+    omega (arith, within, size)

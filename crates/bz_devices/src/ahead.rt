@@ -25,9 +25,11 @@ use std::str::from_utf8_unchecked;
 /// What was read of an input and not yet taken.
 #[derive(Drop)]
 pub struct Ahead {
-    bytes: Vec<u8>,
-    /// Where the bytes begin that were not taken.
+    buffer: Vec<u8>,
+    /// Where in the buffer the bytes begin that were not taken.
     start: usize,
+    /// Where they end. What stands after them is of no use: a read goes over it.
+    end: usize,
     /// How many of these are known to be text: no byte is checked twice.
     text_len: usize,
     /// How many reads were made.
@@ -36,16 +38,19 @@ pub struct Ahead {
     ended: bool,
 }
 
+// As many bytes as eight reads give.
+const MANY_TAKEN: usize = 1 << 16;
+
 impl Model for Ahead {
     ghost use Rattle.std.specs.Prelude.{◌≤◌, ◌+◌, length, take, drop, IsUtf8};
     ghost use Rattle.bz_devices.specs.Ahead as spec;
 
     ghost Value = { spec.Ahead };
 
-    ghost view = { λ a. record { bytes = drop a.start a.bytes.items; reads = a.reads; ended = a.ended } };
+    ghost view = { λ a. record { bytes = drop a.start (take a.end a.buffer.items); reads = a.reads; ended = a.ended } };
 
-    ghost invariant = { λ a. (a.start + a.text_len ≤ length a.bytes.items)
-        × IsUtf8 (take a.text_len (drop a.start a.bytes.items)) };
+    ghost invariant = { λ a. (a.start + a.text_len ≤ length (take a.end a.buffer.items))
+        × IsUtf8 (take a.text_len (drop a.start (take a.end a.buffer.items))) × (a.end ≤ length a.buffer.items) };
 }
 
 /// Why there is no next chunk.
@@ -80,8 +85,9 @@ impl Ahead {
         ensures { result ≡ record { bytes = []; reads = 0; ended = false } }
     {
         Ahead {
-            bytes: Vec::new(alloc),
+            buffer: Vec::new(alloc),
             start: 0,
+            end: 0,
             text_len: 0,
             reads: 0,
             ended: false,
@@ -92,7 +98,7 @@ impl Ahead {
     pub fn bytes(&self) -> &[u8]
         ensures { result.now ≡ self.now.bytes }
     {
-        &self.bytes[self.start..]
+        &self.buffer[self.start..self.end]
     }
 
     /// The front of the bytes that is known to be text. After a read it ends where a byte belongs to no character, or
@@ -142,7 +148,9 @@ impl Ahead {
         ensures steady { result ≢ Err ChunkFault.ReadFailed → S.failures source.new ≡ S.failures source.old }
     {
         self.drop_taken();
-        let n = read_at_most(source, &mut self.bytes, most, max_reads - self.reads)?;
+        let left = max_reads - self.reads;
+        let n = read_at_most(source, &mut self.buffer, self.end, most, left)?;
+        self.end += n;
         self.reads += 1;
         self.ended = n == 0;
         self.check();
@@ -156,12 +164,13 @@ impl Ahead {
         self.text_len += text_front(&self.bytes()[self.text_len..]);
     }
 
-    /// Makes room of the bytes that were taken.
+    /// Makes room of the bytes that were taken, once they are many: what follows them is moved.
     fn drop_taken(&mut self)
         ensures { self.new ≡ self.old }
     {
-        if self.start > 0 {
-            drop_front(&mut self.bytes, self.start);
+        if self.start >= MANY_TAKEN {
+            self.buffer.copy_within(self.start..self.end, 0);
+            self.end -= self.start;
             self.start = 0;
         }
     }
@@ -191,15 +200,6 @@ fn text_front(bytes: &[u8]) -> usize
         Ok(text) => text.len(),
         Err(valid) => valid,
     }
-}
-
-fn drop_front(bytes: &mut Vec<u8>, n: usize)
-    requires { n ≤ length bytes.old.items }
-    ensures { bytes.new.items ≡ drop n bytes.old.items }
-{
-    let left = bytes.len() - n;
-    bytes.copy_within(n.., 0);
-    bytes.truncate(left);
 }
 
 /// Reads once, where no chunk ends in the bytes ahead whatever follows them; answers whether it did. It does not after

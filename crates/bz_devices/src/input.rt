@@ -31,21 +31,25 @@ impl From<NoMemory> for ReadFault {
     }
 }
 
-/// Reads once, at most `most` bytes, and puts them after the bytes that are there. Answers how many
-/// came; 0 is the end of the input. A refusal leaves the bytes as they were.
+/// Reads once, at most `most` bytes, and puts them after the first `end` of the bytes that are there: over what stands
+/// after these, so that room for them is made once. Answers how many came; 0 is the end of the input.
 ///
 /// `reads_left` is how many reads may still be made: without one, none is made.
 pub fn read_at_most<S: Source>(
     source: &mut S,
     bytes: &mut Vec<u8>,
+    end: usize,
     most: usize,
     reads_left: u64,
 ) -> Result<usize, ReadFault>
     requires some { 0 < most }
     requires few { most ≤ 8192 }
+    requires within { end ≤ length bytes.old.items }
     ensures read { IfOk result (λ n. (piece : List ℕ) × S.gave source.old (piece ∷ []) source.new
-        × (bytes.new.items ≡ bytes.old.items ++ piece) × (n ≡ length piece) × (n ≤ most)) }
-    ensures err { OnErr result (S.gave source.old [] source.new × (bytes.new.items ≡ bytes.old.items)) }
+        × (take (end + n) bytes.new.items ≡ take end bytes.old.items ++ piece) × (n ≡ length piece) × (n ≤ most)) }
+    ensures within { IfOk result (λ n. end + n ≤ length bytes.new.items) }
+    ensures err { OnErr result (S.gave source.old [] source.new
+        × (take end bytes.new.items ≡ take end bytes.old.items) × (end ≤ length bytes.new.items)) }
     ensures allowed { OnOk result (0 < reads_left) }
     ensures too_long { IsErrOf result ReadFault.InputTooLong → reads_left ≡ 0 }
     ensures none_left { reads_left ≡ 0 → result ≡ Err ReadFault.InputTooLong }
@@ -55,16 +59,23 @@ pub fn read_at_most<S: Source>(
     if reads_left == 0 {
         return Err(ReadFault::InputTooLong);
     }
-    let start = bytes.len();
-    lengthen(bytes, most)?;
-    match source.read(&mut bytes[start..]) {
-        Ok(n) => {
-            bytes.truncate(start + n);
-            Ok(n)
-        }
-        Err(Failed) => {
-            bytes.truncate(start);
-            Err(ReadFault::ReadFailed)
-        }
+    make_room(bytes, end, most)?;
+    match source.read(&mut bytes[end..end + most]) {
+        Ok(n) => Ok(n),
+        Err(Failed) => Err(ReadFault::ReadFailed),
     }
+}
+
+/// Has at least `most` bytes, of any value, stand after the first `end`.
+fn make_room(bytes: &mut Vec<u8>, end: usize, most: usize) -> Result<(), NoMemory>
+    requires few { most ≤ 8192 }
+    requires within { end ≤ length bytes.old.items }
+    ensures front { take end bytes.new.items ≡ take end bytes.old.items }
+    ensures within { end ≤ length bytes.new.items }
+    ensures room { OnOk result (end + most ≤ length bytes.new.items) }
+{
+    if bytes.len() - end < most {
+        lengthen(bytes, PIECE)?;
+    }
+    Ok(())
 }

@@ -18,7 +18,7 @@ ghost use Rattle.bz_engine.specs.private.Found.{IsFound, IsMarked, one_pass};
 ghost use Rattle.bz_engine.specs.private.NextChunks.{EditsFound, IsFirstEdited, IsKnownEdited};
 ghost use Rattle.bz_engine.specs.private.Rows.{HasKey};
 
-use crate::answer::{asked_attribute, is_answerable, marks_found, unchanged_by_text};
+use crate::answer::{marks_found, unchanged_by_text};
 use crate::argument::{EditedArgument, edit_lines};
 use crate::edit::{Edited, ScriptRun};
 use crate::failure::failure_by_text;
@@ -53,7 +53,7 @@ pub(crate) fn edit_canonical(
     ensures none { IfOk result (λ found. IfNone found
         (DoesNothing progress.old progress.new text.old.items text.new.items)) }
 {
-    if !may_be_known(script) || !progress.is_worth_a_look() {
+    if !script.passes.may_be_known() || !progress.is_worth_a_look() {
         return Ok(None);
     }
     let mut written = progress.take_written(script.alloc);
@@ -84,7 +84,7 @@ pub(crate) fn edit_whole(
     ensures { IfOk result (EditsWhole (run_of script.entry) chunk.now progress.old progress.new
         text.old.items text.new.items) }
 {
-    if !may_be_known(script) {
+    if !script.passes.may_be_known() {
         return Ok(false);
     }
     let mut written = progress.take_written(script.alloc);
@@ -130,18 +130,6 @@ fn edit_known(
     }))
 }
 
-/// Whether what the script makes of some statements may be known without them: each target asks for a name, or there
-/// is one command, which may be answered from a text (`is_answerable` of `answer.rt`).
-fn may_be_known(script: ScriptRun<'_>) -> bool {
-    if script.passes.ask_for_names() {
-        return true;
-    }
-    match script.passes.only() {
-        None => false,
-        Some(only) => is_answerable(only.command),
-    }
-}
-
 /// A chunk of which it is known what would be written, and the attribute whose argument was looked for in it.
 #[derive(Clone, Copy)]
 pub(crate) struct Found<'a> {
@@ -162,7 +150,7 @@ fn find_canonical<'a>(
         found.chunk.chunk.now found.chunk.written.now text.now)) }
     ensures size { IfOk result (λ told. IfSome told (λ found. length found.chunk.chunk.now ≤ max_statement)) }
 {
-    let attr = asked(script);
+    let attr = script.passes.asked_attribute();
     let Some(chunk) = canonical(text, attr, script.max_depth, written)? else {
         return Ok(None);
     };
@@ -170,14 +158,6 @@ fn find_canonical<'a>(
         return Ok(None);
     }
     Ok(Some(Found { chunk, attr }))
-}
-
-/// The attribute whose argument is to be looked for. Empty: there is none.
-fn asked<'a>(script: ScriptRun<'a>) -> &'a str {
-    match script.passes.only() {
-        None => "",
-        Some(only) => asked_attribute(only.command),
-    }
 }
 
 /// The script on the statement of such a chunk, by the first of these: no pass marks it; the one command leaves it as

@@ -7,20 +7,25 @@ ghost use Rattle.bz_engine.specs.Outcome as spec;
 ghost use Rattle.bz_engine.specs.private.Found.{one_pass};
 ghost use Rattle.bz_engine.specs.private.Named.{all_named};
 
+use crate::answer::{asked_attribute, is_answerable};
 use bz_command::Pass;
-use bz_memory::NoMemory;
+use bz_memory::{NoMemory, from_str};
 use bz_passes::passes::{Keyed, Passes};
 use bz_rule::{Command, Target};
 use std::alloc::Global;
 use std::marker::Model;
 
-/// The passes of a script, indexed, and what is true of all of them. Contracts see the passes alone.
+/// The passes of a script, indexed, and what is asked of them at each chunk. Contracts see the passes alone.
 #[derive(Drop)]
 pub(crate) struct RulePasses {
     passes: Passes<Target, Command>,
     query: bool,
     /// Each target asks for a name.
     named: bool,
+    /// What the script makes of some statements may be known without them.
+    may_be_known: bool,
+    /// The attribute that the one command looks at. Empty: there is none.
+    attr: String,
 }
 
 /// The one pass of a script, which has one command.
@@ -52,11 +57,15 @@ impl RulePasses {
     {
         let query = is_query(passes.as_slice());
         let named = all_named(passes.as_slice());
+        let may_be_known = named || is_one_answerable(passes.as_slice());
+        let attr = from_str(alloc, attribute_of_one(passes.as_slice()))?;
         let passes = Passes::new(alloc, passes)?;
         Ok(RulePasses {
             passes,
             query,
             named,
+            may_be_known,
+            attr,
         })
     }
 
@@ -101,6 +110,41 @@ impl RulePasses {
         ensures { result ≡ all_named self.now }
     {
         self.named
+    }
+
+    /// Whether what the script makes of some statements may be known without them: each target asks for a name, or
+    /// there is one command, which may be answered from a text (`is_answerable` of `answer.rt`).
+    pub(crate) fn may_be_known(&self) -> bool {
+        self.may_be_known
+    }
+
+    /// The attribute whose argument is to be looked for in a text. Empty: there is none.
+    pub(crate) fn asked_attribute(&self) -> &str {
+        self.attr.as_str()
+    }
+}
+
+fn one_command(passes: &[Pass<Target, Command>]) -> Option<&Command> {
+    let [pass] = passes else {
+        return None;
+    };
+    let [command] = pass.commands.as_slice() else {
+        return None;
+    };
+    Some(command)
+}
+
+fn is_one_answerable(passes: &[Pass<Target, Command>]) -> bool {
+    match one_command(passes) {
+        None => false,
+        Some(command) => is_answerable(command),
+    }
+}
+
+fn attribute_of_one(passes: &[Pass<Target, Command>]) -> &str {
+    match one_command(passes) {
+        None => "",
+        Some(command) => asked_attribute(command),
     }
 }
 

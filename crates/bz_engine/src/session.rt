@@ -64,6 +64,7 @@ pub struct Session {
     alloc: Global,
     home: Package,
     passes: RulePasses,
+    /// The limits of a chunk and of the reads, and whether a failure ends the run.
     options: Options,
     progress: Progress,
     ahead: Ahead,

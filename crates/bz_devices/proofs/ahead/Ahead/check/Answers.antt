@@ -6,7 +6,7 @@ use Rattle.bz_devices.proofs.ahead.Ahead.check.Goals as goal
 
 pub invariant_of-self : goal.invariant_of-self
 invariant_of-self c =
-    let items = c.self.inside.bytes.items in
+    let items = take c.self.inside.end c.self.inside.buffer.items in
     let start = c.self.inside.start in
     let k = c.self.inside.text_len in
     let m = c.text_front.result in
@@ -16,4 +16,5 @@ invariant_of-self c =
     let more : IsUtf8 (take m (take (length bytes - k) (drop k bytes))) = c.text_front.ensures.utf8 in (
       grown_within items start k m c.self.invariant.0 (subst (λ l. m ≤ length l) rest c.text_front.ensures.within),
       text_grows (drop start items) k m c.self.invariant.1 (subst (λ l. IsUtf8 (take m l)) rest more),
+      c.self.invariant.2,
     )

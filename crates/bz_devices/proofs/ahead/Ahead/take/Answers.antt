@@ -5,7 +5,7 @@ use Rattle.bz_devices.proofs.ahead.Ahead.take.Goals as goal
 
 pub invariant_of-self : goal.invariant_of-self
 invariant_of-self c =
-    let items = c.self.inside.bytes.items in
+    let items = take c.self.inside.end c.self.inside.buffer.items in
     let start = c.self.inside.start in
     let n = c.args.n in
     let m = c.text_left-self-inside.result in
@@ -18,4 +18,5 @@ invariant_of-self c =
     let left : 0 < m → n + m ≤ front.0 = taken_fits (drop start items) c.text.result.now front.0 n m within is c.text_left-self-inside.ensures.within in (
       left_within items start front.0 n m (omega (arith, c.self.invariant.0)) within few left,
       text_left items start front.0 n m within left (subst (λ l. IsUtf8 (take m (drop n l))) is rest),
+      c.self.invariant.2,
     )
