@@ -19,7 +19,7 @@ type Told<T> = Result<Option<T>, NoMemory>;
 
 /// The attribute that is asked for, and how many brackets may be open in the value of an argument.
 #[derive(Clone, Copy)]
-pub(crate) struct Asked<'c> {
+pub(crate) struct Sought<'c> {
     pub(crate) attr: &'c [u8],
     pub(crate) depth: u8,
 }
@@ -159,7 +159,7 @@ struct PutOthers<'t> {
 }
 
 /// Passes the arguments here up to the first of the name, or to the last that has one.
-fn put_others<'t>(from: Pending<'t>, asked: Asked<'_>, written: &mut Vec<u8>) -> Told<PutOthers<'t>>
+fn put_others<'t>(from: Pending<'t>, asked: Sought<'_>, written: &mut Vec<u8>) -> Told<PutOthers<'t>>
     requires { asked.depth < 254 }
     ensures passed { IfOk result (λ told. IfSome told (λ read.
         Puts written.old.items (pending from.entry) written.new.items (pending read.at)
@@ -217,7 +217,7 @@ struct PutPlaced<'t> {
 }
 
 /// Passes the arguments here up to the first of the name and with it, or to the last that has one.
-fn put_placed<'t>(from: Pending<'t>, asked: Asked<'_>, written: &mut Vec<u8>) -> Told<PutPlaced<'t>>
+fn put_placed<'t>(from: Pending<'t>, asked: Sought<'_>, written: &mut Vec<u8>) -> Told<PutPlaced<'t>>
     requires { asked.depth < 254 }
     ensures { IfOk result (λ told. IfSome told (λ read.
         Puts written.old.items (pending from.entry) written.new.items (pending read.at)
@@ -282,7 +282,7 @@ fn put_later<'t>(placed: PutPlaced<'t>, depth: u8, written: &mut Vec<u8>) -> Tol
             named: None,
         }));
     }
-    let none = Asked {
+    let none = Sought {
         attr: b"".as_slice(),
         depth,
     };
@@ -305,7 +305,7 @@ pub(crate) struct PutArguments<'t> {
 /// Passes the arguments here, with the comments after them.
 pub(crate) fn put_arguments<'t>(
     from: Pending<'t>,
-    asked: Asked<'_>,
+    asked: Sought<'_>,
     written: &mut Vec<u8>,
 ) -> Told<PutArguments<'t>>
     requires { asked.depth < 254 }

@@ -5,7 +5,7 @@ ghost use Rattle.bz_canonical.specs.private.Rewritten.{IsRuleEnd, IsRuleHead, Is
 
 use crate::front::{Word, after, after_word, before, identifier, line, simple_string};
 use crate::notes::{beside, lines};
-use crate::put_arguments::{Asked, Lines, Pending, PutPlace, put_arguments};
+use crate::put_arguments::{Sought, Lines, Pending, PutPlace, put_arguments};
 use bz_memory::{NoMemory, extend_from_slice};
 
 /// A rule, and what follows it.
@@ -38,7 +38,7 @@ pub(crate) fn put_rule<'t>(
         from: text,
         rest: head.rest,
     };
-    let Some(read) = put_arguments(start, Asked { attr, depth }, written)? else {
+    let Some(read) = put_arguments(start, Sought { attr, depth }, written)? else {
         return Ok(None);
     };
     if !read.some {
