@@ -2,12 +2,12 @@
 use Rattle.std.proofs.Common.{◌≡◌, ℕ, ◌+◌, ◌-◌, ◌≤◌, List, [], ◌∷◌, ◌++◌, true, false, length, get_or, take, refl, ap, sym, ◌∙◌, arith, None, append_assoc, append-nil, Bool, is_some, inl, inr}
 use Rattle.std.proofs.lemmas.Bool.{cases_Bool}
 use Rattle.std.proofs.lemmas.List.{take_more, take_all, map-append}
-use Rattle.bz_tree.specs.declared.stmt.Node.{Node, Group}
-use Rattle.bz_tree.specs.declared.stmt.GroupKind.TheVariants.{RuleCall}
+use Rattle.bz_tree.specs.declared.tree.Node.{Node, Group}
+use Rattle.bz_tree.specs.declared.tree.GroupKind.TheVariants.{RuleCall}
 use Rattle.bz_tree.specs.Tree.{Item, leaf, group, segs_of}
 use Rattle.bz_attribute.proofs.Views.{view_of_group}
 use Rattle.bz_tree.specs.View.{node_view, nodes_view, segs_view, texts}
-use Rattle.bz_tree.specs.declared.stmt.Group.{Group as GroupValue, out-Group}
+use Rattle.bz_tree.specs.declared.tree.Group.{Group as GroupValue, out-Group}
 use Rattle.bz_attribute.specs.Rules.{rule_of, rule_from, call_at, dotted}
 
 rule_from_more : (kind : List Item) (y : Item) (ys : List Item) (x : Item) → rule_from kind (y ∷ (ys ++ x ∷ [])) ≡ rule_from (kind ++ y ∷ []) (ys ++ x ∷ [])

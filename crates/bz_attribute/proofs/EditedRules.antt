@@ -1,6 +1,6 @@
 -- A rule whose arguments were edited is read as this rule with others.
 use Rattle.std.proofs.Common.{◌≡◌, List, [], true, Some, None, option_map, refl, ap, ◌∙◌}
-use Rattle.bz_tree.specs.declared.stmt.GroupKind.TheVariants.{RuleCall}
+use Rattle.bz_tree.specs.declared.tree.GroupKind.TheVariants.{RuleCall}
 use Rattle.bz_tree.specs.Rows.{RowPart, parts_of}
 use Rattle.bz_tree.specs.Tree.{Item, group, Segment, Statement, segs_of}
 use Rattle.bz_attribute.specs.Effects.{nodes_after, nodes_of, with_args}

@@ -3,9 +3,9 @@ use Rattle.std.proofs.Common.{◌≡◌, ℕ, Bool, true, false, ◌&&◌, ◌||
 use Rattle.std.specs.Prelude.{codes}
 use Rattle.std.proofs.lemmas.Bool.{false≢true, and_parts}
 use Rattle.bz_token.specs.declared.token.Kind.TheVariants.{Identifier, Operator}
-use Rattle.bz_tree.specs.declared.stmt.GroupKind.{GroupKind}
-use Rattle.bz_tree.specs.declared.stmt.GroupKind.TheVariants.{RuleCall}
-use Rattle.bz_tree.specs.declared.stmt.Class.TheVariants.{Rule as RuleClass, Block, Load as LoadClass, Assign, Other as OtherClass}
+use Rattle.bz_tree.specs.declared.tree.GroupKind.{GroupKind}
+use Rattle.bz_tree.specs.declared.tree.GroupKind.TheVariants.{RuleCall}
+use Rattle.bz_tree.specs.declared.tree.Class.TheVariants.{Rule as RuleClass, Block, Load as LoadClass, Assign, Other as OtherClass}
 use Rattle.bz_tree.specs.Tree.{Item, leaf, group, Segs, Statement, items_of, segments, segs_of}
 use Rattle.bz_tree.specs.Statement.{class_of, is_assign_operator, is_rule, is_rule_after, is_kept, is_load_word, is_call as is_call_kind, is_assign}
 use Rattle.bz_tree.specs.Rows.{RowPart, opening, closing, above, beside_part, item_parts, items_parts, segs_parts, parts_of}

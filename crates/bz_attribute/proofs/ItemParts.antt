@@ -5,8 +5,8 @@ use Rattle.std.proofs.lemmas.Bool.{false≢true}
 use Rattle.std.proofs.lemmas.List.{drop_all, drop_more, length-map}
 use Rattle.std.proofs.Math.Seq.{drop-append_seam}
 use Rattle.bz_tree.specs.declared.row.Part.{Part}
-use Rattle.bz_tree.specs.declared.stmt.GroupKind.{GroupKind}
-use Rattle.bz_tree.specs.declared.stmt.GroupKind.TheVariants.{List as ListKind}
+use Rattle.bz_tree.specs.declared.tree.GroupKind.{GroupKind}
+use Rattle.bz_tree.specs.declared.tree.GroupKind.TheVariants.{List as ListKind}
 use Rattle.bz_tree.specs.Tree.{Item, leaf, group, Segs, items_of, segs_of, segments}
 use Rattle.bz_tree.specs.Rows.{RowPart, part_view, a_token, opening, closing, segment_end, above, item_parts, items_parts, segs_parts}
 use Rattle.bz_attribute.specs.Elements.{ListRest, rest_parts, value_parts}
@@ -15,7 +15,7 @@ use Rattle.bz_attribute.specs.private.HeadParts.{is_end}
 use Rattle.bz_attribute.specs.private.Ends.{parts_len}
 use Rattle.bz_attribute.specs.private.ListParts.{ItemEnds, ends_piece, is_joint, is_open, is_plus, opens_list}
 use Rattle.bz_attribute.proofs.Lengths.{segs_ended}
-use Rattle.bz_tree.proofs.FromParts.{segs_back}
+use Rattle.bz_tree.proofs.Rows.FromParts.{segs_back}
 
 -- the part with which an item begins
 abbrev first_of : Item → RowPart

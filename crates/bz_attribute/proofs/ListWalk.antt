@@ -3,18 +3,17 @@ use Rattle.std.proofs.Common.{◌≡◌, ℕ, ◌+◌, ◌<◌, ◌≤◌, List,
 use Rattle.std.specs.List.{list_all, list_any}
 use Rattle.std.specs.Prelude.{Option, Some, None, IfSome, IfNone}
 use Rattle.bz_tree.specs.declared.row.Part.{Part}
-use Rattle.bz_tree.specs.declared.stmt.GroupKind.TheVariants.{List as ListKind}
+use Rattle.bz_tree.specs.declared.tree.GroupKind.TheVariants.{List as ListKind}
 use Rattle.bz_tree.specs.Tree.{Item, leaf, group, Segs, Segment, items_of, segments}
 use Rattle.bz_tree.specs.Rows.{RowPart, part_view, item_parts, items_parts}
-use Rattle.bz_attribute.specs.Comment.{edit_element_from}
-use Rattle.bz_attribute.specs.Effects.{edit_first}
+use Rattle.bz_attribute.specs.Effects.{edit_first, edit_element_from}
 use Rattle.bz_attribute.specs.Elements.{HasNoList, IsListIn, ListRest, edit_element_in, edit_in, edit_one_in, found_rest, list_item, lists_in, value_parts}
 use Rattle.bz_attribute.specs.Lists.{edit_from, edit_list, edit_one_from, is_list, parts_from}
 use Rattle.bz_attribute.specs.Lists as lists
 use Rattle.bz_attribute.specs.private.HeadParts.{is_end}
 use Rattle.bz_attribute.specs.private.ListParts.{HasJoints, HasWalked, IsWalked, ItemEnds, KeepsOthers, ends_piece, is_joint, is_plus, opens_list}
 use Rattle.bz_attribute.proofs.ItemParts.{item_at, none_after, none_at, opened, piece_told, rest_of}
-use Rattle.bz_tree.proofs.FromParts.{segs_back}
+use Rattle.bz_tree.proofs.Rows.FromParts.{segs_back}
 
 pub joints_pass : (ps : List Part) (from at end : ℕ) (d : Part) → HasJoints (map part_view ps) from at → at < length ps → is_end (part_view (get_or ps at d)) ≡ false → is_joint (part_view (get_or ps at d)) ≡ true
     → ItemEnds (map part_view ps) at end → HasJoints (map part_view ps) from end

@@ -2,7 +2,7 @@
 use Rattle.std.proofs.Common.{◌≡◌, ℕ, ◌+◌, List, [], ◌∷◌, ◌++◌, Bool, true, false, ◌&&◌, length, drop, refl, ap, sym, ◌∙◌, arith, append_assoc, drop-drop}
 use Rattle.std.proofs.lemmas.Bool.{false≢true}
 use Rattle.std.proofs.Math.Seq.{drop-append_seam}
-use Rattle.bz_tree.specs.declared.stmt.GroupKind.TheVariants.{List as ListKind}
+use Rattle.bz_tree.specs.declared.tree.GroupKind.TheVariants.{List as ListKind}
 use Rattle.bz_tree.specs.Tree.{Item, leaf, group, Segs, items_of}
 use Rattle.bz_tree.specs.Rows.{RowPart, segment_end, item_parts, items_parts}
 use Rattle.bz_attribute.specs.Elements.{IsOnlyList, value_parts}
@@ -11,7 +11,7 @@ use Rattle.bz_attribute.specs.private.Ends.{parts_len}
 use Rattle.bz_attribute.specs.private.ListParts.{ItemEnds, begins_list, ends_value}
 use Rattle.bz_attribute.proofs.ItemParts.{opened, rest_of}
 use Rattle.bz_attribute.proofs.Lengths.{nodes_ended}
-use Rattle.bz_tree.proofs.FromParts.{segs_back}
+use Rattle.bz_tree.proofs.Rows.FromParts.{segs_back}
 
 pub value_ended : (nodes : List Item) (after ps : List RowPart) (value end : ℕ) → drop value ps ≡ value_parts nodes after → end ≡ value + parts_len true 0 (drop value ps) → drop end ps ≡ segment_end ∷ after
 value_ended nodes after ps value end read is =

@@ -4,7 +4,7 @@ use Rattle.std.specs.Prelude.{option_to_list}
 use Rattle.std.proofs.Math.Seq.{drop-append_seam, take-append_seam}
 use Rattle.std.proofs.lemmas.Bool.{false≢true, and_parts}
 use Rattle.bz_token.specs.declared.token.Kind.TheVariants.{Identifier}
-use Rattle.bz_tree.specs.declared.stmt.GroupKind.TheVariants.{RuleCall}
+use Rattle.bz_tree.specs.declared.tree.GroupKind.TheVariants.{RuleCall}
 use Rattle.bz_tree.specs.Tree.{Item, leaf, group, Segment, Statement, items_of, segs_of}
 use Rattle.bz_tree.specs.Rows.{RowPart, opening, segment_end, above, beside_part, items_parts, segs_parts, parts_of}
 use Rattle.bz_attribute.specs.Rules.{Rule, rule_of, is_named, first_named, dotted}

@@ -1,13 +1,13 @@
 -- Arguments read from their parts, within a list.
 use Rattle.std.proofs.Common.{◌≡◌, ℕ, List, [], ◌∷◌, ◌++◌, false, length, map, refl, ap, sym, ◌∙◌, arith, append-nil}
-use Rattle.bz_tree.specs.declared.stmt.Node.{Node}
-use Rattle.bz_tree.specs.declared.stmt.GroupKind.TheVariants.{List as ListKind}
+use Rattle.bz_tree.specs.declared.tree.Node.{Node}
+use Rattle.bz_tree.specs.declared.tree.GroupKind.TheVariants.{List as ListKind}
 use Rattle.bz_tree.specs.Tree.{Item, leaf, group, Items, no_items, item, Segment, items_of, segs_of}
 use Rattle.bz_tree.specs.View.{node_view, nodes_view}
 use Rattle.bz_tree.specs.declared.row.Part.{Part}
 use Rattle.bz_tree.specs.Rows.{RowPart, above, closing, opening, part_view, segment_end, item_parts, items_parts, segs_parts}
 use Rattle.bz_tree.specs.FromParts.{nodes_of_parts}
-use Rattle.bz_tree.proofs.FromParts.{nodes_back, listed_back}
+use Rattle.bz_tree.proofs.Rows.FromParts.{nodes_back, listed_back}
 
 abbrev pub list_of_args : List Segment → Item
 list_of_args ss = group ListKind (segs_of ss) false []

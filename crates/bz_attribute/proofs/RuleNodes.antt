@@ -1,10 +1,10 @@
 -- The nodes of a rule are those that its parts are read from.
 use Rattle.std.proofs.Common.{◌≡◌, List, [], ◌∷◌, ◌++◌, true, false, None, Some, ap, ◌∙◌, if◌then◌else◌, append_assoc}
-use Rattle.bz_tree.specs.declared.stmt.GroupKind.TheVariants.{Call, RuleCall, Load, Paren, List as ListKind, Index, Dict, ListComp, DictComp}
+use Rattle.bz_tree.specs.declared.tree.GroupKind.TheVariants.{Call, RuleCall, Load, Paren, List as ListKind, Index, Dict, ListComp, DictComp}
 use Rattle.bz_tree.specs.Tree.{Item, leaf, group, Segs, segments}
 use Rattle.bz_attribute.specs.Rules.{Rule, rule_from, call_at, dotted}
 use Rattle.bz_attribute.specs.Effects.{nodes_of}
-use Rattle.bz_tree.proofs.FromParts.{segs_back}
+use Rattle.bz_tree.proofs.Rows.FromParts.{segs_back}
 
 call_nodes : (kind : List Item) (x : Item) (r : Rule) → call_at kind x ≡ Some r → nodes_of r ≡ kind ++ x ∷ []
 call_nodes kind (leaf k text) r h = absurd cc

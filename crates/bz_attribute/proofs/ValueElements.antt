@@ -6,8 +6,7 @@ use Rattle.std.proofs.lemmas.List.{length-map, map-append}
 use Rattle.std.proofs.Math.Seq.{drop-append_seam, take-append_seam}
 use Rattle.bz_tree.specs.Tree.{Item, Segment, items_of, segs_of}
 use Rattle.bz_tree.specs.Rows.{RowPart, above, beside_part, closing, items_parts, segment_end, segs_parts}
-use Rattle.bz_attribute.specs.Comment.{edit_element_from, with_comment}
-use Rattle.bz_attribute.specs.Effects.{edit_first}
+use Rattle.bz_attribute.specs.Effects.{edit_first, edit_element_from, with_comment}
 use Rattle.bz_attribute.specs.Elements.{IsElementOf, IsListIn, IsNextElement, ListRest, elements_left, found_rest, rest_parts, value_parts}
 use Rattle.bz_attribute.specs.Lists.{parts_from}
 use Rattle.bz_attribute.specs.private.ListParts.{HasElement, HasEmptied}

@@ -1,12 +1,12 @@
 -- The view of a group, level by level.
 use Rattle.std.proofs.Common.{◌≡◌, List, [], ◌∷◌, refl, ◌∙◌}
-use Rattle.bz_tree.specs.declared.stmt.Node.{Group}
-use Rattle.bz_tree.specs.declared.stmt.Group.{Group as GroupValue, out-Group}
+use Rattle.bz_tree.specs.declared.tree.Node.{Group}
+use Rattle.bz_tree.specs.declared.tree.Group.{Group as GroupValue, out-Group}
 use Rattle.bz_tree.specs.Tree.{group, Segment, segs_of, segments}
 use Rattle.bz_tree.specs.View.{node_view, segs_view, texts}
-use Rattle.bz_tree.proofs.Views.{view-Group, view-group}
+use Rattle.bz_tree.proofs.Trees.Views.{view-Group, view-group}
 use Rattle.bz_attribute.specs.Rules.{elements}
-use Rattle.bz_tree.proofs.FromParts.{listed_back}
+use Rattle.bz_tree.proofs.Rows.FromParts.{listed_back}
 
 pub segments_of : (ss : List Segment) → segments (segs_of ss) ≡ ss
 segments_of [] = refl

@@ -2,9 +2,9 @@
 -- nodes, and the edit of a rule's arguments (buildozer README, edit commands; the failures are this project's own rule).
 -- Begin with `with_args`, `slot_done` and `done`.
 use Rattle.std.specs.Prelude.{ℕ, List, [], ◌∷◌, ◌++◌, Bool, true, false, ◌&&◌, not, if◌then◌else◌, Option, Some, None, is_some, filter, codes, option_and_then}
-use Rattle.std.specs.List.{list_any}
+use Rattle.std.specs.List.{list_any, list_all}
 use Rattle.bz_token.specs.declared.token.Kind.TheVariants.{Identifier, Operator, String}
-use Rattle.bz_tree.specs.declared.stmt.GroupKind.TheVariants.{RuleCall, List as ListKind}
+use Rattle.bz_tree.specs.declared.tree.GroupKind.TheVariants.{RuleCall, List as ListKind}
 use Rattle.bz_token.specs.Common.{is_empty, map_or}
 use Rattle.bz_tree.specs.Tree.{Item, leaf, group, Segment, Statement, segs_of}
 use Rattle.bz_command.specs.Labels.{Package}
@@ -12,7 +12,7 @@ use Rattle.bz_command.specs.Values.{quoted}
 use Rattle.bz_command.specs.declared.arguments.Moved.{Moved}
 use Rattle.bz_command.specs.declared.arguments.Moved.TheVariants.{All, Values}
 use Rattle.bz_attribute.specs.Rules.{Rule, rule_of, elements, is_named, value}
-use Rattle.bz_attribute.specs.Lists.{with_value, parts, edit_parts, is_list, is_only, equals}
+use Rattle.bz_attribute.specs.Lists.{with_value, parts, edit_parts, is_list, is_only, equals, edit_list, is_joint, is_part, is_plus}
 use Rattle.bz_attribute.specs.declared.done.Done.{Done}
 use Rattle.bz_attribute.specs.declared.done.Note.{Note}
 use Rattle.bz_attribute.specs.declared.done.Note.TheVariants.{Missing, NoAttribute, NotAList}
@@ -35,6 +35,20 @@ has attr args = list_any (is_named attr) args
 abbrev pub edit_first : (Segment → Bool) → (Segment → List Segment) → List Segment → List Segment
 edit_first p f [] = []
 edit_first p f (a ∷ rest) = if p a then f a ++ rest else a ∷ edit_first p f rest
+
+-- in the list parts of a value, the first element that passes is edited
+abbrev pub edit_element_from : (Segment → Bool) → (Segment → Segment) → Bool → List Item → List Item
+edit_element_from p f start [] = []
+edit_element_from p f start (x ∷ xs) =
+    if is_part start x xs && list_any p (elements x) then edit_list (edit_first p (λ s. f s ∷ [])) x ∷ xs
+    else x ∷ edit_element_from p f (is_plus x) xs
+
+abbrev pub edit_element : (Segment → Bool) → (Segment → Segment) → List Item → List Item
+edit_element p f nodes = if list_all is_joint nodes then edit_element_from p f true nodes else nodes
+
+-- it becomes the last of the comment lines before the thing
+abbrev pub with_comment : List ℕ → Segment → Segment
+with_comment line s = record s { before = s.before ++ line ∷ [] }
 
 -- the elements that a command means: all, or those that equal one of its values
 abbrev pub is_chosen : Package → Moved → Segment → Bool

@@ -1,6 +1,6 @@
 -- Where the kind of a rule stands among its parts, and what becomes of the rule where others are written there.
 use Rattle.std.specs.Prelude.{◌≡◌, ◌≤◌, ℕ, ◌+◌, List, [], ◌∷◌, ◌++◌, length, map, take, drop}
-use Rattle.bz_tree.specs.declared.stmt.GroupKind.TheVariants.{RuleCall}
+use Rattle.bz_tree.specs.declared.tree.GroupKind.TheVariants.{RuleCall}
 use Rattle.bz_tree.specs.Tree.{Item, Statement, items_of}
 use Rattle.bz_tree.specs.Rows.{RowPart, opening, above, items_parts, parts_of}
 use Rattle.bz_attribute.specs.Rules.{Rule}

@@ -1,5 +1,3 @@
-pub mod Add
-pub mod Comment
 pub mod Effects
 pub mod Elements
 pub mod Finder
@@ -8,13 +6,8 @@ pub mod Heads
 pub mod KindPlaces
 pub mod Lists
 pub mod Marks
-pub mod Move
-pub mod Remove
-pub mod Rename
-pub mod Replace
 pub mod Rules
 pub mod RowEdits
 pub mod RowPlaces
-pub mod Set
 pub mod Texts
 pub mod private

@@ -4,7 +4,7 @@
 use Rattle.std.specs.Prelude.{ℕ, List, [], ◌∷◌, ◌++◌, Bool, true, false, ◌&&◌, if◌then◌else◌, Option, Some, None, codes, drop, bytes_eq, find, option_and_then}
 use Rattle.std.specs.List.{flat_map}
 use Rattle.bz_token.specs.declared.token.Kind.TheVariants.{Identifier, String, Operator}
-use Rattle.bz_tree.specs.declared.stmt.GroupKind.TheVariants.{RuleCall}
+use Rattle.bz_tree.specs.declared.tree.GroupKind.TheVariants.{RuleCall}
 use Rattle.bz_tree.specs.Tree.{Item, leaf, group, Segment, segments}
 use Rattle.bz_command.specs.Values.{value_of}
 

@@ -3,7 +3,7 @@
 ghost use Rattle.std.specs.Prelude.{◌≡◌, ◌++◌, ◌∷◌, [], false, List, map, IfOk};
 ghost use Rattle.bz_tree.specs.Tree.{Segment, segs_of};
 ghost use Rattle.bz_tree.specs.View.{node_view, segs_view};
-ghost use Rattle.bz_tree.specs.declared.stmt.GroupKind.TheVariants.{List as ListKind};
+ghost use Rattle.bz_tree.specs.declared.tree.GroupKind.TheVariants.{List as ListKind};
 ghost use Rattle.bz_attribute.specs.Rules.{elements};
 ghost use Rattle.bz_tree.specs.Rows.{closing, opening, part_view, segs_parts};
 

@@ -5,8 +5,8 @@ use Rattle.std.proofs.Math.Seq.{drop-append_seam, take-append_seam}
 use Rattle.bz_tree.specs.Tree.{Segment, Statement, items_of, segs_of}
 use Rattle.bz_tree.specs.Rows.{RowPart, segment_end, above, beside_part, items_parts, segs_parts, parts_of}
 use Rattle.bz_attribute.specs.Rules.{Rule, first_named, is_named}
-use Rattle.bz_attribute.specs.Effects.{edit_first, has, nodes_after, with_args}
-use Rattle.bz_attribute.specs.Comment.{comment_attribute, comment_line, with_comment}
+use Rattle.bz_attribute.specs.Effects.{edit_first, has, nodes_after, with_args, with_comment}
+use Rattle.bz_attribute_commands.specs.Comment.{comment_attribute, comment_line}
 use Rattle.bz_attribute.specs.Finder.{find_from}
 use Rattle.bz_attribute.specs.RowPlaces.{IsRuleRow}
 use Rattle.bz_attribute.proofs.RuleNodes.{rule_nodes}

@@ -6,8 +6,8 @@ use Rattle.std.proofs.lemmas.Bool.Decides.{nat_tests}
 use Rattle.bz_tree.specs.Rows.{RowPart, above, parts_of}
 use Rattle.bz_tree.specs.Tree.{Item, Segment, Statement}
 use Rattle.bz_command.specs.Labels.{Package}
-use Rattle.bz_attribute.specs.Comment.{comment_element, comment_line, comment_note, comment_value, edit_element, is_blank, trimmed, with_comment}
-use Rattle.bz_attribute.specs.Effects.{done, edit_first, has, with_args}
+use Rattle.bz_attribute_commands.specs.Comment.{comment_element, comment_line, comment_note, comment_value, is_blank, trimmed}
+use Rattle.bz_attribute.specs.Effects.{done, edit_first, has, with_args, edit_element, with_comment}
 use Rattle.bz_attribute.specs.Elements.{IsFirstEqual, IsListIn, IsValueAt, elements_left}
 use Rattle.bz_attribute.specs.Lists.{equals, parts}
 use Rattle.bz_attribute.specs.RowPlaces.{IsRuleRow}

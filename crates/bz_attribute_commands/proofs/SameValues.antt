@@ -5,7 +5,7 @@ use Rattle.bz_tree.specs.Tree.{Item, Segment}
 use Rattle.bz_tree.specs.Rows.{RowPart}
 use Rattle.bz_attribute.specs.Elements.{IsElementOf, IsOnlyList, ListRest, rest_parts}
 use Rattle.bz_attribute.specs.Rules.{elements, is_text, string_value}
-use Rattle.bz_attribute.specs.Set as spec
+use Rattle.bz_attribute_commands.specs.Set as spec
 use Rattle.bz_attribute.proofs.Views.{segments_of}
 use Rattle.bz_attribute_commands.specs.private.ValueParts.{HasMatched}
 use Rattle.bz_command.specs.Values.{value_of}

@@ -9,7 +9,7 @@ use Rattle.bz_attribute.specs.Lists.{with_value, is_list, is_only}
 use Rattle.bz_attribute.specs.RowEdits.{replaced_at}
 use Rattle.bz_attribute.specs.RowPlaces.{IsLocal, IsPlaceOf, IsRuleRow, alone}
 use Rattle.bz_attribute.specs.Rules.{Rule, first_named, is_named, rule_of, value}
-use Rattle.bz_attribute.specs.Set.{New, is_value, new_of, new_value, set, set_if_absent, set_in, sets}
+use Rattle.bz_attribute_commands.specs.Set.{New, is_value, new_of, new_value, set, set_if_absent, set_in, sets}
 use Rattle.bz_attribute.specs.declared.place.Place.{Place}
 use Rattle.bz_attribute.proofs.EditedAt.{none_first, with_args_at}
 use Rattle.bz_attribute.proofs.Locals.{edits_one, is_there, kept_first}

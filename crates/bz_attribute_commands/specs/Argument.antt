@@ -1,12 +1,12 @@
 -- The text of a new argument of a rule, on lines of its own.
 use Rattle.std.specs.Prelude.{ℕ, List, [], ◌∷◌, ◌++◌, true, codes, None}
-use Rattle.bz_tree.specs.declared.stmt.GroupKind.TheVariants.{RuleCall}
+use Rattle.bz_tree.specs.declared.tree.GroupKind.TheVariants.{RuleCall}
 use Rattle.bz_tree.specs.Tree.{Segment, segs_of}
 use Rattle.bz_layout.specs.declared.broken.Style.TheVariants.{Broken}
 use Rattle.bz_layout.specs.Layout.{broken_segs}
 use Rattle.bz_layout.specs.Pieces.{bytes_of}
 use Rattle.bz_attribute.specs.Effects.{argument}
-use Rattle.bz_attribute.specs.Set.{new_of, new_value}
+use Rattle.bz_attribute_commands.specs.Set.{new_of, new_value}
 
 abbrev pub argument_lines : Segment → List ℕ
 argument_lines arg = bytes_of (broken_segs Broken 1 RuleCall true (segs_of (arg ∷ [])))

@@ -2,7 +2,7 @@
 
 ghost use Rattle.std.specs.Prelude.{◌≡◌, ◌++◌, IfOk, IsFalse, IsTrue, OnOk};
 ghost use Rattle.bz_attribute.specs.Effects.{argument};
-ghost use Rattle.bz_attribute.specs.Set.{new_value};
+ghost use Rattle.bz_attribute_commands.specs.Set.{new_value};
 ghost use Rattle.bz_attribute_commands.specs.Argument.{argument_line, argument_lines, new_argument};
 ghost use Rattle.bz_attribute_commands.specs.private.SetViews.{new_view};
 

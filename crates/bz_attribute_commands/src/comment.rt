@@ -2,7 +2,7 @@
 
 ghost use Rattle.std.specs.Prelude.{◌≡◌, string_bytes, IfOk};
 ghost use Rattle.bz_attribute_commands.specs.private.CommentTexts as text;
-ghost use Rattle.bz_attribute.specs.Comment as spec;
+ghost use Rattle.bz_attribute_commands.specs.Comment as spec;
 
 use bz_memory::{NoMemory, from_str, push_str};
 use std::alloc::Global;

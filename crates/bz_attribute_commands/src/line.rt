@@ -3,7 +3,7 @@
 ghost use Rattle.std.specs.Prelude.{◌≡◌, ◌∷◌, [], IfOk, None, OnOk, map, true};
 ghost use Rattle.bz_tree.specs.Tree.{Statement};
 ghost use Rattle.bz_tree.specs.Rows.{above, part_view, parts_of};
-ghost use Rattle.bz_attribute.specs.Comment as spec;
+ghost use Rattle.bz_attribute_commands.specs.Comment as spec;
 ghost use Rattle.bz_attribute.specs.Effects.{done};
 ghost use Rattle.bz_attribute.specs.RowEdits.{IsRowEdit, IsWithin, replaced_at};
 ghost use Rattle.bz_attribute.specs.RowPlaces.{IsRuleRow};

@@ -5,7 +5,7 @@ ghost use Rattle.bz_tree.specs.Tree.{items_of, segs_of};
 ghost use Rattle.bz_tree.specs.Rows.{items_parts, part_view, segs_parts};
 ghost use Rattle.bz_attribute.specs.Effects.{argument, list_item, string};
 ghost use Rattle.bz_attribute_commands.specs.private.SetViews.{new_view};
-ghost use Rattle.bz_attribute.specs.Set as spec;
+ghost use Rattle.bz_attribute_commands.specs.Set as spec;
 
 use crate::set::{New, new_of};
 use bz_attribute::{Parts, begin_argument, push_element, push_string, push_token};

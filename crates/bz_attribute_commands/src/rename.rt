@@ -3,7 +3,7 @@
 ghost use Rattle.std.specs.Prelude.{IfOk, map, true};
 ghost use Rattle.bz_tree.specs.Rows.{part_view};
 ghost use Rattle.bz_attribute.specs.Effects.{done};
-ghost use Rattle.bz_attribute.specs.Rename as spec;
+ghost use Rattle.bz_attribute_commands.specs.Rename as spec;
 ghost use Rattle.bz_attribute.specs.RowEdits.{IsRowEdit};
 
 use bz_attribute::{Done, Edit, Parts, Place, find_argument};

@@ -6,7 +6,7 @@ ghost use Rattle.bz_tree.specs.Rows.{RowPart, part_view};
 ghost use Rattle.bz_attribute.specs.Elements.{ListRest, OnlyList, rest_parts, value_parts};
 ghost use Rattle.bz_attribute.specs.Rules.{is_text};
 ghost use Rattle.bz_attribute_commands.specs.private.SetViews.{new_view};
-ghost use Rattle.bz_attribute.specs.Set as spec;
+ghost use Rattle.bz_attribute_commands.specs.Set as spec;
 ghost use Rattle.bz_attribute_commands.specs.private.ValueParts as parts;
 ghost use Rattle.bz_command.specs.Values.{value_of};
 

@@ -7,7 +7,7 @@ ghost use Rattle.bz_attribute.specs.RowEdits.{IsRowEdit};
 ghost use Rattle.bz_attribute.specs.Rules.{first_named};
 ghost use Rattle.bz_attribute.specs.Lists as lists;
 ghost use Rattle.bz_attribute.specs.Rules as rules;
-ghost use Rattle.bz_attribute.specs.Set as spec;
+ghost use Rattle.bz_attribute_commands.specs.Set as spec;
 ghost use Rattle.bz_token.specs.Common.{map_or};
 ghost use Rattle.bz_attribute_commands.specs.private.SetViews.{new_view};
 

@@ -6,7 +6,7 @@ ghost use Rattle.bz_tree.specs.Rows.{items_parts, part_view, parts_of};
 ghost use Rattle.bz_attribute.specs.RowEdits.{IsWithin, replaced_at};
 ghost use Rattle.bz_attribute.specs.RowPlaces.{IsRuleRow};
 ghost use Rattle.bz_attribute.specs.Rules.{Rule, kind_text};
-ghost use Rattle.bz_attribute.specs.Set as spec;
+ghost use Rattle.bz_attribute_commands.specs.Set as spec;
 
 use bz_attribute::{Done, Edit, Parts, kind_place};
 use bz_command::cut;

@@ -7,8 +7,8 @@ use Rattle.std.specs.List.{list_any}
 use Rattle.bz_token.specs.Common.{is_empty, map_or}
 use Rattle.bz_token.specs.declared.token.Kind.TheVariants.{Identifier, Operator, String}
 use Rattle.bz_tree.specs.Chunk.{IsStatementIn}
-use Rattle.bz_tree.specs.declared.stmt.Class.TheVariants.{Rule as RuleClass}
-use Rattle.bz_tree.specs.declared.stmt.GroupKind.TheVariants.{List as ListKind, RuleCall}
+use Rattle.bz_tree.specs.declared.tree.Class.TheVariants.{Rule as RuleClass}
+use Rattle.bz_tree.specs.declared.tree.GroupKind.TheVariants.{List as ListKind, RuleCall}
 use Rattle.bz_tree.specs.Tree.{leaf, group, no_items, item, no_segs, seg, Segment, Statement, segments, segs_of}
 use Rattle.bz_layout.specs.declared.broken.Style.TheVariants.{Broken}
 use Rattle.bz_layout.specs.declared.spacing.Gap.TheVariants.{Closed}
@@ -21,7 +21,7 @@ use Rattle.bz_layout_laws.specs.Lineless.{lineless}
 use Rattle.bz_command.specs.Labels.{Package}
 use Rattle.bz_command.specs.Values.{quoted}
 use Rattle.bz_command.specs.declared.arguments.Moved.TheVariants.{Values}
-use Rattle.bz_attribute.specs.Add.{add, adds, new_elements}
+use Rattle.bz_list_commands.specs.Add.{add, adds, new_elements}
 use Rattle.bz_attribute.specs.Effects.{chooses, is_chosen, not_a_list, string}
 use Rattle.bz_attribute.specs.Rules.{first_named, rule_of}
 use Rattle.bz_attribute.proofs.Views.{segments_of}

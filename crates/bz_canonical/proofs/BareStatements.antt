@@ -5,11 +5,11 @@ use Rattle.std.specs.Prelude.{codes, if◌then◌else◌, Option, None, map, nat
 use Rattle.std.proofs.lemmas.Bool.{false≢true}
 use Rattle.bz_token.specs.declared.token.Kind.TheVariants.{Identifier, Keyword, Operator, String}
 use Rattle.bz_token.specs.Lexical.{is_text, keywords, operators}
-use Rattle.bz_tree.specs.declared.stmt.GroupKind.TheVariants.{RuleCall, Load as LoadGroup}
-use Rattle.bz_tree.specs.declared.stmt.Class.TheVariants.{Rule, Load, Assign}
-use Rattle.bz_tree.specs.declared.kinds.Preceding.{Preceding}
-use Rattle.bz_tree.specs.declared.kinds.Preceding.TheVariants.{Other}
-use Rattle.bz_tree.specs.declared.kinds.Shape.TheVariants.{Round}
+use Rattle.bz_tree.specs.declared.tree.GroupKind.TheVariants.{RuleCall, Load as LoadGroup}
+use Rattle.bz_tree.specs.declared.tree.Class.TheVariants.{Rule, Load, Assign}
+use Rattle.bz_tree.specs.declared.tree.kinds.Preceding.{Preceding}
+use Rattle.bz_tree.specs.declared.tree.kinds.Preceding.TheVariants.{Other}
+use Rattle.bz_tree.specs.declared.tree.kinds.Shape.TheVariants.{Round}
 use Rattle.bz_tree.specs.Brackets.{after_item}
 use Rattle.bz_tree.specs.Grammar.{IsTest, IsChain, IsTerm, IsPrimary, IsOperand, IsSuffix, AreSuffixes, IsExpr, IsLoad, IsLoadArg, IsString, IsStatement, is_assignment, operator_role}
 use Rattle.bz_tree.specs.Kinds.{operator_mark}

@@ -8,7 +8,7 @@ use Rattle.std.proofs.lemmas.Bool.Decides.{nat_tests}
 use Rattle.std.proofs.lemmas.List.Folds.{list_any-append}
 use Rattle.bz_token.specs.Common.{is_filled}
 use Rattle.bz_token.specs.declared.token.Kind.TheVariants.{Operator, String}
-use Rattle.bz_tree.specs.declared.stmt.GroupKind.TheVariants.{List as ListKind}
+use Rattle.bz_tree.specs.declared.tree.GroupKind.TheVariants.{List as ListKind}
 use Rattle.bz_layout.specs.Broken.{count, have_comments, is_broken}
 use Rattle.bz_layout.specs.Layout.{breaks, broken_segs, item_pieces}
 use Rattle.bz_layout.specs.Pieces.{Piece, piece, bytes_of, comments, indent, suffix_piece}

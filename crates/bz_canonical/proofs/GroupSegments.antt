@@ -4,8 +4,8 @@ use Rattle.std.specs.Prelude.{codes, nat_le, Option, Some, None, is_some, max}
 use Rattle.std.proofs.lemmas.Bool.Decides.{nat_tests}
 use Rattle.bz_token.specs.declared.token.Kind.TheVariants.{Identifier, Comment, Newline, Operator}
 use Rattle.bz_token.specs.Lexical.{operators, is_text}
-use Rattle.bz_tree.specs.declared.stmt.GroupKind.{GroupKind}
-use Rattle.bz_tree.specs.declared.stmt.GroupKind.TheVariants.{Call, RuleCall, Load, Paren, List as ListKind, Index, Dict, ListComp, DictComp}
+use Rattle.bz_tree.specs.declared.tree.GroupKind.{GroupKind}
+use Rattle.bz_tree.specs.declared.tree.GroupKind.TheVariants.{Call, RuleCall, Load, Paren, List as ListKind, Index, Dict, ListComp, DictComp}
 use Rattle.bz_tree.specs.Grammar.{IsTest, IsChain, IsTerm, IsArg, IsEntry, AreArgs, AreTests, AreEntries, AreLoadArgs}
 use Rattle.std.proofs.lemmas.Bool.{false≢true}
 use Rattle.bz_tree.specs.Statement.{is_call}

@@ -4,10 +4,10 @@ use Rattle.std.specs.Prelude.{if◌then◌else◌, nat_le}
 use Rattle.std.proofs.lemmas.Bool.{false≢true}
 use Rattle.bz_token.specs.declared.token.Kind.{Kind}
 use Rattle.bz_token.specs.declared.token.Kind.TheVariants.{Identifier, Integer, String, Operator}
-use Rattle.bz_tree.specs.declared.stmt.GroupKind.{GroupKind}
-use Rattle.bz_tree.specs.declared.stmt.GroupKind.TheVariants.{List as ListKind, Dict}
-use Rattle.bz_tree.specs.declared.kinds.Shape.TheVariants.{Square, Curly}
-use Rattle.bz_tree.specs.declared.kinds.Preceding.TheVariants.{Other}
+use Rattle.bz_tree.specs.declared.tree.GroupKind.{GroupKind}
+use Rattle.bz_tree.specs.declared.tree.GroupKind.TheVariants.{List as ListKind, Dict}
+use Rattle.bz_tree.specs.declared.tree.kinds.Shape.TheVariants.{Square, Curly}
+use Rattle.bz_tree.specs.declared.tree.kinds.Preceding.TheVariants.{Other}
 use Rattle.bz_tree.specs.Grammar.{IsOperand, IsPrimary, AreSuffixes}
 use Rattle.bz_tree.specs.Kinds.{group_kind}
 use Rattle.bz_tree.specs.Tree.{leaf, group, Segs}

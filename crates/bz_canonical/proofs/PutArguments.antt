@@ -5,9 +5,9 @@ use Rattle.std.proofs.lemmas.Bool.{false≢true}
 use Rattle.std.proofs.lemmas.Bool.Decides.{nat_tests}
 use Rattle.std.proofs.lemmas.List.Folds.{list_any-append}
 use Rattle.bz_token.specs.declared.token.Kind.TheVariants.{Identifier, Operator, String}
-use Rattle.bz_tree.specs.declared.kinds.Preceding.TheVariants.{Other}
-use Rattle.bz_tree.specs.declared.kinds.Shape.TheVariants.{Square}
-use Rattle.bz_tree.specs.declared.stmt.GroupKind.TheVariants.{List as ListKind, RuleCall}
+use Rattle.bz_tree.specs.declared.tree.kinds.Preceding.TheVariants.{Other}
+use Rattle.bz_tree.specs.declared.tree.kinds.Shape.TheVariants.{Square}
+use Rattle.bz_tree.specs.declared.tree.GroupKind.TheVariants.{List as ListKind, RuleCall}
 use Rattle.bz_tree.specs.Grammar.{AreArgs, AreSuffixes, AreTests, IsArg, IsChain, IsOperand, IsPrimary, IsTerm, IsTest}
 use Rattle.bz_token.specs.Lexical.{is_text}
 use Rattle.bz_tree.specs.Comments.{beside}

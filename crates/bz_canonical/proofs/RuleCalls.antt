@@ -8,7 +8,7 @@ use Rattle.std.specs.List.{IsSplitAt}
 use Rattle.bz_token.proofs.Classes.{same_bytes}
 use Rattle.bz_token.specs.declared.token.Kind.TheVariants.{Identifier, String, Operator}
 use Rattle.bz_token.specs.Lexical.{is_text, keywords}
-use Rattle.bz_tree.specs.declared.stmt.GroupKind.TheVariants.{RuleCall}
+use Rattle.bz_tree.specs.declared.tree.GroupKind.TheVariants.{RuleCall}
 use Rattle.bz_tree.specs.Tree.{Item, leaf, group, Items, no_items, item, Segs, no_segs, seg, list_of, segments}
 use Rattle.bz_layout.specs.declared.spacing.Edge.TheVariants.{Start, Operator as EdgeOperator}
 use Rattle.bz_layout.specs.declared.spacing.Gap.{Gap}

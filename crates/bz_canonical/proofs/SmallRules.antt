@@ -4,9 +4,9 @@ use Rattle.std.specs.Prelude.{codes, Some, None}
 use Rattle.std.proofs.lemmas.Bool.{false≢true}
 use Rattle.bz_token.specs.declared.token.Kind.TheVariants.{Comment, Identifier, Newline, Operator}
 use Rattle.bz_token.specs.Lexical.{is_text, keywords}
-use Rattle.bz_tree.specs.declared.kinds.Shape.TheVariants.{Round}
-use Rattle.bz_tree.specs.declared.stmt.Class.TheVariants.{Rule as RuleClass}
-use Rattle.bz_tree.specs.declared.stmt.GroupKind.TheVariants.{RuleCall}
+use Rattle.bz_tree.specs.declared.tree.kinds.Shape.TheVariants.{Round}
+use Rattle.bz_tree.specs.declared.tree.Class.TheVariants.{Rule as RuleClass}
+use Rattle.bz_tree.specs.declared.tree.GroupKind.TheVariants.{RuleCall}
 use Rattle.bz_tree.specs.Chunk.{IsStatementIn}
 use Rattle.bz_tree.specs.Grammar.{IsStatement, IsExpr, IsTest, IsChain, IsTerm, IsPrimary, IsOperand, AreSuffixes, IsSuffix}
 use Rattle.bz_tree.specs.Tree.{Item, leaf, group, Segment, Statement, items_of, segs_of}

@@ -3,8 +3,8 @@ use Rattle.std.proofs.Common.{◌≡◌, ◌≢◌, ℕ, List, [], ◌∷◌, �
 use Rattle.std.specs.Prelude.{codes, if◌then◌else◌, Option, None}
 use Rattle.std.proofs.lemmas.Bool.{false≢true}
 use Rattle.bz_token.specs.declared.token.Kind.TheVariants.{Newline}
-use Rattle.bz_tree.specs.declared.stmt.Class.{Class}
-use Rattle.bz_tree.specs.declared.stmt.Class.TheVariants.{Comment}
+use Rattle.bz_tree.specs.declared.tree.Class.{Class}
+use Rattle.bz_tree.specs.declared.tree.Class.TheVariants.{Comment}
 use Rattle.bz_tree.specs.Grammar.{IsStatement}
 use Rattle.bz_tree.specs.Tree.{Item, items_of}
 use Rattle.bz_layout.specs.declared.spacing.Edge.TheVariants.{Start}

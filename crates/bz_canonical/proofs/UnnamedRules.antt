@@ -5,9 +5,9 @@ use Rattle.std.specs.Prelude.{codes, if◌then◌else◌, IfSome, Option, None, 
 use Rattle.std.proofs.lemmas.Bool.{false≢true}
 use Rattle.bz_token.specs.declared.token.Kind.TheVariants.{Identifier, Operator}
 use Rattle.bz_token.specs.Common.{is_empty}
-use Rattle.bz_tree.specs.declared.stmt.Class.TheVariants.{Rule as RuleClass}
-use Rattle.bz_tree.specs.declared.stmt.GroupKind.{GroupKind}
-use Rattle.bz_tree.specs.declared.stmt.GroupKind.TheVariants.{RuleCall}
+use Rattle.bz_tree.specs.declared.tree.Class.TheVariants.{Rule as RuleClass}
+use Rattle.bz_tree.specs.declared.tree.GroupKind.{GroupKind}
+use Rattle.bz_tree.specs.declared.tree.GroupKind.TheVariants.{RuleCall}
 use Rattle.bz_tree.specs.Tree.{Item, leaf, group, Items, no_items, item, Segs, no_segs, seg, Segment, Statement, list_of, segments, segs_of}
 use Rattle.bz_layout.specs.Broken.{holds_broken, is_broken, items_hold, segs_hold}
 use Rattle.bz_layout.specs.Layout.{closing, flat_segs, item_pieces, items_pieces, opening}

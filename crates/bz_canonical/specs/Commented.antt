@@ -3,8 +3,7 @@
 use Rattle.std.specs.Prelude.{◌≡◌, ℕ, List, [], ◌∷◌, true, false}
 use Rattle.bz_token.specs.Common.{is_empty}
 use Rattle.bz_tree.specs.Tree.{Segment}
-use Rattle.bz_attribute.specs.Comment.{with_comment}
-use Rattle.bz_attribute.specs.Effects.{edit_first, has}
+use Rattle.bz_attribute.specs.Effects.{edit_first, has, with_comment}
 use Rattle.bz_attribute.specs.Rules.{is_named}
 use Rattle.bz_canonical.specs.Canonical.{AreReadAlone, argument_lines}
 

@@ -1,7 +1,7 @@
 //! A load statement that stands as it would be written.
 
 ghost use Rattle.std.specs.Prelude.{IfSome, false};
-ghost use Rattle.bz_tree.specs.declared.stmt.GroupKind.TheVariants.{Load};
+ghost use Rattle.bz_tree.specs.declared.tree.GroupKind.TheVariants.{Load};
 ghost use Rattle.bz_canonical.specs.private.Segments.{IsSegmentFront};
 ghost use Rattle.bz_canonical.specs.private.Statements.{IsLoadFront};
 

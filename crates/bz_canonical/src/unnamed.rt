@@ -1,8 +1,8 @@
 //! A rule without a name whose only argument stands in place.
 
 ghost use Rattle.std.specs.Prelude.{◌≡◌, ◌<◌, ◌-◌, ◌∷◌, ◌++◌, ℕ, List, codes, length, take, option_map, drop, IfOk, IfSome, OnOk, [], false, None, Some};
-ghost use Rattle.bz_tree.specs.declared.stmt.Class.TheVariants.{Rule as RuleClass};
-ghost use Rattle.bz_tree.specs.declared.stmt.GroupKind.TheVariants.{RuleCall};
+ghost use Rattle.bz_tree.specs.declared.tree.Class.TheVariants.{Rule as RuleClass};
+ghost use Rattle.bz_tree.specs.declared.tree.GroupKind.TheVariants.{RuleCall};
 ghost use Rattle.bz_canonical.specs.Canonical.{IsCanonical, between};
 ghost use Rattle.bz_canonical.specs.private.Segments.{IsSegmentFront};
 ghost use Rattle.bz_canonical.specs.private.Unnamed.{IsStatementEnd, IsUnnamedRule};

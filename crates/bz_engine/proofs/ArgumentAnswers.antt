@@ -14,8 +14,8 @@ use Rattle.bz_command.specs.Values.{quoted}
 use Rattle.bz_attribute.specs.declared.done.Done.{Done}
 use Rattle.bz_attribute.specs.Effects.{chooses, done, is_chosen, slot_done, with_args}
 use Rattle.bz_attribute.specs.Lists.{equals, parts}
-use Rattle.bz_attribute.specs.Remove.{removes}
-use Rattle.bz_attribute.specs.Replace.{is_replaced, replaces, replaces_in}
+use Rattle.bz_list_commands.specs.Remove.{removes}
+use Rattle.bz_list_commands.specs.Replace.{is_replaced, replaces, replaces_in}
 use Rattle.bz_attribute.specs.RowPlaces.{LooksAt}
 use Rattle.bz_attribute.specs.Rules.{Rule, first_named, is_text, rule_of, string_value, value}
 use Rattle.std.specs.List.{list_any}

@@ -3,7 +3,7 @@ use Rattle.std.proofs.Common.{◌≡◌, ℕ, List, [], ◌∷◌, ◌++◌, sym
 use Rattle.std.specs.Prelude.{None, Some, Ok, if◌then◌else◌}
 use Rattle.bz_token.specs.Places.{line_at}
 use Rattle.bz_tree.specs.Tree.{Statement}
-use Rattle.bz_tree.specs.declared.stmt.Class.{Class}
+use Rattle.bz_tree.specs.declared.tree.Class.{Class}
 use Rattle.bz_passes.specs.Exchange.{IsLeftBy, IsPassedBy, slot_after}
 use Rattle.bz_engine.specs.Language.{meaning, changes, fails_on}
 use Rattle.bz_engine.specs.File.{Gives}

@@ -2,8 +2,8 @@
 use Rattle.std.proofs.Common.{◌≡◌, ℕ, Bool, true, false, ◌||◌, List, [], ◌∷◌, ◌++◌, length, refl, sym, ◌∙◌, ap, subst, append-nil}
 use Rattle.bz_passes.specs.declared.entry.Entry.TheVariants.{Line}
 use Rattle.std.specs.Prelude.{Option, None, Some, if◌then◌else◌, map, option_to_list}
-use Rattle.bz_tree.specs.declared.stmt.Class.{Class}
-use Rattle.bz_tree.specs.declared.stmt.Class.TheVariants.{Rule as RuleClass}
+use Rattle.bz_tree.specs.declared.tree.Class.{Class}
+use Rattle.bz_tree.specs.declared.tree.Class.TheVariants.{Rule as RuleClass}
 use Rattle.bz_tree.specs.Statement.{class_of}
 use Rattle.bz_tree.specs.Tree.{Statement}
 use Rattle.bz_command.specs.Labels.{Package, Target}

@@ -6,7 +6,7 @@ use Rattle.bz_command.specs.Labels.{Package}
 use Rattle.bz_command.specs.declared.arguments.Commented.TheVariants.{Attribute, Value}
 use Rattle.bz_attribute.specs.declared.done.Done.{Done}
 use Rattle.bz_attribute.specs.declared.done.Note.TheVariants.{NoAttribute}
-use Rattle.bz_attribute.specs.Comment.{comment_note}
+use Rattle.bz_attribute_commands.specs.Comment.{comment_note}
 use Rattle.bz_attribute.specs.Effects.{done, is_absent}
 use Rattle.bz_attribute.specs.Rules.{Rule, first_named, kind_text, name_in, rule_of}
 use Rattle.bz_attribute.specs.Texts.{home_text, shown_text}

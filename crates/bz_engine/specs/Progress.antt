@@ -3,7 +3,7 @@ use Rattle.std.specs.Prelude.{◌≡◌, ℕ, Bool, if◌then◌else◌, List, [
 use Rattle.std.specs.List.{concat}
 use Rattle.bz_token.specs.Places.{line_at}
 use Rattle.bz_tree.specs.Tree.{Statement}
-use Rattle.bz_tree.specs.declared.stmt.Class.{Class}
+use Rattle.bz_tree.specs.declared.tree.Class.{Class}
 use Rattle.bz_layout.specs.Gaps.{lines_before, gap_text}
 use Rattle.bz_layout.specs.Layout.{layout_text}
 use Rattle.bz_command.specs.Labels.{Package}

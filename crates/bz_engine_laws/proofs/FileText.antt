@@ -1,7 +1,7 @@
 -- The text of statements is read as a file.
 use Rattle.std.proofs.Common.{◌≡◌, ℕ, List, [], ◌∷◌, ◌++◌, map, refl, sym, ap, append-nil, subst, ◌∙◌, inl, inr, arith}
-use Rattle.bz_tree.specs.declared.stmt.Class.TheVariants.{Comment, Block}
-use Rattle.bz_tree.specs.declared.stmt.Class.{Class}
+use Rattle.bz_tree.specs.declared.tree.Class.TheVariants.{Comment, Block}
+use Rattle.bz_tree.specs.declared.tree.Class.{Class}
 use Rattle.std.specs.Prelude.{codes, Option, None, Some, Ok, zero, suc, replicate}
 use Rattle.std.specs.List.{AllByRecursion}
 use Rattle.std.specs.Str.{IsUtf8}

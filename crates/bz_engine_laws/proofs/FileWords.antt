@@ -9,9 +9,9 @@ use Rattle.bz_token.specs.Reading.{AreTokensOf}
 use Rattle.bz_token.specs.declared.token.Kind.{Kind}
 use Rattle.bz_token.specs.declared.token.Kind.TheVariants.{Identifier, Keyword, Integer, String, Operator, Newline as NewlineToken, Comment as CommentToken, Kept}
 use Rattle.bz_token.proofs.OneFault.{one_tokens}
-use Rattle.bz_tree.specs.declared.kinds.Mark.{Mark}
-use Rattle.bz_tree.specs.declared.kinds.Mark.TheVariants.{Open, Close, Comma, Comment as Remark, Newline, Plain}
-use Rattle.bz_tree.specs.declared.stmt.Class.TheVariants.{Block}
+use Rattle.bz_tree.specs.declared.tree.kinds.Mark.{Mark}
+use Rattle.bz_tree.specs.declared.tree.kinds.Mark.TheVariants.{Open, Close, Comma, Comment as Remark, Newline, Plain}
+use Rattle.bz_tree.specs.declared.tree.Class.TheVariants.{Block}
 use Rattle.bz_tree.specs.Brackets.{without_lines}
 use Rattle.bz_tree.specs.Chunk.{IsOneOf}
 use Rattle.bz_tree.specs.Kinds.{operator_mark}

@@ -5,9 +5,9 @@ use Rattle.std.specs.Str.{is_utf8, chars}
 use lib.Utf8.{encode}
 use Rattle.bz_token.specs.declared.token.Kind.TheVariants.{Identifier, String, Operator, Kept}
 use Rattle.bz_token.specs.Lexical.{keywords}
-use Rattle.bz_tree.specs.declared.stmt.Class.{Class}
-use Rattle.bz_tree.specs.declared.stmt.Class.TheVariants.{Rule, Block}
-use Rattle.bz_tree.specs.declared.stmt.GroupKind.TheVariants.{RuleCall}
+use Rattle.bz_tree.specs.declared.tree.Class.{Class}
+use Rattle.bz_tree.specs.declared.tree.Class.TheVariants.{Rule, Block}
+use Rattle.bz_tree.specs.declared.tree.GroupKind.TheVariants.{RuleCall}
 use Rattle.bz_tree.specs.Tree.{Item, leaf, group, Statement, segs_of}
 use Rattle.bz_rule.specs.declared.command.Action.TheVariants.{Add, Delete}
 use Rattle.bz_command.specs.Labels.{Package, Name, All}

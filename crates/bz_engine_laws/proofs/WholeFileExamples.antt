@@ -12,7 +12,7 @@ use Rattle.bz_token.specs.Reading.{Piece, AreTokensOf}
 use Rattle.bz_token.specs.UpToFault.{IsReadAs as IsReadUpTo}
 use Rattle.bz_token.proofs.Stops.{token_ended}
 use Rattle.bz_tree.specs.declared.fault.ParseFault.TheVariants.{Lex}
-use Rattle.bz_tree.specs.declared.stmt.Class.TheVariants.{Comment, Other}
+use Rattle.bz_tree.specs.declared.tree.Class.TheVariants.{Comment, Other}
 use Rattle.bz_tree.specs.Brackets.{leaf_of, single, no_elems, elem}
 use Rattle.bz_tree.specs.Chunk.{IsReadAs}
 use Rattle.bz_tree.specs.Grammar.{comments, expression, last_test, plain, single as one_term, primary, operand, ident, no_suffix}

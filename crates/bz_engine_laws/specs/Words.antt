@@ -1,7 +1,7 @@
 -- The words of a file: tokens in their order but for commas, comments and newlines; and words as they are written.
 use Rattle.std.specs.Prelude.{◌≡◌, List}
 use Rattle.std.specs.List.{flat_map, AllByRecursion}
-use Rattle.bz_tree.specs.declared.stmt.Class.TheVariants.{Block}
+use Rattle.bz_tree.specs.declared.tree.Class.TheVariants.{Block}
 use Rattle.bz_tree.specs.Tree.{Statement}
 use Rattle.bz_tree_laws.specs.Words.{Word, words_of}
 use Rattle.bz_layout.specs.Respell.{respell}

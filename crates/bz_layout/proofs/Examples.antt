@@ -2,8 +2,8 @@
 use Rattle.std.specs.Prelude.{◌≡◌, ℕ, List, [], ◌∷◌, true, false, codes, refl}
 use Rattle.std.specs.Prelude.Option.{Some, None}
 use Rattle.bz_token.specs.declared.token.Kind.TheVariants.{Identifier, Keyword, Integer, String, Operator, Kept}
-use Rattle.bz_tree.specs.declared.stmt.GroupKind.TheVariants.{Call, RuleCall, Paren, List as ListKind, Index, Dict}
-use Rattle.bz_tree.specs.declared.stmt.Class.TheVariants.{Load, Assign, Rule, Comment, Block}
+use Rattle.bz_tree.specs.declared.tree.GroupKind.TheVariants.{Call, RuleCall, Paren, List as ListKind, Index, Dict}
+use Rattle.bz_tree.specs.declared.tree.Class.TheVariants.{Load, Assign, Rule, Comment, Block}
 use Rattle.bz_tree.specs.Tree.{Item, leaf, group, Segment, Statement, segs_of}
 use Rattle.bz_layout.specs.Layout.{layout, layout_text, flat_text}
 use Rattle.bz_layout.specs.Lines.{text_line, lines_of}

@@ -2,7 +2,7 @@
 use Rattle.std.proofs.Common.{◌≡◌, codes, bytes_eq, ℕ, ◌+◌, ◌-◌, List, [], ◌∷◌, ◌++◌, map, Bool, true, false, not, ◌||◌, if◌then◌else◌, inl, inr, Option, Some, None, refl, ap, ◌∙◌, append_assoc, append-nil, arith}
 use Rattle.std.proofs.lemmas.Bool.{cases_Bool}
 use Rattle.bz_token.specs.declared.token.Kind.TheVariants.{Operator}
-use Rattle.bz_tree.specs.declared.stmt.GroupKind.{GroupKind}
+use Rattle.bz_tree.specs.declared.tree.GroupKind.{GroupKind}
 use Rattle.bz_tree.specs.Tree.{Item, leaf, group, Items, no_items, item, Segs, no_segs, seg}
 use Rattle.bz_tree.specs.Rows.{RowPart, opening, closing, segment_end, above, beside_part, item_parts, items_parts, segs_parts}
 use Rattle.bz_layout.specs.declared.marks.BracketForm.{BracketForm}
@@ -21,7 +21,7 @@ use Rattle.bz_layout.specs.private.RowLayout.{Laid, gap_for, run, whole, first_f
 use Rattle.bz_layout.proofs.Rules.{gap_is}
 use Rattle.bz_layout.proofs.Pieces.{bytes_append}
 use Rattle.bz_layout.proofs.Scans.{mark_as, item_marks, items_marks, segs_marks}
-use Rattle.bz_tree.proofs.FromParts.{segs_joined, seg_joined}
+use Rattle.bz_tree.proofs.Rows.FromParts.{segs_joined, seg_joined}
 
 abbrev pub at : List ℕ → List BracketForm → List OpenBracket → OpenBracket → Edge → ℕ → Laid
 at text marks outer here left level = record { text = text; marks = marks; outer = outer; here = here; left = left; level = level }

@@ -2,8 +2,8 @@
 use Rattle.std.proofs.Common.{◌≡◌, ℕ, suc, List, [], ◌∷◌, ◌++◌, map, Bool, true, false, ◌||◌, is_some, nat_le, Option, Some, None, refl, ap, sym, ◌∙◌, append_assoc, arith}
 use Rattle.std.proofs.Math.Bool.{or_assoc, or_comm, or-false}
 use Rattle.std.proofs.lemmas.Bool.Decides.{nat_tests}
-use Rattle.bz_tree.specs.declared.stmt.GroupKind.{GroupKind}
-use Rattle.bz_tree.specs.declared.stmt.GroupKind.TheVariants.{RuleCall, Paren, List as ListKind, Dict}
+use Rattle.bz_tree.specs.declared.tree.GroupKind.{GroupKind}
+use Rattle.bz_tree.specs.declared.tree.GroupKind.TheVariants.{RuleCall, Paren, List as ListKind, Dict}
 use Rattle.bz_tree.specs.Tree.{Item, leaf, group, Items, no_items, item, Segs, no_segs, seg}
 use Rattle.bz_tree.specs.Rows.{RowPart, closing, segment_end, above, beside_part, item_parts, items_parts, segs_parts}
 use Rattle.bz_layout.specs.declared.marks.BracketForm.{BracketForm}
@@ -12,7 +12,7 @@ use Rattle.bz_layout.specs.Broken.{count, have_comments, breaks_by_count, is_bro
 use Rattle.bz_layout.specs.Layout.{has_commas}
 use Rattle.bz_layout.specs.private.RowLayout.{Scan, closed, one_more, mark_of, breaks_with, holding, below, opened_back, scan}
 use Rattle.bz_token.specs.Common.{is_filled}
-use Rattle.bz_tree.proofs.FromParts.{segs_joined, seg_joined}
+use Rattle.bz_tree.proofs.Rows.FromParts.{segs_joined, seg_joined}
 
 -- the mark of a group, and those in an item
 abbrev pub mark_as : Bool → GroupKind → Segs → Bool → BracketForm

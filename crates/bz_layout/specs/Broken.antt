@@ -1,8 +1,8 @@
 -- Which groups are broken over lines (this project's own rule).
 -- Begin with `is_broken`.
 use Rattle.std.specs.Prelude.{ℕ, suc, List, Bool, false, ◌&&◌, ◌||◌, is_some, nat_le}
-use Rattle.bz_tree.specs.declared.stmt.GroupKind.{GroupKind}
-use Rattle.bz_tree.specs.declared.stmt.GroupKind.TheVariants.{RuleCall, List as ListKind, Dict}
+use Rattle.bz_tree.specs.declared.tree.GroupKind.{GroupKind}
+use Rattle.bz_tree.specs.declared.tree.GroupKind.TheVariants.{RuleCall, List as ListKind, Dict}
 use Rattle.bz_tree.specs.Tree.{Item, leaf, group, Items, no_items, item, Segs, no_segs, seg}
 use Rattle.bz_token.specs.Common.{is_filled}
 

@@ -2,8 +2,8 @@
 -- Begin with `lines_between` and `gap_text`.
 use Rattle.std.specs.Prelude.{ℕ, List, replicate, Option}
 use Rattle.std.specs.Prelude.Option.{Some, None}
-use Rattle.bz_tree.specs.declared.stmt.Class.{Class}
-use Rattle.bz_tree.specs.declared.stmt.Class.TheVariants.{Load, Assign}
+use Rattle.bz_tree.specs.declared.tree.Class.{Class}
+use Rattle.bz_tree.specs.declared.tree.Class.TheVariants.{Load, Assign}
 
 -- how many between two: one, but none between two loads and none between two assignments
 abbrev pub lines_between : Class → Class → ℕ

@@ -11,7 +11,7 @@ use Rattle.bz_tree.specs.Brackets.{without_lines, end_line}
 use Rattle.bz_tree.specs.Chunk.{IsOneOf, IsChunkOf, IsReadAs, IsStatementIn, indent_at, indent_fault}
 use Rattle.bz_tree.specs.Statement.{last_of, first_token, first_seen, last_seen}
 use Rattle.bz_tree.specs.Tree.{Statement}
-use Rattle.bz_tree.proofs.Sound.{none_is_some}
+use Rattle.bz_tree.proofs.Trees.Sound.{none_is_some}
 use Rattle.bz_tree_laws.proofs.ChunkLaws.{chunk_same}
 use Rattle.bz_layout.specs.Layout.{layout_text}
 use Rattle.bz_layout_laws.specs.BlockIn.{IsBlockIn}

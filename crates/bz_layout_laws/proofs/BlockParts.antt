@@ -9,7 +9,7 @@ use Rattle.bz_token.specs.Reading.{Piece, bytes_of, token_of, tokens_of}
 use Rattle.bz_token.proofs.Progress.{column_from-append, lines_of}
 use Rattle.bz_token.specs.TokenLines.{is_newline_piece}
 use Rattle.bz_tree.specs.Statement.{is_aside, bare_tokens}
-use Rattle.bz_tree.proofs.Sound.{none_is_some}
+use Rattle.bz_tree.proofs.Trees.Sound.{none_is_some}
 use Rattle.bz_layout_laws.proofs.BlockTokens.{all_shown, are_aside}
 use Rattle.bz_layout_laws.proofs.BlockEnds.{are_newlines}
 use Rattle.bz_layout_laws.proofs.Unlined.{line_aside}

@@ -13,7 +13,7 @@ use Rattle.bz_token.proofs.Stops.{newline_stops}
 use Rattle.bz_token_laws.specs.Readable.{are_texts, are_ended, are_fitting}
 use Rattle.bz_token.specs.TokenLines.{is_newline_piece}
 use Rattle.bz_token_laws.proofs.Readable.{texts_join, ended_join, fitting_join, open_join}
-use Rattle.bz_tree.specs.declared.stmt.Class.TheVariants.{Comment}
+use Rattle.bz_tree.specs.declared.tree.Class.TheVariants.{Comment}
 use Rattle.bz_tree.specs.Statement.{is_aside}
 use Rattle.bz_tree.specs.Tree.{Statement}
 use Rattle.bz_layout.specs.Pieces.{comment_lines}

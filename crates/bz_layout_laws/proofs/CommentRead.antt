@@ -5,7 +5,7 @@ use Rattle.bz_token.specs.Places.{Placed, line_at}
 use Rattle.bz_token.specs.Reading.{Piece, tokens_of, token_of}
 use Rattle.bz_tree.specs.Brackets.{is_line as is_line_mark, elems_own, without_lines}
 use Rattle.bz_tree.specs.Chunk.{IsOneOf, IsPlain, IsStatementIn, indent_at}
-use Rattle.bz_tree.specs.declared.kinds.Preceding.TheVariants.{Other}
+use Rattle.bz_tree.specs.declared.tree.kinds.Preceding.TheVariants.{Other}
 use Rattle.bz_tree.specs.Grammar.{IsStatement}
 use Rattle.bz_tree.specs.Kinds.{mark_of}
 use Rattle.bz_tree.specs.Statement.{first_token, first_seen, bare_tokens, is_aside, segment_of, statement_with}

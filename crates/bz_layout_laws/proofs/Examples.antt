@@ -5,8 +5,8 @@ use Rattle.std.specs.Prelude.Option.{Some, None}
 use Rattle.std.proofs.lemmas.Bool.{false≢true}
 use Rattle.bz_token.specs.declared.token.Kind.TheVariants.{Identifier, Keyword, String, Operator, Newline, Comment}
 use Rattle.bz_token.specs.Lexical.{keywords, operators}
-use Rattle.bz_tree.specs.declared.stmt.GroupKind.TheVariants.{List as ListKind, Paren, Index, ListComp}
-use Rattle.bz_tree.specs.declared.stmt.Class.TheVariants.{Assign}
+use Rattle.bz_tree.specs.declared.tree.GroupKind.TheVariants.{List as ListKind, Paren, Index, ListComp}
+use Rattle.bz_tree.specs.declared.tree.Class.TheVariants.{Assign}
 use Rattle.bz_tree.specs.Tree.{Item, leaf, group, Statement, Segs, items_of, segs_of, segments}
 use Rattle.bz_layout.specs.declared.spacing.Edge.TheVariants.{Start}
 use Rattle.bz_layout.specs.Layout.{layout_text}

@@ -8,9 +8,9 @@ use Rattle.bz_token.specs.declared.cutter.block.Opener.TheVariants.{If}
 use Rattle.bz_token.specs.declared.token.Kind.TheVariants.{Identifier, Keyword, Integer, String, Operator, Kept}
 use Rattle.bz_token.specs.Blocks.{goes_on}
 use Rattle.bz_token.specs.Chunks.{chunks}
-use Rattle.bz_tree.specs.declared.stmt.Class.{Class}
-use Rattle.bz_tree.specs.declared.stmt.Class.TheVariants.{Load as LoadClass, Assign, Rule, Comment, Block}
-use Rattle.bz_tree.specs.declared.stmt.GroupKind.TheVariants.{Load, RuleCall}
+use Rattle.bz_tree.specs.declared.tree.Class.{Class}
+use Rattle.bz_tree.specs.declared.tree.Class.TheVariants.{Load as LoadClass, Assign, Rule, Comment, Block}
+use Rattle.bz_tree.specs.declared.tree.GroupKind.TheVariants.{Load, RuleCall}
 use Rattle.bz_tree.specs.Grammar.{comments}
 use Rattle.bz_tree.specs.Tree.{Item, leaf, group, Segment, Statement, segs_of}
 use Rattle.bz_layout_laws.specs.FileRead.{AreStatementsIn}

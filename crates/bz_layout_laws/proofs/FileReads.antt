@@ -9,7 +9,7 @@ use Rattle.bz_token.proofs.OneFault.{one_tokens}
 use Rattle.bz_token.specs.Chunks.{chunks}
 use Rattle.bz_tree.specs.Chunk.{IsChunkOf, IsStatementIn, IsBlank}
 use Rattle.bz_tree.specs.Statement.{first_seen}
-use Rattle.bz_tree.specs.declared.stmt.Class.{Class}
+use Rattle.bz_tree.specs.declared.tree.Class.{Class}
 use Rattle.bz_tree.specs.Tree.{Statement}
 use Rattle.bz_tree_laws.proofs.ChunkLaws.{chunk_same}
 use Rattle.bz_layout.specs.Gaps.{lines_before, gap_text}

@@ -3,8 +3,8 @@
 use Rattle.std.proofs.Common.{◌≡◌, ℕ, List, [], ◌∷◌, Bool, true, false, None, refl}
 use Rattle.std.specs.Prelude.{codes}
 use Rattle.bz_token.specs.declared.token.Kind.TheVariants.{Identifier, Operator, String, Integer}
-use Rattle.bz_tree.specs.declared.stmt.Class.TheVariants.{Assign}
-use Rattle.bz_tree.specs.declared.stmt.GroupKind.TheVariants.{List as ListKind}
+use Rattle.bz_tree.specs.declared.tree.Class.TheVariants.{Assign}
+use Rattle.bz_tree.specs.declared.tree.GroupKind.TheVariants.{List as ListKind}
 use Rattle.bz_tree.specs.Tree.{leaf, group, Items, no_items, item, Segs, no_segs, seg, Statement}
 use Rattle.bz_layout_laws.specs.FreeLayout.{Choice, own, free, text_by}
 

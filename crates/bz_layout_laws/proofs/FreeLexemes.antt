@@ -4,7 +4,7 @@ use Rattle.std.proofs.Common.{ℕ, ◌||◌, List, [], ◌∷◌, ◌++◌, Bool
 use Rattle.std.specs.Prelude.{codes, if◌then◌else◌}
 use Rattle.bz_token.specs.declared.token.Kind.TheVariants.{Operator, Newline}
 use Rattle.bz_token.specs.Common.{is_filled}
-use Rattle.bz_tree.specs.declared.stmt.GroupKind.{GroupKind}
+use Rattle.bz_tree.specs.declared.tree.GroupKind.{GroupKind}
 use Rattle.bz_tree.specs.Tree.{Item, leaf, group, Items, no_items, item, Segs, no_segs, seg, Statement, items_of, segments}
 use Rattle.bz_layout.specs.Broken.{count, is_broken, segs_hold}
 use Rattle.bz_layout.specs.Layout.{opening, closing, has_commas, is_comment}

@@ -3,7 +3,7 @@ use Rattle.std.proofs.Common.{◌≡◌, ℕ, ◌++◌, replicate, map, sym, ap,
 use Rattle.bz_layout_laws.specs.FileText.{own_text}
 use Rattle.std.specs.List.{list_all}
 use Rattle.bz_token.specs.Lexical.{is_comment}
-use Rattle.bz_tree.specs.declared.stmt.Class.TheVariants.{Block}
+use Rattle.bz_tree.specs.declared.tree.Class.TheVariants.{Block}
 use Rattle.bz_tree.specs.Chunk.{IsStatementIn}
 use Rattle.bz_tree.specs.Tree.{Statement}
 use Rattle.bz_layout.specs.Layout.{layout_text}

@@ -3,12 +3,12 @@ use Rattle.std.proofs.Common.{◌≡◌, suc, ◌==◌, ◌&&◌, ◌||◌, List
 use Rattle.std.specs.Prelude.{nat_le, if◌then◌else◌}
 use Rattle.std.proofs.lemmas.Bool.{false≢true, and_parts, eqb-true}
 use Rattle.bz_token.specs.Places.{Placed}
-use Rattle.bz_tree.specs.declared.stmt.GroupKind.{GroupKind}
-use Rattle.bz_tree.specs.declared.stmt.GroupKind.TheVariants.{Paren}
-use Rattle.bz_tree.specs.declared.kinds.Mark.{Mark}
-use Rattle.bz_tree.specs.declared.kinds.Mark.TheVariants.{Open, Close, Comma, Comment, Newline, Plain}
-use Rattle.bz_tree.specs.declared.kinds.Preceding.{Preceding}
-use Rattle.bz_tree.specs.declared.kinds.Preceding.TheVariants.{Other}
+use Rattle.bz_tree.specs.declared.tree.GroupKind.{GroupKind}
+use Rattle.bz_tree.specs.declared.tree.GroupKind.TheVariants.{Paren}
+use Rattle.bz_tree.specs.declared.tree.kinds.Mark.{Mark}
+use Rattle.bz_tree.specs.declared.tree.kinds.Mark.TheVariants.{Open, Close, Comma, Comment, Newline, Plain}
+use Rattle.bz_tree.specs.declared.tree.kinds.Preceding.{Preceding}
+use Rattle.bz_tree.specs.declared.tree.kinds.Preceding.TheVariants.{Other}
 use Rattle.bz_tree.specs.Brackets.{Elem, single, bracket, Elems, no_elems, elem, own_items, own_of, preceding, elems_own, has_for, is_for_item, is_single, is_paren, IsWell, AreWell, after_item, group_of, end_line}
 use Rattle.bz_tree.specs.Kinds.{mark_of, group_kind, is_one}
 use Rattle.bz_tree.specs.Owners.{Own, node, comma, comment, Last, no_token, end_of_node, end_of_comma, Entry, a_node, a_comma, a_comment, first_cell, other_cells, later_lines, same_line, below_last, nodes_in, cell_segment, with_segment, segments_from, no_empty, Inside, inside, inside_by_cells, entries_of}
@@ -19,7 +19,7 @@ use Rattle.bz_layout_laws.specs.Parsed.{is_comma_mark, is_comma, nodes_have_for,
 use Rattle.bz_layout_laws.proofs.Fors.{entries_have_for, owns_have_for}
 use Rattle.bz_layout_laws.proofs.ReadSteps.{comma_leaf}
 use Rattle.bz_tree.specs.Statement.{one_segment}
-use Rattle.bz_tree.specs.declared.kinds.Shape.{Shape}
+use Rattle.bz_tree.specs.declared.tree.kinds.Shape.{Shape}
 use Rattle.bz_token.specs.Common.{is_filled}
 
 -- the kinds along the entries of a bracket

@@ -1,7 +1,7 @@
 -- What may follow what, of nodes that are joined.
 use Rattle.std.proofs.Common.{◌≡◌, ◌&&◌, Bool, true, false, not, refl, ap, ◌∙◌}
 use Rattle.std.specs.Prelude.{Option}
-use Rattle.bz_tree.specs.declared.stmt.GroupKind.{GroupKind}
+use Rattle.bz_tree.specs.declared.tree.GroupKind.{GroupKind}
 use Rattle.bz_tree.specs.Grammar.{join}
 use Rattle.bz_tree.specs.Tree.{Item, Items, no_items, item}
 use Rattle.bz_layout.specs.declared.spacing.Edge.{Edge}

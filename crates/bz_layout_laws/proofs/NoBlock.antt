@@ -8,8 +8,8 @@ use Rattle.bz_token.specs.declared.token.Kind.TheVariants.{Keyword, String}
 use Rattle.bz_token.specs.Blocks.{opener_of}
 use Rattle.bz_token.specs.Lexical.{is_text, keywords, operators}
 use Rattle.bz_token.proofs.Classes.{same_bytes}
-use Rattle.bz_tree.specs.declared.role.Role.{Role}
-use Rattle.bz_tree.specs.declared.role.Role.TheVariants.{Name, Number, Value, Not, Tilde, Sum}
+use Rattle.bz_tree.specs.declared.grammar.role.Role.{Role}
+use Rattle.bz_tree.specs.declared.grammar.role.Role.TheVariants.{Name, Number, Value, Not, Tilde, Sum}
 use Rattle.bz_tree.specs.Grammar.{leaf_role, token_role, is_prefix, join, IsTest, plain, conditional, IsChain, single, binary, IsTerm, primary, unary, IsPrimary, number, operand, IsOperand, ident, text as string_operand, paren, list, dict, list_comp, dict_comp, IsExpr, last_test, test, IsLoad, load, IsStatement, comments, load_statement, expression, assignment}
 use Rattle.bz_tree.specs.Statement.{is_load_word}
 use Rattle.bz_tree.specs.Tree.{Item, leaf, group, Items, no_items, item}

@@ -26,7 +26,7 @@ use Rattle.bz_layout_laws.proofs.ReadStatement.{none_there, reads_by, statement_
 use Rattle.bz_layout_laws.proofs.SameGrammar.{free_grammar_stays}
 use Rattle.bz_layout_laws.proofs.TokensBack.{tokens_back, read_lines, tokens_by, lines_by, lines_are_tokens}
 use Rattle.bz_token.specs.Common.{first_of, is_filled, map_or}
-use Rattle.bz_tree.proofs.Standing.{bare_empty}
+use Rattle.bz_tree.proofs.Trees.Standing.{bare_empty}
 use Rattle.bz_tree.specs.Blocks.{is_block_word}
 
 -- where a token stands that is no comment, something stands

@@ -5,9 +5,9 @@ use Rattle.std.specs.Prelude.Option.{None}
 use Rattle.std.proofs.lemmas.Bool.{false≢true}
 use Rattle.bz_token.specs.declared.token.Kind.TheVariants.{Identifier, Keyword, Operator}
 use Rattle.bz_token.specs.Lexical.{keywords, operators}
-use Rattle.bz_tree.specs.declared.stmt.GroupKind.TheVariants.{RuleCall, ListComp, Call}
-use Rattle.bz_tree.specs.declared.stmt.Class.TheVariants.{Rule, Comment}
-use Rattle.bz_tree.specs.declared.kinds.Shape.TheVariants.{Round, Square}
+use Rattle.bz_tree.specs.declared.tree.GroupKind.TheVariants.{RuleCall, ListComp, Call}
+use Rattle.bz_tree.specs.declared.tree.Class.TheVariants.{Rule, Comment}
+use Rattle.bz_tree.specs.declared.tree.kinds.Shape.TheVariants.{Round, Square}
 use Rattle.bz_tree.specs.Tree.{Item, leaf, group, Segs, Statement, items_of, segs_of}
 use Rattle.bz_layout.specs.Layout.{layout_text}
 use Rattle.bz_layout_laws.specs.Inside.{HasShape}

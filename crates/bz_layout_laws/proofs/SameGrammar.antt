@@ -5,7 +5,7 @@ use Rattle.bz_token.specs.declared.token.Kind.TheVariants.{String}
 use Rattle.bz_tree.specs.Grammar.{leaf_role, IsStatement}
 use Rattle.bz_tree.specs.Tree.{Item, leaf, group, Items, no_items, item, Segs, no_segs, seg, Statement, items_of}
 use Rattle.bz_tree.specs.private.Machine.{begin, is_single, accepts, role_of, each, is_value, is_name, is_equals, is_string_item, is_string, is_renamed, are_load_arguments, is_load_kind, are_loaded, is_load_group, is_load, is_nothing, is_statement, next}
-use Rattle.bz_tree.proofs.Recognized.{statement_accepted, accepted_statement}
+use Rattle.bz_tree.proofs.Recognizer.Recognized.{statement_accepted, accepted_statement}
 use Rattle.bz_layout.specs.Respell.{respell}
 use Rattle.bz_layout_laws.specs.FreeLayout.{Choice, own, items_spelled_by, spelled_by}
 use Rattle.bz_layout_laws.specs.Spelled.{spelled, spelled_items, spelled_segs, spelled_statement}

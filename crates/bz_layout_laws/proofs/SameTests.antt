@@ -3,7 +3,7 @@ use Rattle.std.proofs.Common.{◌≡◌, ℕ, ◌&&◌, ◌||◌, List, [], ◌�
 use Rattle.std.specs.Prelude.{if◌then◌else◌}
 use Rattle.bz_token.specs.declared.token.Kind.{Kind}
 use Rattle.bz_token.specs.declared.token.Kind.TheVariants.{String}
-use Rattle.bz_tree.specs.declared.stmt.Class.TheVariants.{Load, Assign, Rule, Other, Block}
+use Rattle.bz_tree.specs.declared.tree.Class.TheVariants.{Load, Assign, Rule, Other, Block}
 use Rattle.bz_tree.specs.Statement.{is_ident, is_call, is_rule, is_rule_after, rule_call, is_assign, is_load_word, is_kept, class_of}
 use Rattle.bz_tree.specs.Tree.{Item, leaf, group}
 use Rattle.bz_layout.specs.Respell.{respell}

@@ -11,11 +11,11 @@ use Rattle.bz_token.specs.Places.{Placed}
 use Rattle.bz_token.specs.Reading.{AreTokensOf}
 use Rattle.bz_token_laws.proofs.Deeper.{tokens_are_texts}
 use Rattle.bz_token.proofs.Quiet.{both}
-use Rattle.bz_tree.specs.declared.kinds.Mark.{Mark}
-use Rattle.bz_tree.specs.declared.kinds.Mark.TheVariants.{Open, Close, Comma, Comment, Newline, Plain}
-use Rattle.bz_tree.specs.declared.kinds.Preceding.{Preceding}
-use Rattle.bz_tree.specs.declared.kinds.Preceding.TheVariants.{Other}
-use Rattle.bz_tree.specs.declared.kinds.Shape.TheVariants.{Round, Square, Curly}
+use Rattle.bz_tree.specs.declared.tree.kinds.Mark.{Mark}
+use Rattle.bz_tree.specs.declared.tree.kinds.Mark.TheVariants.{Open, Close, Comma, Comment, Newline, Plain}
+use Rattle.bz_tree.specs.declared.tree.kinds.Preceding.{Preceding}
+use Rattle.bz_tree.specs.declared.tree.kinds.Preceding.TheVariants.{Other}
+use Rattle.bz_tree.specs.declared.tree.kinds.Shape.TheVariants.{Round, Square, Curly}
 use Rattle.bz_tree.specs.Brackets.{Elem, single, bracket, Elems, no_elems, elem, elem_tokens, elems_tokens, own_items, own_of, preceding, elems_own, has_for, is_single, is_line, without_lines, AreWell, end_line}
 use Rattle.bz_tree.specs.Comments.{beside}
 use Rattle.bz_tree.specs.Kinds.{mark_of, kind_mark, operator_mark, group_kind, is_one}

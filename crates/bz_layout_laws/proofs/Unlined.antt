@@ -11,8 +11,8 @@ use Rattle.bz_token.specs.Ends.{is_comment_kind}
 use Rattle.bz_token.specs.Places.{Placed}
 use Rattle.bz_token.specs.TokenLines.{is_newline_piece}
 use Rattle.bz_tree.specs.Brackets.{is_line as is_line_mark, without_lines, end_line}
-use Rattle.bz_tree.specs.declared.kinds.Shape.TheVariants.{Round, Square, Curly}
-use Rattle.bz_tree.specs.declared.kinds.Mark.TheVariants.{Open, Close, Comma, Plain}
+use Rattle.bz_tree.specs.declared.tree.kinds.Shape.TheVariants.{Round, Square, Curly}
+use Rattle.bz_tree.specs.declared.tree.kinds.Mark.TheVariants.{Open, Close, Comma, Plain}
 use Rattle.bz_tree.specs.Kinds.{kind_mark}
 use Rattle.bz_tree.specs.Statement.{is_aside}
 use Rattle.bz_tree.specs.Tree.{Statement, items_of}

@@ -5,8 +5,8 @@ use Rattle.std.proofs.lemmas.Bool.{false≢true}
 use Rattle.bz_token.specs.declared.token.Kind.TheVariants.{Kept}
 use Rattle.bz_token.specs.Places.{Placed}
 use Rattle.bz_token.specs.Reading.{AreTokensOf}
-use Rattle.bz_tree.specs.declared.stmt.Class.{Class}
-use Rattle.bz_tree.specs.declared.stmt.Class.TheVariants.{Load, Assign, Rule, Other, Block}
+use Rattle.bz_tree.specs.declared.tree.Class.{Class}
+use Rattle.bz_tree.specs.declared.tree.Class.TheVariants.{Load, Assign, Rule, Other, Block}
 use Rattle.bz_tree.specs.Chunk.{IsPlain, IsOneOf, IsStatementIn}
 use Rattle.bz_tree.specs.Statement.{first_seen, first_token, is_kept, is_load_word, is_rule, class_of, is_assign}
 use Rattle.bz_tree.specs.Tree.{Item, leaf, group, Statement, items_of}

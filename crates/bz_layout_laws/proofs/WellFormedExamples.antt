@@ -5,12 +5,12 @@ use Rattle.std.specs.Prelude.Option.{None}
 use Rattle.std.proofs.lemmas.Bool.{false≢true}
 use Rattle.bz_token.specs.declared.token.Kind.TheVariants.{Identifier, Keyword, Integer, Operator}
 use Rattle.bz_token.specs.Lexical.{keywords, operators}
-use Rattle.bz_tree.specs.declared.stmt.GroupKind.TheVariants.{RuleCall, Call, Index}
-use Rattle.bz_tree.specs.declared.stmt.Class.TheVariants.{Rule}
-use Rattle.bz_tree.specs.declared.kinds.Shape.TheVariants.{Round, Square}
+use Rattle.bz_tree.specs.declared.tree.GroupKind.TheVariants.{RuleCall, Call, Index}
+use Rattle.bz_tree.specs.declared.tree.Class.TheVariants.{Rule}
+use Rattle.bz_tree.specs.declared.tree.kinds.Shape.TheVariants.{Round, Square}
 use Rattle.bz_tree.specs.Grammar.{IsStatement}
 use Rattle.bz_tree.specs.Tree.{Item, leaf, group, Items, Segs, Segment, Statement, items_of, segs_of}
-use Rattle.bz_tree.proofs.Recognized.{statement_accepted, accepted_statement}
+use Rattle.bz_tree.proofs.Recognizer.Recognized.{statement_accepted, accepted_statement}
 use Rattle.bz_layout.specs.declared.spacing.Edge.TheVariants.{Start}
 use Rattle.bz_layout.specs.Layout.{layout_text}
 use Rattle.bz_layout_laws.specs.Following.{MayFollow}

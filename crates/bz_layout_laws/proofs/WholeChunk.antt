@@ -22,8 +22,8 @@ use Rattle.bz_token.proofs.BlockWords.{no_block}
 use Rattle.bz_token.proofs.ChunkForms.{statement_chunk, comments_chunk}
 use Rattle.bz_token_laws.proofs.Readable.{laid_reading}
 use Rattle.bz_token.proofs.TokenLines.{lines_are_lines, lines_of_join, one_line}
-use Rattle.bz_tree.specs.declared.stmt.GroupKind.{GroupKind}
-use Rattle.bz_tree.specs.declared.stmt.GroupKind.TheVariants.{Call}
+use Rattle.bz_tree.specs.declared.tree.GroupKind.{GroupKind}
+use Rattle.bz_tree.specs.declared.tree.GroupKind.TheVariants.{Call}
 use Rattle.bz_tree.specs.Tree.{leaf, group, Items, no_items, item, Statement, items_of}
 use Rattle.bz_layout.specs.declared.spacing.Edge.TheVariants.{Start}
 use Rattle.bz_layout.specs.declared.spacing.Gap.TheVariants.{Closed}

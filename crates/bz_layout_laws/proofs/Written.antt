@@ -4,8 +4,8 @@ use Rattle.std.specs.Prelude.{codes, nat_le, is_some, if◌then◌else◌}
 use Rattle.std.proofs.lemmas.Bool.{cases_Bool, or_parts, false≢true, eqb-true}
 use Rattle.std.proofs.lemmas.Bool.Decides.{nat_tests}
 use Rattle.bz_token.specs.declared.token.Kind.TheVariants.{Operator, Comment}
-use Rattle.bz_tree.specs.declared.stmt.GroupKind.{GroupKind}
-use Rattle.bz_tree.specs.declared.stmt.GroupKind.TheVariants.{Paren, Index, ListComp, DictComp}
+use Rattle.bz_tree.specs.declared.tree.GroupKind.{GroupKind}
+use Rattle.bz_tree.specs.declared.tree.GroupKind.TheVariants.{Paren, Index, ListComp, DictComp}
 use Rattle.bz_tree.specs.Brackets.{is_paren}
 use Rattle.bz_tree.specs.Owners.{Entry, a_node, a_comma}
 use Rattle.bz_tree.specs.Tree.{group, Items, no_items, item, Segs, no_segs, seg, list_of, segments}

@@ -1,8 +1,8 @@
 -- The text of a file's statements one after another, empty lines between some, and the chunks of that text.
 use Rattle.std.specs.Prelude.{codes, ℕ, suc, List, [], ◌∷◌, ◌++◌, Bool, true, false, replicate, Option}
 use Rattle.std.specs.Prelude.Option.{Some}
-use Rattle.bz_tree.specs.declared.stmt.Class.{Class}
-use Rattle.bz_tree.specs.declared.stmt.Class.TheVariants.{Comment, Block}
+use Rattle.bz_tree.specs.declared.tree.Class.{Class}
+use Rattle.bz_tree.specs.declared.tree.Class.TheVariants.{Comment, Block}
 use Rattle.bz_tree.specs.Tree.{Statement}
 use Rattle.bz_layout.specs.Gaps.{lines_between, lines_before, gap_text}
 use Rattle.bz_layout.specs.Layout.{layout_text}

@@ -1,7 +1,7 @@
 -- What may follow what, as `IsLegible` says it, at each node of a statement.
 use Rattle.std.specs.Prelude.{◌≡◌, true, Option}
 use Rattle.std.specs.Prelude.Option.{Some, None}
-use Rattle.bz_tree.specs.declared.stmt.GroupKind.{GroupKind}
+use Rattle.bz_tree.specs.declared.tree.GroupKind.{GroupKind}
 use Rattle.bz_tree.specs.Tree.{Item, leaf, group, Items, no_items, item, Segs, no_segs, seg, Statement, items_of}
 use Rattle.bz_layout.specs.declared.spacing.Edge.{Edge}
 use Rattle.bz_layout.specs.declared.spacing.Edge.TheVariants.{Start}

@@ -2,8 +2,8 @@
 use Rattle.std.specs.Prelude.{◌≡◌, codes, ℕ, nat_le, List, [], ◌∷◌, ◌++◌, Bool, true, if◌then◌else◌}
 use Rattle.bz_token.specs.declared.token.Kind.TheVariants.{Operator, Comment}
 use Rattle.bz_token.specs.Brackets.{is_line}
-use Rattle.bz_tree.specs.declared.stmt.GroupKind.{GroupKind}
-use Rattle.bz_tree.specs.declared.stmt.GroupKind.TheVariants.{Paren}
+use Rattle.bz_tree.specs.declared.tree.GroupKind.{GroupKind}
+use Rattle.bz_tree.specs.declared.tree.GroupKind.TheVariants.{Paren}
 use Rattle.bz_tree.specs.Kinds.{is_one}
 use Rattle.bz_tree.specs.Owners.{Entry, a_node, a_comma, a_comment}
 use Rattle.bz_tree.specs.Tree.{Segs, Segment, Statement}

@@ -1,7 +1,7 @@
 //! Laws on blocks, which are kept as they stand: what their text is read as.
 
 ghost use Rattle.std.specs.Prelude.{◌≡◌, ◌++◌, ℕ, List, replicate};
-ghost use Rattle.bz_tree.specs.declared.stmt.Class.TheVariants.{Block};
+ghost use Rattle.bz_tree.specs.declared.tree.Class.TheVariants.{Block};
 ghost use Rattle.bz_tree.specs.Chunk.{IsStatementIn};
 ghost use Rattle.bz_tree.specs.Tree.{Statement};
 ghost use Rattle.bz_layout.specs.Layout.{layout_text};

@@ -2,7 +2,7 @@
 
 ghost use Rattle.std.specs.Prelude.{◌≡◌, ◌++◌, ◌∷◌, ◌&&◌, ◌==◌, ℕ, List, Bool, [], length, true, false};
 ghost use Rattle.bz_token.specs.declared.token.Kind.TheVariants.{Operator};
-ghost use Rattle.bz_tree.specs.declared.stmt.GroupKind.{GroupKind};
+ghost use Rattle.bz_tree.specs.declared.tree.GroupKind.{GroupKind};
 ghost use Rattle.bz_tree.specs.Brackets.{is_paren};
 ghost use Rattle.bz_tree.specs.Tree.{Segs, Statement, group, segments};
 ghost use Rattle.bz_tree_laws.specs.Written.{written_entries};

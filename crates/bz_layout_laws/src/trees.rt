@@ -3,7 +3,7 @@
 ghost use Rattle.std.specs.Prelude.{◌≡◌, ◌≤◌, ℕ, List, true, false, if◌then◌else◌, IsSome};
 ghost use Rattle.bz_token.specs.Places.{Placed};
 ghost use Rattle.bz_token.specs.Reading.{AreTokensOf};
-ghost use Rattle.bz_tree.specs.declared.kinds.Preceding.TheVariants.{Other};
+ghost use Rattle.bz_tree.specs.declared.tree.kinds.Preceding.TheVariants.{Other};
 ghost use Rattle.bz_tree.specs.Chunk.{IsPlain, IsStatementIn};
 ghost use Rattle.bz_tree.specs.Grammar.{IsStatement};
 ghost use Rattle.bz_tree.specs.Statement.{IsStatementOf, class_of, first_seen, is_rule, rule_call};

@@ -3,7 +3,7 @@
 ghost use Rattle.std.specs.Prelude.{◌≡◌, ℕ, List, false, IsSome};
 ghost use Rattle.bz_token.specs.Places.{Placed};
 ghost use Rattle.bz_token.specs.Reading.{AreTokensOf};
-ghost use Rattle.bz_tree.specs.declared.stmt.Class.TheVariants.{Block};
+ghost use Rattle.bz_tree.specs.declared.tree.Class.TheVariants.{Block};
 ghost use Rattle.bz_tree.specs.Chunk.{IsPlain, IsStatementIn};
 ghost use Rattle.bz_tree.specs.Statement.{first_seen};
 ghost use Rattle.bz_tree.specs.Tree.{Statement, items_of};

@@ -3,13 +3,13 @@ use Rattle.std.proofs.Common.{◌≡◌, ℕ, ◌+◌, ◌-◌, ◌<◌, ◌≤�
 use Rattle.std.specs.Prelude.{codes, option_to_list}
 use Rattle.std.proofs.lemmas.List.{drop_all, drop_more, map-append, take_more}
 use Rattle.bz_token.specs.declared.token.Kind.TheVariants.{Identifier, Operator}
-use Rattle.bz_tree.specs.declared.stmt.GroupKind.TheVariants.{List as ListKind}
+use Rattle.bz_tree.specs.declared.tree.GroupKind.TheVariants.{List as ListKind}
 use Rattle.bz_tree.specs.Rows.{RowPart, a_token, above, beside_part, closing, opening, items_parts, parts_of, segment_end, segs_parts}
 use Rattle.bz_tree.specs.Tree.{Item, Segment, Statement, items_of, segs_of}
 use Rattle.bz_command.specs.Labels.{Package}
 use Rattle.bz_command.specs.LabelSetViews.{Gains, has as holds_label}
 use Rattle.bz_command.specs.declared.label_set.LabelSet.{LabelSet}
-use Rattle.bz_attribute.specs.Add.{add, adds, fresh, is_fresh, new_elements, with_added}
+use Rattle.bz_list_commands.specs.Add.{add, adds, fresh, is_fresh, new_elements, with_added}
 use Rattle.bz_attribute.specs.Effects.{argument, done, edit_first, has, list_item, not_a_list, string, with_args}
 use Rattle.bz_attribute.specs.Elements.{AreElementsTo, AreLists, IsListIn, IsValueAt}
 use Rattle.bz_attribute.specs.Lists.{edit_first_part, parts, same, with_value}

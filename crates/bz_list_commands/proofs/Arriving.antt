@@ -13,7 +13,7 @@ use Rattle.bz_tree.specs.Tree.{Segment, segs_of}
 use Rattle.bz_command.specs.Labels.{Package}
 use Rattle.bz_command.specs.declared.arguments.Moved.TheVariants.{All}
 use Rattle.bz_attribute.specs.Lists.{equals, same}
-use Rattle.bz_attribute.specs.Move.{arrivals}
+use Rattle.bz_list_commands.specs.Move.{arrivals}
 use Rattle.bz_attribute.specs.Rules.{string_value}
 use Rattle.bz_attribute.proofs.LabelSets.{any_joined}
 use Rattle.std.proofs.Math.Bool.{or-false}

@@ -15,7 +15,7 @@ use Rattle.bz_command.specs.LabelSetViews.{Gains, has}
 use Rattle.bz_attribute.specs.Lists.{same}
 use Rattle.bz_attribute.specs.Rules.{string_value}
 use Rattle.bz_attribute.specs.Effects.{is_chosen}
-use Rattle.bz_attribute.specs.Add.{is_fresh}
+use Rattle.bz_list_commands.specs.Add.{is_fresh}
 use Rattle.bz_attribute.specs.private.ElementSets.{is_in}
 use Rattle.std.proofs.Math.Bool.{or-false}
 use Rattle.bz_list_commands.specs.private.AddSteps.{Knows}

@@ -14,8 +14,8 @@ use Rattle.bz_command.specs.declared.arguments.Moved.{Moved}
 use Rattle.bz_command.specs.declared.arguments.Moved.TheVariants.{Values}
 use Rattle.bz_attribute.specs.Effects.{done, edit_first, filtered, is_chosen, unchosen, chooses}
 use Rattle.bz_attribute.specs.Lists.{edit_parts, is_attribute, parts, with_value, same}
-use Rattle.bz_attribute.specs.Remove.{remove, removes}
-use Rattle.bz_attribute.specs.Replace.{is_replaced, replace, replaced, replaced_in, replaces, replaces_in}
+use Rattle.bz_list_commands.specs.Remove.{remove, removes}
+use Rattle.bz_list_commands.specs.Replace.{is_replaced, replace, replaced, replaced_in, replaces, replaces_in}
 use Rattle.bz_attribute.specs.RowEdits.{IsRowEdit}
 use Rattle.bz_attribute.specs.Rules.{first_named, is_named, is_text, only_text, value}
 use Rattle.bz_attribute.specs.declared.edit.Edit.{Edit}

@@ -9,7 +9,7 @@ use Rattle.bz_command.specs.declared.arguments.Moved.{Moved}
 use Rattle.bz_attribute.specs.Effects.{done, edit_first, filtered, is_chosen, not_a_list, with_args}
 use Rattle.bz_attribute.specs.Elements.{AreLists, elements_left}
 use Rattle.bz_attribute.specs.Lists.{edit_first_part, edit_list, edit_one_from, is_joint, is_part, is_plus, parts, parts_from, with_value}
-use Rattle.bz_attribute.specs.Move.{arrivals, elements_of, move, move_note, moved, moves, put_in}
+use Rattle.bz_list_commands.specs.Move.{arrivals, elements_of, move, move_note, moved, moves, put_in}
 use Rattle.bz_attribute.specs.RowEdits.{IsRowEdit, replaced_at}
 use Rattle.bz_attribute.specs.RowPlaces.{IsRuleRow}
 use Rattle.bz_attribute.specs.Rules.{Rule, elements, first_named, is_named, value}

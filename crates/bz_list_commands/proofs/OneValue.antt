@@ -5,7 +5,7 @@ use Rattle.bz_tree.specs.Rows.{RowPart}
 use Rattle.bz_tree.specs.Tree.{Segment}
 use Rattle.bz_command.specs.Labels.{Package}
 use Rattle.bz_command.specs.declared.arguments.Moved.TheVariants.{Values}
-use Rattle.bz_attribute.specs.Add.{is_fresh, new_elements}
+use Rattle.bz_list_commands.specs.Add.{is_fresh, new_elements}
 use Rattle.bz_attribute.specs.Effects.{is_chosen, string}
 use Rattle.bz_attribute.specs.Elements.{AreListsAt, ListRest, elements_left, rest_parts}
 use Rattle.bz_attribute.specs.Lists.{equals}

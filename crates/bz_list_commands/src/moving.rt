@@ -8,7 +8,7 @@ ghost use Rattle.bz_attribute.specs.Effects.{done, has, is_chosen, with_args};
 ghost use Rattle.bz_attribute.specs.RowEdits.{IsRowEdit, replaced_at};
 ghost use Rattle.bz_attribute.specs.RowPlaces.{IsRuleRow};
 ghost use Rattle.bz_attribute.specs.Rules.{Rule};
-ghost use Rattle.bz_attribute.specs.Move as spec;
+ghost use Rattle.bz_list_commands.specs.Move as spec;
 ghost use Rattle.bz_list_commands.specs.private.MoveSteps.{AreFound, AreWithin, HasPut, parts_at};
 ghost use Rattle.bz_list_commands.specs.private.StringEdits.{is_meant, literal_of, means};
 

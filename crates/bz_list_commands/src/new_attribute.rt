@@ -2,7 +2,7 @@
 
 ghost use Rattle.std.specs.Prelude.{◌≡◌, ◌++◌, ◌∷◌, [], false, codes, map, OnOk};
 ghost use Rattle.bz_token.specs.declared.token.Kind.TheVariants.{Identifier, Operator};
-ghost use Rattle.bz_tree.specs.declared.stmt.GroupKind.TheVariants.{List as ListKind};
+ghost use Rattle.bz_tree.specs.declared.tree.GroupKind.TheVariants.{List as ListKind};
 ghost use Rattle.bz_tree.specs.Rows.{a_token, closing, opening, part_view, segment_end};
 
 use bz_attribute::{Parts, begin_argument};

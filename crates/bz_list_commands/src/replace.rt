@@ -3,7 +3,7 @@
 ghost use Rattle.std.specs.Prelude.{◌≡◌, None as Nothing, map, IfOk};
 ghost use Rattle.bz_tree.specs.Rows.{part_view};
 ghost use Rattle.bz_attribute.specs.RowEdits.{IsRowEdit};
-ghost use Rattle.bz_attribute.specs.Replace as spec;
+ghost use Rattle.bz_list_commands.specs.Replace as spec;
 ghost use Rattle.bz_attribute.specs.Effects as effects;
 
 use crate::place_edits::edit_strings;

@@ -10,13 +10,13 @@ use Rattle.bz_command.specs.declared.arguments.Moved.TheVariants.{Values}
 use Rattle.bz_command.specs.declared.arguments.Setting.TheVariants.{ToKind, ToValues}
 use Rattle.bz_attribute.specs.Rules.{first_named, is_named, is_text, name_of, value, string_value}
 use Rattle.bz_attribute.specs.Lists.{edit_first_part, edit_parts, equals, parts, with_value}
-use Rattle.bz_attribute.specs.Add.{add, new_elements, with_added}
-use Rattle.bz_attribute.specs.Comment.{comment_attribute, comment_element, edit_element, comment_line, comment_note, comment_value, with_comment}
-use Rattle.bz_attribute.specs.Effects.{argument, edit_first, filtered, has, list_item, loses_all, unchosen, with_args}
+use Rattle.bz_list_commands.specs.Add.{add, new_elements, with_added}
+use Rattle.bz_attribute_commands.specs.Comment.{comment_attribute, comment_element, comment_line, comment_note, comment_value}
+use Rattle.bz_attribute.specs.Effects.{argument, edit_first, filtered, has, list_item, loses_all, unchosen, with_args, edit_element, with_comment}
 use Rattle.bz_attribute.specs.Heads.{HasHead}
-use Rattle.bz_attribute.specs.Replace.{replace, replaced, replaced_in}
+use Rattle.bz_list_commands.specs.Replace.{replace, replaced, replaced_in}
 use Rattle.bz_attribute.specs.RowPlaces.{IsLocal}
-use Rattle.bz_attribute.specs.Set.{is_value, new_of, new_value, set, set_if_absent, set_in}
+use Rattle.bz_attribute_commands.specs.Set.{is_value, new_of, new_value, set, set_if_absent, set_in}
 use Rattle.bz_attribute.proofs.EditedAt.{none_first}
 use Rattle.bz_rule.specs.Commands.{Command, args_after}
 use Rattle.bz_rule.specs.declared.command.Action.TheVariants.{Add, Comment, Delete, Print, Remove, Replace, Set, SetIfAbsent}

@@ -1,12 +1,12 @@
 -- The list parts of a value whose list parts are edited.
 use Rattle.std.proofs.Common.{◌≡◌, List, [], ◌∷◌, ◌++◌, Bool, true, false, ◌&&◌, if◌then◌else◌, map, refl, ap, ◌∙◌}
 use Rattle.std.specs.List.{list_all}
-use Rattle.bz_tree.specs.declared.stmt.GroupKind.TheVariants.{Call, RuleCall, Load, Paren, List as ListKind, Index, Dict, ListComp, DictComp}
+use Rattle.bz_tree.specs.declared.tree.GroupKind.TheVariants.{Call, RuleCall, Load, Paren, List as ListKind, Index, Dict, ListComp, DictComp}
 use Rattle.bz_tree.specs.Tree.{Item, leaf, group, Segs, Segment, segs_of, segments}
 use Rattle.bz_attribute.specs.Rules.{elements}
 use Rattle.bz_attribute.specs.Lists.{edit_list, edit_from, edit_parts, edit_one_from, edit_first_part, ends, is_joint, is_list, is_part, is_plus, parts, parts_from}
 use Rattle.bz_attribute.proofs.Views.{segments_of}
-use Rattle.bz_tree.proofs.FromParts.{segs_back}
+use Rattle.bz_tree.proofs.Rows.FromParts.{segs_back}
 
 pub joint_edited : (f : List Segment → List Segment) (x : Item) → is_joint (edit_list f x) ≡ is_joint x
 joint_edited f (leaf kind text) = refl

@@ -5,15 +5,15 @@ use Rattle.std.proofs.lemmas.Bool.{false≢true}
 use Rattle.bz_tree.specs.Tree.{Segment, Statement, segs_of}
 use Rattle.bz_tree.specs.Rows.{RowPart, parts_of}
 use Rattle.bz_tree.specs.Statement.{class_of}
-use Rattle.bz_tree.specs.declared.stmt.Class.TheVariants.{Rule as RuleClass}
+use Rattle.bz_tree.specs.declared.tree.Class.TheVariants.{Rule as RuleClass}
 use Rattle.bz_command.specs.Labels.{Package}
 use Rattle.bz_command.specs.declared.arguments.Commented.TheVariants.{Rule as Above}
 use Rattle.bz_command.specs.declared.arguments.Setting.TheVariants.{ToKind}
-use Rattle.bz_attribute.specs.Comment.{comment_line, comment_rule}
+use Rattle.bz_attribute_commands.specs.Comment.{comment_line, comment_rule}
 use Rattle.bz_attribute.specs.Rules.{Rule, rule_of, kind_text}
 use Rattle.bz_attribute.specs.Effects.{done, holds_rule, nodes_of, slot_done, with_args}
 use Rattle.bz_attribute.specs.declared.done.Done.{Done}
-use Rattle.bz_attribute.specs.Set.{kind_after, kind_items, sets_kind_of, with_kind}
+use Rattle.bz_attribute_commands.specs.Set.{kind_after, kind_items, sets_kind_of, with_kind}
 use Rattle.bz_rule.specs.Commands.{Command, after, args_after, args_done, done_of}
 use Rattle.bz_rule.specs.declared.command.Action.TheVariants.{Comment, Delete, Print, Set}
 use Rattle.bz_attribute.specs.RowEdits.{IsRowEdit, IsWithin, replaced_at}

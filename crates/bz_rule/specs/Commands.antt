@@ -23,13 +23,13 @@ use Rattle.bz_tree.specs.Tree.{Segment, Statement}
 use Rattle.bz_command.specs.Labels.{Package}
 use Rattle.bz_attribute.specs.Rules.{first_named}
 use Rattle.bz_attribute.specs.Effects.{has, done, not_a_list, with_args, slot_done, holds_rule}
-use Rattle.bz_attribute.specs.Add.{add, adds}
-use Rattle.bz_attribute.specs.Remove.{remove, removes}
-use Rattle.bz_attribute.specs.Rename.{rename, rename_note}
-use Rattle.bz_attribute.specs.Set.{set, sets, set_if_absent, with_kind, sets_kind_of}
-use Rattle.bz_attribute.specs.Move.{move, moves, move_note}
-use Rattle.bz_attribute.specs.Replace.{replace, replaces}
-use Rattle.bz_attribute.specs.Comment.{comment_rule, comment_args, comment_done}
+use Rattle.bz_list_commands.specs.Add.{add, adds}
+use Rattle.bz_list_commands.specs.Remove.{remove, removes}
+use Rattle.bz_attribute_commands.specs.Rename.{rename, rename_note}
+use Rattle.bz_attribute_commands.specs.Set.{set, sets, set_if_absent, with_kind, sets_kind_of}
+use Rattle.bz_list_commands.specs.Move.{move, moves, move_note}
+use Rattle.bz_list_commands.specs.Replace.{replace, replaces}
+use Rattle.bz_attribute_commands.specs.Comment.{comment_rule, comment_args, comment_done}
 use Rattle.bz_attribute_commands.specs.Print.{prints}
 use Rattle.bz_attribute.specs.declared.done.Done.{Done}
 use Rattle.bz_command.specs.Arguments.{breaks_line, field_of, is_field, are_attributes, is_setting, is_moved, is_commented, is_named_field, attributes_pass, setting_passes, moved_passes, commented_passes}

@@ -1,11 +1,11 @@
 -- The statement that a row is of.
 use Rattle.std.specs.Prelude.{◌≡◌, refl, ℕ, List, map}
-use Rattle.bz_tree.specs.declared.stmt.Class.{Class}
+use Rattle.bz_tree.specs.declared.tree.Class.{Class}
 use Rattle.bz_tree.specs.Tree.{Statement}
 use Rattle.bz_tree.specs.Rows.{RowPart, part_view, parts_of}
 use Rattle.bz_tree.specs.declared.row.Part.{Part}
 use Rattle.bz_tree.specs.private.PartSteps.{content_of, last_beside}
-use Rattle.bz_tree.proofs.FromParts.{statement_of_parts}
+use Rattle.bz_tree.proofs.Rows.FromParts.{statement_of_parts}
 
 -- the parts of a statement, its class and its lines
 pub record RowValue : Type 0 where

@@ -2,12 +2,12 @@
 use Rattle.std.proofs.Common.{◌≡◌, ℕ, List, [], Bool, true, false, None, refl, inl, inr}
 use Rattle.std.proofs.lemmas.Bool.{cases_Bool, and_parts, false≢true}
 use Rattle.bz_token.specs.declared.token.Kind.TheVariants.{Identifier}
-use Rattle.bz_tree.specs.declared.stmt.GroupKind.TheVariants.{Call, List as ListKind}
-use Rattle.bz_tree.specs.declared.role.Role.TheVariants.{Value}
+use Rattle.bz_tree.specs.declared.tree.GroupKind.TheVariants.{Call, List as ListKind}
+use Rattle.bz_tree.specs.declared.grammar.role.Role.TheVariants.{Value}
 use Rattle.bz_tree.specs.Tree.{leaf, group, Items, no_items, item, Segs, no_segs, seg}
 use Rattle.bz_tree.specs.Grammar.{IsTest, plain, single, primary, operand, no_suffix, suffix, call, ident, list, AreTests, no_test, one_test, AreArgs, no_arg, one_arg, IsArg, last_test, IsStatement, expression}
 use Rattle.bz_tree.specs.private.Machine.{accepts, begin, each, is_statement, role_of}
-use Rattle.bz_tree.proofs.Recognized.{statement_accepted, accepted_statement}
+use Rattle.bz_tree.proofs.Recognizer.Recognized.{statement_accepted, accepted_statement}
 use Rattle.bz_layout_laws.specs.Legible.{are_some}
 use Rattle.bz_rule_laws.proofs.Tests.{statement_outer}
 

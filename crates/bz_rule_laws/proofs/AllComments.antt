@@ -8,9 +8,9 @@ use Rattle.bz_attribute.specs.Rules.{is_named, rule_of, value}
 use Rattle.bz_rule.proofs.Arguments.{value_back}
 use Rattle.bz_tree.specs.Comments.{Lists, beside, comments_of, item_owners, items_owners, joined, segs_owners}
 use Rattle.bz_tree.specs.Tree.{Item, Items, Segment, Segs, Statement, group, item, items_of, leaf, no_items, no_segs, seg, segments, segs_of}
-use Rattle.bz_tree.specs.declared.stmt.GroupKind.TheVariants.{RuleCall}
+use Rattle.bz_tree.specs.declared.tree.GroupKind.TheVariants.{RuleCall}
 use Rattle.bz_rule_laws.proofs.Segments.{either_way}
-use Rattle.bz_tree.proofs.FromParts.{segs_back}
+use Rattle.bz_tree.proofs.Rows.FromParts.{segs_back}
 
 -- all comments, owner by owner
 abbrev mutual

@@ -1,7 +1,7 @@
 -- A statement whose arguments were edited, read and edited again.
 use Rattle.std.proofs.Common.{◌≡◌, List, [], true, false, Option, Some, None, option_map, refl, ap, ◌∙◌}
 use Rattle.bz_attribute.proofs.RuleParts.{rule_dotted}
-use Rattle.bz_tree.specs.declared.stmt.GroupKind.TheVariants.{RuleCall}
+use Rattle.bz_tree.specs.declared.tree.GroupKind.TheVariants.{RuleCall}
 use Rattle.bz_tree.specs.Tree.{Item, group, Segment, Statement, segs_of}
 use Rattle.bz_attribute.specs.Rules.{Rule, dotted, rule_of}
 use Rattle.bz_attribute.specs.declared.done.Done.{Done}

@@ -11,7 +11,7 @@ use Rattle.bz_command.specs.declared.arguments.Moved.TheVariants.{Values}
 use Rattle.bz_attribute.specs.Rules.{is_named, is_text, first_named, value}
 use Rattle.bz_attribute.specs.Lists.{edit_first_part, is_attribute, parts, same, with_value}
 use Rattle.bz_attribute.specs.Effects.{chooses, has, is_chosen, not_a_list, string}
-use Rattle.bz_attribute.specs.Add.{add, fresh, is_fresh, new_elements, with_added}
+use Rattle.bz_list_commands.specs.Add.{add, fresh, is_fresh, new_elements, with_added}
 use Rattle.bz_attribute.specs.declared.done.Note.TheVariants.{NotAList}
 use Rattle.bz_attribute.proofs.Views.{segments_of}
 use Rattle.bz_rule.proofs.PartLaws.{edit_head}

@@ -10,7 +10,7 @@ use Rattle.bz_command.specs.declared.arguments.Moved.TheVariants.{Values}
 use Rattle.bz_attribute.specs.Rules.{is_named, is_text, first_named, value}
 use Rattle.bz_attribute.specs.Lists.{edit_parts, is_attribute, parts, with_value}
 use Rattle.bz_attribute.specs.Effects.{edit_first, filtered, has, is_chosen, loses_all, unchosen, chooses}
-use Rattle.bz_attribute.specs.Remove.{remove, goes_with_all}
+use Rattle.bz_list_commands.specs.Remove.{remove, goes_with_all}
 use Rattle.bz_rule.proofs.Kept.{none_left_in}
 use Rattle.bz_rule.proofs.Arguments.{attribute_named, name_put}
 use Rattle.bz_rule.proofs.Commands.Remove.{everywhere_left, parts_put}

@@ -16,10 +16,10 @@ use Rattle.bz_command.specs.declared.arguments.Setting.TheVariants.{ToKind, ToVa
 use Rattle.bz_attribute.specs.Rules.{Rule, is_named, is_text, name_of, rule_of, value, first_named}
 use Rattle.bz_attribute.specs.Lists.{edit_first_part, edit_parts, is_attribute, with_value, parts}
 use Rattle.bz_attribute.specs.Effects.{argument, edit_first, filtered, has, loses_all, unchosen}
-use Rattle.bz_attribute.specs.Add.{add, new_elements, with_added}
-use Rattle.bz_attribute.specs.Move.{move, move_note, moves, put_in}
-use Rattle.bz_attribute.specs.Remove.{goes_with_all, remove}
-use Rattle.bz_attribute.specs.Set.{New, is_value, new_of, new_value, set, set_if_absent, set_in}
+use Rattle.bz_list_commands.specs.Add.{add, new_elements, with_added}
+use Rattle.bz_list_commands.specs.Move.{move, move_note, moves, put_in}
+use Rattle.bz_list_commands.specs.Remove.{goes_with_all, remove}
+use Rattle.bz_attribute_commands.specs.Set.{New, is_value, new_of, new_value, set, set_if_absent, set_in}
 use Rattle.bz_rule.specs.declared.command.Action.TheVariants.{Add, Remove, Set, SetIfAbsent, Delete, Rename, Move, Replace, Comment, Print}
 use Rattle.bz_rule.specs.Commands.{Command, after, args_after}
 use Rattle.bz_rule_laws.specs.Commands.{mentions}

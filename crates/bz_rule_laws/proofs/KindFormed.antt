@@ -9,7 +9,7 @@ use Rattle.bz_command.specs.Names.{is_identifier, is_kind}
 use Rattle.bz_command.proofs.Cuts.{some_part}
 use Rattle.bz_layout_laws.specs.TextsOfKinds.{HaveTexts}
 use Rattle.bz_attribute.specs.Rules.{dotted, is_operator_item}
-use Rattle.bz_attribute.specs.Set.{joined_by_dots, kind_items}
+use Rattle.bz_attribute_commands.specs.Set.{joined_by_dots, kind_items}
 use Rattle.bz_rule_laws.proofs.ArgumentValues.{operator_is}
 
 pub data IsDotted : List Item → Type 0 where

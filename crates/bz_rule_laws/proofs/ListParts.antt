@@ -2,8 +2,7 @@
 use Rattle.std.proofs.Common.{Bool, List, [], ap, arith, false, if◌then◌else◌, refl, subst, suc, sym, true, ℕ, ◌&&◌, ◌++◌, ◌∙◌, ◌∷◌, ◌≡◌, ◌≤◌}
 use Rattle.std.proofs.lemmas.Bool.{and_parts, false≢true}
 use Rattle.std.specs.List.{AllByRecursion, list_all, list_any}
-use Rattle.bz_attribute.specs.Comment.{edit_element, edit_element_from}
-use Rattle.bz_attribute.specs.Effects.{edit_first, list_item}
+use Rattle.bz_attribute.specs.Effects.{edit_first, list_item, edit_element, edit_element_from}
 use Rattle.bz_attribute.specs.Lists.{edit_first_part, edit_from, edit_list, edit_one_from, edit_parts, ends, is_joint, is_list, is_part, is_plus, parts, parts_from}
 use Rattle.bz_attribute.specs.Rules.{elements}
 use Rattle.bz_layout_laws.specs.Inside.{HasShape}
@@ -18,12 +17,12 @@ use Rattle.bz_tree.specs.Brackets.{after_item}
 use Rattle.bz_tree.specs.Grammar.{AreTests, IsTest, list, no_suffix, operand, plain, primary, single}
 use Rattle.bz_tree.specs.Kinds.{group_kind}
 use Rattle.bz_tree.specs.Tree.{Item, Items, Segment, Segs, group, item, items_of, leaf, segments, segs_of}
-use Rattle.bz_tree.specs.declared.kinds.Preceding.{Preceding}
-use Rattle.bz_tree.specs.declared.kinds.Preceding.TheVariants.{Other}
-use Rattle.bz_tree.specs.declared.kinds.Shape.TheVariants.{Square}
-use Rattle.bz_tree.specs.declared.stmt.GroupKind.TheVariants.{List as ListKind}
+use Rattle.bz_tree.specs.declared.tree.kinds.Preceding.{Preceding}
+use Rattle.bz_tree.specs.declared.tree.kinds.Preceding.TheVariants.{Other}
+use Rattle.bz_tree.specs.declared.tree.kinds.Shape.TheVariants.{Square}
+use Rattle.bz_tree.specs.declared.tree.GroupKind.TheVariants.{List as ListKind}
 use Rattle.bz_tree.specs.private.Machine.{accepts, next, role_of}
-use Rattle.bz_tree.proofs.FromParts.{segs_back}
+use Rattle.bz_tree.proofs.Rows.FromParts.{segs_back}
 
 -- a node is itself, or a list with other elements
 data IsEdit (depth : ℕ) : Item → Item → Type 0 where

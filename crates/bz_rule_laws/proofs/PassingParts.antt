@@ -2,8 +2,7 @@
 use Rattle.std.proofs.Common.{Bool, List, [], false, if◌then◌else◌, true, ℕ, ◌&&◌, ◌++◌, ◌∷◌}
 use Rattle.std.proofs.lemmas.Bool.{and_parts}
 use Rattle.std.specs.List.{AllByRecursion, list_all, list_any}
-use Rattle.bz_attribute.specs.Comment.{edit_element, edit_element_from}
-use Rattle.bz_attribute.specs.Effects.{edit_first}
+use Rattle.bz_attribute.specs.Effects.{edit_first, edit_element, edit_element_from}
 use Rattle.bz_attribute.specs.Lists.{edit_first_part, edit_from, edit_list, edit_one_from, edit_parts, is_joint, is_part, is_plus, parts, parts_from}
 use Rattle.bz_attribute.specs.Rules.{elements}
 use Rattle.bz_layout_laws.specs.EachText.{segs_pass}

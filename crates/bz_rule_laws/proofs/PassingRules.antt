@@ -11,7 +11,7 @@ use Rattle.bz_rule_laws.proofs.PassingTexts.{NodePasses, NodesPass, SegmentsPass
 use Rattle.bz_rule_laws.proofs.Segments.{all_appended}
 use Rattle.bz_tree.specs.Comments.{beside}
 use Rattle.bz_tree.specs.Tree.{Item, Segment, Statement, group, items_of, segs_of}
-use Rattle.bz_tree.specs.declared.stmt.GroupKind.TheVariants.{RuleCall}
+use Rattle.bz_tree.specs.declared.tree.GroupKind.TheVariants.{RuleCall}
 
 -- the nodes of a rule are its kind and its call
 pub record RulePasses (q : List ℕ → Bool) (r : Rule) : Type 0 where

@@ -2,14 +2,14 @@
 use Rattle.std.proofs.Common.{◌≡◌, ℕ, List, [], ◌∷◌, Bool, true, ◌&&◌, Option, Some, None, take, drop, refl, sym, subst}
 use Rattle.std.specs.List.{AllByRecursion, list_all}
 use Rattle.std.proofs.lemmas.Bool.{and_from, and_parts}
-use Rattle.bz_tree.specs.declared.stmt.GroupKind.{GroupKind}
+use Rattle.bz_tree.specs.declared.tree.GroupKind.{GroupKind}
 use Rattle.bz_tree.specs.Comments.{beside}
 use Rattle.bz_tree.specs.Tree.{Item, leaf, group, Segment, items_of, segs_of, segments}
 use Rattle.bz_layout_laws.specs.EachText.{item_passes, items_pass, segs_pass}
 use Rattle.bz_attribute.specs.Rules.{elements, first_named, is_named}
 use Rattle.bz_attribute.specs.Lists.{with_value}
 use Rattle.bz_rule_laws.proofs.Segments.{all_appended, either_way}
-use Rattle.bz_tree.proofs.FromParts.{segs_back}
+use Rattle.bz_tree.proofs.Rows.FromParts.{segs_back}
 
 abbrev pub NodePasses : (List ℕ → Bool) → Item → Type 0
 NodePasses q x = item_passes q x ≡ true

@@ -1,7 +1,7 @@
 -- Texts that pass a test do so where arguments or elements are written or filtered.
 use Rattle.std.proofs.Common.{Bool, List, [], codes, false, map, not, refl, true, ℕ, ◌++◌, ◌==◌, ◌∷◌, ◌≡◌}
 use Rattle.std.specs.List.{AllByRecursion, slice_split}
-use Rattle.bz_attribute.specs.Comment.{comment_line}
+use Rattle.bz_attribute_commands.specs.Comment.{comment_line}
 use Rattle.bz_attribute.specs.Effects.{argument, edit_first, filtered, is_chosen, list_item, loses_all, string, unchosen}
 use Rattle.bz_attribute.specs.Lists.{edit_first_part, edit_parts, with_value}
 use Rattle.bz_attribute.specs.Rules.{is_named, value}
@@ -12,7 +12,7 @@ use Rattle.bz_rule_laws.proofs.PassingParts.{KeepsPassing, edited_first_part_pas
 use Rattle.bz_rule_laws.proofs.PassingTexts.{NodesPass, SegmentPasses, SegmentsPass, WordPasses, group_passes, value_passes, with_value_passes}
 use Rattle.bz_rule_laws.proofs.Segments.{all_appended, all_filtered, all_mapped, either_way}
 use Rattle.bz_tree.specs.Tree.{Item, Segment}
-use Rattle.bz_tree.specs.declared.stmt.GroupKind.TheVariants.{List as ListKind}
+use Rattle.bz_tree.specs.declared.tree.GroupKind.TheVariants.{List as ListKind}
 
 -- what commands write of words that pass the test passes it
 pub record PassesWritten (q : List ℕ → Bool) : Type 0 where

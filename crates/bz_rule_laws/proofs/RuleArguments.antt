@@ -6,8 +6,8 @@ use Rattle.std.proofs.lemmas.Bool.{false≢true}
 use Rattle.bz_tree.specs.Tree.{Segment, Statement}
 use Rattle.bz_attribute.specs.Rules.{Rule, kind_text, rule_of}
 use Rattle.bz_attribute.specs.Effects.{nodes_after, nodes_of, with_args}
-use Rattle.bz_attribute.specs.Set.{kind_after, kind_items, with_kind}
-use Rattle.bz_attribute.specs.Comment.{comment_rule}
+use Rattle.bz_attribute_commands.specs.Set.{kind_after, kind_items, with_kind}
+use Rattle.bz_attribute_commands.specs.Comment.{comment_rule}
 use Rattle.bz_command.specs.Labels.{Package}
 use Rattle.bz_command.specs.declared.arguments.Commented.TheVariants.{Rule as OfRule}
 use Rattle.bz_command.specs.declared.arguments.Setting.TheVariants.{ToKind}

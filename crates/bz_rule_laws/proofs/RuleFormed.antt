@@ -3,12 +3,12 @@ use Rattle.std.proofs.Common.{◌≡◌, ℕ, suc, ◌≤◌, List, [], ◌∷�
 use Rattle.bz_attribute.proofs.RuleParts.{rule_dotted}
 use Rattle.std.proofs.lemmas.Bool.{false≢true}
 use Rattle.bz_token.specs.declared.token.Kind.TheVariants.{Identifier, Operator}
-use Rattle.bz_tree.specs.declared.stmt.GroupKind.TheVariants.{Call, RuleCall}
-use Rattle.bz_tree.specs.declared.stmt.Class.TheVariants.{Rule as RuleClass}
-use Rattle.bz_tree.specs.declared.kinds.Shape.TheVariants.{Round}
-use Rattle.bz_tree.specs.declared.kinds.Preceding.{Preceding}
-use Rattle.bz_tree.specs.declared.kinds.Preceding.TheVariants.{Operand, Other}
-use Rattle.bz_tree.specs.declared.role.Role.TheVariants.{Dot}
+use Rattle.bz_tree.specs.declared.tree.GroupKind.TheVariants.{Call, RuleCall}
+use Rattle.bz_tree.specs.declared.tree.Class.TheVariants.{Rule as RuleClass}
+use Rattle.bz_tree.specs.declared.tree.kinds.Shape.TheVariants.{Round}
+use Rattle.bz_tree.specs.declared.tree.kinds.Preceding.{Preceding}
+use Rattle.bz_tree.specs.declared.tree.kinds.Preceding.TheVariants.{Operand, Other}
+use Rattle.bz_tree.specs.declared.grammar.role.Role.TheVariants.{Dot}
 use Rattle.bz_tree.specs.Comments.{beside}
 use Rattle.bz_tree.specs.Tree.{Item, leaf, group, item, Segs, Statement, items_of, segs_of}
 use Rattle.bz_tree.specs.Statement.{class_of, is_call, is_rule, rule_call, is_assign}

@@ -13,10 +13,10 @@ use Rattle.bz_command.specs.declared.arguments.Setting.TheVariants.{ToKind, ToVa
 use Rattle.bz_attribute.specs.Rules.{Rule, first_named, is_named, is_text, rule_of, value, kind_text}
 use Rattle.bz_attribute.specs.Lists.{is_attribute, parts}
 use Rattle.bz_attribute.specs.Effects.{argument, chooses, done, fails, has, is_chosen, not_a_list, slot_done, string}
-use Rattle.bz_attribute.specs.Add.{add, adds, fresh, new_elements}
-use Rattle.bz_attribute.specs.Remove.{goes_with_all, remove, removes}
-use Rattle.bz_attribute.specs.Replace.{is_replaced, replace, replaced, replaced_in, replaces, replaces_in}
-use Rattle.bz_attribute.specs.Set.{new_of, new_value, set_if_absent, sets, sets_kind_of}
+use Rattle.bz_list_commands.specs.Add.{add, adds, fresh, new_elements}
+use Rattle.bz_list_commands.specs.Remove.{goes_with_all, remove, removes}
+use Rattle.bz_list_commands.specs.Replace.{is_replaced, replace, replaced, replaced_in, replaces, replaces_in}
+use Rattle.bz_attribute_commands.specs.Set.{new_of, new_value, set_if_absent, sets, sets_kind_of}
 use Rattle.bz_attribute.specs.declared.done.Done.{Done}
 use Rattle.bz_attribute.specs.declared.done.Note.TheVariants.{NotAList}
 use Rattle.bz_command.specs.Names.{is_identifier}

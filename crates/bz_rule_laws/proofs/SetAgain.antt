@@ -2,11 +2,11 @@
 use Rattle.std.proofs.Common.{◌≡◌, ℕ, List, [], ◌∷◌, ◌||◌, true, false, not, Option, None, Some, option_map, refl, ap, ◌∙◌, inl, inr}
 use Rattle.std.specs.Prelude.{bytes_eq, codes}
 use Rattle.std.proofs.lemmas.Bool.{cases_Bool, or_parts, or_from, or_right}
-use Rattle.bz_tree.specs.declared.stmt.GroupKind.TheVariants.{RuleCall}
+use Rattle.bz_tree.specs.declared.tree.GroupKind.TheVariants.{RuleCall}
 use Rattle.bz_tree.specs.Tree.{Item, group, Segment, Statement, segs_of}
 use Rattle.bz_attribute.specs.Rules.{Rule, rule_of, call_at, kind_text, is_named, is_text, first_named, value}
 use Rattle.bz_attribute.specs.Effects.{argument, edit_first, nodes_of, string, done}
-use Rattle.bz_attribute.specs.Set.{New, NewStrings, is_list_attribute, is_number, is_constant, new_word, new_of, new_value, is_value, set_in, set, sets, kind_items, kind_after, with_kind, sets_kind_of}
+use Rattle.bz_attribute_commands.specs.Set.{New, NewStrings, is_list_attribute, is_number, is_constant, new_word, new_of, new_value, is_value, set_in, set, sets, kind_items, kind_after, with_kind, sets_kind_of}
 use Rattle.bz_attribute.proofs.Calls.{rule_from_end}
 use Rattle.bz_rule.proofs.Arguments.{attribute_named, name_put, same_bytes}
 use Rattle.bz_rule_laws.proofs.FirstNamed.{first_after}

@@ -14,11 +14,11 @@ use Rattle.bz_command.specs.declared.arguments.Setting.TheVariants.{ToKind, ToVa
 use Rattle.bz_attribute.specs.Rules.{elements, first_named, is_text, rule_of, string_value, value}
 use Rattle.bz_attribute.specs.Lists.{is_attribute, is_list, parts, is_only, same}
 use Rattle.bz_attribute.specs.Effects.{chooses, done, is_chosen, not_a_list, slot_done}
-use Rattle.bz_attribute.specs.Add.{adds, fresh}
+use Rattle.bz_list_commands.specs.Add.{adds, fresh}
 use Rattle.bz_attribute.specs.Marks.{marks}
-use Rattle.bz_attribute.specs.Remove.{goes_with_all}
-use Rattle.bz_attribute.specs.Replace.{is_replaced, replaces_in}
-use Rattle.bz_attribute.specs.Set.{New, NewConstant, NewNumber, NewString, NewStrings, are_strings, is_list_attribute, is_value, new_of, new_word, sets}
+use Rattle.bz_list_commands.specs.Remove.{goes_with_all}
+use Rattle.bz_list_commands.specs.Replace.{is_replaced, replaces_in}
+use Rattle.bz_attribute_commands.specs.Set.{New, NewConstant, NewNumber, NewString, NewStrings, are_strings, is_list_attribute, is_value, new_of, new_word, sets}
 use Rattle.bz_rule.specs.declared.command.Action.TheVariants.{Add, Remove, Set, SetIfAbsent, Delete, Replace, Comment, Print}
 use Rattle.bz_rule.specs.Commands.{Command, args_done, done_of}
 use Rattle.bz_rule_laws.specs.Again.{IsQuiet, IsSettled, is_line, is_steady}

@@ -4,7 +4,7 @@ use Rattle.std.specs.List.{list_all}
 use Rattle.std.proofs.lemmas.Bool.{and_parts, false≢true}
 use Rattle.std.proofs.lemmas.List.{map-append}
 use Rattle.bz_token.specs.declared.token.Kind.TheVariants.{Identifier, Keyword, Operator, String}
-use Rattle.bz_tree.specs.declared.stmt.GroupKind.TheVariants.{RuleCall, List as ListKind}
+use Rattle.bz_tree.specs.declared.tree.GroupKind.TheVariants.{RuleCall, List as ListKind}
 use Rattle.bz_tree.specs.Tree.{Item, leaf, group, Items, no_items, item, Segs, no_segs, seg, Segment, list_of, segments}
 use Rattle.bz_layout_laws.specs.Spelled.{spelled, spelled_items, spelled_segs}
 use Rattle.bz_layout_laws.proofs.SpelledValues.{respelled_value}

@@ -11,7 +11,7 @@ use Rattle.bz_layout_laws.proofs.Utf8Written.{low_utf8}
 use Rattle.bz_rule.specs.Commands.{Command, command_passes, after}
 use Rattle.bz_command.specs.Labels.{Package}
 use Rattle.bz_command.specs.Values.{quoted, written}
-use Rattle.bz_attribute.specs.Comment.{comment_line, is_blank, trimmed}
+use Rattle.bz_attribute_commands.specs.Comment.{comment_line, is_blank, trimmed}
 use Rattle.bz_rule_laws.proofs.Commands.{commands_pass}
 use Rattle.bz_rule_laws.proofs.PassingWritten.{PassesWritten}
 use Rattle.bz_rule_laws.proofs.PassingTexts.{WordPasses}

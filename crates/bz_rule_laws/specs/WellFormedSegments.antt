@@ -2,7 +2,7 @@
 -- one segment.
 use Rattle.std.specs.Prelude.{ℕ, ◌≤◌, List, false}
 use Rattle.std.specs.List.{AllByRecursion}
-use Rattle.bz_tree.specs.declared.kinds.Preceding.TheVariants.{Other}
+use Rattle.bz_tree.specs.declared.tree.kinds.Preceding.TheVariants.{Other}
 use Rattle.bz_tree.specs.Comments.{beside}
 use Rattle.bz_tree.specs.Tree.{Item, Items, Segment, items_of}
 use Rattle.bz_layout_laws.specs.Legible.{AreComments, items_depth}

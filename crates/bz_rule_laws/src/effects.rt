@@ -12,9 +12,9 @@ ghost use Rattle.bz_command.specs.Labels.{Package};
 ghost use Rattle.bz_attribute.specs.Lists.{is_attribute};
 ghost use Rattle.bz_attribute.specs.Rules.{first_named, is_named};
 ghost use Rattle.bz_token.specs.Common.{map_or};
-ghost use Rattle.bz_attribute.specs.Add as add;
+ghost use Rattle.bz_list_commands.specs.Add as add;
 ghost use Rattle.bz_attribute.specs.Effects as effects;
-ghost use Rattle.bz_attribute.specs.Remove as remove;
+ghost use Rattle.bz_list_commands.specs.Remove as remove;
 
 /// Where `add` does not fail, an element equals each of its values afterwards, so `remove` finds them.
 #[tactic(auto, using(crate::proofs::Found::add_found))]

@@ -6,8 +6,8 @@ use Rattle.std.specs.Prelude.{codes}
 use Rattle.bz_token.specs.declared.token.Kind.{Kind}
 use Rattle.bz_token.specs.declared.token.Kind.TheVariants.{Identifier, Keyword, Operator, Newline, Comment as CommentToken}
 use Rattle.bz_token.specs.Places.{Placed}
-use Rattle.bz_tree.specs.declared.stmt.Class.TheVariants.{Comment, Other}
-use Rattle.bz_tree.specs.declared.stmt.GroupKind.TheVariants.{Call}
+use Rattle.bz_tree.specs.declared.tree.Class.TheVariants.{Comment, Other}
+use Rattle.bz_tree.specs.declared.tree.GroupKind.TheVariants.{Call}
 use Rattle.bz_tree.specs.Tree.{group, no_items, item, no_segs, seg, Statement}
 use Rattle.bz_tree.specs.Brackets.{leaf_of}
 use Rattle.bz_tree.specs.Owners.{node, comma, comment, inside, no_empty}

@@ -6,9 +6,9 @@ use Rattle.std.specs.Str.{bytes_eq}
 use Rattle.bz_token.specs.declared.token.Kind.{Kind}
 use Rattle.bz_token.specs.declared.token.Kind.TheVariants.{Keyword, Kept}
 use Rattle.bz_token.specs.Places.{Placed, line_at, column_at}
-use Rattle.bz_tree.specs.declared.stmt.Class.TheVariants.{Block}
-use Rattle.bz_tree.specs.declared.kinds.Mark.{Mark}
-use Rattle.bz_tree.specs.declared.kinds.Mark.TheVariants.{Open, Close, Comment, Newline}
+use Rattle.bz_tree.specs.declared.tree.Class.TheVariants.{Block}
+use Rattle.bz_tree.specs.declared.tree.kinds.Mark.{Mark}
+use Rattle.bz_tree.specs.declared.tree.kinds.Mark.TheVariants.{Open, Close, Comment, Newline}
 use Rattle.bz_tree.specs.Tree.{leaf, Statement}
 use Rattle.bz_tree.specs.Kinds.{mark_of, is_operator_at}
 use Rattle.bz_tree.specs.Brackets.{end_line}

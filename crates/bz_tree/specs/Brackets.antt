@@ -3,13 +3,13 @@
 -- Of later stops: 8 `Placed`.
 use Rattle.std.specs.Prelude.{ℕ, List, [], ◌∷◌, ◌++◌, Bool, true, false, if◌then◌else◌, ◌==◌, ◌+◌, ◌≡◌, ◌&&◌, ◌||◌, length, map, count_by}
 use Rattle.bz_token.specs.Places.{Placed}
-use Rattle.bz_tree.specs.declared.stmt.GroupKind.{GroupKind}
-use Rattle.bz_tree.specs.declared.stmt.GroupKind.TheVariants.{Paren}
-use Rattle.bz_tree.specs.declared.kinds.Shape.{Shape}
-use Rattle.bz_tree.specs.declared.kinds.Mark.{Mark}
-use Rattle.bz_tree.specs.declared.kinds.Mark.TheVariants.{Open, Close, Comma, Comment, Newline, Plain}
-use Rattle.bz_tree.specs.declared.kinds.Preceding.{Preceding}
-use Rattle.bz_tree.specs.declared.kinds.Preceding.TheVariants.{Operand, Other}
+use Rattle.bz_tree.specs.declared.tree.GroupKind.{GroupKind}
+use Rattle.bz_tree.specs.declared.tree.GroupKind.TheVariants.{Paren}
+use Rattle.bz_tree.specs.declared.tree.kinds.Shape.{Shape}
+use Rattle.bz_tree.specs.declared.tree.kinds.Mark.{Mark}
+use Rattle.bz_tree.specs.declared.tree.kinds.Mark.TheVariants.{Open, Close, Comma, Comment, Newline, Plain}
+use Rattle.bz_tree.specs.declared.tree.kinds.Preceding.{Preceding}
+use Rattle.bz_tree.specs.declared.tree.kinds.Preceding.TheVariants.{Operand, Other}
 use Rattle.bz_tree.specs.Tree.{Item, leaf, group, segs_of}
 use Rattle.bz_tree.specs.Kinds.{mark_of, kind_after, is_for_at, group_kind, is_one}
 use Rattle.bz_tree.specs.Owners.{Own, node, comma, comment, Inside, inside, no_empty}

@@ -2,8 +2,8 @@
 -- Begin with `Statement`.
 use Rattle.std.specs.Prelude.{ℕ, List, [], ◌∷◌, Bool, Option}
 use Rattle.bz_token.specs.declared.token.Kind.{Kind}
-use Rattle.bz_tree.specs.declared.stmt.GroupKind.{GroupKind}
-use Rattle.bz_tree.specs.declared.stmt.Class.{Class}
+use Rattle.bz_tree.specs.declared.tree.GroupKind.{GroupKind}
+use Rattle.bz_tree.specs.declared.tree.Class.{Class}
 
 mutual
   pub data Item : Type 0 where

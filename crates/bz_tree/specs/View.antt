@@ -1,11 +1,11 @@
 -- The statement that a `Stmt` stands for, texts as bytes.
 use Rattle.std.specs.Prelude.{ℕ, List, map, Option, option_map}
 use Rattle.std.specs.Borrow.{Bor}
-use Rattle.bz_tree.specs.declared.stmt.Stmt.{Stmt}
-use Rattle.bz_tree.specs.declared.stmt.Node.{Node, fold-Node}
-use Rattle.bz_tree.specs.declared.stmt.Seg.{Seg, fold-Seg}
-use Rattle.bz_tree.specs.declared.stmt.Group.{Group, fold-Group}
-use Rattle.bz_tree.specs.declared.stmt.Node.TheOpen.{Node-F, Group-F, Seg-F}
+use Rattle.bz_tree.specs.declared.tree.Stmt.{Stmt}
+use Rattle.bz_tree.specs.declared.tree.Node.{Node, fold-Node}
+use Rattle.bz_tree.specs.declared.tree.Seg.{Seg, fold-Seg}
+use Rattle.bz_tree.specs.declared.tree.Group.{Group, fold-Group}
+use Rattle.bz_tree.specs.declared.tree.Node.TheOpen.{Node-F, Group-F, Seg-F}
 use Rattle.bz_tree.specs.Tree.{Item, leaf, group, Segment, Statement, segs_of}
 
 -- the text of a leaf or a comment

@@ -1,15 +1,18 @@
 //! The recognizer of the grammar: it goes over the nodes once, down into the brackets.
 
+pub mod role;
+pub mod stage;
+
 ghost use Rattle.std.specs.Prelude.{◌≡◌};
 ghost use Rattle.bz_tree.specs.Tree.{items_of, segs_of};
 ghost use Rattle.bz_tree.specs.View.{node_view, group_view, nodes_view, segs_view};
 ghost use Rattle.bz_tree.specs.private.Machine.{accepts, role_of, each, is_whole, is_single, is_string_item, is_string, is_renamed, is_load_argument, are_load_arguments, are_loaded, is_load_group, is_load, is_nothing, is_statement};
 
-use crate::class::is_load_word;
-use crate::kinds::is_one;
-use crate::role::{Role, leaf_role};
-use crate::stage::{Goal, Stage, begin, group_role, may_end, next};
-use crate::stmt::{Group, GroupKind, Node, Seg};
+use crate::grammar::role::{Role, leaf_role};
+use crate::grammar::stage::{Goal, Stage, begin, group_role, may_end, next};
+use crate::tree::classes::is_load_word;
+use crate::tree::kinds::is_one;
+use crate::tree::{Group, GroupKind, Node, Seg};
 
 #[cycle(grammar)]
 fn accepts(stage: Stage, nodes: &[Node<'_>]) -> bool

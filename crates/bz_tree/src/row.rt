@@ -1,6 +1,14 @@
-//! Statements as rows: their parts in the order in which they are written, in one list.
+//! Statements as rows, and how chunks are read as them. A row has the parts of its statement in one list, in the order
+//! in which they are written.
 
-use crate::stmt::{Class, GroupKind};
+pub mod from_parts;
+pub mod read;
+pub mod rows;
+mod spot;
+mod text_row;
+pub mod tree_parts;
+
+use crate::tree::{Class, GroupKind};
 use bumpalo::Bump;
 use bz_token::Kind;
 

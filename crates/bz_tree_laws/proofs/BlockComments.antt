@@ -9,8 +9,8 @@ use Rattle.bz_token.specs.declared.token.Kind.TheVariants.{Operator, Newline, Co
 use Rattle.bz_token.specs.Places.{Placed, line_at}
 use Rattle.bz_token.specs.Brackets.{is_inside, open_after_token}
 use Rattle.bz_token.specs.Reading.{is_white, is_gap, continues_gap, feeds_gap, Piece, IsReading, tokens_of, AreTokensOf}
-use Rattle.bz_tree.specs.declared.kinds.Shape.TheVariants.{Round, Square, Curly}
-use Rattle.bz_tree.specs.declared.kinds.Mark.TheVariants.{Open, Close, Comma, Plain}
+use Rattle.bz_tree.specs.declared.tree.kinds.Shape.TheVariants.{Round, Square, Curly}
+use Rattle.bz_tree.specs.declared.tree.kinds.Mark.TheVariants.{Open, Close, Comma, Plain}
 use Rattle.bz_tree.specs.Tree.{Statement}
 use Rattle.bz_tree.specs.Kinds.{operator_mark, kind_mark, mark_of}
 use Rattle.bz_tree.specs.Brackets.{is_line, without_lines}
@@ -19,8 +19,8 @@ use Rattle.bz_tree.specs.Blocks.{IsAt, IsKeptText, above_at, above, IsBlockOf}
 use Rattle.bz_tree.specs.Comments.{comment_of, comments_among}
 use Rattle.bz_tree_laws.specs.BlockComments.{AreWritten, AreKept}
 use Rattle.bz_tree_laws.proofs.KeptSame.{kept_same}
-use Rattle.bz_tree.proofs.Sound.{none_is_some, some_injective}
-use Rattle.bz_tree.proofs.Standing.{or_else, last_or, none_empty, later_last}
+use Rattle.bz_tree.proofs.Trees.Sound.{none_is_some, some_injective}
+use Rattle.bz_tree.proofs.Trees.Standing.{or_else, last_or, none_empty, later_last}
 use Rattle.bz_token.specs.Common.{first_of}
 
 -- a gap outside brackets is one inside

@@ -4,8 +4,8 @@ use Rattle.bz_token.specs.Places.{Placed}
 use Rattle.bz_tree.specs.Tree.{Statement}
 use Rattle.bz_tree.specs.Statement.{IsStatementOf, class_of, first_token}
 use Rattle.bz_tree.specs.Chunk.{IsOneOf, IsChunkOf}
-use Rattle.bz_tree.proofs.Sound.{some_injective}
-use Rattle.bz_tree.proofs.Complete.{statement_found}
+use Rattle.bz_tree.proofs.Trees.Sound.{some_injective}
+use Rattle.bz_tree.proofs.Trees.Complete.{statement_found}
 use Rattle.bz_tree_laws.proofs.KeptSame.{block_same}
 use Rattle.bz_token.specs.Common.{map_or}
 use Rattle.bz_tree.specs.Blocks.{is_block_word}

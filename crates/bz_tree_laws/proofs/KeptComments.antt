@@ -2,22 +2,22 @@
 use Rattle.std.proofs.Common.{◌≡◌, ℕ, List, [], ◌∷◌, ◌++◌, Bool, true, false, cond, Option, Some, None, refl, sym, ap, subst, ◌∙◌, append_assoc, append-nil}
 use Rattle.std.proofs.lemmas.Bool.{false≢true}
 use Rattle.bz_token.specs.Places.{Placed}
-use Rattle.bz_tree.specs.declared.stmt.GroupKind.{GroupKind}
-use Rattle.bz_tree.specs.declared.kinds.Shape.{Shape}
-use Rattle.bz_tree.specs.declared.kinds.Mark.{Mark}
-use Rattle.bz_tree.specs.declared.kinds.Mark.TheVariants.{Open, Close, Comma, Comment as Remark, Newline, Plain}
-use Rattle.bz_tree.specs.declared.kinds.Preceding.{Preceding}
-use Rattle.bz_tree.specs.declared.kinds.Preceding.TheVariants.{Other}
+use Rattle.bz_tree.specs.declared.tree.GroupKind.{GroupKind}
+use Rattle.bz_tree.specs.declared.tree.kinds.Shape.{Shape}
+use Rattle.bz_tree.specs.declared.tree.kinds.Mark.{Mark}
+use Rattle.bz_tree.specs.declared.tree.kinds.Mark.TheVariants.{Open, Close, Comma, Comment as Remark, Newline, Plain}
+use Rattle.bz_tree.specs.declared.tree.kinds.Preceding.{Preceding}
+use Rattle.bz_tree.specs.declared.tree.kinds.Preceding.TheVariants.{Other}
 use Rattle.bz_tree.specs.Tree.{Item, leaf, group, Segment, Statement, items_of, segs_of}
 use Rattle.bz_tree.specs.Kinds.{mark_of, group_kind, is_one}
 use Rattle.bz_tree.specs.Owners.{Own, node, comma, comment, Last, no_token, end_of_node, end_of_comma, is_on, Inside, inside, no_empty}
 use Rattle.bz_tree.specs.Brackets.{own_item, own_items, has_for, group_of, Elem, single, bracket, Elems, no_elems, elem, elem_tokens, elems_tokens, elem_own, elems_own, preceding, own_of, is_single, IsWell, AreWell, is_line, without_lines}
 use Rattle.bz_tree.specs.Statement.{one_segment, as_rule_call, rule_call, is_rule, segment_of, statement_with, IsStatementOf}
 use Rattle.bz_tree.specs.private.Steps.{Walked, texts_of, at_start, after_node, add_beside, to_last, commented, after_comment, done}
-use Rattle.bz_tree.proofs.ByOwns.{walk}
+use Rattle.bz_tree.proofs.Trees.ByOwns.{walk}
 use Rattle.bz_tree.specs.Comments.{Lists, beside, item_owners, items_owners, segs_owners, owners_of, comments_of, comment_of, comments_among, AreDealt, times}
 use Rattle.bz_tree_laws.proofs.Dealt.{Mixed, mixed_swap, mixed_left, mixed_right, mixed_after, mixed_more, left_more, right_more, AreMixed, one_mixed, one_alone, both_mixed, mixed_following, to_end, list_more, lists_more, dealt_of, times_all}
-use Rattle.bz_tree.proofs.OneBracket.{inside_found, nodes_alone}
+use Rattle.bz_tree.proofs.Trees.OneBracket.{inside_found, nodes_alone}
 
 -- the owners in a list of nodes, and in segments
 abbrev nodes_owners : List Item → Lists

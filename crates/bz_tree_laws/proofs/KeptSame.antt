@@ -5,7 +5,7 @@ use Rattle.bz_tree.specs.Tree.{Statement}
 use Rattle.bz_tree.specs.Brackets.{end_line}
 use Rattle.bz_tree.specs.Blocks.{IsKeptText, IsBlockOf, kept_statement, above}
 use Rattle.bz_tree.specs.private.BlockSteps.{offset_run}
-use Rattle.bz_tree.proofs.KeptText.{place_offset, middle}
+use Rattle.bz_tree.proofs.Trees.KeptText.{place_offset, middle}
 
 -- the text between two places
 abbrev text_between : ℕ → List ℕ → Placed → Placed → List ℕ

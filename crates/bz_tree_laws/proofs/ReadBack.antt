@@ -4,7 +4,7 @@ use Rattle.std.proofs.lemmas.Bool.{false≢true}
 use Rattle.bz_tree.specs.Tree.{Item, Segment}
 use Rattle.bz_tree.specs.Owners.{Own, node, comma, comment, Last, no_token, end_of_node, end_of_comma, is_on, no_empty, Inside, inside, Entry, a_node, a_comma, a_comment, first_cell, other_cells, same_line, later_lines, nodes_in, has_node, comments_in, above_last, beside_last, below_last, cell_segment, with_segment, segments_from, end_from, has_trailing_comma, inside_by_cells, entries_of}
 use Rattle.bz_tree_laws.specs.Written.{own_lines, suffix_entry, written_entries, HaveNodes}
-use Rattle.bz_tree.proofs.OneBracket.{trails, trails_comma, trails_comment, trailed_is}
+use Rattle.bz_tree.proofs.Trees.OneBracket.{trails, trails_comma, trails_comment, trailed_is}
 use Rattle.bz_token.specs.Common.{first_of, is_filled}
 
 -- each cell but the last has a node

@@ -17,10 +17,10 @@ use Rattle.bz_tree.specs.Chunk.{IsPlain, IsOneOf, indent_fault, IsChunkOf, IsLex
 use Rattle.bz_tree.specs.private.Steps.{new_level, run}
 use Rattle.bz_tree.specs.private.Machine.{is_statement}
 use Rattle.bz_tree.specs.private.BlockSteps.{AreStanding}
-use Rattle.bz_tree.proofs.Plain.{plain_is, no_plain_tree, no_plain_grammar}
-use Rattle.bz_tree.proofs.KeptText.{kept_is}
-use Rattle.bz_tree.proofs.Standing.{standing}
-use Rattle.bz_tree.proofs.Sound.{none_is_some}
+use Rattle.bz_tree.proofs.Trees.Plain.{plain_is, no_plain_tree, no_plain_grammar}
+use Rattle.bz_tree.proofs.Trees.KeptText.{kept_is}
+use Rattle.bz_tree.proofs.Trees.Standing.{standing}
+use Rattle.bz_tree.proofs.Trees.Sound.{none_is_some}
 use Rattle.bz_tree_laws.specs.Answers.{HasAnswer}
 use Rattle.bz_token.specs.Common.{map_or}
 

@@ -7,14 +7,14 @@ use Rattle.std.proofs.lemmas.Slice.Eq.{bytes_eq-Decides}
 use Rattle.bz_token.specs.Places.{Placed}
 use Rattle.bz_token.specs.declared.token.Kind.{Kind}
 use Rattle.bz_token.specs.declared.token.Kind.TheVariants.{Identifier, Keyword, Integer, String, Operator, Newline as NewlineToken, Comment as CommentToken, Kept}
-use Rattle.bz_tree.specs.declared.stmt.GroupKind.{GroupKind}
-use Rattle.bz_tree.specs.declared.stmt.GroupKind.TheVariants.{Call, RuleCall, Load, Paren, List as ListKind, Index, Dict, ListComp, DictComp}
-use Rattle.bz_tree.specs.declared.kinds.Shape.{Shape}
-use Rattle.bz_tree.specs.declared.kinds.Shape.TheVariants.{Round, Square, Curly}
-use Rattle.bz_tree.specs.declared.kinds.Mark.{Mark}
-use Rattle.bz_tree.specs.declared.kinds.Mark.TheVariants.{Open, Close, Comma, Comment as Remark, Newline, Plain}
-use Rattle.bz_tree.specs.declared.kinds.Preceding.{Preceding}
-use Rattle.bz_tree.specs.declared.kinds.Preceding.TheVariants.{Operand, LoadWord, Other}
+use Rattle.bz_tree.specs.declared.tree.GroupKind.{GroupKind}
+use Rattle.bz_tree.specs.declared.tree.GroupKind.TheVariants.{Call, RuleCall, Load, Paren, List as ListKind, Index, Dict, ListComp, DictComp}
+use Rattle.bz_tree.specs.declared.tree.kinds.Shape.{Shape}
+use Rattle.bz_tree.specs.declared.tree.kinds.Shape.TheVariants.{Round, Square, Curly}
+use Rattle.bz_tree.specs.declared.tree.kinds.Mark.{Mark}
+use Rattle.bz_tree.specs.declared.tree.kinds.Mark.TheVariants.{Open, Close, Comma, Comment as Remark, Newline, Plain}
+use Rattle.bz_tree.specs.declared.tree.kinds.Preceding.{Preceding}
+use Rattle.bz_tree.specs.declared.tree.kinds.Preceding.TheVariants.{Operand, LoadWord, Other}
 use Rattle.bz_tree.specs.Tree.{Item, leaf, group, Segs, Segment, Statement, items_of, segs_of}
 use Rattle.bz_tree.specs.Kinds.{mark_of, kind_mark, operator_mark, group_kind, is_one, is_operator_at}
 use Rattle.bz_tree.specs.Owners.{Own, node, comma, comment, Last, no_token, end_of_node, end_of_comma, is_on, Inside, inside, Entry, a_node, a_comma, a_comment, first_cell, other_cells, later_lines, nodes_in, with_segment, cell_segment, below_last, same_line, segments_from, entries_of}

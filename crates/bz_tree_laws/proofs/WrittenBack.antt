@@ -1,6 +1,6 @@
 -- Brackets and statements that are written so are read back.
 use Rattle.std.proofs.Common.{append-nil, [], ◌∷◌, ◌≡◌, ℕ, ◌==◌, List, Bool, true, false, ◌&&◌, length, None, ap, ◌∙◌}
-use Rattle.bz_tree.specs.declared.stmt.GroupKind.{GroupKind}
+use Rattle.bz_tree.specs.declared.tree.GroupKind.{GroupKind}
 use Rattle.bz_tree.specs.Tree.{Segment, group, segs_of}
 use Rattle.bz_tree.specs.Kinds.{is_one}
 use Rattle.bz_tree.specs.Brackets.{own_items, is_paren, group_with, group_of}

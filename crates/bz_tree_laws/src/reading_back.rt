@@ -1,7 +1,7 @@
 //! Laws on brackets and statements that stand in one stated form: they are read back.
 
 ghost use Rattle.std.specs.Prelude.{◌≡◌, ℕ, List, ◌∷◌, Bool, true, false, ◌&&◌, ◌==◌, length, [], None};
-ghost use Rattle.bz_tree.specs.declared.stmt.GroupKind.{GroupKind};
+ghost use Rattle.bz_tree.specs.declared.tree.GroupKind.{GroupKind};
 ghost use Rattle.bz_tree.specs.Kinds.{is_one};
 ghost use Rattle.bz_tree.specs.Tree.{Segment, group, segs_of};
 ghost use Rattle.bz_tree.specs.Owners.{Own, no_token, no_empty, inside, inside_by_cells, entries_of};

@@ -1,6 +1,6 @@
 -- For private clauses: the kind and the arguments of a rule, as they stand in its parts.
 use Rattle.std.specs.Prelude.{ℕ, List, [], ◌∷◌, ◌++◌, drop, Bool, true, false, Option, None}
-use Rattle.bz_tree.specs.declared.stmt.GroupKind.TheVariants.{RuleCall}
+use Rattle.bz_tree.specs.declared.tree.GroupKind.TheVariants.{RuleCall}
 use Rattle.bz_tree.specs.Tree.{leaf}
 use Rattle.bz_tree.specs.Rows.{RowPart, a_token, opening, segment_end}
 use Rattle.bz_attribute.specs.Rules.{Rule}

@@ -1,7 +1,7 @@
 -- For private clauses alone: the items of a value, by their parts.
 use Rattle.std.specs.Prelude.{◌≡◌, ℕ, ◌+◌, List, [], ◌∷◌, ◌++◌, Bool, true, false, ◌||◌, if◌then◌else◌, Option, None, length, drop, take}
 use Rattle.std.specs.List.{list_all, list_any}
-use Rattle.bz_tree.specs.declared.stmt.GroupKind.TheVariants.{List as ListKind}
+use Rattle.bz_tree.specs.declared.tree.GroupKind.TheVariants.{List as ListKind}
 use Rattle.bz_tree.specs.Tree.{Item, leaf, Segment, items_of}
 use Rattle.bz_tree.specs.Rows.{RowPart, a_token, closing, opening, segment_end, item_parts, items_parts}
 use Rattle.bz_command.specs.Labels.{Package}

@@ -1,6 +1,6 @@
 -- For private clauses alone: the end of a text.
 use Rattle.std.specs.Prelude.{ℕ, ◌-◌, List, [], ◌∷◌, Bool, length, get_or, false}
-use Rattle.bz_attribute.specs.Comment.{is_blank}
+use Rattle.bz_attribute_commands.specs.Comment.{is_blank}
 
 -- the last byte is a space or a tab
 abbrev pub ends_blank : List ℕ → Bool

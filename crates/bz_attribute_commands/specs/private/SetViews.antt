@@ -1,5 +1,5 @@
 -- For private clauses alone: what an attribute is set to.
-use Rattle.bz_attribute.specs.Set as spec
+use Rattle.bz_attribute_commands.specs.Set as spec
 use Rattle.bz_attribute_commands.specs.declared.set.New.{New}
 use Rattle.bz_attribute_commands.specs.declared.set.New.TheVariants.{String, Number, Constant, Strings}
 

@@ -3,7 +3,7 @@ use Rattle.std.specs.Prelude.{◌≡◌, ℕ, List, [], ◌∷◌, drop}
 use Rattle.bz_tree.specs.Tree.{Item, leaf}
 use Rattle.bz_tree.specs.Rows.{RowPart, a_token, segment_end}
 use Rattle.bz_attribute.specs.Elements.{ListRest, rest_parts}
-use Rattle.bz_attribute.specs.Set.{are_strings}
+use Rattle.bz_attribute_commands.specs.Set.{are_strings}
 
 -- the nodes of one token, and none of anything else
 abbrev pub one_token : List RowPart → List Item

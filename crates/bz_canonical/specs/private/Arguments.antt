@@ -1,6 +1,6 @@
 -- The arguments of a rule at the front of a text that stands as it is laid out, for private clauses.
 use Rattle.std.specs.Prelude.{◌≡◌, ℕ, List, ◌∷◌, [], ◌++◌, Bool, option_to_list}
-use Rattle.bz_tree.specs.declared.stmt.GroupKind.TheVariants.{RuleCall}
+use Rattle.bz_tree.specs.declared.tree.GroupKind.TheVariants.{RuleCall}
 use Rattle.bz_tree.specs.Tree.{Segment, segs_of}
 use Rattle.bz_attribute.specs.Rules.{first_named, is_named}
 use Rattle.bz_canonical.specs.Canonical.{argument_lines}

@@ -5,8 +5,8 @@ use Rattle.bz_token.specs.Common.{is_filled}
 use Rattle.bz_token.specs.Lexical.{is_text}
 use Rattle.bz_token.specs.declared.token.Kind.TheVariants.{Identifier, String}
 use Rattle.bz_tree.specs.Comments.{beside}
-use Rattle.bz_tree.specs.declared.stmt.Class.TheVariants.{Rule as RuleClass}
-use Rattle.bz_tree.specs.declared.stmt.GroupKind.TheVariants.{List as ListKind, RuleCall}
+use Rattle.bz_tree.specs.declared.tree.Class.TheVariants.{Rule as RuleClass}
+use Rattle.bz_tree.specs.declared.tree.GroupKind.TheVariants.{List as ListKind, RuleCall}
 use Rattle.bz_tree.specs.Tree.{Item, leaf, group, no_items, item, Segs, no_segs, seg, Segment, Statement, items_of, segs_of}
 use Rattle.bz_layout.specs.Broken.{have_comments}
 use Rattle.bz_layout.specs.Layout.{item_pieces, layout_text}

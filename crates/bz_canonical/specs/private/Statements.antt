@@ -1,9 +1,9 @@
 -- The statement at the front of a text that stands as it is laid out, for private clauses.
 use Rattle.std.specs.Prelude.{◌≡◌, ◌≤◌, codes, ℕ, List, [], ◌∷◌, ◌++◌, Bool, true, false, if◌then◌else◌, map, Option, None}
 use Rattle.bz_token.specs.declared.token.Kind.TheVariants.{String}
-use Rattle.bz_tree.specs.declared.kinds.Preceding.TheVariants.{Other}
-use Rattle.bz_tree.specs.declared.stmt.Class.{Class}
-use Rattle.bz_tree.specs.declared.stmt.GroupKind.TheVariants.{RuleCall, Load}
+use Rattle.bz_tree.specs.declared.tree.kinds.Preceding.TheVariants.{Other}
+use Rattle.bz_tree.specs.declared.tree.Class.{Class}
+use Rattle.bz_tree.specs.declared.tree.GroupKind.TheVariants.{RuleCall, Load}
 use Rattle.bz_tree.specs.Grammar.{IsStatement}
 use Rattle.bz_tree.specs.Statement.{class_of, is_rule, rule_call}
 use Rattle.bz_tree.specs.Tree.{Item, Statement, items_of, segments}

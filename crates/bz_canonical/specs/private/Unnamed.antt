@@ -1,6 +1,6 @@
 -- A rule without a name whose only argument stands in place, for private clauses.
 use Rattle.std.specs.Prelude.{◌≡◌, ℕ, List, [], ◌∷◌, ◌++◌, Bool, codes, None}
-use Rattle.bz_tree.specs.declared.stmt.Class.TheVariants.{Rule as RuleClass}
+use Rattle.bz_tree.specs.declared.tree.Class.TheVariants.{Rule as RuleClass}
 use Rattle.bz_canonical.specs.Canonical.{HasPlace}
 use Rattle.bz_canonical.specs.private.Segments.{IsBesideFront}
 use Rattle.bz_canonical.specs.private.Statements.{IsStatementFront}

@@ -7,7 +7,7 @@ use Rattle.bz_command.specs.declared.arguments.Moved.TheVariants.{Values}
 use Rattle.bz_command.specs.declared.label_set.LabelSet.{LabelSet}
 use Rattle.bz_tree.specs.Rows.{RowPart, segs_parts}
 use Rattle.bz_tree.specs.Tree.{Segment, segs_of}
-use Rattle.bz_attribute.specs.Add.{fresh, new_elements}
+use Rattle.bz_list_commands.specs.Add.{fresh, new_elements}
 use Rattle.bz_attribute.specs.Effects.{string}
 use Rattle.bz_attribute.specs.Elements.{AreLists}
 use Rattle.bz_attribute.specs.Lists.{same}

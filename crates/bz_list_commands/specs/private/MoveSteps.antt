@@ -9,7 +9,7 @@ use Rattle.bz_command.specs.declared.label_set.LabelSet.{LabelSet}
 use Rattle.bz_attribute.specs.Elements.{AreLists, ListRest, elements_left, rest_parts}
 use Rattle.bz_attribute.specs.Lists.{equals}
 use Rattle.bz_attribute.specs.Effects.{with_args}
-use Rattle.bz_attribute.specs.Move.{arrivals, put_in}
+use Rattle.bz_list_commands.specs.Move.{arrivals, put_in}
 use Rattle.bz_attribute.specs.RowPlaces.{IsRuleRow}
 use Rattle.bz_attribute.specs.Rules.{Rule, string_value}
 use Rattle.bz_attribute.specs.declared.place.Place.{Place}

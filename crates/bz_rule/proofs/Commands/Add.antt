@@ -6,7 +6,7 @@ use Rattle.bz_command.specs.Labels.{Package}
 use Rattle.bz_attribute.specs.Rules.{is_named, first_named, value}
 use Rattle.bz_attribute.specs.Lists.{edit_first_part, is_attribute, parts, same, with_value}
 use Rattle.bz_attribute.specs.Effects.{argument, done, edit_first, has, list_item, not_a_list}
-use Rattle.bz_attribute.specs.Add.{add, adds, new_elements, with_added}
+use Rattle.bz_list_commands.specs.Add.{add, adds, new_elements, with_added}
 use Rattle.bz_attribute.specs.declared.done.Note.TheVariants.{NotAList}
 use Rattle.bz_rule.proofs.PartLaws.{edit_head, first_part_stays, parts_first_edited}
 use Rattle.bz_rule.proofs.Arguments.{attribute_named, first_same, rest_same, value_back, value_put}

@@ -9,8 +9,8 @@ use Rattle.bz_attribute.specs.Rules.{rule_of, is_named, first_named, value, elem
 use Rattle.bz_attribute.specs.Lists.{edit_list, equals, is_joint, is_part, is_plus, parts, parts_from}
 use Rattle.bz_attribute.specs.declared.done.Note.{Note}
 use Rattle.bz_attribute.specs.declared.done.Note.TheVariants.{NoAttribute, NoValue}
-use Rattle.bz_attribute.specs.Effects.{done, edit_first, has, holds_rule, is_absent, not_a_list}
-use Rattle.bz_attribute.specs.Comment.{comment_element, comment_line, comment_note, comment_rule, comment_value, edit_element, edit_element_from, is_missing, with_comment}
+use Rattle.bz_attribute.specs.Effects.{done, edit_first, has, holds_rule, is_absent, not_a_list, edit_element, edit_element_from, with_comment}
+use Rattle.bz_attribute_commands.specs.Comment.{comment_element, comment_line, comment_note, comment_rule, comment_value, is_missing}
 use Rattle.bz_attribute.proofs.Views.{segments_of}
 use Rattle.bz_command.specs.declared.arguments.Commented.{Commented}
 use Rattle.bz_command.specs.declared.arguments.Commented.TheVariants.{Rule as OfRule, Attribute, Value}

@@ -11,7 +11,7 @@ use Rattle.bz_rule.specs.declared.command.Action.TheVariants.{Move}
 use Rattle.bz_attribute.specs.Rules.{first_named, is_named, is_text as is_word, name_of, value}
 use Rattle.bz_attribute.specs.Lists.{edit_first_part, edit_parts, with_value}
 use Rattle.bz_attribute.specs.Effects.{argument, edit_first, filtered, has, list_item, loses_all, unchosen, is_chosen, chooses}
-use Rattle.bz_attribute.specs.Move.{arrivals, elements_of, move, move_note, moved, moves, put_in}
+use Rattle.bz_list_commands.specs.Move.{arrivals, elements_of, move, move_note, moved, moves, put_in}
 use Rattle.bz_rule.proofs.Arguments.{attribute_named, name_put}
 use Rattle.bz_token.proofs.Classes.{same_bytes}
 use Rattle.std.proofs.lemmas.List.Elements.{filter-append}

@@ -3,7 +3,7 @@ use Rattle.std.proofs.Common.{IfSome, ◌≡◌, ℕ, List, [], ◌∷◌, Bool,
 use Rattle.std.specs.List.{list_any, list_all}
 use Rattle.std.proofs.lemmas.Bool.{or_parts, and_right, false≢true}
 use Rattle.std.proofs.lemmas.List.Folds.{list_any-append}
-use Rattle.bz_tree.specs.declared.stmt.GroupKind.TheVariants.{Call, RuleCall, Load, Paren, List as ListKind, Index, Dict, ListComp, DictComp}
+use Rattle.bz_tree.specs.declared.tree.GroupKind.TheVariants.{Call, RuleCall, Load, Paren, List as ListKind, Index, Dict, ListComp, DictComp}
 use Rattle.bz_tree.specs.Tree.{Item, leaf, group, Segment, segments}
 use Rattle.bz_command.specs.Labels.{Package}
 use Rattle.bz_command.specs.declared.arguments.Attributes.{Attributes}
@@ -14,7 +14,7 @@ use Rattle.bz_rule.specs.declared.command.Action.TheVariants.{Remove}
 use Rattle.bz_attribute.specs.Rules.{is_named, value}
 use Rattle.bz_attribute.specs.Lists.{edit_parts, is_attribute, parts, with_value}
 use Rattle.bz_attribute.specs.Effects.{chooses, done, filtered, has, is_chosen, loses_all, unchosen}
-use Rattle.bz_attribute.specs.Remove.{goes_with_all, remove, removes}
+use Rattle.bz_list_commands.specs.Remove.{goes_with_all, remove, removes}
 use Rattle.bz_rule.proofs.Kept.{all_stay, all_stay_in, none_left_in, none_passes, none_passes_in}
 use Rattle.bz_rule.proofs.PartLaws.{parts_edited, parts_stay}
 use Rattle.bz_rule.proofs.Arguments.{attribute_named, first_differs, first_stays, value_back, value_put}

@@ -5,7 +5,7 @@ use Rattle.std.proofs.lemmas.Bool.{or_right}
 use Rattle.bz_tree.specs.Tree.{Item, Segment, leaf}
 use Rattle.bz_attribute.specs.Rules.{ident_of, is_named, is_operator_item, is_text as is_word, name_of}
 use Rattle.bz_attribute.specs.Effects.{edit_first, has}
-use Rattle.bz_attribute.specs.Rename.{rename, rename_note, rename_to}
+use Rattle.bz_attribute_commands.specs.Rename.{rename, rename_note, rename_to}
 use Rattle.bz_attribute.specs.declared.done.Note.TheVariants.{AttributeExists, NoAttribute}
 use Rattle.bz_rule.specs.declared.command.Action.TheVariants.{Rename}
 use Rattle.bz_command.specs.Labels.{Package}

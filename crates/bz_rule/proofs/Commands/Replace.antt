@@ -10,7 +10,7 @@ use Rattle.bz_rule.specs.declared.command.Action.TheVariants.{Replace}
 use Rattle.bz_attribute.specs.Rules.{is_text, string_value, value}
 use Rattle.bz_attribute.specs.Lists.{edit_parts, equals, is_attribute, parts, with_value, same}
 use Rattle.bz_attribute.specs.Effects.{done, string_item}
-use Rattle.bz_attribute.specs.Replace.{is_replaced, replaced, replaced_in, replace, replaces, replaces_in}
+use Rattle.bz_list_commands.specs.Replace.{is_replaced, replaced, replaced_in, replace, replaces, replaces_in}
 use Rattle.bz_command.proofs.ReadBack.{quoted_value}
 use Rattle.bz_rule.proofs.Arguments.{attribute_named, first_differs, first_stays, same_bytes, value_back, value_put}
 use Rattle.bz_attribute.proofs.Locals.{edit_local}

@@ -1,7 +1,7 @@
 -- For private clauses: where the arguments stand that a command looks at, and a row with its head.
 use Rattle.std.specs.Prelude.{◌≡◌, ℕ, List, Bool, true, false, Option, Some, map, drop, ◌≤◌, ◌+◌, length}
 use Rattle.bz_tree.specs.Statement.{class_of}
-use Rattle.bz_tree.specs.declared.stmt.Class.TheVariants.{Rule as RuleClass}
+use Rattle.bz_tree.specs.declared.tree.Class.TheVariants.{Rule as RuleClass}
 use Rattle.bz_tree.specs.Tree.{Statement}
 use Rattle.bz_tree.specs.Rows.{RowPart, part_view, parts_of}
 use Rattle.bz_command.specs.Labels.{Package}
@@ -9,7 +9,7 @@ use Rattle.bz_command.specs.declared.arguments.Commented.TheVariants.{Rule as Ab
 use Rattle.bz_command.specs.declared.arguments.Setting.TheVariants.{ToKind}
 use Rattle.bz_rule.specs.Commands.{Command, args_after, done_of}
 use Rattle.bz_rule.specs.declared.command.Action.TheVariants.{Comment, Delete, Print, Set}
-use Rattle.bz_attribute.specs.Comment.{comment_rule}
+use Rattle.bz_attribute_commands.specs.Comment.{comment_rule}
 use Rattle.bz_attribute.specs.Effects.{with_args}
 use Rattle.bz_attribute.specs.Heads.{HasHead}
 use Rattle.bz_attribute.specs.RowEdits.{IsWithin, replaced_at}
@@ -17,7 +17,7 @@ use Rattle.bz_attribute.specs.RowPlaces.{IsRuleRow}
 use Rattle.bz_attribute.specs.declared.edit.Edit.{Edit}
 use Rattle.bz_attribute.specs.Rules.{Rule, rule_of, kind_text}
 use Rattle.bz_rule.specs.declared.row_edit.RuleParts.{RuleParts}
-use Rattle.bz_attribute.specs.Set.{with_kind}
+use Rattle.bz_attribute_commands.specs.Set.{with_kind}
 use Rattle.bz_attribute.specs.declared.head.Head.{Head}
 use Rattle.bz_rule.specs.RowViews.{RowValue, row_statement}
 

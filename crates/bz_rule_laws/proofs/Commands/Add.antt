@@ -5,7 +5,7 @@ use Rattle.bz_command.specs.Labels.{Package}
 use Rattle.bz_attribute.specs.Rules.{is_named, value}
 use Rattle.bz_attribute.specs.Lists.{edit_first_part, is_attribute, parts, with_value}
 use Rattle.bz_attribute.specs.Effects.{has, list_item}
-use Rattle.bz_attribute.specs.Add.{add, new_elements, with_added, fresh, is_fresh}
+use Rattle.bz_list_commands.specs.Add.{add, new_elements, with_added, fresh, is_fresh}
 use Rattle.bz_rule.proofs.Arguments.{same_bytes}
 use Rattle.bz_rule.specs.declared.command.Action.TheVariants.{Add}
 use Rattle.bz_rule_laws.proofs.Keeps.{Keeps, keeps_slot}

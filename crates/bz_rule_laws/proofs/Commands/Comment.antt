@@ -6,8 +6,8 @@ use Rattle.bz_tree.specs.Tree.{Segment, Items}
 use Rattle.bz_command.specs.Labels.{Package}
 use Rattle.bz_attribute.specs.Rules.{value}
 use Rattle.bz_attribute.specs.Lists.{equals, is_attribute}
-use Rattle.bz_attribute.specs.Effects.{edit_first}
-use Rattle.bz_attribute.specs.Comment.{comment_element, comment_line, edit_element, with_comment}
+use Rattle.bz_attribute.specs.Effects.{edit_first, edit_element, with_comment}
+use Rattle.bz_attribute_commands.specs.Comment.{comment_element, comment_line}
 use Rattle.bz_command.specs.declared.arguments.Commented.{Commented}
 use Rattle.bz_command.specs.declared.arguments.Commented.TheVariants.{Rule as OfRule, Attribute, Value}
 use Rattle.bz_rule.specs.declared.command.Action.TheVariants.{Comment}

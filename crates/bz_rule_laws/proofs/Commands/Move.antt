@@ -10,7 +10,7 @@ use Rattle.bz_rule.specs.declared.command.Action.TheVariants.{Move}
 use Rattle.bz_attribute.specs.Rules.{first_named, is_named, value, string_value}
 use Rattle.bz_attribute.specs.Lists.{edit_first_part, with_value, is_attribute, parts, equals}
 use Rattle.bz_attribute.specs.Effects.{edit_first, filtered, has, list_item, unchosen, is_chosen}
-use Rattle.bz_attribute.specs.Move.{arrivals, elements_of, move, move_note, moved, moves, put_in}
+use Rattle.bz_list_commands.specs.Move.{arrivals, elements_of, move, move_note, moved, moves, put_in}
 use Rattle.bz_rule.proofs.Arguments.{attribute_named}
 use Rattle.bz_rule_laws.proofs.Commands.Remove.{filtered_kept}
 use Rattle.bz_command.specs.Names.{is_identifier}

@@ -10,7 +10,7 @@ use Rattle.bz_rule.specs.declared.command.Action.TheVariants.{Remove}
 use Rattle.bz_attribute.specs.Rules.{is_named, value}
 use Rattle.bz_attribute.specs.Lists.{edit_parts, is_attribute, parts, with_value}
 use Rattle.bz_attribute.specs.Effects.{done, filtered, loses_all, unchosen}
-use Rattle.bz_attribute.specs.Remove.{goes_with_all, remove, removes}
+use Rattle.bz_list_commands.specs.Remove.{goes_with_all, remove, removes}
 use Rattle.bz_rule_laws.specs.Aside.{IsAside}
 use Rattle.bz_rule.proofs.PartLaws.{parts_edited}
 use Rattle.bz_rule.proofs.Arguments.{same_bytes, value_put}

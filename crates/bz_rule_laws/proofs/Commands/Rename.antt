@@ -4,7 +4,7 @@ use Rattle.std.specs.Prelude.{drop}
 use Rattle.std.proofs.lemmas.Bool.{or_right, and_parts}
 use Rattle.bz_tree.specs.Tree.{Item, Segment, group, leaf}
 use Rattle.bz_attribute.specs.Rules.{ident_of, is_operator_item, is_text as is_word, name_of, value}
-use Rattle.bz_attribute.specs.Rename.{rename_to}
+use Rattle.bz_attribute_commands.specs.Rename.{rename_to}
 use Rattle.bz_rule.specs.declared.command.Action.TheVariants.{Rename}
 use Rattle.bz_command.specs.Labels.{Package}
 use Rattle.bz_rule_laws.proofs.KeepsFirst.{KeepsFirst, keeps_first}

@@ -10,7 +10,7 @@ use Rattle.bz_rule.specs.declared.command.Action.TheVariants.{Replace}
 use Rattle.bz_attribute.specs.Rules.{is_text, string_value, value}
 use Rattle.bz_attribute.specs.Lists.{edit_parts, equals, is_attribute, parts, same}
 use Rattle.bz_attribute.specs.Effects.{done, string_item}
-use Rattle.bz_attribute.specs.Replace.{is_replaced, replaced, replaced_in, replace, replaces}
+use Rattle.bz_list_commands.specs.Replace.{is_replaced, replaced, replaced_in, replace, replaces}
 use Rattle.bz_rule.proofs.Arguments.{same_bytes, value_put}
 use Rattle.bz_rule_laws.proofs.KeepsFirst.{KeepsFirst, keeps_first, named_with}
 use Rattle.bz_rule_laws.proofs.Keeps.{Keeps, keeps_slot}

@@ -4,11 +4,11 @@ use Rattle.bz_attribute.proofs.RuleParts.{rule_dotted}
 use Rattle.std.specs.Prelude.{bytes_eq}
 use Rattle.std.specs.List.{slice_split, AllByRecursion, list_all}
 use Rattle.std.proofs.lemmas.Bool.{and_parts}
-use Rattle.bz_tree.specs.declared.stmt.GroupKind.TheVariants.{RuleCall}
+use Rattle.bz_tree.specs.declared.tree.GroupKind.TheVariants.{RuleCall}
 use Rattle.bz_tree.specs.Tree.{Item, group, Segment, Statement, segs_of, leaf}
 use Rattle.bz_attribute.specs.Rules.{Rule, rule_of, kind_text, is_named, first_named, value, dotted, is_operator_item}
 use Rattle.bz_attribute.specs.Effects.{argument, has, nodes_of, string}
-use Rattle.bz_attribute.specs.Set.{New, NewString, NewNumber, NewConstant, NewStrings, new_of, new_value, is_value, set_in, set, set_if_absent, joined_by_dots, kind_items, kind_after, with_kind, is_constant, is_list_attribute, is_number, new_word}
+use Rattle.bz_attribute_commands.specs.Set.{New, NewString, NewNumber, NewConstant, NewStrings, new_of, new_value, is_value, set_in, set, set_if_absent, joined_by_dots, kind_items, kind_after, with_kind, is_constant, is_list_attribute, is_number, new_word}
 use Rattle.bz_attribute.proofs.RuleNodes.{rule_nodes}
 use Rattle.bz_command.specs.declared.arguments.Setting.{Setting}
 use Rattle.bz_command.specs.declared.arguments.Setting.TheVariants.{ToKind, ToValues}

@@ -1,9 +1,9 @@
 -- For private clauses: the walks over the tokens of a block.
 use Rattle.std.specs.Prelude.{ℕ, ◌+◌, ◌≡◌, ◌<◌, ◌++◌, List, [], ◌∷◌, reverse, Bool, true, false, if◌then◌else◌, ◌==◌, ◌&&◌, ◌||◌, Option, Some, None, option_map}
 use Rattle.bz_token.specs.Places.{Placed}
-use Rattle.bz_tree.specs.declared.kinds.Mark.{Mark}
-use Rattle.bz_tree.specs.declared.kinds.Mark.TheVariants.{Comment, Newline}
-use Rattle.bz_tree.specs.declared.block.Indents.{Indents}
+use Rattle.bz_tree.specs.declared.tree.kinds.Mark.{Mark}
+use Rattle.bz_tree.specs.declared.tree.kinds.Mark.TheVariants.{Comment, Newline}
+use Rattle.bz_tree.specs.declared.tree.block.Indents.{Indents}
 use Rattle.bz_tree.specs.Kinds.{mark_of}
 use Rattle.bz_tree.specs.Blocks.{is_colon, indented, depth_after, IsAt, is_block_word}
 use Rattle.bz_tree.specs.Statement.{first_token, last_seen}

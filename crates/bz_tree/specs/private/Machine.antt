@@ -1,13 +1,13 @@
 -- For private clauses: the recognizer of the grammar, which goes over the nodes of a segment once.
 use Rattle.std.specs.Prelude.{Bool, true, false, not, ◌&&◌, ◌||◌, if◌then◌else◌}
-use Rattle.bz_tree.specs.declared.stmt.GroupKind.{GroupKind}
-use Rattle.bz_tree.specs.declared.stmt.GroupKind.TheVariants.{Call, RuleCall, Load, Paren, List as ListKind, Index, Dict, ListComp, DictComp}
-use Rattle.bz_tree.specs.declared.role.Role.{Role}
-use Rattle.bz_tree.specs.declared.role.Role.TheVariants.{Name, Number, Value, Suffix, Dot, Comma, Colon, Equals, Augmented, If, Else, For, In, Not, Tilde, Sum, Star, Stars, Operator, Stray}
-use Rattle.bz_tree.specs.declared.stage.Goal.{Goal}
-use Rattle.bz_tree.specs.declared.stage.Goal.TheVariants.{Left, Right, Alone, Key, Element, EntryKey, From, To, Step, Target, Clause}
-use Rattle.bz_tree.specs.declared.stage.Stage.{Stage}
-use Rattle.bz_tree.specs.declared.stage.Stage.TheVariants.{Refused, Wants, Has, HasNumber, Names, Excludes, Begins, Argument, Keyword}
+use Rattle.bz_tree.specs.declared.tree.GroupKind.{GroupKind}
+use Rattle.bz_tree.specs.declared.tree.GroupKind.TheVariants.{Call, RuleCall, Load, Paren, List as ListKind, Index, Dict, ListComp, DictComp}
+use Rattle.bz_tree.specs.declared.grammar.role.Role.{Role}
+use Rattle.bz_tree.specs.declared.grammar.role.Role.TheVariants.{Name, Number, Value, Suffix, Dot, Comma, Colon, Equals, Augmented, If, Else, For, In, Not, Tilde, Sum, Star, Stars, Operator, Stray}
+use Rattle.bz_tree.specs.declared.grammar.stage.Goal.{Goal}
+use Rattle.bz_tree.specs.declared.grammar.stage.Goal.TheVariants.{Left, Right, Alone, Key, Element, EntryKey, From, To, Step, Target, Clause}
+use Rattle.bz_tree.specs.declared.grammar.stage.Stage.{Stage}
+use Rattle.bz_tree.specs.declared.grammar.stage.Stage.TheVariants.{Refused, Wants, Has, HasNumber, Names, Excludes, Begins, Argument, Keyword}
 use Rattle.bz_tree.specs.Kinds.{is_one}
 use Rattle.bz_tree.specs.Tree.{Item, leaf, group, Items, no_items, item, Segs, no_segs, seg}
 use Rattle.bz_tree.specs.Statement.{is_load_word}

@@ -1,8 +1,8 @@
 -- For private clauses: what the walk from parts to nodes holds.
 use Rattle.std.specs.Prelude.{ℕ, List, [], ◌∷◌, Option, None, Some, map, reverse}
-use Rattle.bz_tree.specs.declared.from_parts.Inside.{Inside}
-use Rattle.bz_tree.specs.declared.from_parts.OpenGroup.{OpenGroup}
-use Rattle.bz_tree.specs.declared.from_parts.Nesting.{Nesting}
+use Rattle.bz_tree.specs.declared.row.from_parts.Inside.{Inside}
+use Rattle.bz_tree.specs.declared.row.from_parts.OpenGroup.{OpenGroup}
+use Rattle.bz_tree.specs.declared.row.from_parts.Nesting.{Nesting}
 use Rattle.bz_tree.specs.View.{texts, nodes_view, segs_view}
 use Rattle.bz_tree.specs.FromParts.{Content, Outer, Nest, nothing, steps}
 use Rattle.bz_tree.specs.Rows.{RowPart, beside}

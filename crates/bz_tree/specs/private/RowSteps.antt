@@ -3,28 +3,28 @@ use Rattle.std.specs.Prelude.{ℕ, ◌+◌, ◌==◌, count_by, List, [], ◌∷
 use Rattle.std.specs.Bool.{then_some}
 use Rattle.bz_token.specs.declared.token.Kind.{Kind}
 use Rattle.bz_token.specs.Places.{Placed}
-use Rattle.bz_tree.specs.declared.stmt.GroupKind.{GroupKind}
-use Rattle.bz_tree.specs.declared.stmt.GroupKind.TheVariants.{RuleCall}
-use Rattle.bz_tree.specs.declared.stmt.Class.{Class}
-use Rattle.bz_tree.specs.declared.stmt.Class.TheVariants.{Assign, Rule, Load as LoadClass, Comment as CommentClass, Other as OtherClass}
-use Rattle.bz_tree.specs.declared.kinds.Shape.{Shape}
-use Rattle.bz_tree.specs.declared.kinds.Mark.{Mark}
-use Rattle.bz_tree.specs.declared.kinds.Mark.TheVariants.{Open, Close, Comma, Comment, Newline, Plain}
-use Rattle.bz_tree.specs.declared.kinds.Preceding.TheVariants.{Operand, Other}
-use Rattle.bz_tree.specs.declared.role.Role.{Role}
-use Rattle.bz_tree.specs.declared.role.Role.TheVariants.{Stray}
-use Rattle.bz_tree.specs.declared.stage.Goal.TheVariants.{Left}
-use Rattle.bz_tree.specs.declared.stage.Stage.TheVariants.{Wants}
-use Rattle.bz_tree.specs.declared.spot.Naming.{Naming}
-use Rattle.bz_tree.specs.declared.spot.Naming.TheVariants.{Name, Join, End, Never, Lost}
-use Rattle.bz_tree.specs.declared.spot.SegmentCount.{SegmentCount}
-use Rattle.bz_tree.specs.declared.spot.SegmentCount.TheVariants.{Zero, One, More}
-use Rattle.bz_tree.specs.declared.spot.Here.{Here}
-use Rattle.bz_tree.specs.declared.spot.Here.TheVariants.{Nothing, Comma as AfterComma, Node as AfterNode, Ended}
-use Rattle.bz_tree.specs.declared.spot.Read.{Read}
-use Rattle.bz_tree.specs.declared.spot.Spot.{Spot}
-use Rattle.bz_tree.specs.declared.spot.Around.{Around}
-use Rattle.bz_tree.specs.declared.rows.RowWalk.{RowWalk}
+use Rattle.bz_tree.specs.declared.tree.GroupKind.{GroupKind}
+use Rattle.bz_tree.specs.declared.tree.GroupKind.TheVariants.{RuleCall}
+use Rattle.bz_tree.specs.declared.tree.Class.{Class}
+use Rattle.bz_tree.specs.declared.tree.Class.TheVariants.{Assign, Rule, Load as LoadClass, Comment as CommentClass, Other as OtherClass}
+use Rattle.bz_tree.specs.declared.tree.kinds.Shape.{Shape}
+use Rattle.bz_tree.specs.declared.tree.kinds.Mark.{Mark}
+use Rattle.bz_tree.specs.declared.tree.kinds.Mark.TheVariants.{Open, Close, Comma, Comment, Newline, Plain}
+use Rattle.bz_tree.specs.declared.tree.kinds.Preceding.TheVariants.{Operand, Other}
+use Rattle.bz_tree.specs.declared.grammar.role.Role.{Role}
+use Rattle.bz_tree.specs.declared.grammar.role.Role.TheVariants.{Stray}
+use Rattle.bz_tree.specs.declared.grammar.stage.Goal.TheVariants.{Left}
+use Rattle.bz_tree.specs.declared.grammar.stage.Stage.TheVariants.{Wants}
+use Rattle.bz_tree.specs.declared.row.spot.Naming.{Naming}
+use Rattle.bz_tree.specs.declared.row.spot.Naming.TheVariants.{Name, Join, End, Never, Lost}
+use Rattle.bz_tree.specs.declared.row.spot.SegmentCount.{SegmentCount}
+use Rattle.bz_tree.specs.declared.row.spot.SegmentCount.TheVariants.{Zero, One, More}
+use Rattle.bz_tree.specs.declared.row.spot.Here.{Here}
+use Rattle.bz_tree.specs.declared.row.spot.Here.TheVariants.{Nothing, Comma as AfterComma, Node as AfterNode, Ended}
+use Rattle.bz_tree.specs.declared.row.spot.Read.{Read}
+use Rattle.bz_tree.specs.declared.row.spot.Spot.{Spot}
+use Rattle.bz_tree.specs.declared.row.spot.Around.{Around}
+use Rattle.bz_tree.specs.declared.row.rows.RowWalk.{RowWalk}
 use Rattle.bz_tree.specs.declared.row.Row.{Row}
 use Rattle.bz_tree.specs.Kinds.{mark_of, kind_after, is_for_at, group_kind, is_one, same_shape, is_operator_at}
 use Rattle.bz_tree.specs.Brackets.{is_paren, end_line}

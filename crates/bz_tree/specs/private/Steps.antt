@@ -1,23 +1,23 @@
 -- For private clauses: the walk over what stands in one bracket, and the walk over the tokens with a stack of open brackets.
 use Rattle.std.specs.Prelude.{ℕ, ◌+◌, ◌==◌, count_by, List, [], ◌∷◌, ◌++◌, map, reverse, Bool, true, false, not, ◌&&◌, if◌then◌else◌, Option, Some, None, option_map, option_and_then}
-use Rattle.bz_tree.specs.declared.stmt.GroupKind.{GroupKind}
-use Rattle.bz_tree.specs.declared.stmt.GroupKind.TheVariants.{Call, RuleCall, Load, Paren, List as ListKind, Index, Dict, ListComp, DictComp}
-use Rattle.bz_tree.specs.declared.kinds.Shape.{Shape}
-use Rattle.bz_tree.specs.declared.kinds.Shape.TheVariants.{Round, Square, Curly}
-use Rattle.bz_tree.specs.declared.kinds.Mark.{Mark}
-use Rattle.bz_tree.specs.declared.kinds.Mark.TheVariants.{Open, Close, Newline}
-use Rattle.bz_tree.specs.declared.kinds.Preceding.{Preceding}
-use Rattle.bz_tree.specs.declared.kinds.Preceding.TheVariants.{Other}
-use Rattle.bz_tree.specs.declared.owners.Before.{Before}
-use Rattle.bz_tree.specs.declared.owners.Before.TheVariants.{Nothing, Node as BeforeNode, Comma as BeforeComma}
-use Rattle.bz_tree.specs.declared.owners.Walk.{Walk}
-use Rattle.bz_tree.specs.declared.class.Phase.{Phase}
-use Rattle.bz_tree.specs.declared.class.Phase.TheVariants.{Name, Join, End}
-use Rattle.bz_tree.specs.declared.owners.Content.{Content}
-use Rattle.bz_tree.specs.declared.build.Frame.{Frame}
-use Rattle.bz_tree.specs.declared.build.State.{State}
+use Rattle.bz_tree.specs.declared.tree.GroupKind.{GroupKind}
+use Rattle.bz_tree.specs.declared.tree.GroupKind.TheVariants.{Call, RuleCall, Load, Paren, List as ListKind, Index, Dict, ListComp, DictComp}
+use Rattle.bz_tree.specs.declared.tree.kinds.Shape.{Shape}
+use Rattle.bz_tree.specs.declared.tree.kinds.Shape.TheVariants.{Round, Square, Curly}
+use Rattle.bz_tree.specs.declared.tree.kinds.Mark.{Mark}
+use Rattle.bz_tree.specs.declared.tree.kinds.Mark.TheVariants.{Open, Close, Newline}
+use Rattle.bz_tree.specs.declared.tree.kinds.Preceding.{Preceding}
+use Rattle.bz_tree.specs.declared.tree.kinds.Preceding.TheVariants.{Other}
+use Rattle.bz_tree.specs.declared.tree.owners.Before.{Before}
+use Rattle.bz_tree.specs.declared.tree.owners.Before.TheVariants.{Nothing, Node as BeforeNode, Comma as BeforeComma}
+use Rattle.bz_tree.specs.declared.tree.owners.Walk.{Walk}
+use Rattle.bz_tree.specs.declared.tree.classes.Phase.{Phase}
+use Rattle.bz_tree.specs.declared.tree.classes.Phase.TheVariants.{Name, Join, End}
+use Rattle.bz_tree.specs.declared.tree.owners.Content.{Content}
+use Rattle.bz_tree.specs.declared.tree.build.Frame.{Frame}
+use Rattle.bz_tree.specs.declared.tree.build.State.{State}
 use Rattle.bz_token.specs.Places.{Placed}
-use Rattle.bz_tree.specs.declared.stmt.Leaf.{Leaf}
+use Rattle.bz_tree.specs.declared.tree.Leaf.{Leaf}
 use Rattle.bz_tree.specs.Tree.{Item, leaf, Segment}
 use Rattle.bz_tree.specs.View.{text_of, texts, node_view, seg_view}
 use Rattle.bz_tree.specs.Kinds.{mark_of, is_one, group_kind, same_shape}

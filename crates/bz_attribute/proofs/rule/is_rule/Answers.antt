@@ -1,5 +1,5 @@
 use Rattle.std.proofs.Common.{◌≡◌, false, arith, rules}
-use Rattle.bz_tree.specs.declared.stmt.Node.{the_lemmas}
+use Rattle.bz_tree.specs.declared.tree.Node.{the_lemmas}
 use Rattle.bz_tree.specs.View.{node_view}
 use Rattle.bz_attribute.proofs.Calls.{rule_without_call, is_rule_call}
 use Rattle.bz_attribute.proofs.rule.is_rule.Goals as goal

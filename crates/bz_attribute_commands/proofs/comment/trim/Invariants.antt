@@ -1,5 +1,5 @@
 use Rattle.std.proofs.Common.{◌≡◌, string_bytes, string_len}
-use Rattle.bz_attribute.specs.Comment.{trimmed}
+use Rattle.bz_attribute_commands.specs.Comment.{trimmed}
 use Rattle.bz_attribute_commands.proofs.comment.trim.Given as goal
 
 abbrev pub invariant-loop-line : goal.invariant-loop-line

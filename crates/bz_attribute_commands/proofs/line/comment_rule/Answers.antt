@@ -1,7 +1,7 @@
 use Rattle.std.proofs.Common.{◌≡◌, ◌++◌, ◌∙◌, [], ◌∷◌, List, Option, map, ap, sym}
 use Rattle.bz_token.specs.Common.{map_or}
 use Rattle.bz_tree.specs.Rows.{RowPart, part_view, parts_of}
-use Rattle.bz_attribute.specs.Comment.{comment_line}
+use Rattle.bz_attribute_commands.specs.Comment.{comment_line}
 use Rattle.bz_attribute.specs.RowEdits.{replaced_at}
 use Rattle.bz_attribute.specs.Rules.{Rule}
 use Rattle.bz_attribute.specs.declared.edit.Edit.{Edit}

@@ -1,8 +1,8 @@
 use Rattle.std.proofs.Common.{tests, ◌≡◌, ℕ, ◌<◌, ◌≤◌, ◌∷◌, [], ◌++◌, ◌&&◌, get_or, List, Option, Some, None, is_some, false, length, refl, ap, sym, ◌∙◌, arith, append-nil, string_bytes, if◌then◌else◌, is_ok, Result, Ok, Err, OnOk, subst}
 use Rattle.std.proofs.lemmas.Result.{on_ok_weaker}
 use Rattle.std.specs.List.{list_all}
-use Rattle.bz_tree.specs.declared.stmt.GroupKind.TheVariants.{RuleCall}
-use Rattle.bz_tree.specs.declared.stmt.Node.{Node}
+use Rattle.bz_tree.specs.declared.tree.GroupKind.TheVariants.{RuleCall}
+use Rattle.bz_tree.specs.declared.tree.Node.{Node}
 use Rattle.bz_tree.specs.Tree.{Item}
 use Rattle.bz_tree.specs.View.{node_view, nodes_view}
 use Rattle.bz_layout.specs.Layout.{flat_text}

@@ -1,9 +1,9 @@
 use Rattle.std.proofs.Common.{◌≡◌, rules, ◌∙◌, map, string_bytes, ap, sym, ◌++◌, ◌∷◌, [], List, ℕ}
-use Rattle.bz_tree.specs.declared.stmt.Node.{Node}
+use Rattle.bz_tree.specs.declared.tree.Node.{Node}
 use Rattle.bz_tree.specs.Tree.{Segment}
 use Rattle.bz_tree.specs.View.{nodes_view, seg_view, segs_view}
 use Rattle.bz_attribute.specs.Rules.{string_value}
-use Rattle.bz_tree.proofs.Views.{view-seg}
+use Rattle.bz_tree.proofs.Trees.Views.{view-seg}
 use Rattle.bz_attribute_commands.specs.private.PrintSteps.{element_word, spaced_from}
 use Rattle.bz_attribute_commands.proofs.Printed.{spaced_all, next_viewed}
 use Rattle.bz_attribute_commands.proofs.print.push_words.Goals as goal

@@ -10,7 +10,7 @@ use Rattle.bz_attribute.specs.RowEdits.{replaced_at}
 use Rattle.bz_attribute.specs.RowPlaces.{IsRuleRow}
 use Rattle.bz_attribute.specs.Finder.{find_from}
 use Rattle.bz_attribute.specs.Effects.{edit_first, has, with_args}
-use Rattle.bz_attribute.specs.Rename.{rename, rename_to}
+use Rattle.bz_attribute_commands.specs.Rename.{rename, rename_to}
 use Rattle.bz_attribute.specs.declared.done.Done.{Done}
 use Rattle.bz_attribute.proofs.EditedAt.{with_args_at}
 use Rattle.bz_attribute.proofs.FoundArgs.{group_name}

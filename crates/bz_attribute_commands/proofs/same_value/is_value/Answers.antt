@@ -3,8 +3,8 @@ use Rattle.bz_token.specs.declared.token.Kind.TheVariants.{Identifier, Integer, 
 use Rattle.bz_tree.specs.Rows.{RowPart}
 use Rattle.bz_tree.specs.Tree.{Item, leaf, group}
 use Rattle.bz_attribute.specs.Elements.{value_parts}
-use Rattle.bz_attribute.specs.Set as spec
-use Rattle.bz_attribute.specs.Set.{NewConstant, NewNumber, NewString, NewStrings, is_value}
+use Rattle.bz_attribute_commands.specs.Set as spec
+use Rattle.bz_attribute_commands.specs.Set.{NewConstant, NewNumber, NewString, NewStrings, is_value}
 use Rattle.bz_attribute.proofs.Slices.{rest_seen}
 use Rattle.bz_attribute_commands.specs.declared.set.New.{New}
 use Rattle.bz_attribute_commands.specs.private.SetViews.{new_view}

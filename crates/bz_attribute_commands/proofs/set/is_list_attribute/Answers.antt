@@ -2,7 +2,7 @@ use Rattle.std.proofs.Common.{◌≡◌, ℕ, List, [], ◌∷◌, ◌||◌, ref
 use Rattle.std.specs.Cmp.{nat_eq_equiv}
 use Rattle.std.specs.Cmp.Lexicographic.{lists_equiv}
 use Rattle.std.specs.List.{list_any}
-use Rattle.bz_attribute.specs.Set.{list_attributes}
+use Rattle.bz_attribute_commands.specs.Set.{list_attributes}
 use Rattle.bz_attribute_commands.proofs.set.is_list_attribute.Goals as goal
 
 -- each text is compared with the word, in place of the word with it

@@ -5,7 +5,7 @@ use Rattle.bz_tree.specs.Tree.{Statement, items_of}
 use Rattle.bz_tree.specs.Rows.{items_parts, part_view}
 use Rattle.bz_attribute.specs.RowPlaces.{IsRuleRow}
 use Rattle.bz_attribute.specs.Rules.{Rule, value}
-use Rattle.bz_attribute.specs.Set.{New, new_value}
+use Rattle.bz_attribute_commands.specs.Set.{New, new_value}
 use Rattle.bz_attribute.specs.declared.done.Done.{Done}
 use Rattle.bz_attribute.proofs.RowEdits.{changed, seen_within, unchanged}
 use Rattle.bz_attribute_commands.specs.private.SetViews.{new_view}

@@ -4,7 +4,7 @@ use Rattle.std.specs.List.{slice_split}
 use Rattle.bz_token.specs.declared.token.Kind.TheVariants.{Identifier, Operator}
 use Rattle.bz_tree.specs.Tree.{Item, items_of, leaf}
 use Rattle.bz_tree.specs.Rows.{RowPart, a_token, items_parts, part_view}
-use Rattle.bz_attribute.specs.Set.{joined_by_dots, kind_items}
+use Rattle.bz_attribute_commands.specs.Set.{joined_by_dots, kind_items}
 use Rattle.bz_attribute.proofs.Slices.{one_more}
 use Rattle.bz_command.proofs.Cuts.{some_part}
 use Rattle.bz_attribute_commands.proofs.set_kind.push_kind.Goals as goal

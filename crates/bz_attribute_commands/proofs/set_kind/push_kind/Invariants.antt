@@ -2,7 +2,7 @@ use Rattle.std.proofs.Common.{◌≡◌, ◌++◌, length, map}
 use Rattle.std.specs.Str.{IsUtf8}
 use Rattle.bz_tree.specs.Tree.{items_of}
 use Rattle.bz_tree.specs.Rows.{items_parts, part_view}
-use Rattle.bz_attribute.specs.Set.{kind_items}
+use Rattle.bz_attribute_commands.specs.Set.{kind_items}
 use Rattle.bz_attribute_commands.proofs.set_kind.push_kind.Given as goal
 
 abbrev pub invariant-loop-name : goal.invariant-loop-name

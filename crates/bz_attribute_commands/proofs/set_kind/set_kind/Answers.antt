@@ -6,7 +6,7 @@ use Rattle.bz_attribute.specs.RowEdits.{replaced_at}
 use Rattle.bz_attribute.specs.Effects.{nodes_of}
 use Rattle.bz_attribute.specs.KindPlaces.{IsKindPlace}
 use Rattle.bz_attribute.specs.Rules.{Rule, kind_text, rule_of}
-use Rattle.bz_attribute.specs.Set.{kind_after, kind_items, with_kind}
+use Rattle.bz_attribute_commands.specs.Set.{kind_after, kind_items, with_kind}
 use Rattle.bz_attribute_commands.proofs.set_kind.set_kind.Goals as goal
 
 -- the statement with another kind

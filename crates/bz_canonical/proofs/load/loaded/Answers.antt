@@ -1,5 +1,5 @@
 use Rattle.std.proofs.Common.{◌+◌, false}
-use Rattle.bz_tree.specs.declared.stmt.GroupKind.TheVariants.{Load}
+use Rattle.bz_tree.specs.declared.tree.GroupKind.TheVariants.{Load}
 use Rattle.bz_canonical.proofs.GroupSegments.{begin_after, more_flat, finish_flat}
 use Rattle.bz_canonical.proofs.load.loaded.Goals as goal
 

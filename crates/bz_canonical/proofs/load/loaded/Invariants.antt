@@ -1,6 +1,6 @@
 use Rattle.std.proofs.Common.{ℕ, List, false}
 use Rattle.bz_token.specs.declared.token.Kind.TheVariants.{String}
-use Rattle.bz_tree.specs.declared.stmt.GroupKind.TheVariants.{Load}
+use Rattle.bz_tree.specs.declared.tree.GroupKind.TheVariants.{Load}
 use Rattle.bz_canonical.specs.private.Fronts.{IsTokenFront}
 use Rattle.bz_canonical.specs.private.Segments.{ContinuesFlat}
 use Rattle.bz_canonical.proofs.load.loaded.Given as goal

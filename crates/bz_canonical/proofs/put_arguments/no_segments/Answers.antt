@@ -1,5 +1,5 @@
 use Rattle.std.proofs.Common.{false}
-use Rattle.bz_tree.specs.declared.stmt.GroupKind.TheVariants.{RuleCall}
+use Rattle.bz_tree.specs.declared.tree.GroupKind.TheVariants.{RuleCall}
 use Rattle.bz_canonical.proofs.GroupSegments.{begin, begin_notes, finish, finish_notes}
 use Rattle.bz_canonical.proofs.put_arguments.no_segments.Goals as goal
 

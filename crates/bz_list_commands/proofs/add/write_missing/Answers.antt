@@ -4,7 +4,7 @@ use Rattle.std.proofs.lemmas.List.{get_or_default}
 use Rattle.bz_tree.specs.Rows.{RowPart, part_view, segs_parts}
 use Rattle.bz_tree.specs.Tree.{segs_of}
 use Rattle.bz_attribute.specs.Effects.{string}
-use Rattle.bz_attribute.specs.Add.{new_elements}
+use Rattle.bz_list_commands.specs.Add.{new_elements}
 use Rattle.bz_list_commands.proofs.Adding.{adding_ends, adding_more, adding_none}
 use Rattle.bz_list_commands.proofs.Meanings.{one_alone}
 use Rattle.bz_list_commands.proofs.add.write_missing.Goals as goal

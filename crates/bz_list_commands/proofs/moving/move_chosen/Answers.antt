@@ -3,7 +3,7 @@ use Rattle.bz_tree.specs.Rows.{part_view}
 use Rattle.bz_command.specs.declared.arguments.Moved.{Moved}
 use Rattle.bz_command.specs.declared.arguments.Moved.TheVariants.{All, Values}
 use Rattle.bz_attribute.specs.Effects.{done}
-use Rattle.bz_attribute.specs.Move.{moved, moves}
+use Rattle.bz_list_commands.specs.Move.{moved, moves}
 use Rattle.bz_attribute.specs.RowEdits.{IsRowEdit}
 use Rattle.bz_list_commands.proofs.Meanings.{meant_chosen}
 use Rattle.bz_list_commands.proofs.WrittenParts.{ok_as}

@@ -4,7 +4,7 @@ use Rattle.bz_tree.specs.Rows.{RowPart, part_view, segs_parts}
 use Rattle.bz_tree.specs.Tree.{segs_of}
 use Rattle.bz_attribute.specs.Effects.{argument, list_item}
 use Rattle.bz_attribute.specs.Lists.{edit_first_part, with_value}
-use Rattle.bz_attribute.specs.Move.{put_in}
+use Rattle.bz_list_commands.specs.Move.{put_in}
 use Rattle.bz_attribute.specs.Rules.{value}
 use Rattle.bz_attribute.proofs.Slices.{three_written}
 use Rattle.bz_list_commands.proofs.Adding.{attribute_written, put_local, put_new}

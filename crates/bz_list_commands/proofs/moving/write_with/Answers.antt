@@ -2,7 +2,7 @@ use Rattle.std.proofs.Common.{[], ◌∷◌, ◌++◌, map, refl, ◌∙◌}
 use Rattle.std.proofs.lemmas.Result.{on_ok_weaker}
 use Rattle.bz_tree.specs.Rows.{part_view}
 use Rattle.bz_attribute.specs.Lists.{edit_first_part, with_value}
-use Rattle.bz_attribute.specs.Move.{put_in}
+use Rattle.bz_list_commands.specs.Move.{put_in}
 use Rattle.bz_attribute.specs.Rules.{value}
 use Rattle.bz_list_commands.proofs.Adding.{put_there}
 use Rattle.bz_list_commands.proofs.moving.write_with.Goals as goal

@@ -1,7 +1,7 @@
 use Rattle.std.proofs.Common.{◌≡◌, ◌∙◌, List, true, ap, is_some, refl, sym, arith, tests}
 use Rattle.std.proofs.lemmas.Result.{IfOk-weaker}
 use Rattle.bz_tree.specs.View.{nodes_view, view}
-use Rattle.bz_tree.specs.declared.stmt.Node.{Node}
+use Rattle.bz_tree.specs.declared.tree.Node.{Node}
 use Rattle.bz_attribute.specs.Rules.{rule_of}
 use Rattle.bz_rule.proofs.RowEdited.{some_rule}
 use Rattle.bz_rule.proofs.statement_row.head_of.Goals as goal

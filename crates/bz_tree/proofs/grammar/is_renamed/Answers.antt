@@ -1,5 +1,5 @@
 use Rattle.std.proofs.Common.{◌≡◌, ◌≤◌, ◌<◌, false, List, [], ◌∷◌, length, refl, arith}
-use Rattle.bz_tree.specs.declared.stmt.Node.{Node}
+use Rattle.bz_tree.specs.declared.tree.Node.{Node}
 use Rattle.bz_tree.specs.Tree.{items_of}
 use Rattle.bz_tree.specs.View.{nodes_view}
 use Rattle.bz_tree.specs.private.Machine.{is_renamed}

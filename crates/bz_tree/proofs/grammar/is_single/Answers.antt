@@ -1,6 +1,6 @@
 use Rattle.std.proofs.Common.{◌≡◌, List, [], ◌∷◌, length, nat_eq, refl, arith}
 use Rattle.std.proofs.lemmas.Bool.Decides.{nat_tests}
-use Rattle.bz_tree.specs.declared.stmt.Seg.{Seg}
+use Rattle.bz_tree.specs.declared.tree.Seg.{Seg}
 use Rattle.bz_tree.specs.Tree.{segs_of}
 use Rattle.bz_tree.specs.View.{segs_view}
 use Rattle.bz_tree.specs.private.Machine.{is_single}

@@ -1,6 +1,6 @@
 use Rattle.std.proofs.Common.{◌∙◌}
 use Rattle.bz_tree.specs.Tree.{items_of}
-use Rattle.bz_tree.proofs.FromParts as law
+use Rattle.bz_tree.proofs.Rows.FromParts as law
 use Rattle.bz_tree.proofs.laws.nodes_of_their_parts.Goals as goal
 
 pub returns-clause-nodes : goal.returns-clause-nodes

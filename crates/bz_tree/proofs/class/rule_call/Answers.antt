@@ -1,7 +1,0 @@
-use Rattle.std.proofs.Common.{arith}
-use Rattle.std.proofs.lemmas.Grind.{common_steps}
-use Rattle.bz_tree.proofs.OneBracket.{rule_call-push}
-use Rattle.bz_tree.proofs.class.rule_call.Goals as goal
-
-pub returns-in-Some : goal.returns-in-Some
-returns-in-Some c = grind (arith, common_steps, rule_call-push)

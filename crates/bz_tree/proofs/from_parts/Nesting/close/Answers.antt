@@ -1,7 +1,0 @@
-use Rattle.std.proofs.Common.{arith}
-use Rattle.std.proofs.lemmas.Grind.{common_steps}
-use Rattle.bz_tree.specs.declared.stmt.Node.{the_lemmas}
-use Rattle.bz_tree.proofs.from_parts.Nesting.close.Goals as goal
-
-pub returns : goal.returns
-returns c = grind (arith, common_steps, the_lemmas)

@@ -1,9 +1,0 @@
-use Rattle.std.proofs.Common.{map}
-use Rattle.bz_tree.specs.Rows.{part_view}
-use Rattle.bz_tree.specs.private.PartSteps.{content}
-use Rattle.bz_tree.proofs.FromParts.{statement_of_parts}
-use Rattle.bz_tree.proofs.from_parts.stmt_of_parts.Goals as goal
-
-pub returns : goal.returns
-returns c s parts =
-    statement_of_parts s (map part_view c.args.parts.now) (content c.in_ok-comments.field-0) _ c.args.class c.args.start c.args.end parts c.in_ok-comments.ensures c.last_beside.ensures

@@ -1,0 +1,72 @@
+use Rattle.std.proofs.Common.{rules, ◌≡◌, ◌++◌, option_map, sym, ap, ◌∙◌}
+use Rattle.std.proofs.lemmas.Bool.{false≢true}
+use Rattle.bz_token.specs.Batches.{left}
+use Rattle.bz_token.specs.Places.{placed}
+use Rattle.bz_tree.specs.Statement.{first_token, last_token}
+use Rattle.bz_tree.specs.private.RowSteps.{row_state, row_run, is_upright}
+use Rattle.bz_tree.proofs.Rows.RowBatches.{goes_on, last_fits, row_of_batches, faulty, indented, stopped, nothing_first, nothing_last, incomplete, unfinished}
+use Rattle.bz_tree.proofs.row.text_row.row_of_text.Goals as goal
+
+pub loop-reader-preserved : goal.loop-reader-preserved
+loop-reader-preserved c =
+    let i = c.loop-reader.invariant in
+    let read = c.in_ok-read.ensures.given c.args.first_line c.args.max_depth c.args.text.now i.given i.read (search rules) in
+    let upright = ap (λ o. is_upright (option_map placed o)) (sym c.or-first.ensures) ∙ sym c.is_upright.ensures ∙ c.if-not-is_upright.false in
+    rw (c.or-first.ensures, c.or-last.ensures)
+    (goes_on c.args.first_line c.args.max_depth c.args.text.now c.loop-reader.reader c.read.new.self c.loop-reader.walk c.add_tokens.new.self c.loop-reader.first c.loop-reader.last c.first_token.result c.last_token.result i read
+    (λ rest. c.in_ok-add_tokens.ensures.some rest (search rules) ∙ ap (λ ts. row_run (row_state c.loop-reader.walk) (ts ++ rest)) c.tokens-in-loop-reader-2.ensures)
+    (c.first_token.ensures ∙ ap first_token c.tokens.ensures) (c.last_token.ensures ∙ ap last_token c.tokens-in-loop-reader.ensures) upright)
+
+pub end_line-requires : goal.end_line-requires
+end_line-requires c =
+    let i = c.loop-reader.invariant in
+    let are = ((c.is_complete.ensures c.args.first_line c.args.max_depth c.args.text.now i.given i.read).0 (search rules)).1 in
+    last_fits c.args.first_line c.args.max_depth c.args.text.now i.given c.in-Some-last.last are c.requires (sym (ap (option_map placed) c.in-Some-last.is) ∙ i.end_is)
+
+pub returns-clause-row : goal.returns-clause-row
+returns-clause-row c =
+    let i = c.loop-reader.invariant in
+    let are = ((c.is_complete.ensures c.args.first_line c.args.max_depth c.args.text.now i.given i.read).0 (search rules)).1 in
+    row_of_batches c.args.first_line c.args.max_depth c.args.text.now c.loop-reader.reader c.loop-reader.walk c.loop-reader.first c.loop-reader.last c.in-Some.first c.in-Some-last.last c.in_ok-row.row c.end_line.result
+    i c.in-Some.is c.in-Some-last.is are c.in_ok-row.ensures.row c.in_ok-row.ensures.lines c.end_line.ensures
+
+pub returns-clause-none : goal.returns-clause-none
+returns-clause-none c =
+    let done : left c.loop-reader.reader ≡ 0 = search rules in
+    unfinished c.args.first_line c.args.max_depth c.args.text.now c.loop-reader.reader c.loop-reader.walk c.loop-reader.first c.loop-reader.last c.in_ok-row.row c.loop-reader.invariant done c.in_ok-row.ensures.row
+
+pub returns-then-not-branch-clause-none : goal.returns-then-not-branch-clause-none
+returns-then-not-branch-clause-none c =
+    let i = c.loop-reader.invariant in
+    faulty c.args.first_line c.args.max_depth c.args.text.now (c.in_ok-read.ensures.fault c.args.first_line c.args.max_depth c.args.text.now i.given i.read (search rules))
+
+pub returns-then-not-is_upright-clause-none : goal.returns-then-not-is_upright-clause-none
+returns-then-not-is_upright-clause-none c =
+    let i = c.loop-reader.invariant in
+    let read = c.in_ok-read.ensures.given c.args.first_line c.args.max_depth c.args.text.now i.given i.read (search rules) in
+    let off = ap (λ o. is_upright (option_map placed o)) (sym c.or-first.ensures) ∙ sym c.is_upright.ensures ∙ c.if-not-is_upright.true in
+    indented c.args.first_line c.args.max_depth c.args.text.now c.loop-reader.reader c.read.new.self c.loop-reader.walk c.loop-reader.first c.loop-reader.last c.first_token.result i read (c.first_token.ensures ∙ ap first_token c.tokens.ensures) off
+
+pub returns-in_default-clause-none : goal.returns-in_default-clause-none
+returns-in_default-clause-none c =
+    let done : left c.loop-reader.reader ≡ 0 = search rules in
+    nothing_first c.args.first_line c.args.max_depth c.args.text.now c.loop-reader.reader c.loop-reader.walk c.loop-reader.first c.loop-reader.last c.loop-reader.invariant done c.in_default.is
+
+pub returns-in_default-last-clause-none : goal.returns-in_default-last-clause-none
+returns-in_default-last-clause-none c =
+    let done : left c.loop-reader.reader ≡ 0 = search rules in
+    nothing_last c.args.first_line c.args.max_depth c.args.text.now c.loop-reader.reader c.loop-reader.walk c.loop-reader.first c.loop-reader.last c.loop-reader.invariant done c.in_default-last.is
+
+pub returns-then-not-is_complete-clause-none : goal.returns-then-not-is_complete-clause-none
+returns-then-not-is_complete-clause-none c =
+    let i = c.loop-reader.invariant in
+    let done : left c.loop-reader.reader ≡ 0 = search rules in
+    incomplete c.args.first_line c.args.max_depth c.args.text.now c.loop-reader.reader c.loop-reader.walk c.loop-reader.first c.loop-reader.last i done
+    (λ are. false≢true (sym c.if-not-is_complete.true ∙ (c.is_complete.ensures c.args.first_line c.args.max_depth c.args.text.now i.given i.read).1 (done, are)))
+
+pub returns-then-not-branch-2-clause-none : goal.returns-then-not-branch-2-clause-none
+returns-then-not-branch-2-clause-none c =
+    let i = c.loop-reader.invariant in
+    let read = c.in_ok-read.ensures.given c.args.first_line c.args.max_depth c.args.text.now i.given i.read (search rules) in
+    stopped c.args.first_line c.args.max_depth c.args.text.now c.loop-reader.reader c.read.new.self c.loop-reader.walk c.loop-reader.first c.loop-reader.last i read
+    (λ rest. ap (λ ts. row_run (row_state c.loop-reader.walk) (ts ++ rest)) (sym c.tokens-in-loop-reader-2.ensures) ∙ c.in_ok-add_tokens.ensures.none rest (search rules))

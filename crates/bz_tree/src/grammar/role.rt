@@ -1,0 +1,143 @@
+//! What a token is to the grammar.
+
+ghost use Rattle.std.specs.Prelude.{◌≡◌, ◌<◌, ◌∷◌, [], length};
+ghost use Rattle.bz_tree.specs.View.{text_of};
+ghost use Rattle.bz_tree.specs.Grammar.{word_role, operator_role, is_infix, leaf_role};
+ghost use Rattle.bz_tree.specs.Statement.{is_augmented};
+
+use crate::tree::Leaf;
+use bz_token::Kind;
+
+/// The role of a node in the grammar.
+#[derive(Clone, Copy)]
+pub enum Role {
+    /// An identifier.
+    Name,
+    Number,
+    /// A string, or a bracket that is an operand.
+    Value,
+    /// A call or an index.
+    Suffix,
+    Dot,
+    Comma,
+    Colon,
+    Equals,
+    /// An augmented assignment.
+    Augmented,
+    If,
+    Else,
+    For,
+    In,
+    Not,
+    Tilde,
+    /// `+` or `-`.
+    Sum,
+    /// `*`.
+    Star,
+    /// `**`.
+    Stars,
+    /// Any other binary operator.
+    Operator,
+    /// What stands nowhere in an expression.
+    Stray,
+}
+
+fn word_role(text: &str) -> Role
+    ensures { result ≡ word_role text.now }
+{
+    match text {
+        "if" => Role::If,
+        "else" => Role::Else,
+        "for" => Role::For,
+        "in" => Role::In,
+        "not" => Role::Not,
+        "and" | "or" => Role::Operator,
+        _ => Role::Stray,
+    }
+}
+
+// What an operator of one byte is.
+#[inline(always)]
+fn byte_role(byte: u8) -> Role
+    ensures { result ≡ operator_role (byte ∷ []) }
+{
+    match byte {
+        b'.' => Role::Dot,
+        b',' => Role::Comma,
+        b':' => Role::Colon,
+        b'=' => Role::Equals,
+        b'~' => Role::Tilde,
+        b'*' => Role::Star,
+        b'+' | b'-' => Role::Sum,
+        b'<' | b'>' | b'|' | b'^' | b'&' | b'/' | b'%' => Role::Operator,
+        _ => Role::Stray,
+    }
+}
+
+// What an operator of more bytes is.
+fn longer_role(text: &str) -> Role
+    requires { 1 < length text.now }
+    ensures { result ≡ operator_role text.now }
+{
+    match text {
+        "**" => Role::Stars,
+        _ if is_augmented(text) => Role::Augmented,
+        _ if is_infix(text) => Role::Operator,
+        _ => Role::Stray,
+    }
+}
+
+/// What an operator is.
+#[inline(always)]
+pub(crate) fn operator_role(text: &str) -> Role
+    ensures { result ≡ operator_role text.now }
+{
+    match text.as_bytes() {
+        [] => Role::Stray,
+        [byte] => byte_role(*byte),
+        _ => longer_role(text),
+    }
+}
+
+/// An operator that assigns, but for `=`.
+pub(crate) fn is_augmented(text: &str) -> bool
+    ensures { result ≡ is_augmented text.now }
+{
+    match text {
+        "+=" | "-=" | "*=" | "/=" | "//=" | "%=" | "&=" | "|=" | "^=" | "<<=" | ">>=" => true,
+        _ => false,
+    }
+}
+
+// An operator that stands between operands alone.
+fn is_infix(text: &str) -> bool
+    ensures { result ≡ is_infix text.now }
+{
+    match text {
+        "==" | "!=" | "<" | ">" | "<=" | ">=" | "|" | "^" | "&" | "<<" | ">>" | "/" | "//" | "%" =>
+            { true }
+        _ => false,
+    }
+}
+
+/// What a token of this kind and text is.
+#[inline(always)]
+pub(crate) fn token_role(kind: Kind, text: &str) -> Role
+    ensures { result ≡ leaf_role kind text.now }
+{
+    match kind {
+        Kind::Identifier => Role::Name,
+        Kind::Integer => Role::Number,
+        Kind::String => Role::Value,
+        Kind::Keyword => word_role(text),
+        Kind::Operator => operator_role(text),
+        _ => Role::Stray,
+    }
+}
+
+#[inline(always)]
+pub(crate) fn leaf_role(leaf: &Leaf<'_>) -> Role
+    ensures { result ≡ leaf_role leaf.now.kind (text_of leaf.now.text) }
+{
+    token_role(leaf.kind, leaf.text)
+}

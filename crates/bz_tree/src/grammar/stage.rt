@@ -1,0 +1,302 @@
+//! The recognizer of the grammar: what may come next in a segment. `grammar.rt` asks it of trees, and `spot.rt` and
+//! `rows.rt` of rows.
+
+ghost use Rattle.std.specs.Prelude.{◌≡◌, true, false};
+ghost use Rattle.bz_tree.specs.private.Machine.{ends, may_end, after_left, after_right, after_element, after_target, after_clause, at_colon, after_part, leaves, in_chain, next_wanted, next_after, next_after_number, next_begun, next_argument, next, begin, group_role};
+
+use crate::grammar::role::Role;
+use crate::tree::GroupKind;
+
+/// What is being read: a Test with what may follow it, or (Target) a Primary, or (Clause) a Chain.
+#[derive(Clone, Copy)]
+pub(crate) enum Goal {
+    /// The tests of a statement, before an assignment operator too.
+    Left,
+    /// The tests after an assignment operator.
+    Right,
+    /// A test and nothing more.
+    Alone,
+    /// The key of an entry.
+    Key,
+    /// The element of a list comprehension, or the value of a dict comprehension.
+    Element,
+    /// The key of a dict comprehension.
+    EntryKey,
+    /// An index, or where a slice begins.
+    From,
+    /// Where a slice ends.
+    To,
+    /// The step of a slice.
+    Step,
+    /// A variable of a comprehension.
+    Target,
+    /// The sequence or a condition of a comprehension.
+    Clause,
+}
+
+/// What may come next. The flag says that the condition of a conditional is being read.
+#[derive(Clone, Copy)]
+pub(crate) enum Stage {
+    /// Nothing: this is no part of the grammar.
+    Refused,
+    /// An operand, or a prefix.
+    Wants(Goal, bool),
+    /// What may stand after an operand.
+    Has(Goal, bool),
+    /// The same, directly after a number.
+    HasNumber(Goal, bool),
+    /// The name after a dot.
+    Names(Goal, bool),
+    /// The `in` of `not in`.
+    Excludes(Goal, bool),
+    /// The start of a part that may be empty.
+    Begins(Goal),
+    /// The start of an argument.
+    Argument,
+    /// What may stand after the name that begins an argument.
+    Keyword,
+}
+
+fn ends(part: Goal) -> bool
+    ensures { result ≡ ends part }
+{
+    !matches!(
+        part,
+        Goal::Key | Goal::Element | Goal::EntryKey | Goal::Target
+    )
+}
+
+/// Whether a segment may end here.
+#[inline(always)]
+pub(crate) fn may_end(stage: Stage) -> bool
+    ensures { result ≡ may_end stage }
+{
+    match stage {
+        Stage::Has(part, asked) | Stage::HasNumber(part, asked) => !asked && ends(part),
+        Stage::Begins(part) => matches!(part, Goal::To | Goal::Step),
+        Stage::Keyword => true,
+        _ => false,
+    }
+}
+
+fn after_left(role: Role) -> Stage
+    ensures { result ≡ after_left role }
+{
+    match role {
+        Role::Comma => Stage::Wants(Goal::Left, false),
+        Role::Equals | Role::Augmented => Stage::Wants(Goal::Right, false),
+        Role::If => Stage::Wants(Goal::Left, true),
+        _ => Stage::Refused,
+    }
+}
+
+fn after_right(role: Role) -> Stage
+    ensures { result ≡ after_right role }
+{
+    match role {
+        Role::Comma => Stage::Wants(Goal::Right, false),
+        Role::If => Stage::Wants(Goal::Right, true),
+        _ => Stage::Refused,
+    }
+}
+
+fn after_element(role: Role) -> Stage
+    ensures { result ≡ after_element role }
+{
+    match role {
+        Role::For => Stage::Wants(Goal::Target, false),
+        Role::If => Stage::Wants(Goal::Element, true),
+        _ => Stage::Refused,
+    }
+}
+
+fn after_target(role: Role) -> Stage
+    ensures { result ≡ after_target role }
+{
+    match role {
+        Role::Comma => Stage::Wants(Goal::Target, false),
+        Role::In => Stage::Wants(Goal::Clause, false),
+        _ => Stage::Refused,
+    }
+}
+
+fn after_clause(role: Role) -> Stage
+    ensures { result ≡ after_clause role }
+{
+    match role {
+        Role::For => Stage::Wants(Goal::Target, false),
+        Role::If => Stage::Wants(Goal::Clause, false),
+        _ => Stage::Refused,
+    }
+}
+
+// A part that ends at a colon, or, where nothing comes next, at the end.
+fn at_colon(part: Goal, next: Stage, role: Role) -> Stage
+    ensures { result ≡ at_colon part next role }
+{
+    match role {
+        Role::Colon => next,
+        Role::If => Stage::Wants(part, true),
+        _ => Stage::Refused,
+    }
+}
+
+#[inline(always)]
+fn after_part(part: Goal, role: Role) -> Stage
+    ensures { result ≡ after_part part role }
+{
+    match part {
+        Goal::Left => after_left(role),
+        Goal::Right => after_right(role),
+        Goal::Alone => at_colon(Goal::Alone, Stage::Refused, role),
+        Goal::Key => at_colon(Goal::Key, Stage::Wants(Goal::Alone, false), role),
+        Goal::Element => after_element(role),
+        Goal::EntryKey => at_colon(Goal::EntryKey, Stage::Wants(Goal::Element, false), role),
+        Goal::From => at_colon(Goal::From, Stage::Begins(Goal::To), role),
+        Goal::To => at_colon(Goal::To, Stage::Begins(Goal::Step), role),
+        Goal::Step => at_colon(Goal::Step, Stage::Refused, role),
+        Goal::Target => after_target(role),
+        Goal::Clause => after_clause(role),
+    }
+}
+
+#[inline(always)]
+fn leaves(part: Goal, asked: bool, role: Role) -> Stage
+    ensures { result ≡ leaves part asked role }
+{
+    match role {
+        _ if !asked => after_part(part, role),
+        Role::Else => Stage::Wants(part, false),
+        _ => Stage::Refused,
+    }
+}
+
+// A stage of chains: a Target has none.
+fn in_chain(part: Goal, next: Stage) -> Stage
+    ensures { result ≡ in_chain part next }
+{
+    match part {
+        Goal::Target => Stage::Refused,
+        _ => next,
+    }
+}
+
+#[inline(always)]
+fn next_wanted(part: Goal, asked: bool, role: Role) -> Stage
+    ensures { result ≡ next_wanted part asked role }
+{
+    match role {
+        Role::Name | Role::Value => Stage::Has(part, asked),
+        Role::Number => Stage::HasNumber(part, asked),
+        Role::Sum | Role::Tilde | Role::Not => in_chain(part, Stage::Wants(part, asked)),
+        _ => Stage::Refused,
+    }
+}
+
+#[inline(always)]
+fn next_after(part: Goal, asked: bool, role: Role) -> Stage
+    ensures { result ≡ next_after part asked role }
+{
+    match role {
+        Role::Dot => Stage::Names(part, asked),
+        Role::Suffix => Stage::Has(part, asked),
+        Role::Sum | Role::Star | Role::Operator => in_chain(part, Stage::Wants(part, asked)),
+        Role::In if matches!(part, Goal::Target) => leaves(part, asked, role),
+        Role::In => Stage::Wants(part, asked),
+        Role::Not => in_chain(part, Stage::Excludes(part, asked)),
+        _ => leaves(part, asked, role),
+    }
+}
+
+fn next_after_number(part: Goal, asked: bool, role: Role) -> Stage
+    ensures { result ≡ next_after_number part asked role }
+{
+    match role {
+        Role::Dot => Stage::Refused,
+        _ => next_after(part, asked, role),
+    }
+}
+
+fn next_begun(part: Goal, role: Role) -> Stage
+    ensures { result ≡ next_begun part role }
+{
+    match role {
+        Role::Colon => after_part(part, role),
+        _ => next_wanted(part, false, role),
+    }
+}
+
+fn next_argument(role: Role) -> Stage
+    ensures { result ≡ next_argument role }
+{
+    match role {
+        Role::Star | Role::Stars => Stage::Wants(Goal::Alone, false),
+        Role::Name => Stage::Keyword,
+        _ => next_wanted(Goal::Alone, false, role),
+    }
+}
+
+/// The stage after a node of this role.
+#[inline(always)]
+pub(crate) fn next(stage: Stage, role: Role) -> Stage
+    ensures { result ≡ next stage role }
+{
+    match stage {
+        Stage::Wants(part, asked) => next_wanted(part, asked, role),
+        Stage::Has(part, asked) => next_after(part, asked, role),
+        Stage::HasNumber(part, asked) => next_after_number(part, asked, role),
+        Stage::Names(part, asked) if matches!(role, Role::Name) => Stage::Has(part, asked),
+        Stage::Excludes(part, asked) if matches!(role, Role::In) => Stage::Wants(part, asked),
+        Stage::Begins(part) => next_begun(part, role),
+        Stage::Argument => next_argument(role),
+        Stage::Keyword if matches!(role, Role::Equals) => Stage::Wants(Goal::Alone, false),
+        Stage::Keyword => next_after(Goal::Alone, false, role),
+        _ => Stage::Refused,
+    }
+}
+
+#[inline(never)]
+fn advance_rarely(stage: &mut Stage, role: Role)
+    ensures { stage.new ≡ next stage.old role }
+{
+    *stage = next(*stage, role);
+}
+
+/// To the stage after a node of this role. The commonest steps come first.
+#[inline(always)]
+pub(crate) fn advance(stage: &mut Stage, role: Role)
+    ensures { stage.new ≡ next stage.old role }
+{
+    match (*stage, role) {
+        (Stage::Wants(part, asked), Role::Name | Role::Value) => *stage = Stage::Has(part, asked),
+        (Stage::Argument, Role::Name) => *stage = Stage::Keyword,
+        (Stage::Keyword, Role::Equals) => *stage = Stage::Wants(Goal::Alone, false),
+        (Stage::Has(_, _), Role::Suffix) => {}
+        _ => advance_rarely(stage, role),
+    }
+}
+
+/// The stage in which a segment of a group begins. What else a load's segments are, `is_load` says.
+pub(crate) fn begin(kind: GroupKind) -> Stage
+    ensures { result ≡ begin kind }
+{
+    match kind {
+        GroupKind::Call | GroupKind::RuleCall | GroupKind::Load => Stage::Argument,
+        GroupKind::Paren | GroupKind::List => Stage::Wants(Goal::Alone, false),
+        GroupKind::Index => Stage::Begins(Goal::From),
+        GroupKind::Dict => Stage::Wants(Goal::Key, false),
+        GroupKind::ListComp => Stage::Wants(Goal::Element, false),
+        GroupKind::DictComp => Stage::Wants(Goal::EntryKey, false),
+    }
+}
+
+/// What a group whose segments are in the grammar is.
+pub(crate) fn group_role(kind: GroupKind) -> Role
+    ensures { result ≡ group_role kind }
+{
+    match kind {
+        GroupKind::Call | GroupKind::RuleCall | GroupKind::Index => Role::Suffix,
+        GroupKind::Load => Role::Stray,
+        _ => Role::Value,
+    }
+}

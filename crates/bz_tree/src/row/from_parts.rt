@@ -1,0 +1,207 @@
+//! The nodes that parts are of: one walk over the parts, with a stack of open brackets. bz_rule (`statement_row.rt`)
+//! makes a tree of a row by it, and bz_attribute (`row_args.rt`) an argument.
+
+ghost use Rattle.std.specs.Prelude.{◌≡◌, map, IfOk, OnOk, option_map};
+ghost use Rattle.bz_tree.specs.Tree.{Statement};
+ghost use Rattle.bz_tree.specs.View.{node_view, nodes_view, text_of, view};
+ghost use Rattle.bz_tree.specs.Rows.{part_view, parts_of};
+ghost use Rattle.bz_tree.specs.FromParts.{nothing, with_node, with_segment, with_beside, opened, closed, step, nodes_of_parts};
+ghost use Rattle.bz_tree.specs.private.PartSteps.{beside_text, content, content_of, last_beside, outers, nest};
+
+use crate::row::Part;
+use crate::row::tree_parts::push_parts;
+use crate::tree::{Class, Group, GroupKind, Leaf, Node, Seg, Stmt};
+use bz_memory::{NoMemory, push};
+use std::alloc::Global;
+use std::mem;
+
+// What stands in a bracket, or at the top, so far.
+#[derive(Drop)]
+pub(crate) struct Inside<'a> {
+    // The segments that have ended.
+    pub(crate) segs: Vec<Seg<'a>>,
+    // The comments after those.
+    pub(crate) comments: Vec<&'a str>,
+    // The nodes of the segment here.
+    pub(crate) nodes: Vec<Node<'a>>,
+}
+
+// A bracket that is open, and what stands before it in the one around it.
+#[derive(Drop)]
+pub(crate) struct OpenGroup<'a> {
+    pub(crate) kind: GroupKind,
+    pub(crate) inside: Inside<'a>,
+}
+
+#[derive(Drop)]
+pub(crate) struct Nesting<'a> {
+    pub(crate) here: Inside<'a>,
+    // The innermost is the last.
+    pub(crate) outer: Vec<OpenGroup<'a>>,
+}
+
+impl<'a> Inside<'a> {
+    #[inline(always)]
+    fn new(alloc: Global) -> Inside<'a>
+        ensures { content result ≡ nothing }
+    {
+        Inside {
+            segs: Vec::new(alloc),
+            comments: Vec::new(alloc),
+            nodes: Vec::new(alloc),
+        }
+    }
+
+    #[inline(always)]
+    fn add_node(&mut self, node: Node<'a>) -> Result<(), NoMemory>
+        ensures { OnOk result (content self.new ≡ with_node (node_view node.entry) (content self.old)) }
+    {
+        push(&mut self.nodes, node)
+    }
+
+    fn end_segment(&mut self, alloc: Global) -> Result<(), NoMemory>
+        ensures { OnOk result (content self.new ≡ with_segment (content self.old)) }
+    {
+        push(
+            &mut self.segs,
+            Seg {
+                before: mem::replace(&mut self.comments, Vec::new(alloc)),
+                nodes: mem::replace(&mut self.nodes, Vec::new(alloc)),
+                suffix: None,
+            },
+        )
+    }
+
+    fn put_beside(&mut self, text: &'a str)
+        ensures { content self.new ≡ with_beside text.now (content self.old) }
+    {
+        if let Some(seg) = self.segs.last_mut() {
+            seg.suffix = Some(text);
+        }
+    }
+}
+
+impl<'a> Nesting<'a> {
+    fn open(&mut self, alloc: Global, kind: GroupKind) -> Result<(), NoMemory>
+        ensures { OnOk result (nest self.new ≡ opened kind (nest self.old)) }
+    {
+        let inside = mem::replace(&mut self.here, Inside::new(alloc));
+        push(&mut self.outer, OpenGroup { kind, inside })
+    }
+
+    fn close(&mut self, one_comma: bool) -> Result<(), NoMemory>
+        ensures { OnOk result (nest self.new
+            ≡ closed one_comma (content self.old.here) (outers self.old.outer.items)) }
+    {
+        let Some(OpenGroup { kind, inside }) = self.outer.pop() else {
+            return Ok(());
+        };
+        let Inside { segs, comments, .. } = mem::replace(&mut self.here, inside);
+        let group = Group {
+            kind,
+            segs,
+            one_comma,
+            end: comments,
+        };
+        self.here.add_node(Node::Group(group))
+    }
+
+    #[inline(always)]
+    fn step(&mut self, alloc: Global, part: Part<'a>) -> Result<(), NoMemory>
+        ensures { OnOk result (nest self.new ≡ step (part_view part.entry) (nest self.old)) }
+    {
+        match part {
+            Part::Token(kind, text) => self.here.add_node(Node::Token(Leaf { kind, text })),
+            Part::Open(kind) => self.open(alloc, kind),
+            Part::Close(one_comma) => self.close(one_comma),
+            Part::End => self.here.end_segment(alloc),
+            Part::Above(text) => push(&mut self.here.comments, text),
+            Part::Beside(text) => {
+                self.here.put_beside(text);
+                Ok(())
+            }
+        }
+    }
+}
+
+// What the parts come to.
+fn read_parts<'a>(alloc: Global, parts: &[Part<'a>]) -> Result<Inside<'a>, NoMemory>
+    ensures { IfOk result (λ inside. content inside ≡ content_of (map part_view parts.now)) }
+{
+    let mut nesting = Nesting {
+        here: Inside::new(alloc),
+        outer: Vec::new(alloc),
+    };
+    for i in 0..parts.len() {
+        nesting.step(alloc, parts[i])?;
+    }
+    let Nesting { here, .. } = nesting;
+    Ok(here)
+}
+
+/// Builds the nodes whose parts these are. Each text is a slice of the same chunk. `Err`: memory was refused.
+pub fn nodes_of_parts<'a>(alloc: Global, parts: &[Part<'a>]) -> Result<Vec<Node<'a>>, NoMemory>
+    ensures { IfOk result (λ nodes. nodes_view nodes.items ≡ nodes_of_parts (map part_view parts.now)) }
+{
+    let Inside { nodes, .. } = read_parts(alloc, parts)?;
+    Ok(nodes)
+}
+
+fn beside_text<'a>(part: &Part<'a>) -> Option<&'a str>
+    ensures { option_map text_of result ≡ beside_text (part_view part.now) }
+{
+    match part {
+        Part::Beside(text) => Some(text),
+        _ => None,
+    }
+}
+
+// The comment with which the parts end, beside what stands before it.
+fn last_beside<'a>(parts: &[Part<'a>]) -> Option<&'a str>
+    ensures { option_map text_of result ≡ last_beside (map part_view parts.now) }
+{
+    let [.., last] = parts else {
+        return None;
+    };
+    beside_text(last)
+}
+
+/// Builds the statement whose parts these are, of this class and on these lines. `Err`: memory was refused.
+pub fn stmt_of_parts<'a>(
+    alloc: Global,
+    parts: &[Part<'a>],
+    class: Class,
+    start: u64,
+    end: u64,
+) -> Result<Stmt<'a>, NoMemory>
+    ensures { IfOk result (λ stmt. (s : Statement) → map part_view parts.now ≡ parts_of s
+        → view stmt ≡ record s { class = class; start = start; end = end }) }
+{
+    let Inside {
+        comments,
+        nodes,
+        ..
+    } = read_parts(alloc, parts)?;
+    Ok(Stmt {
+        before: comments,
+        nodes,
+        suffix: last_beside(parts),
+        class,
+        start,
+        end,
+    })
+}
+
+impl<'a> Stmt<'a> {
+    ghost use Rattle.bz_tree.specs.View.{view};
+
+    /// An equal statement, line numbers included, whose texts are slices of those of this one. `Err`: memory was refused.
+    pub fn copy(&self, alloc: Global) -> Result<Stmt<'_>, NoMemory>
+        ensures equal { IfOk result (λ s. view s ≡ view self.now) }
+    {
+        let mut parts = Vec::new(alloc);
+        push_parts(self, &mut parts)?;
+        let stmt = stmt_of_parts(alloc, &parts, self.class, self.start, self.end)?;
+        Ok(stmt)
+    }
+}

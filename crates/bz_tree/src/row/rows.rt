@@ -1,0 +1,375 @@
+//! The row of a chunk's statement: a walk over the tokens that pushes its parts in order. `read.rt` calls `read_row`
+//! with all tokens of a chunk; `text_row.rt` gives them to a `RowWalk` in batches.
+
+ghost use Rattle.std.specs.Prelude.{ℕ, List, [], ◌≡◌, ◌++◌, ◌&&◌, ◌≤◌, ◌+◌, length, not, false, map, IfOk, IfSome, IsTrue, option_map, ◌^◌, ◌⊎◌, IfNone, None};
+ghost use Rattle.std.specs.Bool.{then_some};
+ghost use Rattle.bz_token.specs.Places.{Placed, placed};
+ghost use Rattle.bz_token.specs.Reading.{AreTokensOf};
+ghost use Rattle.bz_token.specs.declared.token.Kind.TheVariants.{Operator};
+ghost use Rattle.bz_tree.specs.Tree.{leaf, Statement};
+ghost use Rattle.bz_tree.specs.Statement.{end_of, is_load_word};
+ghost use Rattle.bz_tree.specs.Grammar.{leaf_role};
+ghost use Rattle.bz_tree.specs.Chunk.{IsStatementIn};
+ghost use Rattle.bz_tree.specs.Kinds.{group_kind, operator_mark};
+ghost use Rattle.bz_tree.specs.RowReads.{has_row};
+ghost use Rattle.bz_tree.specs.Rows.{IsRowOf, part_view};
+ghost use Rattle.bz_tree.specs.private.Machine.{may_end};
+ghost use Rattle.bz_tree.specs.private.RowSteps.{here_view, row_state, leaf_next, top_comma_next, comma_next, comment_part, after_comment_next, comment_next, open_next, last_end, close_next, row_next, row_next_at, row_view, row_run, row_start, is_stray, is_upright};
+
+use crate::grammar::role::{Role, operator_role, token_role};
+use crate::grammar::stage::may_end;
+use crate::row::spot::{Around, Here, Spot, shown_kind};
+use crate::row::{Part, Parts, Row};
+use crate::tree::GroupKind;
+use crate::tree::block::is_block_word;
+use crate::tree::classes::is_load_at;
+use crate::tree::kinds::{
+    Mark, Shape, group_kind, is_for_at, is_one, operator_mark, same_shape, shape_of,
+};
+use crate::tree::owners::ends_on;
+use crate::tree::span::{counted_end_of, first_seen, first_token, newlines, start_of};
+use bumpalo::Bump;
+use bz_memory::{NoMemory, push, with_room_within};
+use bz_token::{Kind, Token};
+use std::alloc::Global;
+use std::cmp::min;
+
+// The most room beside a part for each token.
+const MOST_MORE: usize = 4096;
+
+// The parts so far, the bracket that is open here, and those around it.
+#[derive(Drop)]
+pub(crate) struct RowWalk<'a> {
+    pub(crate) parts: Parts<'a>,
+    pub(crate) outer: Vec<Around, &'a Bump>,
+    pub(crate) top: Spot<'a>,
+}
+
+// False: the statement is left to its tree. So it is in all that follow.
+impl<'a> RowWalk<'a> {
+    /// Before the first token, with room for so many parts: at most one for each of these, and a few.
+    pub(crate) fn new<T>(bump: &'a Bump, room: usize, of: &[T]) -> Result<RowWalk<'a>, NoMemory>
+        requires { room ≤ length of.now + 131072 }
+        ensures { IfOk result (λ walk. row_state walk ≡ row_start) }
+    {
+        Ok(RowWalk {
+            parts: with_room_within(bump, room, of)?,
+            outer: Vec::new(bump),
+            top: Spot::new(None),
+        })
+    }
+
+    // One more node, a token of this role. Most callers know `kind` and `role`, so tests of them fold away.
+    #[inline(always)]
+    fn push_leaf(&mut self, token: &Token<'a>, kind: Kind, role: Role) -> Result<bool, NoMemory>
+        requires kind { kind ≡ token.now.kind }
+        requires role { role ≡ leaf_role token.now.kind token.now.text.now }
+        ensures { IfOk result
+            (λ some. then_some some (row_state self.new) ≡ leaf_next (placed token.now) (row_state self.old)) }
+    {
+        let text = token.text;
+        if is_stray(role, kind, text) || is_for_at(kind, text) || self.top.is_ended() {
+            return Ok(false);
+        }
+        push(&mut self.parts, Part::Token(kind, text))?;
+        self.top.read.add_leaf(kind, text, role);
+        self.top.here = Here::Node(token.line, text);
+        Ok(true)
+    }
+
+    // A keyword or a number, or what stands in no row.
+    #[inline(never)]
+    fn push_other(&mut self, token: &Token<'a>) -> Result<bool, NoMemory>
+        ensures { IfOk result
+            (λ some. then_some some (row_state self.new) ≡ leaf_next (placed token.now) (row_state self.old)) }
+    {
+        self.push_leaf(token, token.kind, token_role(token.kind, token.text))
+    }
+
+    // At the top a comma is a node.
+    #[inline(never)]
+    fn add_top_comma(&mut self, token: &Token<'a>) -> Result<bool, NoMemory>
+        ensures { IfOk result
+            (λ some. then_some some (row_state self.new) ≡ top_comma_next (placed token.now) (row_state self.old)) }
+    {
+        if self.top.is_ended() {
+            return Ok(false);
+        }
+        push(&mut self.parts, Part::Token(token.kind, token.text))?;
+        self.top
+            .read
+            .add_leaf(token.kind, token.text, token_role(token.kind, token.text));
+        self.top.here = Here::Node(token.line, "");
+        Ok(true)
+    }
+
+    fn add_comma(&mut self, token: &Token<'a>) -> Result<bool, NoMemory>
+        ensures { IfOk result (λ some. then_some some (row_state self.new)
+            ≡ comma_next self.old.top.kind (placed token.now) (row_state self.old)) }
+    {
+        if self.top.kind.is_none() {
+            return self.add_top_comma(token);
+        }
+        match self.top.here {
+            Here::Node(_, _) if may_end(self.top.read.stage) => {
+                push(&mut self.parts, Part::End)?;
+                self.top.add_comma(token.line);
+                Ok(true)
+            }
+            _ => Ok(false),
+        }
+    }
+
+    // A comment after the last node of a segment, on its line or not.
+    fn add_last_comment(&mut self, on_line: bool, text: &'a str) -> Result<bool, NoMemory>
+        ensures { IfOk result (λ some. then_some some (row_state self.new)
+            ≡ after_comment_next self.old.top.kind on_line text.now (row_state self.old)) }
+    {
+        if self.top.kind.is_some() {
+            push(&mut self.parts, Part::End)?;
+        } else if !on_line {
+            return Ok(false);
+        }
+        push(&mut self.parts, comment_part(on_line, text))?;
+        self.top.here = Here::Ended;
+        Ok(true)
+    }
+
+    #[inline(never)]
+    fn add_comment(&mut self, token: &Token<'a>) -> Result<bool, NoMemory>
+        ensures { IfOk result (λ some. then_some some (row_state self.new)
+            ≡ comment_next (here_view self.old.top.here) token.now.line token.now.text.now (row_state self.old)) }
+    {
+        match self.top.here {
+            Here::Nothing => {
+                push(&mut self.parts, Part::Above(token.text))?;
+                Ok(true)
+            }
+            Here::Comma(end) => {
+                push(&mut self.parts, comment_part(end == token.line, token.text))?;
+                self.top.here = Here::Nothing;
+                Ok(true)
+            }
+            Here::Node(begin, text) => {
+                self.add_last_comment(ends_on(begin, newlines(text), token.line), token.text)
+            }
+            Here::Ended => {
+                if self.top.kind.is_none() {
+                    return Ok(false);
+                }
+                push(&mut self.parts, Part::Above(token.text))?;
+                Ok(true)
+            }
+        }
+    }
+
+    fn open(&mut self, shape: Shape) -> Result<bool, NoMemory>
+        ensures { IfOk result (λ some. then_some some (row_state self.new)
+            ≡ open_next (group_kind shape self.old.top.read.at false) (row_state self.old)) }
+    {
+        let kind = group_kind(shape, self.top.read.at, false);
+        if is_one(kind) {
+            return Ok(false);
+        }
+        push(
+            &mut self.parts,
+            Part::Open(shown_kind(self.top.read.naming, kind)),
+        )?;
+        push(
+            &mut self.outer,
+            Around {
+                kind: self.top.kind,
+                done: self.top.done,
+                ended: self.top.is_ended(),
+                read: self.top.read,
+            },
+        )?;
+        self.top = Spot::new(Some(kind));
+        Ok(true)
+    }
+
+    // The last segment of a bracket ends, if there is one.
+    fn end_last(&mut self) -> Result<bool, NoMemory>
+        ensures outer { self.new.outer ≡ self.old.outer }
+        ensures top { self.new.top ≡ self.old.top }
+        ensures parts { IfOk result (λ some. then_some some (map part_view self.new.parts.items)
+            ≡ option_map (λ ps. map part_view self.old.parts.items ++ ps)
+            (last_end (here_view self.old.top.here) (may_end self.old.top.read.stage))) }
+    {
+        match self.top.here {
+            Here::Node(_, _) => {
+                if !may_end(self.top.read.stage) {
+                    return Ok(false);
+                }
+                push(&mut self.parts, Part::End)?;
+                Ok(true)
+            }
+            Here::Ended => Ok(may_end(self.top.read.stage)),
+            _ => Ok(true),
+        }
+    }
+
+    fn close(&mut self, shape: Shape, line: u64) -> Result<bool, NoMemory>
+        ensures { IfOk result (λ some. then_some some (row_state self.new)
+            ≡ close_next self.old.top.kind shape line (row_state self.old)) }
+    {
+        let Some(kind) = self.top.kind else {
+            return Ok(false);
+        };
+        if !same_shape(shape_of(kind), shape) {
+            return Ok(false);
+        }
+        if !self.end_last()? {
+            return Ok(false);
+        }
+        let one_comma = self.top.is_one_comma(kind);
+        push(&mut self.parts, Part::Close(one_comma))?;
+        let Some(below) = self.outer.pop() else {
+            return Ok(false);
+        };
+        if below.ended {
+            return Ok(false);
+        }
+        self.top = Spot {
+            kind: below.kind,
+            done: below.done,
+            here: Here::Node(line, ""),
+            read: below.read,
+        };
+        self.top.read.add_group(kind);
+        Ok(true)
+    }
+
+    fn add_operator(&mut self, token: &Token<'a>) -> Result<bool, NoMemory>
+        requires { token.now.kind ≡ Operator }
+        ensures { IfOk result (λ some. then_some some (row_state self.new)
+            ≡ row_next_at (operator_mark token.now.text.now) (placed token.now) (row_state self.old)) }
+    {
+        match operator_mark(token.text) {
+            Mark::Newline => Ok(true),
+            Mark::Plain => { self.push_leaf(token, Kind::Operator, operator_role(token.text)) }
+            Mark::Comma => self.add_comma(token),
+            Mark::Comment => self.add_comment(token),
+            Mark::Open(shape) => self.open(shape),
+            Mark::Close(shape) => self.close(shape, token.line),
+        }
+    }
+
+    // The kinds are told apart once. What is rare is a call, so that the loop over the tokens stays small.
+    #[inline(always)]
+    fn step(&mut self, token: &Token<'a>) -> Result<bool, NoMemory>
+        ensures { IfOk result
+            (λ some. then_some some (row_state self.new) ≡ row_next (placed token.now) (row_state self.old)) }
+    {
+        match token.kind {
+            Kind::Identifier => self.push_leaf(token, Kind::Identifier, Role::Name),
+            Kind::String => self.push_leaf(token, Kind::String, Role::Value),
+            Kind::Operator => self.add_operator(token),
+            Kind::Newline => Ok(true),
+            Kind::Comment => self.add_comment(token),
+            _ => self.push_other(token),
+        }
+    }
+
+    /// Goes over these tokens, whatever follows them.
+    pub(crate) fn add_tokens(&mut self, tokens: &[Token<'a>]) -> Result<bool, NoMemory>
+        ensures some { (rest : List Placed) → IfOk result (λ some. IsTrue some
+            → row_run (row_state self.new) rest ≡ row_run (row_state self.old) (map placed tokens.now ++ rest)) }
+        ensures none { (rest : List Placed) → IfOk result (λ some. some ≡ false
+            → row_run (row_state self.old) (map placed tokens.now ++ rest) ≡ None) }
+    {
+        for token in tokens {
+            if !self.step(token)? {
+                return Ok(false);
+            }
+        }
+        Ok(true)
+    }
+
+    /// The statement's first token is on the line `start`, and its last ends on `end`.
+    pub(crate) fn finish(
+        self,
+        alloc: Global,
+        start: u64,
+        end: u64,
+    ) -> Result<Option<Row<'a>>, NoMemory>
+        ensures row { IfOk result (λ o. option_map row_view o ≡ row_run (row_state self.entry) []) }
+        ensures lines { IfOk result (λ o. IfSome o (λ row. (row.start ≡ start) × (row.end ≡ end))) }
+    {
+        let RowWalk { parts, outer, top } = self;
+        if top.kind.is_some() || !outer.is_empty() {
+            return Ok(None);
+        }
+        let Some(class) = top.class(alloc, &parts)? else {
+            return Ok(None);
+        };
+        Ok(Some(Row {
+            parts,
+            class,
+            start,
+            end,
+        }))
+    }
+}
+
+// A token that stands in no row.
+#[inline(always)]
+fn is_stray(role: Role, kind: Kind, text: &str) -> bool
+    ensures { result ≡ (is_stray role && not (is_load_word (leaf kind text.now))) }
+{
+    matches!(role, Role::Stray) && !is_load_at(kind, text)
+}
+
+#[inline(always)]
+fn comment_part<'a>(on_line: bool, text: &'a str) -> Part<'a>
+    ensures { part_view result ≡ comment_part on_line text.now }
+{
+    if on_line {
+        Part::Beside(text)
+    } else {
+        Part::Above(text)
+    }
+}
+
+/// Whether a statement whose first token this is begins in column 1, and is no block; comment lines alone have none.
+pub(crate) fn is_upright(first: Option<Token<'_>>) -> bool
+    ensures { result ≡ is_upright (option_map placed first.entry) }
+{
+    match first {
+        Some(token) => token.col == 1 && !is_block_word(&token),
+        None => true,
+    }
+}
+
+/// Reads the row of the statement that these tokens of a chunk are. None: the chunk is blank or indented wrongly, no
+/// statement has these tokens, or it is one of those that `parse_tokens` alone reads: a block, a comprehension, an
+/// index, more after what would be a rule, a comment in the middle of a segment or before its comma. `Err`: memory was
+/// refused.
+pub fn read_row<'a>(
+    alloc: Global,
+    bump: &'a Bump,
+    tokens: &[Token<'a>],
+) -> Result<Option<Row<'a>>, NoMemory>
+    ensures row { IfOk result (λ o. IfSome o (λ row. (first depth : ℕ) (text : List ℕ)
+        → AreTokensOf first depth text (map placed tokens.now)
+        → (s : Statement) × IsStatementIn first depth text s × IsRowOf s row)) }
+    ensures none { IfOk result (λ o. IfNone o
+        ((has_row (map placed tokens.now) ≡ false) ⊎ (2 ^ 64 ≤ end_of (map placed tokens.now)))) }
+{
+    if first_seen(tokens).is_none() || !is_upright(first_token(tokens)) {
+        return Ok(None);
+    }
+    let Some(end) = counted_end_of(tokens) else {
+        return Ok(None);
+    };
+    let mut walk = RowWalk::new(
+        bump,
+        tokens.len() + min(tokens.len() / 4, MOST_MORE),
+        tokens,
+    )?;
+    if !walk.add_tokens(tokens)? {
+        return Ok(None);
+    }
+    let row = walk.finish(alloc, start_of(tokens), end)?;
+    Ok(row)
+}

@@ -1,0 +1,257 @@
+//! Where the walk that reads a row stands in a bracket, or at the top.
+
+ghost use Rattle.std.specs.Prelude.{◌≡◌, not, ◌&&◌, map, IfOk};
+ghost use Rattle.std.specs.Bool.{then_some};
+ghost use Rattle.bz_tree.specs.Grammar.{leaf_role};
+ghost use Rattle.bz_tree.specs.Tree.{items_of};
+ghost use Rattle.bz_tree.specs.Rows.{part_view};
+ghost use Rattle.bz_tree.specs.FromParts.{nodes_of_parts};
+ghost use Rattle.bz_tree.specs.private.Machine.{is_load};
+ghost use Rattle.bz_tree.specs.private.RowSteps.{here_view, is_ended, named, called, shown_kind, start, read_leaf, read_group, one_more, new_stand, stand, with_comma, is_lost, read_class, end_class, is_one_comma};
+
+use crate::grammar::is_load;
+use crate::grammar::role::Role;
+use crate::grammar::stage::{Goal, Stage, advance, begin, group_role, may_end};
+use crate::row::Part as RowPart;
+use crate::row::from_parts::nodes_of_parts;
+use crate::tree::classes::{is_call, is_dot_at};
+use crate::tree::kinds::{Preceding, kind_after};
+use crate::tree::{Class, GroupKind};
+use bz_memory::NoMemory;
+use bz_token::Kind;
+use std::alloc::Global;
+
+// What the top is so far: the beginning of a rule, a rule, or none.
+#[derive(Clone, Copy)]
+pub(crate) enum Naming {
+    // An identifier comes next.
+    Name,
+    // `.` or the call comes next.
+    Join,
+    // It is a rule.
+    End,
+    // It is none.
+    Never,
+    // More stands after what would be a rule.
+    Lost,
+}
+
+// How many segments are done.
+#[derive(Clone, Copy)]
+pub(crate) enum SegmentCount {
+    Zero,
+    One,
+    More,
+}
+
+// What stands directly before: nothing but comments of a segment, the comma on this line, a node that begins on this
+// line, with its text if it is a token, or the end of the last segment.
+#[derive(Clone, Copy)]
+pub(crate) enum Here<'a> {
+    Nothing,
+    Comma(u64),
+    Node(u64, &'a str),
+    Ended,
+}
+
+// What the nodes of a segment are so far.
+#[derive(Clone, Copy)]
+pub(crate) struct Read {
+    pub(crate) stage: Stage,
+    pub(crate) at: Preceding,
+    pub(crate) naming: Naming,
+    // One of them is an assignment operator.
+    pub(crate) assigns: bool,
+}
+
+// A bracket that is open, or the top.
+#[derive(Clone, Copy)]
+pub(crate) struct Spot<'a> {
+    // None at the top.
+    pub(crate) kind: Option<GroupKind>,
+    pub(crate) done: SegmentCount,
+    pub(crate) here: Here<'a>,
+    pub(crate) read: Read,
+}
+
+// The same while another bracket is open in it: what stands directly before matters no more, but for a segment's end.
+#[derive(Clone, Copy)]
+pub(crate) struct Around {
+    pub(crate) kind: Option<GroupKind>,
+    pub(crate) done: SegmentCount,
+    pub(crate) ended: bool,
+    pub(crate) read: Read,
+}
+
+// Not called in a bracket, where it is Never.
+#[inline(never)]
+fn named(naming: Naming, kind: Kind, text: &str) -> Naming
+    ensures { result ≡ named naming kind text.now }
+{
+    match naming {
+        Naming::Name if kind == Kind::Identifier => Naming::Join,
+        Naming::Join if is_dot_at(kind, text) => Naming::Name,
+        Naming::End | Naming::Lost => Naming::Lost,
+        _ => Naming::Never,
+    }
+}
+
+#[inline(never)]
+fn called(naming: Naming, kind: GroupKind) -> Naming
+    ensures { result ≡ called naming kind }
+{
+    match naming {
+        Naming::Join if is_call(kind) => Naming::End,
+        Naming::End | Naming::Lost => Naming::Lost,
+        _ => Naming::Never,
+    }
+}
+
+/// As what a bracket is shown that opens here.
+#[inline(always)]
+pub(crate) fn shown_kind(naming: Naming, kind: GroupKind) -> GroupKind
+    ensures { result ≡ shown_kind naming kind }
+{
+    match naming {
+        Naming::Join if is_call(kind) => GroupKind::RuleCall,
+        _ => kind,
+    }
+}
+
+#[inline(always)]
+fn start(kind: Option<GroupKind>) -> Read
+    ensures { result ≡ start kind }
+{
+    match kind {
+        None => Read {
+            stage: Stage::Wants(Goal::Left, false),
+            at: Preceding::Other,
+            naming: Naming::Name,
+            assigns: false,
+        },
+        Some(kind) => Read {
+            stage: begin(kind),
+            at: Preceding::Other,
+            naming: Naming::Never,
+            assigns: false,
+        },
+    }
+}
+
+#[inline(always)]
+fn one_more(done: SegmentCount) -> SegmentCount
+    ensures { result ≡ one_more done }
+{
+    match done {
+        SegmentCount::Zero => SegmentCount::One,
+        _ => SegmentCount::More,
+    }
+}
+
+impl Read {
+    // After a token of this role.
+    #[inline(always)]
+    pub(crate) fn add_leaf(&mut self, kind: Kind, text: &str, role: Role)
+        requires { role ≡ leaf_role kind text.now }
+        ensures { self.new ≡ read_leaf kind text.now self.old }
+    {
+        advance(&mut self.stage, role);
+        self.at = kind_after(kind, text);
+        if !matches!(self.naming, Naming::Never) {
+            self.naming = named(self.naming, kind, text);
+        }
+        self.assigns = self.assigns || matches!(role, Role::Equals | Role::Augmented);
+    }
+
+    #[inline(always)]
+    pub(crate) fn add_group(&mut self, kind: GroupKind)
+        ensures { self.new ≡ read_group kind self.old }
+    {
+        advance(&mut self.stage, group_role(kind));
+        self.at = Preceding::Operand;
+        if !matches!(self.naming, Naming::Never) {
+            self.naming = called(self.naming, kind);
+        }
+    }
+
+    // The class of a statement of these nodes. None: it is left to its tree.
+    fn class(&self) -> Option<Class>
+        ensures { result ≡ then_some (not (is_lost self.now.naming)) (read_class self.now) }
+    {
+        match self.naming {
+            Naming::Lost => None,
+            _ if self.assigns => Some(Class::Assign),
+            Naming::End => Some(Class::Rule),
+            _ => Some(Class::Other),
+        }
+    }
+
+    // The class of a statement that is a load, or nothing. Loads are rare, so their nodes may be made for this.
+    fn load_class(&self, alloc: Global, parts: &[RowPart<'_>]) -> Result<Option<Class>, NoMemory>
+        ensures { IfOk result (λ class. class ≡ then_some
+            (not (is_lost self.now.naming) && is_load (items_of (nodes_of_parts (map part_view parts.now))))
+            Class.Load) }
+    {
+        if matches!(self.naming, Naming::Lost) || !is_load(&nodes_of_parts(alloc, parts)?) {
+            return Ok(None);
+        }
+        Ok(Some(Class::Load))
+    }
+}
+
+impl<'a> Spot<'a> {
+    #[inline(always)]
+    pub(crate) fn new(kind: Option<GroupKind>) -> Spot<'a>
+        ensures { stand result ≡ new_stand kind }
+    {
+        Spot {
+            kind,
+            done: SegmentCount::Zero,
+            here: Here::Nothing,
+            read: start(kind),
+        }
+    }
+
+    #[inline(always)]
+    pub(crate) fn is_ended(&self) -> bool
+        ensures { result ≡ is_ended (here_view self.now.here) }
+    {
+        matches!(self.here, Here::Ended)
+    }
+
+    #[inline(always)]
+    pub(crate) fn add_comma(&mut self, line: u64)
+        ensures { stand self.new ≡ with_comma line (stand self.old) }
+    {
+        self.done = one_more(self.done);
+        self.here = Here::Comma(line);
+        self.read = start(self.kind);
+    }
+
+    // The class of a statement of these parts that ends here. None: it is left to its tree.
+    pub(crate) fn class(
+        &self,
+        alloc: Global,
+        parts: &[RowPart<'_>],
+    ) -> Result<Option<Class>, NoMemory>
+        ensures { IfOk result
+            (λ class. class ≡ end_class (here_view self.now.here) self.now.read (map part_view parts.now)) }
+    {
+        match self.here {
+            Here::Nothing => Ok(Some(Class::Comment)),
+            _ if may_end(self.read.stage) => Ok(self.read.class()),
+            _ => self.read.load_class(alloc, parts),
+        }
+    }
+
+    // It is `(x,)`.
+    #[inline(always)]
+    pub(crate) fn is_one_comma(&self, kind: GroupKind) -> bool
+        ensures { result ≡ is_one_comma kind (stand self.now) }
+    {
+        match self.here {
+            Here::Node(_, _) | Here::Ended => false,
+            _ => matches!(kind, GroupKind::Paren) && matches!(self.done, SegmentCount::One),
+        }
+    }
+}

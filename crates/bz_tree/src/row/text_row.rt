@@ -1,0 +1,88 @@
+//! The row of a text, whose tokens are read and dropped a batch at a time.
+
+ghost use Rattle.std.specs.Prelude.{◌≡◌, ◌+◌, ◌≤◌, ◌<◌, length, ◌^◌, ◌==◌, count_by, IfOk, IfSome, ◌&&◌, List, false, is_some, IfNone};
+ghost use Rattle.bz_token.specs.Places.{Placed};
+ghost use Rattle.bz_token.specs.Reading.{AreTokensOf};
+ghost use Rattle.bz_tree.specs.Tree.{Statement};
+ghost use Rattle.bz_tree.specs.Chunk.{IsStatementIn};
+ghost use Rattle.bz_tree.specs.Statement.{first_token};
+ghost use Rattle.bz_tree.specs.RowReads.{has_row};
+ghost use Rattle.bz_tree.specs.Rows.{IsRowOf};
+
+use crate::row::Row;
+use crate::row::rows::{RowWalk, is_upright};
+use crate::tree::span::{end_line, first_token, last_token};
+use bumpalo::Bump;
+use bz_memory::NoMemory;
+use bz_token::TokenReader;
+use std::alloc::Global;
+
+// The commas of so many bytes tell how many parts a long text has.
+const FRONT: usize = 4096;
+
+// Room beside them for the first commands.
+const ROOM: usize = 64;
+
+// Room for the parts of a text: most often two go with a comma, an element and the end of its segment, and a few with
+// what stands around. A long list that grows in an arena leaves much room unused there.
+fn first_room(text: &str) -> usize
+    ensures { result ≤ length text.now + 64 }
+{
+    if text.len() < FRONT {
+        return text.len() / 4 + 8;
+    }
+    let commas = text.bytes().take(FRONT).filter(|b| *b == b',').count();
+    let fronts = text.len() / FRONT + 1;
+    commas
+        .saturating_add(32)
+        .saturating_mul(2)
+        .saturating_mul(fronts)
+        .min(text.len().saturating_add(ROOM))
+}
+
+/// Reads the row that `read_row` gives for the tokens of a chunk, whose list is never there: it would take more memory
+/// than the row. The chunk's first line has this number, and at most so many brackets may be open at once. None: the
+/// chunk has a fault or comments alone, or `read_row` has no row of it. `Err`: memory was refused.
+pub(crate) fn row_of_text<'a>(
+    alloc: Global,
+    bump: &'a Bump,
+    text: &'a str,
+    first_line: u64,
+    max_depth: u8,
+) -> Result<Option<Row<'a>>, NoMemory>
+    requires { first_line + count_by (λ b. b == 10) text.now < 2 ^ 64 }
+    ensures row { IfOk result (λ o. IfSome o
+        (λ row. (s : Statement) × IsStatementIn first_line max_depth text.now s × IsRowOf s row)) }
+    ensures none { IfOk result (λ o. IfNone o ((tokens : List Placed)
+        → AreTokensOf first_line max_depth text.now tokens
+        → (is_some (first_token tokens) && has_row tokens) ≡ false)) }
+{
+    let mut reader = TokenReader::new(bump, text, first_line, max_depth)?;
+    let mut walk = RowWalk::new(bump, first_room(text), text.as_bytes())?;
+    let mut first = None;
+    let mut last = None;
+    while !reader.is_at_end() {
+        if !reader.read()? {
+            return Ok(None);
+        }
+        first = first.or(first_token(reader.tokens()));
+        last = last_token(reader.tokens()).or(last);
+        if !is_upright(first) {
+            return Ok(None);
+        }
+        if !walk.add_tokens(reader.tokens())? {
+            return Ok(None);
+        }
+    }
+    let Some(first) = first else {
+        return Ok(None);
+    };
+    let Some(last) = last else {
+        return Ok(None);
+    };
+    if !reader.is_complete() {
+        return Ok(None);
+    }
+    let row = walk.finish(alloc, first.line, end_line(&last))?;
+    Ok(row)
+}

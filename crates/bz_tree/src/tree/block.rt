@@ -1,0 +1,191 @@
+//! Blocks: statements that begin with `def`, `for` or `if`, kept as they were written.
+
+ghost use Rattle.std.specs.Prelude.{◌≡◌, ◌<◌, ◌^◌, IfOk, map, reverse};
+ghost use Rattle.std.specs.Bool.{then_some};
+ghost use Rattle.bz_token.specs.Places.{placed};
+ghost use Rattle.bz_tree.specs.View.{texts};
+ghost use Rattle.bz_tree.specs.Kinds.{mark_of};
+ghost use Rattle.bz_tree.specs.Blocks.{is_block_word, is_colon, popped, pushed, indented, block_indent, depth_after, has_colon, header_line, logical_lines, is_block, above};
+ghost use Rattle.bz_tree.specs.Statement.{last_token};
+ghost use Rattle.bz_tree.specs.private.BlockSteps.{lines_view, begun, next_counted, next_indent, first_lines};
+
+use crate::tree::kinds::{Mark, mark_of};
+use crate::tree::span::last_token;
+use bz_memory::{NoMemory, push};
+use bz_token::{Kind, Token};
+use std::alloc::Global;
+
+/// Whether the token begins a block.
+pub(crate) fn is_block_word(token: &Token<'_>) -> bool
+    ensures { result ≡ is_block_word (placed token.now) }
+{
+    token.kind == Kind::Keyword && matches!(token.text, "def" | "for" | "if")
+}
+
+fn is_colon(token: &Token<'_>) -> bool
+    ensures { result ≡ is_colon (placed token.now) }
+{
+    token.kind == Kind::Operator && token.text == ":"
+}
+
+// The lines of a block that are still open, by the columns of their first tokens.
+#[derive(Drop)]
+pub(crate) struct Indents {
+    pub(crate) columns: Vec<u64>,
+    // The last token is `:`.
+    pub(crate) opens: bool,
+    // A line has begun.
+    pub(crate) inside: bool,
+}
+
+// False: no line that is open stands in this column.
+fn popped(columns: &mut Vec<u64>, column: u64) -> bool
+    ensures { then_some result (reverse columns.new.items) ≡ popped column (reverse columns.old.items) }
+{
+    while let Some(last) = columns.pop() {
+        if last == column {
+            columns.push_reserved(last);
+            return true;
+        }
+    }
+    false
+}
+
+// False: the column is not to the right of the line above.
+fn pushed(columns: &mut Vec<u64>, column: u64) -> Result<bool, NoMemory>
+    ensures { IfOk result (λ some. then_some some (reverse columns.new.items)
+        ≡ pushed column (reverse columns.old.items)) }
+{
+    if let Some(last) = columns.last() {
+        if *last >= column {
+            return Ok(false);
+        }
+    }
+    push(columns, column)?;
+    Ok(true)
+}
+
+// False: a line is indented wrongly.
+fn indented(opens: bool, column: u64, columns: &mut Vec<u64>) -> Result<bool, NoMemory>
+    ensures { IfOk result (λ some. then_some some (reverse columns.new.items)
+        ≡ indented opens column (reverse columns.old.items)) }
+{
+    if opens {
+        pushed(columns, column)
+    } else {
+        Ok(popped(columns, column))
+    }
+}
+
+fn next_counted(lines: &mut Indents, token: &Token<'_>) -> Result<bool, NoMemory>
+    ensures { IfOk result (λ some. then_some some (lines_view lines.new)
+        ≡ next_counted lines.old.inside (placed token.now) (lines_view lines.old)) }
+{
+    if !lines.inside && !indented(lines.opens, token.col, &mut lines.columns)? {
+        return Ok(false);
+    }
+    lines.opens = is_colon(token);
+    lines.inside = true;
+    Ok(true)
+}
+
+// The lines after a token. False: it is indented wrongly.
+fn next_indent(lines: &mut Indents, token: &Token<'_>) -> Result<bool, NoMemory>
+    ensures { IfOk result (λ some. then_some some (lines_view lines.new)
+        ≡ next_indent (mark_of (placed token.now)) (placed token.now) (lines_view lines.old)) }
+{
+    match mark_of(token) {
+        Mark::Newline => {
+            lines.inside = false;
+            Ok(true)
+        }
+        Mark::Comment => Ok(true),
+        _ => next_counted(lines, token),
+    }
+}
+
+fn first_lines(alloc: Global) -> Result<Indents, NoMemory>
+    ensures { IfOk result (λ i. lines_view i ≡ first_lines) }
+{
+    let mut columns = Vec::new(alloc);
+    push(&mut columns, 1)?;
+    Ok(Indents {
+        columns,
+        opens: false,
+        inside: false,
+    })
+}
+
+/// The line of the first logical line of a block that is indented wrongly.
+pub(crate) fn block_indent(alloc: Global, tokens: &[Token<'_>]) -> Result<Option<u64>, NoMemory>
+    ensures { IfOk result (λ o. o ≡ block_indent (map placed tokens.now)) }
+{
+    let mut lines = first_lines(alloc)?;
+    for token in tokens {
+        if !next_indent(&mut lines, token)? {
+            return Ok(Some(token.line));
+        }
+    }
+    Ok(None)
+}
+
+fn depth_after(mark: Mark, depth: usize) -> usize
+    requires { depth < 2 ^ 63 }
+    ensures { result ≡ depth_after mark depth }
+{
+    match mark {
+        Mark::Open(_) => depth + 1,
+        Mark::Close(_) => usize::saturating_sub(depth, 1),
+        _ => depth,
+    }
+}
+
+// Whether `:` stands outside brackets in the header line.
+fn has_header_colon(tokens: &[Token<'_>]) -> bool
+    ensures { result ≡ has_colon 0 (header_line (logical_lines (map placed tokens.now))) }
+{
+    let mut depth = 0;
+    let mut inside = false;
+    for token in tokens {
+        match mark_of(token) {
+            Mark::Newline if inside => return false,
+            Mark::Newline | Mark::Comment => {}
+            mark => {
+                if depth == 0 && is_colon(token) {
+                    return true;
+                }
+                depth = depth_after(mark, depth);
+                inside = true;
+            }
+        }
+    }
+    false
+}
+
+/// Whether the tokens are those of a block, whose last line does not end with `:`.
+pub(crate) fn is_block(tokens: &[Token<'_>]) -> bool
+    ensures { result ≡ is_block (map placed tokens.now) }
+{
+    match last_token(tokens) {
+        Some(token) if is_colon(&token) => false,
+        _ => has_header_colon(tokens),
+    }
+}
+
+/// The comments above the first token.
+pub(crate) fn comments_above<'a>(
+    alloc: Global,
+    tokens: &[Token<'a>],
+) -> Result<Vec<&'a str>, NoMemory>
+    ensures value { IfOk result (λ v. texts v.items ≡ above (map placed tokens.now)) }
+{
+    let mut comments = Vec::new(alloc);
+    for token in tokens {
+        match mark_of(token) {
+            Mark::Comment => push(&mut comments, token.text)?,
+            Mark::Newline => {}
+            _ => return Ok(comments),
+        }
+    }
+    Ok(comments)
+}

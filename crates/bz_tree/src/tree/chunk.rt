@@ -1,0 +1,198 @@
+//! The statement of a chunk.
+
+ghost use Rattle.std.specs.Prelude.{ℕ, ◌≡◌, ◌+◌, ◌<◌, ◌^◌, ◌==◌, false, IfOk, IfErr, IfSome, IfNone, map, count_by};
+ghost use Rattle.bz_token.specs.Places.{placed};
+ghost use Rattle.bz_token.specs.Reading.{AreTokensOf};
+ghost use Rattle.bz_tree.specs.Tree.{Statement};
+ghost use Rattle.bz_tree.specs.View.{texts, view, seg_view};
+ghost use Rattle.bz_tree.specs.Statement.{EndsFit, statement_with, first_seen, last_seen};
+ghost use Rattle.bz_tree.specs.Blocks.{kept_statement};
+ghost use Rattle.bz_tree.specs.Chunk.{IsPlain, indent_fault, IsChunkOf, IsStatementIn, IsBlank, IsFaultIn};
+ghost use Rattle.bz_tree.specs.private.BlockSteps.{AreStanding};
+
+use crate::fault::ParseFault;
+use crate::grammar::is_statement;
+use crate::tree::block::{block_indent, comments_above, is_block, is_block_word};
+use crate::tree::build::run;
+use crate::tree::classes::class_of;
+use crate::tree::kept::kept_text;
+use crate::tree::span::{end_line, end_of, first_seen, first_token, last_seen, start_of};
+use crate::tree::{Class, Leaf, Node, Seg, Stmt};
+use bumpalo::Bump;
+use bz_memory::{NoMemory, with_capacity};
+use bz_token::{Kind, LexFault, Token, tokens};
+use std::alloc::Global;
+
+// The statement of these nodes and comments.
+fn with_class<'a>(seg: Seg<'a>, tokens: &[Token<'a>]) -> Stmt<'a>
+    requires { EndsFit (map placed tokens.now) }
+    ensures value { view result ≡ statement_with (map placed tokens.now) (seg_view seg.entry) }
+{
+    let class = class_of(&seg.nodes);
+    let Seg {
+        before,
+        nodes,
+        suffix,
+    } = seg;
+    Stmt {
+        before,
+        nodes,
+        suffix,
+        class,
+        start: start_of(tokens),
+        end: end_of(tokens),
+    }
+}
+
+/// A chunk whose tokens are there.
+#[derive(Clone, Copy)]
+pub(crate) struct Chunk<'a, 't> {
+    pub(crate) text: &'a str,
+    /// The number of its first line.
+    pub(crate) first_line: u64,
+    pub(crate) tokens: &'t [Token<'a>],
+}
+
+// The statement of the tokens, which are no block. None: they have none.
+fn plain_statement<'a>(alloc: Global, tokens: &[Token<'a>]) -> Result<Option<Stmt<'a>>, NoMemory>
+    requires { EndsFit (map placed tokens.now) }
+    ensures statement { IfOk result (λ o. IfSome o (λ s. IsPlain (map placed tokens.now) (view s))) }
+    ensures none { IfOk result (λ o. IfNone o ((t : Statement) → IsPlain (map placed tokens.now) t → ⊥)) }
+{
+    let Some(seg) = run(alloc, tokens)? else {
+        return Ok(None);
+    };
+    if !is_statement(&seg.nodes) {
+        return Ok(None);
+    }
+    Ok(Some(with_class(seg, tokens)))
+}
+
+// The statement that a block is.
+fn kept_statement<'a>(
+    alloc: Global,
+    before: Vec<&'a str>,
+    kept: &'a str,
+    header: &Token<'a>,
+    end: u64,
+) -> Result<Stmt<'a>, NoMemory>
+    ensures value { IfOk result
+        (λ s. view s ≡ kept_statement (texts before.entry.items) kept.now (placed header.now) end) }
+{
+    let mut nodes = with_capacity(alloc, 1)?;
+    nodes.push_reserved(Node::Token(Leaf {
+        kind: Kind::Kept,
+        text: kept,
+    }));
+    Ok(Stmt {
+        before,
+        nodes,
+        suffix: None,
+        class: Class::Block,
+        start: header.line,
+        end,
+    })
+}
+
+// The statement of a chunk's tokens, a block or not. None: they have none.
+fn chunk_statement<'a>(alloc: Global, chunk: &Chunk<'a, '_>) -> Result<Option<Stmt<'a>>, NoMemory>
+    requires lines { chunk.now.first_line + count_by (λ b. b == 10) chunk.now.text.now < 2 ^ 64 }
+    requires ends { EndsFit (map placed chunk.now.tokens.now) }
+    requires standing { AreStanding chunk.now.first_line chunk.now.text.now (map placed chunk.now.tokens.now) }
+    ensures statement { IfOk result
+        (λ o. IfSome o (λ s. IsChunkOf chunk.now.first_line chunk.now.text.now (map placed chunk.now.tokens.now) (view s))) }
+    ensures none { IfOk result (λ o. IfNone o ((t : Statement)
+        → IsChunkOf chunk.now.first_line chunk.now.text.now (map placed chunk.now.tokens.now) t → ⊥)) }
+{
+    let Chunk {
+        text,
+        first_line,
+        tokens,
+    } = *chunk;
+    let header = match first_token(tokens) {
+        Some(token) if is_block_word(&token) => token,
+        _ => return plain_statement(alloc, tokens),
+    };
+    if !is_block(tokens) {
+        return Ok(None);
+    }
+    let Some(last) = last_seen(tokens) else {
+        return Ok(None);
+    };
+    let kept = kept_text(text, first_line, &header, &last);
+    let before = comments_above(alloc, tokens)?;
+    Ok(Some(kept_statement(alloc, before, kept, &header, end_line(&last))?))
+}
+
+// The line at which a chunk is indented wrongly.
+fn indent_fault(alloc: Global, tokens: &[Token<'_>]) -> Result<Option<u64>, NoMemory>
+    ensures { IfOk result (λ o. o ≡ indent_fault (map placed tokens.now)) }
+{
+    match first_token(tokens) {
+        None => Ok(None),
+        Some(token) if token.col != 1 => Ok(Some(token.line)),
+        Some(token) if is_block_word(&token) => block_indent(alloc, tokens),
+        Some(_) => Ok(None),
+    }
+}
+
+/// The statement of a chunk. None: the chunk is blank. Every text of the statement is borrowed from the chunk. The rules
+/// are those of `parse`.
+pub(crate) fn parse_tokens<'a>(
+    alloc: Global,
+    chunk: &Chunk<'a, '_>,
+) -> Result<Option<Stmt<'a>>, ParseFault>
+    requires lines { chunk.now.first_line + count_by (λ b. b == 10) chunk.now.text.now < 2 ^ 64 }
+    requires tokens { (depth : ℕ) × AreTokensOf chunk.now.first_line depth chunk.now.text.now (map placed chunk.now.tokens.now) }
+    ensures statement { IfOk result (λ o. IfSome o (λ s. (depth : ℕ)
+        → AreTokensOf chunk.now.first_line depth chunk.now.text.now (map placed chunk.now.tokens.now)
+        → IsStatementIn chunk.now.first_line depth chunk.now.text.now (view s))) }
+    ensures blank { IfOk result (λ o. IfNone o ((depth : ℕ)
+        → AreTokensOf chunk.now.first_line depth chunk.now.text.now (map placed chunk.now.tokens.now)
+        → IsBlank chunk.now.first_line depth chunk.now.text.now)) }
+    ensures fault { IfErr result (λ fault. (depth : ℕ)
+        → AreTokensOf chunk.now.first_line depth chunk.now.text.now (map placed chunk.now.tokens.now)
+        → IsFaultIn chunk.now.first_line depth chunk.now.text.now fault) }
+{
+    if first_seen(chunk.tokens).is_none() {
+        return Ok(None);
+    }
+    if let Some(line) = indent_fault(alloc, chunk.tokens)? {
+        return Err(ParseFault::Indented { line });
+    }
+    match chunk_statement(alloc, chunk)? {
+        Some(stmt) => Ok(Some(stmt)),
+        None => Err(ParseFault::NotAStatement {
+            line: start_of(chunk.tokens),
+        }),
+    }
+}
+
+/// Parses a chunk: gives the statement of its text. The chunk's first line has this number, and at most so many brackets
+/// may be open at once. None: the chunk is blank. Every text of the statement is borrowed from the chunk. The rules are
+/// those of the Starlark specification; blocks and the owners of comments are this project's own.
+pub fn parse<'a>(
+    alloc: Global,
+    text: &'a str,
+    first_line: u64,
+    max_depth: u8,
+) -> Result<Option<Stmt<'a>>, ParseFault>
+    requires { first_line + count_by (λ b. b == 10) text.now < 2 ^ 64 }
+    ensures statement { IfOk result (λ o. IfSome o (λ s. IsStatementIn first_line max_depth text.now (view s))) }
+    ensures blank { IfOk result (λ o. IfNone o (IsBlank first_line max_depth text.now)) }
+    ensures fault { IfErr result (IsFaultIn first_line max_depth text.now) }
+{
+    let bump = Bump::new(alloc);
+    match tokens(&bump, text, first_line, max_depth) {
+        Ok(tokens) => {
+            let chunk = Chunk {
+                text,
+                first_line,
+                tokens,
+            };
+            parse_tokens(alloc, &chunk)
+        }
+        Err(LexFault::OutOfMemory(why)) => Err(ParseFault::OutOfMemory(why)),
+        Err(fault) => Err(ParseFault::Lex(fault)),
+    }
+}

@@ -1,0 +1,217 @@
+//! The segments of one bracket, and the owners of the comments that stand in it.
+
+ghost use Rattle.std.specs.Prelude.{◌≡◌, ◌+◌, ◌++◌, ◌==◌, true, false, map, count_by, IfOk, OnOk, Some, None, [], option_map, option_and_then, ◌≤◌, IfSome};
+ghost use Rattle.bz_tree.specs.View.{text_of, texts, node_view, seg_view};
+ghost use Rattle.bz_tree.specs.private.Steps.{walked, so_far, is_in_first, texts_of, content_view, at_start, after_node, after_comma, after_comment, done, add_beside, to_last};
+
+use crate::tree::span::newlines;
+use crate::tree::{Node, Seg};
+use bz_memory::{NoMemory, append, push};
+use std::alloc::Global;
+use std::mem;
+
+// What stands directly before a comment. A node has the line on which it begins, and its text if it is a token: it ends
+// as many lines later as that has newlines.
+#[derive(Clone, Copy)]
+pub(crate) enum Before<'a> {
+    Nothing,
+    Node(u64, &'a str),
+    Comma(u64),
+}
+
+// The walk over one bracket: the finished segments, then the segment here, its comments before the last of its nodes
+// and its suffix so far, and the comments after that.
+#[derive(Drop)]
+pub(crate) struct Walk<'a> {
+    pub(crate) segs: Vec<Seg<'a>>,
+    pub(crate) here: Seg<'a>,
+    pub(crate) after: Vec<&'a str>,
+    pub(crate) last: Before<'a>,
+    pub(crate) trailing: bool,
+    // No segment is empty.
+    pub(crate) whole: bool,
+}
+
+#[derive(Drop)]
+pub(crate) struct Content<'a> {
+    pub(crate) segs: Vec<Seg<'a>>,
+    pub(crate) trailing: bool,
+    pub(crate) end: Vec<&'a str>,
+}
+
+// One more comment after a segment's comma.
+fn add_beside<'a>(seg: &mut Seg<'a>, text: &'a str) -> Result<(), NoMemory>
+    ensures value { OnOk result (seg_view seg.new ≡ add_beside (text.now) (seg_view seg.old)) }
+{
+    if seg.suffix.is_some() {
+        push(&mut seg.before, text)?;
+    } else {
+        seg.suffix = Some(text);
+    }
+    Ok(())
+}
+
+fn add_to_last<'a>(segs: &mut Vec<Seg<'a>>, text: &'a str) -> Result<(), NoMemory>
+    ensures value { OnOk result (map seg_view segs.new.items
+        ≡ to_last (text.now) (map seg_view segs.old.items)) }
+{
+    if let Some(mut seg) = segs.pop() {
+        add_beside(&mut seg, text)?;
+        segs.push_reserved(seg);
+    }
+    Ok(())
+}
+
+// A suffix so far is none once a node stands after it.
+#[inline(always)]
+fn put_before(seg: &mut Seg<'_>) -> Result<(), NoMemory>
+    ensures nodes { seg.new.nodes ≡ seg.old.nodes }
+    ensures taken { seg.new.suffix ≡ None }
+    ensures value { OnOk result (texts seg.new.before.items
+        ≡ texts seg.old.before.items ++ texts_of (option_map text_of seg.old.suffix)) }
+{
+    if seg.suffix.is_some() {
+        if let Some(text) = seg.suffix.take() {
+            push(&mut seg.before, text)?;
+        }
+    }
+    Ok(())
+}
+
+// The comments after the last node stand above it once another node, or the comma, comes.
+#[inline(always)]
+fn put_above<'a>(before: &mut Vec<&'a str>, after: &mut Vec<&'a str>) -> Result<(), NoMemory>
+    ensures before { OnOk result (before.new.items ≡ before.old.items ++ after.old.items) }
+    ensures after { OnOk result (after.new.items ≡ []) }
+{
+    if after.is_empty() {
+        return Ok(());
+    }
+    if before.is_empty() {
+        mem::swap(before, after);
+        return Ok(());
+    }
+    append(before, after)
+}
+
+// Whether what begins on a line and ends some lines later ends on that other line.
+#[inline(always)]
+pub(crate) fn ends_on(line: u64, newlines: u64, at: u64) -> bool
+    ensures { result ≡ (line + newlines == at) }
+{
+    line <= at && at - line == newlines
+}
+
+#[inline(always)]
+fn empty_segment<'a>(alloc: Global) -> Seg<'a>
+    ensures before { result.before.items ≡ [] }
+    ensures nodes { result.nodes.items ≡ [] }
+    ensures suffix { result.suffix ≡ None }
+{
+    Seg {
+        before: Vec::new(alloc),
+        nodes: Vec::new(alloc),
+        suffix: None,
+    }
+}
+
+impl<'a> Walk<'a> {
+    #[inline(always)]
+    pub(crate) fn new(alloc: Global) -> Walk<'a>
+        ensures value { so_far result ≡ Some at_start }
+    {
+        Walk {
+            segs: Vec::new(alloc),
+            here: empty_segment(alloc),
+            after: Vec::new(alloc),
+            last: Before::Nothing,
+            trailing: false,
+            whole: true,
+        }
+    }
+
+    // No comma was met.
+    #[inline(always)]
+    pub(crate) fn is_in_first(&self) -> bool
+        ensures { result ≡ is_in_first (so_far self.now) }
+    {
+        self.whole && self.segs.is_empty()
+    }
+
+    #[inline(always)]
+    pub(crate) fn add_node(
+        &mut self,
+        node: Node<'a>,
+        line: u64,
+        text: &'a str,
+    ) -> Result<(), NoMemory>
+        ensures value { OnOk result (walked self.new
+            ≡ after_node (line + count_by (λ b. b == 10) text.now) (node_view node.entry) (walked self.old)) }
+        ensures whole { self.new.whole ≡ self.old.whole }
+    {
+        self.last = Before::Node(line, text);
+        self.trailing = false;
+        push(&mut self.here.nodes, node)?;
+        put_before(&mut self.here)?;
+        put_above(&mut self.here.before, &mut self.after)
+    }
+
+    pub(crate) fn add_comma(&mut self, alloc: Global, line: u64) -> Result<(), NoMemory>
+        ensures value { OnOk result (so_far self.new ≡ option_and_then (after_comma line) (so_far self.old)) }
+    {
+        if self.here.nodes.is_empty() {
+            self.whole = false;
+            return Ok(());
+        }
+        put_above(&mut self.here.before, &mut self.after)?;
+        push(
+            &mut self.segs,
+            mem::replace(&mut self.here, empty_segment(alloc)),
+        )?;
+        self.last = Before::Comma(line);
+        self.trailing = true;
+        Ok(())
+    }
+
+    pub(crate) fn add_comment(&mut self, line: u64, text: &'a str) -> Result<(), NoMemory>
+        ensures value { OnOk result (walked self.new ≡ after_comment line (text.now) (walked self.old)) }
+        ensures whole { self.new.whole ≡ self.old.whole }
+    {
+        match mem::replace(&mut self.last, Before::Nothing) {
+            Before::Node(begin, token) if ends_on(begin, newlines(token), line) => {
+                self.here.suffix = Some(text);
+                Ok(())
+            }
+            Before::Comma(end) if end == line => add_to_last(&mut self.segs, text),
+            _ => {
+                push(&mut self.after, text)?;
+                Ok(())
+            }
+        }
+    }
+
+    // None: a segment is empty.
+    #[inline(always)]
+    pub(crate) fn finish(self) -> Result<Option<Content<'a>>, NoMemory>
+        ensures value { IfOk result (λ o. option_map content_view o ≡ option_map done (so_far self.entry)) }
+    {
+        if !self.whole {
+            return Ok(None);
+        }
+        let Walk {
+            mut segs,
+            here,
+            after,
+            trailing,
+            ..
+        } = self;
+        if !here.nodes.is_empty() {
+            push(&mut segs, here)?;
+        }
+        Ok(Some(Content {
+            segs,
+            trailing,
+            end: after,
+        }))
+    }
+}
