@@ -159,7 +159,11 @@ struct PutOthers<'t> {
 }
 
 /// Passes the arguments here up to the first of the name, or to the last that has one.
-fn put_others<'t>(from: Pending<'t>, asked: Sought<'_>, written: &mut Vec<u8>) -> Told<PutOthers<'t>>
+fn put_others<'t>(
+    from: Pending<'t>,
+    asked: Sought<'_>,
+    written: &mut Vec<u8>,
+) -> Told<PutOthers<'t>>
     requires { asked.depth < 254 }
     ensures passed { IfOk result (λ told. IfSome told (λ read.
         Puts written.old.items (pending from.entry) written.new.items (pending read.at)
@@ -217,7 +221,11 @@ struct PutPlaced<'t> {
 }
 
 /// Passes the arguments here up to the first of the name and with it, or to the last that has one.
-fn put_placed<'t>(from: Pending<'t>, asked: Sought<'_>, written: &mut Vec<u8>) -> Told<PutPlaced<'t>>
+fn put_placed<'t>(
+    from: Pending<'t>,
+    asked: Sought<'_>,
+    written: &mut Vec<u8>,
+) -> Told<PutPlaced<'t>>
     requires { asked.depth < 254 }
     ensures { IfOk result (λ told. IfSome told (λ read.
         Puts written.old.items (pending from.entry) written.new.items (pending read.at)

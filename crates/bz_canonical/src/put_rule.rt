@@ -5,7 +5,7 @@ ghost use Rattle.bz_canonical.specs.private.Rewritten.{IsRuleEnd, IsRuleHead, Is
 
 use crate::front::{Word, after, after_word, before, identifier, line, simple_string};
 use crate::notes::{beside, lines};
-use crate::put_arguments::{Sought, Lines, Pending, PutPlace, put_arguments};
+use crate::put_arguments::{Lines, Pending, PutPlace, Sought, put_arguments};
 use bz_memory::{NoMemory, extend_from_slice};
 
 /// A rule, and what follows it.
