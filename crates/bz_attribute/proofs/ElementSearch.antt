@@ -29,6 +29,13 @@ sought_more home word ps from at begin token to text sought next is = λ l after
     let other : equals home word n.element ≡ false = next_told home word ps at begin token to text h.left after false n is in
     record { left = n.left; read = n.read; same = sym (next_equals home word ps at begin token to text h.left after false n other) ∙ h.same; found = λ f. h.found f ∙ n.passed (equals home word) f other }
 
+-- one search after another
+pub sought_on : (home : Package) (word : List ℕ) (ps : List RowPart) (from at to : ℕ) → HasSought home word ps from at → HasSought home word ps at to → HasSought home word ps from to
+sought_on home word ps from at to first second = λ l after read.
+    let h = first l after read in
+    let k = second h.left after h.read in
+    record { left = k.left; read = k.read; same = k.same ∙ h.same; found = λ f. h.found f ∙ k.found f }
+
 -- by what was found
 pub sought_told : (home : Package) (word : List ℕ) (ps : List RowPart) (from : ℕ) (o : Option ℕ) (b : Bool) → b ≡ is_some o
     → IfSome o (λ at. (l : ListRest) (after : List RowPart) → drop from ps ≡ rest_parts l after → IsFirstEqual home word l after ps from at)

@@ -6,7 +6,7 @@ use Rattle.std.proofs.Math.Seq.{drop-append_seam, take-append_seam}
 use Rattle.std.specs.Prelude.{codes, option_and_then}
 use Rattle.bz_tree.specs.declared.tree.GroupKind.{GroupKind}
 use Rattle.bz_tree.specs.Tree.{Item, leaf, group, Segment, Statement, items_of, segs_of}
-use Rattle.bz_tree.specs.Rows.{RowPart, a_token, opening, closing, segment_end, above, beside_part, items_parts, segs_parts}
+use Rattle.bz_tree.specs.Rows.{RowPart, a_token, opening, closing, segment_end, above, beside, beside_part, items_parts, segs_parts}
 use Rattle.bz_token.specs.declared.token.Kind.TheVariants.{String}
 use Rattle.bz_attribute.specs.Elements.{AreElementsTo, IsElementOf, IsValueAt, ListRest, rest_parts, value_parts}
 use Rattle.bz_attribute.specs.Effects.{edit_first, has, with_args, nodes_after, nodes_of}
@@ -16,7 +16,7 @@ use Rattle.bz_attribute.specs.RowPlaces.{IsRuleRow}
 use Rattle.bz_attribute.specs.Rules.{Rule, first_named, is_named, is_text, name_in, name_of, only_text, string_value, value}
 use Rattle.bz_attribute.specs.private.Ends.{above_len, end_len, parts_len, plain_len, segment_len}
 use Rattle.bz_attribute.specs.private.HeadParts.{is_end}
-use Rattle.bz_attribute.specs.private.ListParts.{ends_list, string_in}
+use Rattle.bz_attribute.specs.private.ListParts.{HasElement, bare_string, ends_list, string_in}
 use Rattle.bz_command.specs.Values.{value_of}
 use Rattle.bz_attribute.proofs.EditedAt.{edited_at, first_at, none_first, segs_join}
 use Rattle.bz_attribute.proofs.EndsBack.{argument_long, plain_elements, no_beside_argument, no_beside_end, segment_long}
@@ -128,6 +128,23 @@ element_in (s ∷ ss) end one_comma items after ps at token to string read is mo
 pub element_there : (rest : ListRest) (after ps : List RowPart) (at token to : ℕ) (string : Option (List ℕ)) → drop at ps ≡ rest_parts rest after → token ≡ at + above_len (drop at ps) → ends_list (drop token ps) ≡ false
     → to ≡ token + segment_len (drop token ps) → string ≡ string_in (drop token ps) → IsElementOf rest after ps at token to string
 element_there rest after ps at token to string read is more to_is string_is = element_in rest.elements rest.end rest.one_comma rest.items after ps at token to string read is more to_is string_is
+
+-- one that is one string token, without comments
+record IsBare (qs : List RowPart) (text : List ℕ) : Type 0 where
+  above : above_len qs ≡ 0
+  more : ends_list qs ≡ false
+  long : segment_len qs ≡ 2
+  string : string_in qs ≡ Some text
+
+is_bare : (qs : List RowPart) (text : List ℕ) → bare_string qs ≡ Some text → IsBare qs text
+is_bare (a_token String t ∷ segment_end ∷ beside comment ∷ ps) text h = let clash : None ≡ Some text = h in absurd cc
+is_bare (a_token String t ∷ segment_end ∷ p ∷ ps) text h = record { above = refl; more = refl; long = refl; string = h }
+is_bare _ text h = let clash : None ≡ Some text = h in absurd cc
+
+pub bare_there : (ps : List RowPart) (at : ℕ) (text : List ℕ) → bare_string (drop at ps) ≡ Some text → HasElement ps at at (at + 2) (Some text)
+bare_there ps at text h = λ rest after read.
+    let b = is_bare (drop at ps) text h in
+    element_there rest after ps at at (at + 2) (Some text) read (omega (arith, b.above)) b.more (omega (arith, b.long)) (sym b.string)
 
 -- where the elements end
 pub elements_told : (l : ListRest) (after ps : List RowPart) (from close end : ℕ) → drop from ps ≡ rest_parts l after → close ≡ parts_len false 0 (drop from ps) → end ≡ from + plain_len (take close (drop from ps)) → AreElementsTo l ps from end

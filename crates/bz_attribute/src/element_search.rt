@@ -5,13 +5,33 @@ ghost use Rattle.std.specs.List.{list_any};
 ghost use Rattle.bz_tree.specs.Rows.{RowPart, part_view};
 ghost use Rattle.bz_attribute.specs.Elements.{IsFirstEqual, ListRest, elements_left, rest_parts};
 ghost use Rattle.bz_attribute.specs.Lists.{equals, same};
+ghost use Rattle.bz_attribute.specs.private.ListParts.{HasSought};
+ghost use Rattle.bz_command.specs.Labels as labels;
 ghost use Rattle.bz_command.specs.Values.{value_of};
 ghost use Rattle.bz_token.specs.Common.{map_or};
 
-use crate::elements::next_of_value;
+use crate::apart::literal_apart;
+use crate::elements::{bare_string, next_of_value};
 use crate::equals::text_equals;
 use bz_command::Package;
 use bz_tree::Part;
+
+// Passes elements of a list part that are one string token each, without comments, as long as each is told apart from
+// the word at once.
+fn pass_apart(word: &str, parts: &[Part<'_>], from: usize) -> usize
+    requires { from ≤ length parts.now }
+    ensures sought { (home : labels.Package) → HasSought home word.now (map part_view parts.now) from result }
+    ensures within { (from ≤ result) × (result ≤ length parts.now) }
+{
+    let mut at = from;
+    while let Some(text) = bare_string(&parts[at..]) {
+        if !literal_apart(text.as_bytes(), word.as_bytes()) {
+            return at;
+        }
+        at += 2;
+    }
+    at
+}
 
 /// Where the nodes of the first element of a value begin that equals a word, from a place in a list part of it on.
 pub fn first_equal(home: &Package, word: &str, parts: &[Part<'_>], from: usize) -> Option<usize>
@@ -24,12 +44,13 @@ pub fn first_equal(home: &Package, word: &str, parts: &[Part<'_>], from: usize) 
         → list_any (equals home.now word.now) (elements_left rest) ≡ false) }
     ensures within { IfSome result (λ at. at ≤ length parts.now) }
 {
-    let mut at = from;
+    // Most elements are passed at once.
+    let mut at = pass_apart(word, parts, from);
     while let Some(element) = next_of_value(parts, at) {
         if is_word(home, word, element.string) {
             return Some(element.token);
         }
-        at = element.to;
+        at = pass_apart(word, parts, element.to);
     }
     None
 }

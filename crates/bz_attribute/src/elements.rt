@@ -223,6 +223,21 @@ pub fn next_element<'a>(parts: &[Part<'a>], at: usize) -> Option<Element<'a>>
     })
 }
 
+/// The text of the element that they begin with, where it is one string token without comments: its parts are two.
+#[inline(always)]
+pub(crate) fn bare_string<'a>(parts: &[Part<'a>]) -> Option<&'a str>
+    ensures text { option_map (λ text. text.now) result ≡ spec.bare_string (map part_view parts.now) }
+    ensures within { IfSome result (λ text. 2 ≤ length parts.now) }
+{
+    match parts {
+        [Part::Token(Kind::String, text), Part::End, next, ..] => match next {
+            Part::Beside(_) => None,
+            _ => Some(*text),
+        },
+        _ => None,
+    }
+}
+
 /// Where the elements of a list part end, which begin at a place.
 pub fn elements_end(parts: &[Part<'_>], from: usize) -> usize
     requires { from ≤ length parts.now }

@@ -1,9 +1,10 @@
 -- For private clauses alone: the items of a value, by their parts.
-use Rattle.std.specs.Prelude.{◌≡◌, ℕ, ◌+◌, List, [], ◌∷◌, ◌++◌, Bool, true, false, ◌||◌, if◌then◌else◌, Option, None, length, drop, take}
+use Rattle.std.specs.Prelude.{◌≡◌, ℕ, ◌+◌, List, [], ◌∷◌, ◌++◌, Bool, true, false, ◌||◌, if◌then◌else◌, Option, None, Some, length, drop, take}
 use Rattle.std.specs.List.{list_all, list_any}
 use Rattle.bz_tree.specs.declared.tree.GroupKind.TheVariants.{List as ListKind}
+use Rattle.bz_token.specs.declared.token.Kind.TheVariants.{String}
 use Rattle.bz_tree.specs.Tree.{Item, leaf, Segment, items_of}
-use Rattle.bz_tree.specs.Rows.{RowPart, a_token, closing, opening, segment_end, item_parts, items_parts}
+use Rattle.bz_tree.specs.Rows.{RowPart, a_token, beside, closing, opening, segment_end, item_parts, items_parts}
 use Rattle.bz_command.specs.Labels.{Package}
 use Rattle.bz_attribute.specs.Elements.{IsElementOf, ListRest, elements_left, found_rest, rest_parts, value_parts}
 use Rattle.bz_attribute.specs.Lists as lists
@@ -54,6 +55,15 @@ ends_list _ = false
 abbrev pub string_in : List RowPart → Option (List ℕ)
 string_in (p ∷ q ∷ ps) = if is_end q then text_of p else None
 string_in _ = None
+
+-- the text of the element that they begin with, where it is one string token without comments
+abbrev pub bare_text : RowPart → List ℕ → Option (List ℕ)
+bare_text (beside comment) text = None
+bare_text _ text = Some text
+
+abbrev pub bare_string : List RowPart → Option (List ℕ)
+bare_string (a_token String text ∷ segment_end ∷ p ∷ ps) = bare_text p text
+bare_string _ = None
 
 -- the element that begins at a place in a list part ends there
 abbrev pub HasElement : List RowPart → ℕ → ℕ → ℕ → Option (List ℕ) → Type 0
