@@ -1,15 +1,15 @@
 //! Laws on blocks, which are kept as they stand: what their text is read as.
 
 ghost use Rattle.std.specs.Prelude.{◌≡◌, ◌++◌, ℕ, List, replicate};
-ghost use Rattle.bz_tree.specs.declared.tree.Class.TheVariants.{Block};
-ghost use Rattle.bz_tree.specs.Chunk.{IsStatementIn};
-ghost use Rattle.bz_tree.specs.Tree.{Statement};
-ghost use Rattle.bz_layout.specs.Layout.{layout_text};
 ghost use Rattle.bz_layout_laws.specs.BlockIn.{IsBlockIn};
 ghost use Rattle.bz_layout_laws.specs.KeptBlock.{IsKeptBlock};
-ghost use Rattle.bz_layout_laws.specs.Legible.{AreComments};
-ghost use Rattle.bz_layout_laws.specs.Spelled.{spelled_statement};
+ghost use Rattle.bz_tree.specs.Tree.{Statement};
+ghost use Rattle.bz_layout.specs.Layout.{layout_text};
 ghost use Rattle.bz_layout_laws.specs.Lineless.{lineless};
+ghost use Rattle.bz_layout_laws.specs.Spelled.{spelled_statement};
+ghost use Rattle.bz_tree.specs.Chunk.{IsStatementIn};
+ghost use Rattle.bz_layout_laws.specs.Legible.{AreComments};
+ghost use Rattle.bz_tree.specs.declared.tree.Class.TheVariants.{Block};
 
 /// A statement that was read and has the class of a block was read as a block: its first token is a word that begins
 /// one.

@@ -2,15 +2,15 @@
 
 ghost use Rattle.std.specs.Prelude.{◌≡◌, ℕ, List, map, None};
 ghost use Rattle.std.specs.List.{AllByRecursion};
-ghost use Rattle.bz_token.specs.Chunks.{chunks};
-ghost use Rattle.bz_tree.specs.Tree.{Statement};
 ghost use Rattle.bz_layout_laws.specs.FileText.{text_from, chunks_from};
-ghost use Rattle.bz_layout_laws.specs.FileRead.{AreStatementsIn};
-ghost use Rattle.bz_layout_laws.specs.KeptBlock.{IsKeptBlock};
-ghost use Rattle.bz_layout_laws.specs.ReadBack.{IsReadBack};
 ghost use Rattle.bz_layout_laws.specs.Spelled.{spelled_statement};
 ghost use Rattle.bz_layout_laws.specs.Lineless.{lineless};
+ghost use Rattle.bz_tree.specs.Tree.{Statement};
 ghost use Rattle.bz_layout_laws.specs.WellFormed.{IsWellFormed};
+ghost use Rattle.bz_layout_laws.specs.KeptBlock.{IsKeptBlock};
+ghost use Rattle.bz_layout_laws.specs.FileRead.{AreStatementsIn};
+ghost use Rattle.bz_token.specs.Chunks.{chunks};
+ghost use Rattle.bz_layout_laws.specs.ReadBack.{IsReadBack};
 
 /// The text of a well-formed statement is read back wherever it stands in a file: no block goes on with it, it is a
 /// chunk of its own or with the empty line after it, and it is read as the statement.

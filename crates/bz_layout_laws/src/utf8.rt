@@ -2,8 +2,8 @@
 
 ghost use Rattle.std.specs.Prelude.{◌≡◌, ℕ, List};
 ghost use Rattle.std.specs.Str.{IsUtf8};
-ghost use Rattle.bz_token.specs.Places.{Placed};
 ghost use Rattle.bz_token.specs.Reading.{AreTokensOf};
+ghost use Rattle.bz_token.specs.Places.{Placed};
 ghost use Rattle.bz_tree.specs.Statement.{IsStatementOf};
 ghost use Rattle.bz_tree.specs.Tree.{Statement};
 ghost use Rattle.bz_layout.specs.Layout.{layout_text};
