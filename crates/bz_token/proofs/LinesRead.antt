@@ -33,9 +33,9 @@ use Rattle.bz_token.proofs.FirstLines.{lines_reading, closed_lines, split_readin
 use Rattle.bz_token.proofs.LineEnds.{tokens_after, map_drop, joins_comment, line_ends}
 
 -- before the first step
-pub started : (first depth : ℕ) (bytes : List ℕ) (lexer : Lexer) (cursor : Cursor) → lexer.tokens.items ≡ [] → opened lexer.brackets ≡ [] → cursor.rest.now ≡ bytes → cursor.place.line ≡ first → cursor.place.col ≡ 1 → cursor.fresh ≡ true → IsUtf8 bytes → IsInLine first depth bytes lexer cursor 0
-started first depth bytes lexer cursor no_tokens closed rest line col fresh utf8 =
-    let r = read_fresh first depth bytes (map placed lexer.tokens.items) (opened lexer.brackets) cursor.fresh cursor.rest.now cursor.place.line cursor.place.col (ap (map placed) no_tokens) closed fresh rest line col utf8 in
+pub started : (first depth : ℕ) (bytes : List ℕ) (lexer : Lexer) (cursor : Cursor) → lexer.tokens.items ≡ [] → opened lexer.brackets ≡ [] → cursor.rest.now ≡ bytes → cursor.place.line ≡ first → cursor.place.col ≡ 1 → cursor.last_line ≡ None → IsUtf8 bytes → IsInLine first depth bytes lexer cursor 0
+started first depth bytes lexer cursor no_tokens closed rest line col none utf8 =
+    let r = read_fresh first depth bytes (map placed lexer.tokens.items) (opened lexer.brackets) cursor.last_line cursor.rest.now cursor.place.line cursor.place.col (ap (map placed) no_tokens) closed none rest line col utf8 in
     record { read = r.0; done = []; line = []; pieces_are = r.1; ended = refl; comments = refl; none = refl; start_is = refl }
 
 no_newline : (ps : List Piece) (p : Piece) → list_any is_newline_piece ps ≡ false → is_line p.kind ≡ false → list_any is_newline_piece (ps ++ p ∷ []) ≡ false

@@ -1,6 +1,7 @@
 -- How far a text has been read.
-use Rattle.std.proofs.Common.{◌≡◌, ℕ, zero, suc, ◌+◌, ◌-◌, ◌<◌, ◌≤◌, ◌==◌, ◌&&◌, ◌||◌, List, [], ◌∷◌, ◌++◌, length, take, drop, get_or, cond, Bool, true, false, not, refl, sym, ap, ap₂, subst, ◌∙◌, arith, inl, inr, IsUtf8, append_assoc, append-nil, length-append, take-append-drop}
-use Rattle.std.specs.Prelude.{count_by, Some, None, Result, Ok, Err, IfOk, IfErr, if◌then◌else◌}
+use Rattle.std.proofs.Common.{◌≡◌, ℕ, zero, suc, ◌+◌, ◌-◌, ◌<◌, ◌≤◌, ◌==◌, ◌&&◌, List, [], ◌∷◌, ◌++◌, length, take, drop, get_or, cond, Bool, true, false, not, refl, sym, ap, ap₂, subst, ◌∙◌, arith, inl, inr, IsUtf8, append_assoc, append-nil, length-append, take-append-drop}
+use Rattle.std.specs.Prelude.{count_by, nat_eq, Option, Some, None, Result, Ok, Err, IfOk, IfErr}
+use Rattle.std.specs.Option.{option_eq}
 use Rattle.std.specs.Result.{IsErrAnd}
 use Rattle.std.specs.List.{list_all, list_any}
 use Rattle.std.specs.Str.{IsCharBoundary}
@@ -21,7 +22,7 @@ use Rattle.bz_token.specs.declared.brackets.Misfit.TheVariants.{TooDeep, NoMatch
 use Rattle.bz_token.specs.Faults.{IsFault, IsFaultAt, IsOpenBracket, IsBadCharacter, IsBadNumber, IsOpenText, IsBadBackslash, IsBadBracket, IsTooDeep}
 use Rattle.bz_token.specs.private.Scans.{IsBadPlace, bad_fault, IsMisfit, misfit_fault, IsLeftOpen}
 use Rattle.bz_token.specs.private.Steps.{IsRefused}
-pub use Rattle.bz_token.specs.private.Progress.{lines_of, Descends, newest, same_line, Progress, Grows}
+pub use Rattle.bz_token.specs.private.Progress.{lines_of, Descends, newest, Progress, Grows}
 use Rattle.bz_token.proofs.Innermost.{step}
 use Rattle.bz_token.proofs.Scanning.{boundary_after}
 
@@ -107,6 +108,10 @@ below bound line (l ∷ ls) d h =
     differs : (a b : ℕ) → a < b → (a == b) ≡ false
     differs a b h = grind (arith, nat_tests)
 
+abbrev pub same_line : Option ℕ → ℕ → Bool
+same_line None line = false
+same_line (Some l) line = l == line
+
 -- a line is new where the newest is another
 pub new_line : (line : ℕ) (ls : List ℕ) → Descends line ls → (fresh : Bool) → fresh ≡ not (same_line (newest ls) line) → fresh ≡ not (list_any (λ l. l == line) ls)
 new_line line ls d fresh is = is ∙ ap not (found line ls d)
@@ -121,44 +126,24 @@ new_line line ls d fresh is = is ∙ ap not (found line ls d)
       | inr miss ↦ rw miss (sym (below l line ls d.1 (less l line d.0 miss)))
     ]
 
--- a line is new after a newline, or where it was
-later_line : (ls : List ℕ) (line l : ℕ) (fresh has : Bool) → Descends line ls → fresh ≡ not (same_line (newest ls) line) → l ≡ line + (if has then 1 else 0) → (fresh || has) ≡ not (same_line (newest ls) l)
-later_line ls line l fresh false d is moves = or_false fresh ∙ is ∙ ap (λ x. not (same_line (newest ls) x)) (omega (arith, moves))
-  where
-    or_false : (b : Bool) → (b || false) ≡ b
-    or_false true = refl
-    or_false false = refl
-later_line ls line l fresh true d is moves = or_true fresh ∙ sym (ap not (none_later ls d))
-  where
-    or_true : (b : Bool) → (b || true) ≡ true
-    or_true true = refl
-    or_true false = refl
-
-    differs : (a b : ℕ) → a < b → (a == b) ≡ false
-    differs a b h = grind (arith, nat_tests)
-
-    none_later : (ls : List ℕ) → Descends line ls → same_line (newest ls) l ≡ false
-    none_later [] d = refl
-    none_later (x ∷ xs) d = differs x l (omega (arith, d.0, moves))
-
 -- the place after a gap
-pub record AfterGap (first depth : ℕ) (bytes : List ℕ) (tokens : List Placed) (opened : List ℕ) (fresh : Bool) (gap after : List ℕ) (line col : ℕ) : Type 0 where
+pub record AfterGap (first depth : ℕ) (bytes : List ℕ) (tokens : List Placed) (opened : List ℕ) (last : Option ℕ) (gap after : List ℕ) (line col : ℕ) : Type 0 where
   pub pieces : List Piece
   pub reading : IsReading depth [] pieces (gap ++ after) bytes
   pub is_gap : is_gap (is_inside (open_after [] pieces)) gap ≡ true
   pub after_gap : begins_gap (is_inside (open_after [] pieces)) after ≡ false
   pub opened_are : opened ≡ open_after [] pieces
   pub tokens_are : tokens ≡ tokens_of first [] [] pieces
-  pub fresh_is : fresh ≡ not (same_line (newest (lines_of first [] [] pieces)) line)
+  pub last_is : last ≡ newest (lines_of first [] [] pieces)
   pub descends : Descends (line_at first (bytes_of pieces)) (lines_of first [] [] pieces)
   pub line_is : line ≡ line_at first (bytes_of pieces ++ gap)
   pub col_is : col ≡ column_at (bytes_of pieces ++ gap)
   pub utf8 : IsUtf8 after
 
 -- the places that are still to come fit
-pub places_fit : (first depth : ℕ) (bytes : List ℕ) (tokens : List Placed) (opened : List ℕ) (fresh : Bool) (rest : List ℕ) (line col : ℕ) → Progress first depth bytes tokens opened fresh rest line col
+pub places_fit : (first depth : ℕ) (bytes : List ℕ) (tokens : List Placed) (opened : List ℕ) (last : Option ℕ) (rest : List ℕ) (line col : ℕ) → Progress first depth bytes tokens opened last rest line col
     → (line + newlines rest ≡ first + newlines bytes) × (col + length rest ≤ length bytes + 1) × (0 < col)
-places_fit first depth bytes tokens opened fresh rest line col p =
+places_fit first depth bytes tokens opened last rest line col p =
     let whole : bytes ≡ (bytes_of p.pieces ++ p.gap) ++ rest = reading_bytes depth [] p.pieces (p.gap ++ rest) bytes p.reading ∙ sym (append_assoc (bytes_of p.pieces) p.gap rest) in
     let bounds = column_from-bounds 1 (bytes_of p.pieces ++ p.gap) (omega arith) in (
       omega (arith, ap newlines whole, newlines-append (bytes_of p.pieces ++ p.gap) rest, p.line_is),
@@ -167,7 +152,7 @@ places_fit first depth bytes tokens opened fresh rest line col p =
     )
 
 -- nothing is read
-pub read_start : (first depth : ℕ) (bytes opened : List ℕ) → opened ≡ [] → IsUtf8 bytes → Progress first depth bytes [] opened true bytes first 1
+pub read_start : (first depth : ℕ) (bytes opened : List ℕ) → opened ≡ [] → IsUtf8 bytes → Progress first depth bytes [] opened None bytes first 1
 read_start first depth bytes opened none utf8 = record {
   pieces = [];
   gap = [];
@@ -175,7 +160,7 @@ read_start first depth bytes opened none utf8 = record {
   goes_on = λ ys. refl;
   opened_are = none;
   tokens_are = refl;
-  fresh_is = refl;
+  last_is = refl;
   descends = tt;
   line_is = omega arith;
   col_is = refl;
@@ -183,23 +168,22 @@ read_start first depth bytes opened none utf8 = record {
 }
 
 -- the same of what stands for nothing
-pub read_fresh : (first depth : ℕ) (bytes : List ℕ) (tokens : List Placed) (opened : List ℕ) (fresh : Bool) (rest : List ℕ) (line col : ℕ) → tokens ≡ [] → opened ≡ [] → fresh ≡ true → rest ≡ bytes → line ≡ first → col ≡ 1 → IsUtf8 bytes
-    → (p : Progress first depth bytes tokens opened fresh rest line col) × (p.pieces ≡ [])
+pub read_fresh : (first depth : ℕ) (bytes : List ℕ) (tokens : List Placed) (opened : List ℕ) (last : Option ℕ) (rest : List ℕ) (line col : ℕ) → tokens ≡ [] → opened ≡ [] → last ≡ None → rest ≡ bytes → line ≡ first → col ≡ 1 → IsUtf8 bytes
+    → (p : Progress first depth bytes tokens opened last rest line col) × (p.pieces ≡ [])
 unfolding read_start
-read_fresh first depth bytes tokens opened fresh rest line col none closed no_line whole at_line at_col utf8 =
+read_fresh first depth bytes tokens opened last rest line col none closed no_line whole at_line at_col utf8 =
     rw (none, no_line, whole, at_line, at_col) (read_start first depth bytes opened closed utf8, refl)
 
 -- reading goes on in a gap
-read_gap : (first depth : ℕ) (bytes : List ℕ) (tokens : List Placed) (opened : List ℕ) (fresh : Bool) (rest following : List ℕ) (line col l c n : ℕ) (fresh' has : Bool) → Progress first depth bytes tokens opened fresh rest line col
+read_gap : (first depth : ℕ) (bytes : List ℕ) (tokens : List Placed) (opened : List ℕ) (last : Option ℕ) (rest following : List ℕ) (line col l c n : ℕ) → Progress first depth bytes tokens opened last rest line col
     → ((ys : List ℕ) → is_gap (is_inside opened) (take n rest ++ ys) ≡ is_gap (is_inside opened) ys) → IsCharBoundary rest n
-    → following ≡ drop n rest → l ≡ line + newlines (take n rest) → c ≡ column_from col (take n rest) → newlines (take n rest) ≡ (if has then 1 else 0) → fresh' ≡ (fresh || has)
-    → Progress first depth bytes tokens opened fresh' following l c
-read_gap first depth bytes tokens opened fresh rest following line col l c n fresh' has p white cut rest_is line_moves col_moves newline is_fresh =
+    → following ≡ drop n rest → l ≡ line + newlines (take n rest) → c ≡ column_from col (take n rest)
+    → Progress first depth bytes tokens opened last following l c
+read_gap first depth bytes tokens opened last rest following line col l c n p white cut rest_is line_moves col_moves =
     let front = take n rest in
     let inside = is_inside (open_after [] p.pieces) in
     let whole : rest ≡ take n rest ++ following = rw (rest_is, take-append-drop) refl in
     let longer = append_assoc (bytes_of p.pieces) p.gap (take n rest) in
-    let here : Descends line (lines_of first [] [] p.pieces) = descends_more (line_at first (bytes_of p.pieces)) line (lines_of first [] [] p.pieces) (omega (arith, p.line_is, newlines-append (bytes_of p.pieces) p.gap)) p.descends in
     record {
       pieces = p.pieces;
       gap = p.gap ++ take n rest;
@@ -208,7 +192,7 @@ read_gap first depth bytes tokens opened fresh rest following line col l c n fre
           ∙ subst (λ o. is_gap (is_inside o) (take n rest ++ ys) ≡ is_gap (is_inside o) ys) p.opened_are (white ys);
       opened_are = p.opened_are;
       tokens_are = p.tokens_are;
-      fresh_is = is_fresh ∙ later_line (lines_of first [] [] p.pieces) line l fresh has here p.fresh_is (line_moves ∙ ap (λ k. line + k) newline);
+      last_is = p.last_is;
       descends = p.descends;
       line_is = omega (arith, line_moves, p.line_is, newlines-append (bytes_of p.pieces ++ p.gap) (take n rest), ap newlines longer);
       col_is = col_moves ∙ ap (λ k. column_from k (take n rest)) p.col_is ∙ sym (column_from-append 1 (bytes_of p.pieces ++ p.gap) (take n rest)) ∙ ap column_at longer;
@@ -216,25 +200,25 @@ read_gap first depth bytes tokens opened fresh rest following line col l c n fre
     }
 
 -- the same, with the pieces
-pub gap_read : (first depth : ℕ) (bytes : List ℕ) (tokens : List Placed) (opened : List ℕ) (fresh : Bool) (rest following : List ℕ) (line col l c n : ℕ) (fresh' has : Bool) (p : Progress first depth bytes tokens opened fresh rest line col)
+pub gap_read : (first depth : ℕ) (bytes : List ℕ) (tokens : List Placed) (opened : List ℕ) (last : Option ℕ) (rest following : List ℕ) (line col l c n : ℕ) (p : Progress first depth bytes tokens opened last rest line col)
     → ((ys : List ℕ) → is_gap (is_inside opened) (take n rest ++ ys) ≡ is_gap (is_inside opened) ys) → IsCharBoundary rest n
-    → following ≡ drop n rest → l ≡ line + newlines (take n rest) → c ≡ column_from col (take n rest) → newlines (take n rest) ≡ (if has then 1 else 0) → fresh' ≡ (fresh || has)
-    → (q : Progress first depth bytes tokens opened fresh' following l c) × Grows None p.pieces q.pieces q.gap
+    → following ≡ drop n rest → l ≡ line + newlines (take n rest) → c ≡ column_from col (take n rest)
+    → (q : Progress first depth bytes tokens opened last following l c) × Grows None p.pieces q.pieces q.gap
 unfolding read_gap
-gap_read first depth bytes tokens opened fresh rest following line col l c n fresh' has p white cut rest_is line_moves col_moves newline is_fresh =
-    (read_gap first depth bytes tokens opened fresh rest following line col l c n fresh' has p white cut rest_is line_moves col_moves newline is_fresh, refl)
+gap_read first depth bytes tokens opened last rest following line col l c n p white cut rest_is line_moves col_moves =
+    (read_gap first depth bytes tokens opened last rest following line col l c n p white cut rest_is line_moves col_moves, refl)
 
 -- no gap stands here
-unfoldable pub after_gap : (first depth : ℕ) (bytes : List ℕ) (tokens : List Placed) (opened : List ℕ) (fresh : Bool) (rest : List ℕ) (line col : ℕ) (p : Progress first depth bytes tokens opened fresh rest line col) → begins_gap (is_inside opened) rest ≡ false
-    → AfterGap first depth bytes tokens opened fresh p.gap rest line col
-after_gap first depth bytes tokens opened fresh rest line col p none = record {
+unfoldable pub after_gap : (first depth : ℕ) (bytes : List ℕ) (tokens : List Placed) (opened : List ℕ) (last : Option ℕ) (rest : List ℕ) (line col : ℕ) (p : Progress first depth bytes tokens opened last rest line col) → begins_gap (is_inside opened) rest ≡ false
+    → AfterGap first depth bytes tokens opened last p.gap rest line col
+after_gap first depth bytes tokens opened last rest line col p none = record {
   pieces = p.pieces;
   reading = p.reading;
   is_gap = sym (ap (is_gap (is_inside (open_after [] p.pieces))) (append-nil p.gap)) ∙ p.goes_on [];
   after_gap = subst (λ o. begins_gap (is_inside o) rest ≡ false) p.opened_are none;
   opened_are = p.opened_are;
   tokens_are = p.tokens_are;
-  fresh_is = p.fresh_is;
+  last_is = p.last_is;
   descends = p.descends;
   line_is = p.line_is;
   col_is = p.col_is;
@@ -247,17 +231,17 @@ newlines_split xs front back n is_front is_back =
     (omega (arith, ap newlines whole, newlines-append front back), omega (arith, ap length whole, length-append front back))
 
 -- reading goes on after a token
-after_token : (first depth : ℕ) (bytes : List ℕ) (tokens : List Placed) (opened opened' : List ℕ) (fresh : Bool) (gap after text following : List ℕ) (kind : Kind) (line col l c : ℕ) (fresh' : Bool)
-    → AfterGap first depth bytes tokens opened fresh gap after line col → after ≡ text ++ following → IsToken kind text following → fits depth opened kind text ≡ true → opened' ≡ open_after_token opened text
-    → fresh' ≡ not (line == l) → IsUtf8 following → l ≡ line + newlines text → c ≡ column_from col text
-    → Progress first depth bytes (tokens ++ record { kind = kind; text = text; line = line; col = col; fresh = fresh } ∷ []) opened' fresh' following l c
-after_token first depth bytes tokens opened opened' fresh gap after text following kind line col l c fresh' before split token fit opens is_fresh utf8 line_moves col_moves =
+after_token : (first depth : ℕ) (bytes : List ℕ) (tokens : List Placed) (opened opened' : List ℕ) (last : Option ℕ) (gap after text following : List ℕ) (kind : Kind) (line col l c : ℕ) (fresh : Bool)
+    → AfterGap first depth bytes tokens opened last gap after line col → after ≡ text ++ following → IsToken kind text following → fits depth opened kind text ≡ true → opened' ≡ open_after_token opened text
+    → fresh ≡ not (same_line last line) → IsUtf8 following → l ≡ line + newlines text → c ≡ column_from col text
+    → Progress first depth bytes (tokens ++ record { kind = kind; text = text; line = line; col = col; fresh = fresh } ∷ []) opened' (Some line) following l c
+after_token first depth bytes tokens opened opened' last gap after text following kind line col l c fresh before split token fit opens is_fresh utf8 line_moves col_moves =
     let p : Piece = record { gap = gap; kind = kind; text = text } in
     let ps = before.pieces in
     let whole : bytes_of (ps ++ p ∷ []) ≡ (bytes_of ps ++ gap) ++ text = bytes_of-push ps p ∙ sym (append_assoc (bytes_of ps) gap text) in
     let lines = lines_of first [] [] ps in
     let here : Descends line lines = descends_more (line_at first (bytes_of ps)) line lines (omega (arith, before.line_is, newlines-append (bytes_of ps) gap)) before.descends in
-    let is_new : fresh ≡ not (list_any (λ x. x == line) lines) = new_line line lines here fresh before.fresh_is in
+    let is_new : fresh ≡ not (list_any (λ x. x == line) lines) = new_line line lines here fresh (is_fresh ∙ ap (λ o. not (same_line o line)) before.last_is) in
     let push : lines_of first [] [] (ps ++ p ∷ []) ≡ line ∷ lines = lines_of-push first [] [] ps p ∙ ap (λ x. x ∷ lines) (sym before.line_is) in
     let now : l ≡ line_at first (bytes_of (ps ++ p ∷ [])) = omega (arith, before.line_is, ap newlines whole, newlines-append (bytes_of ps ++ gap) text) in
     record {
@@ -268,7 +252,7 @@ after_token first depth bytes tokens opened opened' fresh gap after text followi
       goes_on = λ ys. refl;
       opened_are = opens ∙ ap (λ o. open_after_token o text) before.opened_are ∙ sym (open_after-push [] ps p);
       tokens_are = ap₂ (λ ts t. ts ++ t ∷ []) before.tokens_are (λ i. record { kind = kind; text = text; line = before.line_is i; col = before.col_is i; fresh = (is_new ∙ ap (λ y. not (list_any (λ x. x == y) lines)) before.line_is) i }) ∙ sym (tokens_of-push first [] [] ps p);
-      fresh_is = is_fresh ∙ ap (λ ls. not (same_line (newest ls) l)) (sym push);
+      last_is = ap newest (sym push);
       descends = rw push (omega (arith, now), here);
       line_is = now ∙ ap (line_at first) (sym (append-nil (bytes_of (ps ++ p ∷ []))));
       col_is = col_moves ∙ ap (λ k. column_from k text) before.col_is ∙ sym (column_from-append 1 (bytes_of ps ++ gap) text) ∙ ap column_at (sym whole ∙ sym (append-nil (bytes_of (ps ++ p ∷ []))));
@@ -276,20 +260,20 @@ after_token first depth bytes tokens opened opened' fresh gap after text followi
     }
 
 -- the same where no gap stands before the token, with the pieces
-pub token_read : (first depth : ℕ) (bytes : List ℕ) (tokens : List Placed) (opened opened' : List ℕ) (fresh : Bool) (rest text following : List ℕ) (kind : Kind) (line col l c : ℕ) (fresh' : Bool) (p : Progress first depth bytes tokens opened fresh rest line col)
+pub token_read : (first depth : ℕ) (bytes : List ℕ) (tokens : List Placed) (opened opened' : List ℕ) (last : Option ℕ) (rest text following : List ℕ) (kind : Kind) (line col l c : ℕ) (fresh : Bool) (p : Progress first depth bytes tokens opened last rest line col)
     → begins_gap (is_inside opened) rest ≡ false → rest ≡ text ++ following → IsToken kind text following → fits depth opened kind text ≡ true → opened' ≡ open_after_token opened text
-    → fresh' ≡ not (line == l) → IsUtf8 following → l ≡ line + newlines text → c ≡ column_from col text
-    → (q : Progress first depth bytes (tokens ++ record { kind = kind; text = text; line = line; col = col; fresh = fresh } ∷ []) opened' fresh' following l c) × Grows (Some kind) p.pieces q.pieces q.gap
+    → fresh ≡ not (same_line last line) → IsUtf8 following → l ≡ line + newlines text → c ≡ column_from col text
+    → (q : Progress first depth bytes (tokens ++ record { kind = kind; text = text; line = line; col = col; fresh = fresh } ∷ []) opened' (Some line) following l c) × Grows (Some kind) p.pieces q.pieces q.gap
 unfolding after_token after_gap
-token_read first depth bytes tokens opened opened' fresh rest text following kind line col l c fresh' p none split token fit opens is_fresh utf8 line_moves col_moves = (
-  after_token first depth bytes tokens opened opened' fresh p.gap rest text following kind line col l c fresh' (after_gap first depth bytes tokens opened fresh rest line col p none) split token fit opens is_fresh utf8 line_moves col_moves,
+token_read first depth bytes tokens opened opened' last rest text following kind line col l c fresh p none split token fit opens is_fresh utf8 line_moves col_moves = (
+  after_token first depth bytes tokens opened opened' last p.gap rest text following kind line col l c fresh (after_gap first depth bytes tokens opened last rest line col p none) split token fit opens is_fresh utf8 line_moves col_moves,
   (record { gap = p.gap; kind = kind; text = text }, refl, refl, refl),
 )
 
 -- a fault after a gap
-unfoldable pub fault_at : (first depth : ℕ) (bytes : List ℕ) (tokens : List Placed) (opened : List ℕ) (fresh : Bool) (gap after : List ℕ) (line col : ℕ) (IsBad : List ℕ → List ℕ → Type 0) → AfterGap first depth bytes tokens opened fresh gap after line col → IsBad opened after
+unfoldable pub fault_at : (first depth : ℕ) (bytes : List ℕ) (tokens : List Placed) (opened : List ℕ) (last : Option ℕ) (gap after : List ℕ) (line col : ℕ) (IsBad : List ℕ → List ℕ → Type 0) → AfterGap first depth bytes tokens opened last gap after line col → IsBad opened after
     → IsFaultAt first depth bytes IsBad line col
-fault_at first depth bytes tokens opened fresh gap after line col IsBad b bad = record {
+fault_at first depth bytes tokens opened last gap after line col IsBad b bad = record {
   pieces = b.pieces;
   gap = gap;
   place = after;
@@ -330,16 +314,16 @@ none_left [] e = refl
 none_left (x ∷ xs) e = absurd (omega arith)
 
 -- the whole text was read
-pub all_read : (first depth : ℕ) (bytes : List ℕ) (tokens : List Placed) (opened : List ℕ) (fresh : Bool) (gap after : List ℕ) (line col : ℕ) → AfterGap first depth bytes tokens opened fresh gap after line col → after ≡ [] → opened ≡ []
+pub all_read : (first depth : ℕ) (bytes : List ℕ) (tokens : List Placed) (opened : List ℕ) (last : Option ℕ) (gap after : List ℕ) (line col : ℕ) → AfterGap first depth bytes tokens opened last gap after line col → after ≡ [] → opened ≡ []
     → AreTokensOf first depth bytes tokens
-all_read first depth bytes tokens opened fresh gap after line col b done closed =
+all_read first depth bytes tokens opened last gap after line col b done closed =
     let empty : open_after [] b.pieces ≡ [] = sym b.opened_are ∙ closed in
     let end : gap ++ after ≡ gap = ap (λ r. gap ++ r) done ∙ append-nil gap in
     (b.pieces, gap, subst (λ x. IsReading depth [] b.pieces x bytes) end b.reading, subst (λ o. is_gap (is_inside o) gap ≡ true) empty b.is_gap, empty, b.tokens_are)
 
 -- no token of a bracket is left open: no bracket is
-pub none_opened : (first depth : ℕ) (bytes : List ℕ) (tokens : List Placed) (opened : List ℕ) (fresh : Bool) (gap after : List ℕ) (line col : ℕ) → AfterGap first depth bytes tokens opened fresh gap after line col → open_tokens [] tokens ≡ [] → opened ≡ []
-none_opened first depth bytes tokens opened fresh gap after line col b closed =
+pub none_opened : (first depth : ℕ) (bytes : List ℕ) (tokens : List Placed) (opened : List ℕ) (last : Option ℕ) (gap after : List ℕ) (line col : ℕ) → AfterGap first depth bytes tokens opened last gap after line col → open_tokens [] tokens ≡ [] → opened ≡ []
+none_opened first depth bytes tokens opened last gap after line col b closed =
     b.opened_are ∙ none_left (open_after [] b.pieces) (sym (open_lengths first [] [] [] [] b.pieces refl) ∙ ap (λ ts. length (open_tokens [] ts)) (sym b.tokens_are) ∙ ap length closed)
 
 pub outside : (opened : List ℕ) → is_inside opened ≡ false → opened ≡ []
@@ -389,35 +373,35 @@ pub both : (x y : Bool) → x ≡ true → y ≡ false → (x && not y) ≡ true
 both x y p q = rw (p, q) refl
 
 -- the faults that end a reading
-unfoldable pub bad_at : (first depth : ℕ) (bytes : List ℕ) (tokens : List Placed) (opened : List ℕ) (fresh : Bool) (gap after : List ℕ) (line col : ℕ) (bad : Bad) → AfterGap first depth bytes tokens opened fresh gap after line col → IsBadPlace after bad
+unfoldable pub bad_at : (first depth : ℕ) (bytes : List ℕ) (tokens : List Placed) (opened : List ℕ) (last : Option ℕ) (gap after : List ℕ) (line col : ℕ) (bad : Bad) → AfterGap first depth bytes tokens opened last gap after line col → IsBadPlace after bad
     → IsFault first depth bytes (bad_fault bad line col)
-bad_at first depth bytes tokens opened fresh gap after line col Character b is = fault_at first depth bytes tokens opened fresh gap after line col (λ opened. IsBadCharacter) b is
-bad_at first depth bytes tokens opened fresh gap after line col Number b is = fault_at first depth bytes tokens opened fresh gap after line col (λ opened. IsBadNumber) b is
-bad_at first depth bytes tokens opened fresh gap after line col OpenText b is = fault_at first depth bytes tokens opened fresh gap after line col (λ opened. IsOpenText) b is
-bad_at first depth bytes tokens opened fresh gap after line col Backslash b is = fault_at first depth bytes tokens opened fresh gap after line col (λ opened. IsBadBackslash) b is
+bad_at first depth bytes tokens opened last gap after line col Character b is = fault_at first depth bytes tokens opened last gap after line col (λ opened. IsBadCharacter) b is
+bad_at first depth bytes tokens opened last gap after line col Number b is = fault_at first depth bytes tokens opened last gap after line col (λ opened. IsBadNumber) b is
+bad_at first depth bytes tokens opened last gap after line col OpenText b is = fault_at first depth bytes tokens opened last gap after line col (λ opened. IsOpenText) b is
+bad_at first depth bytes tokens opened last gap after line col Backslash b is = fault_at first depth bytes tokens opened last gap after line col (λ opened. IsBadBackslash) b is
 
-unfoldable pub misfit_at : (first depth : ℕ) (bytes : List ℕ) (tokens : List Placed) (opened : List ℕ) (fresh : Bool) (gap after : List ℕ) (line col : ℕ) (misfit : Misfit) → AfterGap first depth bytes tokens opened fresh gap after line col → 0 < length after → IsMisfit depth opened (get_or after 0 0) misfit
+unfoldable pub misfit_at : (first depth : ℕ) (bytes : List ℕ) (tokens : List Placed) (opened : List ℕ) (last : Option ℕ) (gap after : List ℕ) (line col : ℕ) (misfit : Misfit) → AfterGap first depth bytes tokens opened last gap after line col → 0 < length after → IsMisfit depth opened (get_or after 0 0) misfit
     → IsFault first depth bytes (misfit_fault misfit line col)
-misfit_at first depth bytes tokens opened fresh gap after line col TooDeep b some is =
-    fault_at first depth bytes tokens opened fresh gap after line col (IsTooDeep depth) b (record { bracket = begins_at is_opening_bracket after some is.0; deep = is.1 })
-misfit_at first depth bytes tokens opened fresh gap after line col NoMatch b some is =
-    fault_at first depth bytes tokens opened fresh gap after line col IsBadBracket b (begins_at (λ x. is_closing_bracket x && not (closes_innermost opened x)) after some (both _ _ is.0 is.1))
+misfit_at first depth bytes tokens opened last gap after line col TooDeep b some is =
+    fault_at first depth bytes tokens opened last gap after line col (IsTooDeep depth) b (record { bracket = begins_at is_opening_bracket after some is.0; deep = is.1 })
+misfit_at first depth bytes tokens opened last gap after line col NoMatch b some is =
+    fault_at first depth bytes tokens opened last gap after line col IsBadBracket b (begins_at (λ x. is_closing_bracket x && not (closes_innermost opened x)) after some (both _ _ is.0 is.1))
 
 -- where no token stands, or one whose first byte is a bracket that does not fit
-pub refused_at : (first depth : ℕ) (bytes : List ℕ) (tokens : List Placed) (opened : List ℕ) (fresh : Bool) (rest here : List ℕ) (line col : ℕ) (fault : LexFault) → Progress first depth bytes tokens opened fresh rest line col → here ≡ rest → 0 < length here
+pub refused_at : (first depth : ℕ) (bytes : List ℕ) (tokens : List Placed) (opened : List ℕ) (last : Option ℕ) (rest here : List ℕ) (line col : ℕ) (fault : LexFault) → Progress first depth bytes tokens opened last rest line col → here ≡ rest → 0 < length here
     → IsRefused depth opened here line col fault → IsFault first depth bytes fault
-refused_at first depth bytes tokens opened fresh rest here line col fault p same some is =
+refused_at first depth bytes tokens opened last rest here line col fault p same some is =
     let some_left : 0 < length rest = omega (arith, some, ap length same) in
     let refused : IsRefused depth opened rest line col fault = subst (λ xs. IsRefused depth opened xs line col fault) same is in
-    let b = after_gap first depth bytes tokens opened fresh rest line col p refused.0 in
+    let b = after_gap first depth bytes tokens opened last rest line col p refused.0 in
     elim refused.1 [
-      | inl bad ↦ subst (IsFault first depth bytes) (sym bad.2) (bad_at first depth bytes tokens opened fresh p.gap rest line col bad.0 b bad.1)
-      | inr misfit ↦ subst (IsFault first depth bytes) (sym misfit.2) (misfit_at first depth bytes tokens opened fresh p.gap rest line col misfit.0 b some_left misfit.1)
+      | inl bad ↦ subst (IsFault first depth bytes) (sym bad.2) (bad_at first depth bytes tokens opened last p.gap rest line col bad.0 b bad.1)
+      | inr misfit ↦ subst (IsFault first depth bytes) (sym misfit.2) (misfit_at first depth bytes tokens opened last p.gap rest line col misfit.0 b some_left misfit.1)
     ]
 
-pub left_open : (first depth : ℕ) (bytes : List ℕ) (tokens : List Placed) (opened : List ℕ) (fresh : Bool) (gap after : List ℕ) (line col : ℕ) (fault : LexFault) → AfterGap first depth bytes tokens opened fresh gap after line col → after ≡ [] → IsLeftOpen tokens fault
+pub left_open : (first depth : ℕ) (bytes : List ℕ) (tokens : List Placed) (opened : List ℕ) (last : Option ℕ) (gap after : List ℕ) (line col : ℕ) (fault : LexFault) → AfterGap first depth bytes tokens opened last gap after line col → after ≡ [] → IsLeftOpen tokens fault
     → IsFault first depth bytes fault
-left_open first depth bytes tokens opened fresh gap after line col fault b done (t, outer, found, is) =
+left_open first depth bytes tokens opened last gap after line col fault b done (t, outer, found, is) =
     let end : gap ++ after ≡ gap = ap (λ r. gap ++ r) done ∙ append-nil gap in
     let told : IsOpenBracket first depth bytes t.line t.col = record {
       pieces = b.pieces;
@@ -431,3 +415,7 @@ left_open first depth bytes tokens opened fresh gap after line col fault b done 
       col_is = refl;
     } in
     rw is told
+
+pub same_as : (o : Option ℕ) (line : ℕ) → option_eq nat_eq o (Some line) ≡ same_line o line
+same_as None line = refl
+same_as (Some l) line = refl

@@ -1,7 +1,7 @@
 -- Where reading stops, and what the text has there.
 use Rattle.bz_memory.specs.NoMemory.{no_memory}
 use Rattle.std.proofs.Common.{◌≡◌, ℕ, ◌<◌, ◌≤◌, ◌+◌, ◌-◌, ◌^◌, ◌⊎◌, List, [], ◌∷◌, ◌++◌, length, Bool, true, false, refl, sym, ap, subst, ◌∙◌, arith, inl, inr, length-append}
-use Rattle.std.specs.Prelude.{◌≢◌, if◌then◌else◌, map, drop, get_or}
+use Rattle.std.specs.Prelude.{◌≢◌, Option, if◌then◌else◌, map, drop, get_or}
 use Rattle.std.proofs.lemmas.Bool.{false≢true}
 use Rattle.bz_token.specs.declared.token.Kind.{Kind}
 use Rattle.bz_token.specs.declared.token.Kind.TheVariants.{Identifier, Keyword, Integer, String, Operator, Newline, Comment, Kept}
@@ -28,31 +28,31 @@ use Rattle.bz_token.specs.private.Steps.{IsRefused}
 use Rattle.bz_token.proofs.LinesRead.{line_tokens, token_count}
 use Rattle.bz_token.proofs.Progress.{newlines, places_fit, AfterGap, after_gap, fault_at, bad_at, misfit_at}
 
-bad_after : (first depth : ℕ) (bytes : List ℕ) (tokens : List Placed) (opened : List ℕ) (fresh : Bool) (gap after : List ℕ) (line col : ℕ) (bad : Bad) (b : AfterGap first depth bytes tokens opened fresh gap after line col) → IsBadPlace after bad
+bad_after : (first depth : ℕ) (bytes : List ℕ) (tokens : List Placed) (opened : List ℕ) (last : Option ℕ) (gap after : List ℕ) (line col : ℕ) (bad : Bad) (b : AfterGap first depth bytes tokens opened last gap after line col) → IsBadPlace after bad
     → IsFaultAfter first depth bytes b.pieces (bad_fault bad line col)
 unfolding bad_at fault_at
-bad_after first depth bytes tokens opened fresh gap after line col Character b is = ((λ e. cc), bad_at first depth bytes tokens opened fresh gap after line col Character b is, refl)
-bad_after first depth bytes tokens opened fresh gap after line col Number b is = ((λ e. cc), bad_at first depth bytes tokens opened fresh gap after line col Number b is, refl)
-bad_after first depth bytes tokens opened fresh gap after line col OpenText b is = ((λ e. cc), bad_at first depth bytes tokens opened fresh gap after line col OpenText b is, refl)
-bad_after first depth bytes tokens opened fresh gap after line col Backslash b is = ((λ e. cc), bad_at first depth bytes tokens opened fresh gap after line col Backslash b is, refl)
+bad_after first depth bytes tokens opened last gap after line col Character b is = ((λ e. cc), bad_at first depth bytes tokens opened last gap after line col Character b is, refl)
+bad_after first depth bytes tokens opened last gap after line col Number b is = ((λ e. cc), bad_at first depth bytes tokens opened last gap after line col Number b is, refl)
+bad_after first depth bytes tokens opened last gap after line col OpenText b is = ((λ e. cc), bad_at first depth bytes tokens opened last gap after line col OpenText b is, refl)
+bad_after first depth bytes tokens opened last gap after line col Backslash b is = ((λ e. cc), bad_at first depth bytes tokens opened last gap after line col Backslash b is, refl)
 
-misfit_after : (first depth : ℕ) (bytes : List ℕ) (tokens : List Placed) (opened : List ℕ) (fresh : Bool) (gap after : List ℕ) (line col : ℕ) (misfit : Misfit) (b : AfterGap first depth bytes tokens opened fresh gap after line col) → 0 < length after → IsMisfit depth opened (get_or after 0 0) misfit
+misfit_after : (first depth : ℕ) (bytes : List ℕ) (tokens : List Placed) (opened : List ℕ) (last : Option ℕ) (gap after : List ℕ) (line col : ℕ) (misfit : Misfit) (b : AfterGap first depth bytes tokens opened last gap after line col) → 0 < length after → IsMisfit depth opened (get_or after 0 0) misfit
     → IsFaultAfter first depth bytes b.pieces (misfit_fault misfit line col)
 unfolding misfit_at fault_at
-misfit_after first depth bytes tokens opened fresh gap after line col TooDeep b some is = ((λ e. cc), misfit_at first depth bytes tokens opened fresh gap after line col TooDeep b some is, refl)
-misfit_after first depth bytes tokens opened fresh gap after line col NoMatch b some is = ((λ e. cc), misfit_at first depth bytes tokens opened fresh gap after line col NoMatch b some is, refl)
+misfit_after first depth bytes tokens opened last gap after line col TooDeep b some is = ((λ e. cc), misfit_at first depth bytes tokens opened last gap after line col TooDeep b some is, refl)
+misfit_after first depth bytes tokens opened last gap after line col NoMatch b some is = ((λ e. cc), misfit_at first depth bytes tokens opened last gap after line col NoMatch b some is, refl)
 
 -- where no token stands, or one whose first byte is a bracket that does not fit
-pub stopped : (first depth : ℕ) (bytes : List ℕ) (tokens : List Placed) (opened : List ℕ) (fresh : Bool) (rest here : List ℕ) (line col : ℕ) (fault : LexFault) (p : Progress first depth bytes tokens opened fresh rest line col) → here ≡ rest → 0 < length here
+pub stopped : (first depth : ℕ) (bytes : List ℕ) (tokens : List Placed) (opened : List ℕ) (last : Option ℕ) (rest here : List ℕ) (line col : ℕ) (fault : LexFault) (p : Progress first depth bytes tokens opened last rest line col) → here ≡ rest → 0 < length here
     → IsRefused depth opened here line col fault → IsFaultAfter first depth bytes p.pieces fault
 unfolding after_gap
-stopped first depth bytes tokens opened fresh rest here line col fault p same some is =
+stopped first depth bytes tokens opened last rest here line col fault p same some is =
     let some_left : 0 < length rest = omega (arith, some, ap length same) in
     let refused : IsRefused depth opened rest line col fault = subst (λ xs. IsRefused depth opened xs line col fault) same is in
-    let b = after_gap first depth bytes tokens opened fresh rest line col p refused.0 in
+    let b = after_gap first depth bytes tokens opened last rest line col p refused.0 in
     elim refused.1 [
-      | inl bad ↦ subst (IsFaultAfter first depth bytes p.pieces) (sym bad.2) (bad_after first depth bytes tokens opened fresh p.gap rest line col bad.0 b bad.1)
-      | inr misfit ↦ subst (IsFaultAfter first depth bytes p.pieces) (sym misfit.2) (misfit_after first depth bytes tokens opened fresh p.gap rest line col misfit.0 b some_left misfit.1)
+      | inl bad ↦ subst (IsFaultAfter first depth bytes p.pieces) (sym bad.2) (bad_after first depth bytes tokens opened last p.gap rest line col bad.0 b bad.1)
+      | inr misfit ↦ subst (IsFaultAfter first depth bytes p.pieces) (sym misfit.2) (misfit_after first depth bytes tokens opened last p.gap rest line col misfit.0 b some_left misfit.1)
     ]
 
 -- in a line after comment lines
@@ -123,7 +123,7 @@ faulty_chunk first depth bytes lexer cursor end fault read is lexical (comments,
 }
   where
     last : end ≡ line_at first bytes
-    last = omega (arith, is, (places_fit first depth bytes (map placed lexer.tokens.items) (opened lexer.brackets) cursor.fresh cursor.rest.now cursor.place.line cursor.place.col read).0)
+    last = omega (arith, is, (places_fit first depth bytes (map placed lexer.tokens.items) (opened lexer.brackets) cursor.last_line cursor.rest.now cursor.place.line cursor.place.col read).0)
 
 -- where the list of tokens was not full, the whole text was read
 pub all_passed : (first depth : ℕ) (bytes : List ℕ) (lexer : Lexer) (cursor : Cursor) (r : HasRead first depth bytes [] lexer cursor) → length bytes + 1 < 2 ^ 64 → (cursor.rest.now ≡ []) ⊎ (2 ^ 64 - 1 ≤ length lexer.tokens.items) → cursor.rest.now ≡ []

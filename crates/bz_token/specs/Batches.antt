@@ -15,6 +15,6 @@ left reader = length reader.cursor.rest.now
 
 -- These are the tokens of the text so far, the last batch with them.
 pub record HasGiven (first depth : ℕ) (text : List ℕ) (given : List Placed) (reader : TokenReader) : Type 0 where
-  pub read : Progress first depth text given (opened reader.lexer.brackets) reader.cursor.fresh reader.cursor.rest.now reader.cursor.place.line reader.cursor.place.col
+  pub read : Progress first depth text given (opened reader.lexer.brackets) reader.cursor.last_line reader.cursor.rest.now reader.cursor.place.line reader.cursor.place.col
   pub depth_is : reader.max_depth ≡ depth
   pub fit : PlacesFit first text

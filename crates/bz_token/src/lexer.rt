@@ -1,7 +1,8 @@
 //! The tokens of a text. `parse` of bz_tree calls `tokens` for a whole text; `first_chunk` (`chunk.rt`) and
 //! `TokenReader` (`reader.rt`) have a `Lexer` read line by line.
 
-ghost use Rattle.std.specs.Prelude.{◌≡◌, ◌≤◌, ◌<◌, ◌+◌, ◌^◌, ◌==◌, ◌⊎◌, ◌||◌, [], List, ℕ, max, true, false, not, length, take, drop, count_by, map, IfOk, IfErr, IsTrue};
+ghost use Rattle.std.specs.Prelude.{◌≡◌, ◌≤◌, ◌<◌, ◌+◌, ◌^◌, ◌==◌, ◌⊎◌, [], List, ℕ, max, true, false, not, length, take, drop, count_by, map, IfOk, IfErr, IsTrue, Some, None, nat_eq};
+ghost use Rattle.std.specs.Option.{option_eq};
 ghost use Rattle.std.specs.List.{list_any};
 ghost use Rattle.bz_token.specs.Lexical.{is_newline};
 ghost use Rattle.bz_token.specs.Faults.{IsFault};
@@ -41,12 +42,12 @@ fn pass(place: Position, text: &[u8], has_newline: bool) -> Position
     }
 }
 
-// Whether no token begins on the line after a gap.
+// Whether the last token begins on no such line.
 #[inline(always)]
-fn is_fresh_after(fresh: bool, gap: TokenGap) -> bool
-    ensures { result ≡ (fresh || gap.has_newline) }
+fn is_fresh(last_line: Option<u64>, line: u64) -> bool
+    ensures { result ≡ not (option_eq nat_eq last_line (Some line)) }
 {
-    fresh || gap.has_newline
+    last_line != Some(line)
 }
 
 // The fault of a place where no token stands.
@@ -102,8 +103,8 @@ pub struct Cursor<'a> {
     /// What is still to be read.
     pub rest: &'a str,
     place: Position,
-    // Whether no token begins on this line yet.
-    fresh: bool,
+    // The line on which the last token begins.
+    last_line: Option<u64>,
 }
 
 impl<'a> Cursor<'a> {
@@ -113,12 +114,12 @@ impl<'a> Cursor<'a> {
         ensures rest { result.rest.now ≡ text.now }
         ensures line { result.place.line ≡ first_line }
         ensures col { result.place.col ≡ 1 }
-        ensures fresh { result.fresh ≡ true }
+        ensures none { result.last_line ≡ None }
     {
         Cursor {
             rest: text,
             place: Position::start(first_line),
-            fresh: true,
+            last_line: None,
         }
     }
 
@@ -171,7 +172,7 @@ impl<'b, 'a> Lexer<'b, 'a> {
         Cursor {
             rest: cursor.rest.split_at(gap.len).1,
             place: after_gap(cursor.place, gap),
-            fresh: is_fresh_after(cursor.fresh, gap),
+            last_line: cursor.last_line,
         }
     }
 
@@ -212,7 +213,11 @@ impl<'b, 'a> Lexer<'b, 'a> {
             → IfErr result (IsStopped first max_depth bytes before.pieces) }
         ensures open_text { IfErr result (IsOnLine cursor.entry.place.line) }
     {
-        let Cursor { rest, place, fresh } = cursor;
+        let Cursor {
+            rest,
+            place,
+            last_line,
+        } = cursor;
         let bytes = rest.as_bytes();
         match read_step(&mut self.brackets, bytes, max_depth, place) {
             Err(fault) => Err(fault),
@@ -227,14 +232,13 @@ impl<'b, 'a> Lexer<'b, 'a> {
                         text: token,
                         line,
                         col,
-                        fresh,
+                        fresh: is_fresh(last_line, line),
                     },
                 )?;
-                let after = pass(place, token.as_bytes(), scanned.has_newline);
                 let cursor = Cursor {
                     rest: following,
-                    place: after,
-                    fresh: line != after.line,
+                    place: pass(place, token.as_bytes(), scanned.has_newline),
+                    last_line: Some(line),
                 };
                 Ok((cursor, Some(scanned.kind)))
             }

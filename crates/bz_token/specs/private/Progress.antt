@@ -1,5 +1,5 @@
 -- For private clauses: how far a text has been read.
-use Rattle.std.specs.Prelude.{◌≡◌, ℕ, ◌+◌, ◌≤◌, ◌<◌, ◌^◌, ◌==◌, List, [], ◌∷◌, ◌++◌, Bool, false, not, length, count_by, map, IsUtf8, Option, Some, None}
+use Rattle.std.specs.Prelude.{◌≡◌, ℕ, ◌+◌, ◌≤◌, ◌<◌, ◌^◌, ◌==◌, List, [], ◌∷◌, ◌++◌, length, count_by, map, IsUtf8, Option, Some, None}
 use Rattle.bz_token.specs.declared.token.Kind.{Kind}
 use Rattle.bz_token.specs.declared.lexer.Lexer.{Lexer}
 use Rattle.bz_token.specs.declared.lexer.Cursor.{Cursor}
@@ -23,20 +23,15 @@ abbrev pub newest : List ℕ → Option ℕ
 newest [] = None
 newest (l ∷ ls) = Some l
 
--- whether the newest line is this one
-abbrev pub same_line : Option ℕ → ℕ → Bool
-same_line None line = false
-same_line (Some l) line = l == line
-
 -- what the tokens so far stand for, and the gap after them as far as it was passed
-pub record Progress (first depth : ℕ) (bytes : List ℕ) (tokens : List Placed) (opened : List ℕ) (fresh : Bool) (rest : List ℕ) (line col : ℕ) : Type 0 where
+pub record Progress (first depth : ℕ) (bytes : List ℕ) (tokens : List Placed) (opened : List ℕ) (last : Option ℕ) (rest : List ℕ) (line col : ℕ) : Type 0 where
   pub pieces : List Piece
   pub gap : List ℕ
   pub reading : IsReading depth [] pieces (gap ++ rest) bytes
   pub goes_on : (ys : List ℕ) → is_gap (is_inside (open_after [] pieces)) (gap ++ ys) ≡ is_gap (is_inside (open_after [] pieces)) ys
   pub opened_are : opened ≡ open_after [] pieces
   pub tokens_are : tokens ≡ tokens_of first [] [] pieces
-  pub fresh_is : fresh ≡ not (same_line (newest (lines_of first [] [] pieces)) line)
+  pub last_is : last ≡ newest (lines_of first [] [] pieces)
   pub descends : Descends (line_at first (bytes_of pieces)) (lines_of first [] [] pieces)
   pub line_is : line ≡ line_at first (bytes_of pieces ++ gap)
   pub col_is : col ≡ column_at (bytes_of pieces ++ gap)
@@ -45,7 +40,7 @@ pub record Progress (first depth : ℕ) (bytes : List ℕ) (tokens : List Placed
 -- the text was read up to this cursor: tokens that were given away, and then those of the list
 abbrev pub HasRead : ℕ → ℕ → List ℕ → List Placed → Lexer → Cursor → Type 0
 HasRead first depth bytes given lexer cursor =
-    Progress first depth bytes (given ++ map placed lexer.tokens.items) (opened lexer.brackets) cursor.fresh cursor.rest.now cursor.place.line cursor.place.col
+    Progress first depth bytes (given ++ map placed lexer.tokens.items) (opened lexer.brackets) cursor.last_line cursor.rest.now cursor.place.line cursor.place.col
 
 -- the pieces after a step over a gap, or over a token of this kind
 abbrev pub Grows : Option Kind → List Piece → List Piece → List ℕ → Type 0

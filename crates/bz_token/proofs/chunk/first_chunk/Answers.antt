@@ -14,7 +14,7 @@ pub loop-cursor-init : goal.loop-cursor-init
 loop-cursor-init c =
     let e = c.in_ok-lexer.ensures in
     let s = c.start-cursor.ensures in
-    started c.args.first_line c.args.max_depth c.args.text.now c.in_ok-lexer.lexer c.start-cursor.result e.0 e.1 s.rest s.line s.col s.fresh c.utf8.text
+    started c.args.first_line c.args.max_depth c.args.text.now c.in_ok-lexer.lexer c.start-cursor.result e.0 e.1 s.rest s.line s.col s.none c.utf8.text
 
 pub tokens_from-requires : goal.tokens_from-requires
 tokens_from-requires c =

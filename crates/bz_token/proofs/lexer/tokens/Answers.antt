@@ -14,7 +14,7 @@ pub loop-cursor-init : goal.loop-cursor-init
 loop-cursor-init c =
     let e = c.in_ok-lexer.ensures in
     let s = c.start-cursor.ensures in
-    (read_fresh c.args.first_line c.args.max_depth c.args.text.now _ _ _ _ _ _ (ap (map placed) e.0) e.1 s.fresh s.rest s.line s.col c.utf8.text).0
+    (read_fresh c.args.first_line c.args.max_depth c.args.text.now _ _ _ _ _ _ (ap (map placed) e.0) e.1 s.none s.rest s.line s.col c.utf8.text).0
 
 pub returns-in_err-cursor-clause-fault : goal.returns-in_err-cursor-clause-fault
 returns-in_err-cursor-clause-fault c = passed_on c.from_residual-in_err-cursor.result c.in_err-cursor.field-0.0 (IsFault c.args.first_line c.args.max_depth c.args.text.now) c.from_residual-in_err-cursor.ensures.1 (c.in_err-cursor.ensures.fault c.args.first_line c.args.text.now [] c.loop-cursor.invariant)

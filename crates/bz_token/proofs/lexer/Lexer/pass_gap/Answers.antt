@@ -27,6 +27,6 @@ pub returns-clause-read : goal.returns-clause-read
 returns-clause-read c first depth bytes given before =
     let gap = c.requires.gap in
     let place = c.args.cursor.place in
-    gap_read first _ bytes _ _ _ c.args.cursor.rest.now c.split_at.result.1.now place.line place.col _ _ c.args.gap.len _ c.args.gap.has_newline before gap.goes_on
+    gap_read first _ bytes _ _ _ c.args.cursor.rest.now c.split_at.result.1.now place.line place.col _ _ c.args.gap.len before gap.goes_on
     (gap_boundary c.args.cursor.rest.now c.args.gap.len before.utf8 gap.within (λ some. gap.ascii)) c.split_at.ensures.back
-    (omega (arith, c.after_gap.ensures.line, gap.lines)) (c.after_gap.ensures.col ∙ sym (gap.column place.col)) gap.lines c.is_fresh_after.ensures
+    (omega (arith, c.after_gap.ensures.line, gap.lines)) (c.after_gap.ensures.col ∙ sym (gap.column place.col))
