@@ -327,29 +327,35 @@ fn ends_block<S: Source>(
     }
 }
 
-/// Whether the chunk ends with the line from `from` to `end`. The cutter has read the lines before it (`goes_on`).
+/// A line, by where it stands in the bytes ahead.
+#[derive(Clone, Copy)]
+struct Line {
+    from: usize,
+    end: usize,
+}
+
+/// Whether the chunk ends with this line. The cutter has read the lines before it (`goes_on`).
 fn ends_chunk<S: Source>(
     cutter: &mut Cutter,
     ahead: &mut Ahead,
     source: &mut S,
-    from: usize,
-    end: usize,
+    line: Line,
     limits: Limits,
 ) -> Result<bool, ChunkFault>
-    requires goes_on { GoesOn cutter.old ahead.old from }
-    requires line { IsLineAt ahead.old from end }
-    requires some { from < end }
+    requires goes_on { GoesOn cutter.old ahead.old line.from }
+    requires line { IsLineAt ahead.old line.from line.end }
+    requires some { line.from < line.end }
     requires made { ahead.old.reads ≤ limits.reads }
     requires few { IsFewAfter ahead.old }
     requires bound { length ahead.old.bytes ≤ limits.statement + 8192 }
     ensures searches { Searches S.gave S.failures limits source.old source.new ahead.old ahead.new result }
-    ensures ends { IfOk result (λ is_end. IsTrue is_end → EndsAt ahead.new end) }
-    ensures goes { IfOk result (λ is_end. is_end ≡ false → GoesOn cutter.new ahead.new end) }
+    ensures ends { IfOk result (λ is_end. IsTrue is_end → EndsAt ahead.new line.end) }
+    ensures goes { IfOk result (λ is_end. is_end ≡ false → GoesOn cutter.new ahead.new line.end) }
 {
-    match cutter.line(&ahead.bytes()[from..end]) {
+    match cutter.line(&ahead.bytes()[line.from..line.end]) {
         Cut::Whole => Ok(true),
         Cut::More => Ok(false),
-        Cut::Block => ends_block(cutter, ahead, source, end, limits),
+        Cut::Block => ends_block(cutter, ahead, source, line.end, limits),
     }
 }
 
@@ -372,7 +378,11 @@ fn chunk_end<S: Source>(
         if next == end {
             return Ok(end);
         }
-        let is_end = ends_chunk(&mut cutter, ahead, source, end, next, limits)?;
+        let line = Line {
+            from: end,
+            end: next,
+        };
+        let is_end = ends_chunk(&mut cutter, ahead, source, line, limits)?;
         if is_end {
             return Ok(next);
         }

@@ -5,7 +5,7 @@ ghost use Rattle.bz_devices.specs.Device.{ends, NoneEnds, Rises};
 ghost use Rattle.bz_devices.specs.declared.input.ReadFault.TheVariants.{OutOfMemory};
 
 use crate::device::{Failed, Source};
-use bz_memory::{NoMemory, lengthen};
+use bz_memory::{NoMemory, lengthen, reserve};
 use std::alloc::Global;
 
 /// The greatest number of bytes that one read asks for, as many as readers of std ask for. Contracts write it as 8192:
@@ -66,7 +66,8 @@ pub fn read_at_most<S: Source>(
     }
 }
 
-/// Has at least `most` bytes, of any value, stand after the first `end`.
+/// Has at least `most` bytes, of any value, stand after the first `end`. Memory is asked for two pieces at once: so the
+/// read that meets the end of a small file, whose bytes may all be ahead, moves none of them.
 fn make_room(bytes: &mut Vec<u8>, end: usize, most: usize) -> Result<(), NoMemory>
     requires few { most ≤ 8192 }
     requires within { end ≤ length bytes.old.items }
@@ -74,8 +75,12 @@ fn make_room(bytes: &mut Vec<u8>, end: usize, most: usize) -> Result<(), NoMemor
     ensures within { end ≤ length bytes.new.items }
     ensures room { OnOk result (end + most ≤ length bytes.new.items) }
 {
-    if bytes.len() - end < most {
-        lengthen(bytes, PIECE)?;
+    if bytes.is_empty() {
+        reserve(bytes, 2 * PIECE)?;
+    }
+    let room = bytes.len() - end;
+    if room < most {
+        lengthen(bytes, most - room)?;
     }
     Ok(())
 }

@@ -162,6 +162,7 @@ fn edit_slot<'a>(
         alloc: script.alloc,
         home: script.home,
     };
+    // A copy, since a failure that ends the run tells only of the statements before.
     let mut facts = Facts {
         changed: progress.changed,
         failed: progress.failed,

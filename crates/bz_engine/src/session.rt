@@ -179,6 +179,9 @@ impl Session {
 
     /// The report of a session that ended in this way. `take_report` stops it first: what was kept moves into the report,
     /// and a session that counts as ended has to have it still (`IsSession`).
+    ///
+    /// What is kept has a place for each pass and each of its commands (`Fits`), and is told with them in turn. So each
+    /// step leaves it.
     fn report_at(&mut self, end: End) -> Result<Report, RunFault>
         requires stopped { self.old.stage ≡ Stopped }
         requires fits { Fits self.old.progress.kept self.old.passes }

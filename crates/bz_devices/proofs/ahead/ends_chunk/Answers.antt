@@ -9,14 +9,14 @@ use Rattle.bz_devices.proofs.ahead.ends_chunk.Goals as goal
 
 pub line-requires-clause-one_line : goal.line-requires-clause-one_line
 line-requires-clause-one_line g c =
-    let e = c.args.from in
-    let n = c.args.end in
+    let e = c.args.line.from in
+    let n = c.args.line.end in
     line_physical c.args.ahead.now e n (take (n - e) (drop e c.bytes.result.now)) (ap (λ l. take (n - e) (drop e l)) c.bytes.ensures) c.requires.line
 
 pub line-requires-clause-takes : goal.line-requires-clause-takes
 line-requires-clause-takes g c =
-    let e = c.args.from in
-    let n = c.args.end in
+    let e = c.args.line.from in
+    let n = c.args.line.end in
     takes_line c.args.cutter.now c.args.ahead.now e n (take (n - e) (drop e c.bytes.result.now)) (ap (λ l. take (n - e) (drop e l)) c.bytes.ensures)
     c.requires.some c.requires.line c.requires.goes_on
 
@@ -28,8 +28,8 @@ returns-in-More-clause-searches g c = searches_nothing _ _ _ _ _ _ (g.met.S.Sour
 
 pub returns-in-Whole-clause-ends : goal.returns-in-Whole-clause-ends
 returns-in-Whole-clause-ends g c _ rest may =
-    let e = c.args.from in
-    let n = c.args.end in
+    let e = c.args.line.from in
+    let n = c.args.line.end in
     let bytes = c.args.ahead.now.bytes in
     let line = take (n - e) (drop e c.bytes.result.now) in
     let after = c.requires.goes_on.after (some_after c.args.ahead.now e n c.requires.some c.requires.line) in
@@ -39,8 +39,8 @@ returns-in-Whole-clause-ends g c _ rest may =
 
 pub returns-in-More-clause-goes : goal.returns-in-More-clause-goes
 returns-in-More-clause-goes g c _ =
-    let e = c.args.from in
-    let n = c.args.end in
+    let e = c.args.line.from in
+    let n = c.args.line.end in
     let bytes = c.args.ahead.now.bytes in
     let line = take (n - e) (drop e c.bytes.result.now) in
     let same : line ≡ take (n - e) (drop e bytes) = ap (λ l. take (n - e) (drop e l)) c.bytes.ensures in
@@ -55,8 +55,8 @@ returns-in-More-clause-goes g c _ =
 
 pub ends_block-requires-clause-after : goal.ends_block-requires-clause-after
 ends_block-requires-clause-after g c =
-    let e = c.args.from in
-    let n = c.args.end in
+    let e = c.args.line.from in
+    let n = c.args.line.end in
     let bytes = c.args.ahead.now.bytes in
     let line = take (n - e) (drop e c.bytes.result.now) in
     let after = c.requires.goes_on.after (some_after c.args.ahead.now e n c.requires.some c.requires.line) in
@@ -66,8 +66,8 @@ ends_block-requires-clause-after g c =
 
 pub ends_block-requires-clause-block : goal.ends_block-requires-clause-block
 ends_block-requires-clause-block g c =
-    let e = c.args.from in
-    let n = c.args.end in
+    let e = c.args.line.from in
+    let n = c.args.line.end in
     let bytes = c.args.ahead.now.bytes in
     let line = take (n - e) (drop e c.bytes.result.now) in
     let after = c.requires.goes_on.after (some_after c.args.ahead.now e n c.requires.some c.requires.line) in
