@@ -8,7 +8,7 @@ use Rattle.bz_tree.specs.Tree.{Item, leaf, group, Segment, Statement, segs_of}
 use Rattle.bz_layout.specs.Layout.{layout, layout_text, flat_text}
 use Rattle.bz_layout.specs.Lines.{text_line, lines_of}
 use Rattle.bz_layout.specs.Gaps.{lines_before}
-use Rattle.bz_layout.specs.private.RowLayout.{row_text}
+use Rattle.bz_layout.proofs.Texts.{row_text}
 use Rattle.bz_tree.specs.Rows.{a_token, opening, closing, segment_end, above, beside, parts_of}
 
 abbrev pub name : List ℕ → Item

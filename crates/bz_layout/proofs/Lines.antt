@@ -13,7 +13,8 @@ use Rattle.bz_layout.specs.declared.spacing.Gap.TheVariants.{Closed, Space, Apar
 use Rattle.bz_layout.specs.declared.broken.Style.TheVariants.{Broken}
 use Rattle.bz_layout.specs.Pieces.{Piece, piece, indent, gap_bytes, bytes_of, comment_lines, suffix_piece}
 use Rattle.bz_layout.specs.Layout.{items_pieces, statement_line, is_comment, layout, layout_text}
-use Rattle.bz_layout.specs.Lines.{TextLine, text_line, lines_text, is_line_kind, is_newline, ended_by, level_after, text_following, lines_from, lines_of}
+use Rattle.bz_token.specs.Brackets.{is_line}
+use Rattle.bz_layout.specs.Lines.{TextLine, text_line, lines_text, is_newline, ended_by, level_after, text_following, lines_from, lines_of}
 
 lines_append : (a b : List TextLine) → lines_text (a ++ b) ≡ lines_text a ++ lines_text b
 lines_append [] b = refl
@@ -32,7 +33,7 @@ ends_line (p ∷ []) = is_newline p
 ends_line (p ∷ q ∷ ps) = ends_line (q ∷ ps)
 
 newline_text : (p : Piece) → is_newline p ≡ true → p.text ≡ codes "\n"
-newline_text p h = (bytes_eq-Decides p.text (codes "\n")).0 (and_parts (is_line_kind p.kind) (bytes_eq p.text (codes "\n")) h).1
+newline_text p h = (bytes_eq-Decides p.text (codes "\n")).0 (and_parts (is_line p.kind) (bytes_eq p.text (codes "\n")) h).1
 
 pub from_lines : (ps : List Piece) (level : ℕ) (text : List ℕ) → ends_line ps ≡ true → indent level ++ (text ++ bytes_of ps) ≡ lines_text (lines_from level text ps)
 from_lines [] level text h = absurd (false≢true h)

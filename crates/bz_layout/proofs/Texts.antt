@@ -1,5 +1,5 @@
 -- The text of parts is that of their statement, or of their nodes.
-use Rattle.std.proofs.Common.{◌≡◌, codes, ℕ, List, [], ◌∷◌, ◌++◌, map, true, false, Option, Some, None, refl, ap, sym, ◌∙◌, append_assoc, append-nil, inl, inr}
+use Rattle.std.proofs.Common.{◌≡◌, codes, ℕ, List, [], ◌∷◌, ◌++◌, map, true, false, if◌then◌else◌, Option, Some, None, refl, ap, sym, ◌∙◌, append_assoc, append-nil, inl, inr}
 use Rattle.std.proofs.lemmas.Bool.{cases_Bool}
 use Rattle.bz_tree.specs.Tree.{Item, leaf, group, Items, no_items, item, Statement, items_of}
 use Rattle.bz_tree.specs.Rows.{RowPart, above, beside_part, items_parts, parts_of}
@@ -14,10 +14,14 @@ use Rattle.bz_layout.specs.declared.spacing.Gap.TheVariants.{Closed}
 use Rattle.bz_layout.specs.declared.broken.Style.TheVariants.{Flat, Broken}
 use Rattle.bz_layout.specs.Pieces.{Piece, piece, bytes_of, comment_lines, suffix_piece}
 use Rattle.bz_layout.specs.Layout.{items_pieces, statement_line, is_comment, layout_text, flat_text}
-use Rattle.bz_layout.specs.private.RowLayout.{leading, Laid, Scan, line_text, lines_text, row_text, run, scan, start, top}
+use Rattle.bz_layout.specs.private.RowLayout.{leading, Laid, Scan, line_text, lines_text, run, scan, start, top}
 use Rattle.bz_layout.proofs.Pieces.{bytes_append}
 use Rattle.bz_layout.proofs.Scans.{items_marks, scan_above, scan_items}
 use Rattle.bz_layout.proofs.Runs.{at, last_edge, run_items, skip_above}
+
+-- the text of a row after what stands before it
+abbrev pub row_text : List ℕ → List RowPart → Class → List ℕ
+row_text before ps class = if is_comment class then before ++ bytes_of (comment_lines (leading ps)) else lines_text before ps
 
 -- the parts after the comments above the statement
 abbrev rest_of : Statement → List RowPart

@@ -1,8 +1,7 @@
 -- A written text as lines (this project's own rule): each has a level, four spaces each, and a text.
-use Rattle.std.specs.Prelude.{codes, ℕ, List, [], ◌∷◌, ◌++◌, Bool, true, false, ◌&&◌, if◌then◌else◌}
+use Rattle.std.specs.Prelude.{codes, ℕ, List, [], ◌∷◌, ◌++◌, Bool, ◌&&◌, if◌then◌else◌}
 use Rattle.std.specs.Str.{bytes_eq}
-use Rattle.bz_token.specs.declared.token.Kind.{Kind}
-use Rattle.bz_token.specs.declared.token.Kind.TheVariants.{Newline}
+use Rattle.bz_token.specs.Brackets.{is_line}
 use Rattle.bz_layout.specs.declared.spacing.Gap.{Gap}
 use Rattle.bz_layout.specs.declared.spacing.Gap.TheVariants.{Line}
 use Rattle.bz_layout.specs.Pieces.{Piece, indent, gap_bytes}
@@ -19,13 +18,9 @@ abbrev pub lines_text : List TextLine → List ℕ
 lines_text [] = []
 lines_text (l ∷ ls) = indent l.level ++ (l.text ++ (10 ∷ lines_text ls))
 
-abbrev pub is_line_kind : Kind → Bool
-is_line_kind Newline = true
-is_line_kind _ = false
-
 -- the newline after a statement or a comment above it
 abbrev pub is_newline : Piece → Bool
-is_newline p = is_line_kind p.kind && bytes_eq p.text (codes "\n")
+is_newline p = is_line p.kind && bytes_eq p.text (codes "\n")
 
 -- the line that a gap ends
 abbrev pub ended_by : Gap → ℕ → List ℕ → List TextLine

@@ -3,7 +3,7 @@
 
 ghost use Rattle.std.specs.Prelude.{◌≡◌, IfOk, OnOk, map, reverse};
 ghost use Rattle.bz_tree.specs.Rows.{part_view};
-ghost use Rattle.bz_layout.specs.private.RowLayout.{closed, one_more, mark_of, opened_back, back, scan, scan_onto, scanned};
+ghost use Rattle.bz_layout.specs.private.RowLayout.{closed, mark_of, opened_back, back, scan, scan_onto, scanned};
 
 use crate::broken::breaks_with;
 use crate::walk::FIRST_DEPTH;
@@ -58,13 +58,6 @@ impl Contents {
 }
 
 #[inline(always)]
-fn one_more(n: u8) -> u8
-    ensures { result ≡ one_more n }
-{
-    if n < 2 { n + 1 } else { n }
-}
-
-#[inline(always)]
 fn mark_of(kind: GroupKind, inside: Contents) -> BracketForm
     ensures { result ≡ mark_of kind inside }
 {
@@ -102,7 +95,8 @@ impl Marks {
                 push(&mut self.outer, self.here)?;
                 self.here = Contents::closed(one_comma);
             }
-            Part::End => self.here.segs = one_more(self.here.segs),
+            Part::End if self.here.segs < 2 => self.here.segs += 1,
+            Part::End => {}
             Part::Above(_) | Part::Beside(_) => self.here.comments = true,
         }
         Ok(())

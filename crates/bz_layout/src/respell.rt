@@ -21,12 +21,7 @@ fn is_plain(b: u8) -> bool
 fn are_plain(bytes: &[u8]) -> bool
     ensures { result ≡ list_all is_plain bytes.now }
 {
-    for b in bytes {
-        if !is_plain(*b) {
-            return false;
-        }
-    }
-    true
+    bytes.iter().all(|b| is_plain(*b))
 }
 
 // The content of a string without prefix in single quotes that holds neither a quote nor a backslash.

@@ -1,10 +1,8 @@
 //! Where a space stands between two neighbouring nodes.
 
-ghost use Rattle.std.specs.Prelude.{◌≡◌, ◌≢◌, ◌∷◌, [], false, MatchBool};
-ghost use Rattle.bz_token.specs.Common.{map_or};
-ghost use Rattle.bz_tree.specs.Statement.{is_call};
+ghost use Rattle.std.specs.Prelude.{◌≡◌, ◌≢◌, ◌∷◌, [], MatchBool};
 ghost use Rattle.bz_tree.specs.Tree.{leaf};
-ghost use Rattle.bz_layout.specs.Spacing.{hugs, closes_up, awaits_operand, is_prefix, begins_argument, is_index_colon, operator_edge, edge_after};
+ghost use Rattle.bz_layout.specs.Spacing.{hugs, closes_up, is_prefix, begins_argument, is_index_colon, operator_edge, edge_after};
 
 use bz_token::Kind;
 use bz_tree::GroupKind;
@@ -65,31 +63,20 @@ pub(crate) fn token_closes_up(kind: Kind, text: &str) -> bool
 }
 
 #[inline(always)]
-fn is_call(within: Option<GroupKind>) -> bool
-    ensures { result ≡ map_or false is_call within }
-{
-    matches!(within, Some(GroupKind::Call | GroupKind::RuleCall))
-}
-
-#[inline(always)]
-fn awaits_operand(left: Edge) -> bool
-    ensures { result ≡ awaits_operand left }
-{
-    !matches!(left, Edge::Dotted | Edge::Operand)
-}
-
-#[inline(always)]
 fn is_prefix(left: Edge, text: &str) -> bool
     ensures { result ≡ is_prefix left text.now }
 {
-    awaits_operand(left) && (is_byte(text, b'+') || is_byte(text, b'-') || is_byte(text, b'~'))
+    !matches!(left, Edge::Dotted | Edge::Operand)
+        && (is_byte(text, b'+') || is_byte(text, b'-') || is_byte(text, b'~'))
 }
 
 #[inline(always)]
 fn begins_argument(within: Option<GroupKind>, left: Edge, text: &str) -> bool
     ensures { result ≡ begins_argument within left text.now }
 {
-    matches!(left, Edge::Start) && is_call(within) && (is_byte(text, b'*') || text == "**")
+    matches!(left, Edge::Start)
+        && matches!(within, Some(GroupKind::Call | GroupKind::RuleCall))
+        && (is_byte(text, b'*') || text == "**")
 }
 
 #[inline(always)]

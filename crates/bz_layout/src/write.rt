@@ -45,36 +45,14 @@ fn put_indent<T: Append>(level: usize, out: &mut T) -> Result<(), NoMemory>
     Ok(())
 }
 
-// Few lines are deeper than the levels whose gap is one text here.
+// Few lines are so deep that they begin here (`append.rt`).
 #[inline(never)]
 pub(crate) fn put_new_line<T: Append>(level: usize, out: &mut T) -> Result<(), NoMemory>
     ensures ok { OnOk result (T.bytes out.new ≡ T.bytes out.old ++ gap_bytes (Line level)) }
     ensures begun { IsBegunBy (T.bytes out.old) (T.bytes out.new) }
 {
-    match level {
-        0 => out.put("\n"),
-        1 => out.put("\n    "),
-        2 => out.put("\n        "),
-        3 => out.put("\n            "),
-        4 => out.put("\n                "),
-        _ => {
-            out.put("\n")?;
-            put_indent(level, out)
-        }
-    }
-}
-
-#[inline(always)]
-fn put_gap<T: Append>(gap: Gap, out: &mut T) -> Result<(), NoMemory>
-    ensures ok { OnOk result (T.bytes out.new ≡ T.bytes out.old ++ gap_bytes gap) }
-    ensures begun { IsBegunBy (T.bytes out.old) (T.bytes out.new) }
-{
-    match gap {
-        Gap::Closed => Ok(()),
-        Gap::Space => out.put(" "),
-        Gap::Apart => out.put("  "),
-        Gap::Line(level) => put_new_line(level, out),
-    }
+    out.put("\n")?;
+    put_indent(level, out)
 }
 
 // Few parts are comments.
@@ -83,6 +61,11 @@ pub(crate) fn put<T: Append>(gap: Gap, text: &str, out: &mut T) -> Result<(), No
     ensures ok { OnOk result (T.bytes out.new ≡ T.bytes out.old ++ (gap_bytes gap ++ text.now)) }
     ensures begun { IsBegunBy (T.bytes out.old) (T.bytes out.new) }
 {
-    put_gap(gap, out)?;
+    match gap {
+        Gap::Closed => {}
+        Gap::Space => out.put(" ")?,
+        Gap::Apart => out.put("  ")?,
+        Gap::Line(level) => put_new_line(level, out)?,
+    }
     out.put(text)
 }

@@ -3,7 +3,6 @@ use Rattle.std.specs.Prelude.{codes, ℕ, ◌+◌, ◌-◌, List, [], ◌∷◌,
 use Rattle.std.specs.Prelude.Option.{Some, None}
 use Rattle.bz_token.specs.declared.token.Kind.{Kind}
 use Rattle.bz_tree.specs.declared.tree.GroupKind.{GroupKind}
-use Rattle.bz_tree.specs.declared.tree.Class.{Class}
 use Rattle.bz_tree.specs.Tree.{leaf}
 use Rattle.bz_tree.specs.Rows.{RowPart, a_token, opening, closing, segment_end, above, beside}
 use Rattle.bz_layout.specs.declared.spacing.Edge.{Edge}
@@ -19,7 +18,7 @@ use Rattle.bz_layout.specs.Respell.{respell}
 use Rattle.bz_layout.specs.Spacing.{closes_up, hugs, edge_after, holds_on}
 use Rattle.bz_layout.specs.Broken.{breaks_by_count}
 use Rattle.bz_layout.specs.Pieces.{gap_bytes, bytes_of, comment_lines}
-use Rattle.bz_layout.specs.Layout.{has_commas, is_comment, opening as opening_text, closing as closing_text}
+use Rattle.bz_layout.specs.Layout.{has_commas, opening as opening_text, closing as closing_text}
 
 -- The rules of the layout, without a tree: the gap before what closes up or does not ..
 abbrev pub gap_for : Gap → Edge → Bool → Gap
@@ -48,15 +47,6 @@ mark_of kind i = record { broken = breaks_with kind i.comments i.segs i.holds; c
 abbrev pub holding : Bool → Contents → Contents
 holding holds i = record i { holds = holds || i.holds }
 
-abbrev pub commented : Contents → Contents
-commented i = record i { comments = true }
-
-abbrev pub counted : Contents → Contents
-counted i = record i { segs = one_more i.segs }
-
-abbrev pub here_as : Contents → Scan → Scan
-here_as i s = record s { here = i }
-
 -- before the bracket, below it
 abbrev pub below : BracketForm → Bool → List BracketForm → List Contents → Scan
 below mark holds marks [] = record { marks = mark ∷ marks; here = holding holds (closed false); outer = [] }
@@ -69,9 +59,9 @@ abbrev pub back : RowPart → Scan → Scan
 back (a_token kind text) s = s
 back (opening kind) s = opened_back kind s
 back (closing one_comma) s = record s { here = closed one_comma; outer = s.here ∷ s.outer }
-back segment_end s = here_as (counted s.here) s
-back (above text) s = here_as (commented s.here) s
-back (beside text) s = here_as (commented s.here) s
+back segment_end s = record s { here = record s.here { segs = one_more s.here.segs } }
+back (above text) s = record s { here = record s.here { comments = true } }
+back (beside text) s = record s { here = record s.here { comments = true } }
 
 -- the walk over some parts, ahead of what it read of those after them
 abbrev pub scan_onto : List RowPart → Scan → Scan
@@ -136,16 +126,6 @@ with_token kind text s = record s {
 abbrev pub level_in : BracketForm → ℕ → ℕ
 level_in mark level = if mark.broken then level + 1 else level
 
-abbrev pub opened_by : BracketForm → List BracketForm → GroupKind → Laid → Laid
-opened_by mark marks kind s = record {
-  text = s.text ++ (due s.here s.left ++ (gap_bytes (gap_for (first_gap s.here s.level) s.left (hugs kind)) ++ opening_text kind));
-  marks = marks;
-  outer = s.here ∷ s.outer;
-  here = record { within = Some kind; mark = mark; later = false };
-  left = Start;
-  level = level_in mark s.level;
-}
-
 abbrev pub first_mark : List BracketForm → BracketForm
 first_mark [] = whole
 first_mark (mark ∷ marks) = mark
@@ -155,17 +135,18 @@ tail [] = []
 tail (x ∷ xs) = xs
 
 abbrev pub opened : GroupKind → Laid → Laid
-opened kind s = opened_by (first_mark s.marks) (tail s.marks) kind s
+opened kind s = record {
+  text = s.text ++ (due s.here s.left ++ (gap_bytes (gap_for (first_gap s.here s.level) s.left (hugs kind)) ++ opening_text kind));
+  marks = tail s.marks;
+  outer = s.here ∷ s.outer;
+  here = record { within = Some kind; mark = first_mark s.marks; later = false };
+  left = Start;
+  level = level_in (first_mark s.marks) s.level;
+}
 
 abbrev pub first_frame : List OpenBracket → OpenBracket
 first_frame [] = top None
 first_frame (f ∷ fs) = f
-
-abbrev pub level_out : BracketForm → ℕ → ℕ
-level_out mark level = if mark.broken then level - 1 else level
-
-abbrev pub before_closing : BracketForm → Bool → ℕ → List ℕ
-before_closing mark one_comma level = if mark.broken then gap_bytes (Line (level - 1)) else comma_bytes one_comma
 
 abbrev pub closing_of : Option GroupKind → List ℕ
 closing_of None = []
@@ -173,20 +154,17 @@ closing_of (Some kind) = closing_text kind
 
 abbrev pub closed_by : Bool → Laid → Laid
 closed_by one_comma s = record s {
-  text = s.text ++ (before_closing s.here.mark one_comma s.level ++ closing_of s.here.within);
+  text = s.text ++ ((if s.here.mark.broken then gap_bytes (Line (s.level - 1)) else comma_bytes one_comma) ++ closing_of s.here.within);
   outer = tail s.outer;
   here = first_frame s.outer;
   left = Operand;
-  level = level_out s.here.mark s.level;
+  level = if s.here.mark.broken then s.level - 1 else s.level;
 }
 
 -- .. and of one without nodes where it ends
-abbrev pub after_segment : OpenBracket → Edge → List ℕ
-after_segment f left = if f.mark.broken then comma_bytes f.mark.comma else due f left
-
 abbrev pub ended : Laid → Laid
 ended s = record s {
-  text = s.text ++ after_segment s.here s.left;
+  text = s.text ++ (if s.here.mark.broken then comma_bytes s.here.mark.comma else due s.here s.left);
   here = record s.here { later = not s.here.mark.broken || s.here.later };
   left = Start;
 }
@@ -214,7 +192,3 @@ line_text text ps = (run ps (start text (scan ps).marks None)).text ++ codes "\n
 -- the comments above the statement and its line, after what stands before them
 abbrev pub lines_text : List ℕ → List RowPart → List ℕ
 lines_text before ps = line_text (before ++ bytes_of (comment_lines (leading ps))) ps
-
--- the text of a row after what stands before it
-abbrev pub row_text : List ℕ → List RowPart → Class → List ℕ
-row_text before ps class = if is_comment class then before ++ bytes_of (comment_lines (leading ps)) else lines_text before ps

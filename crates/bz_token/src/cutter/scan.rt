@@ -182,42 +182,26 @@ fn advance(scan: Scan, b: u8) -> Scan
     match scan.inside {
         CutState::Plain => outside(scan, b),
         CutState::Ended | CutState::BrokenOff => outside(Scan::start(), b),
-        CutState::Backslash => match b {
-            b'\n' => scan.within(CutState::Plain),
-            b'\r' => scan.within(CutState::BackslashReturn),
-            _ => outside(scan.of_kind(LineKind::Statement), b),
-        },
-        CutState::BackslashReturn => match b {
+        CutState::Backslash if b == b'\r' => scan.within(CutState::BackslashReturn),
+        CutState::Backslash | CutState::BackslashReturn => match b {
             b'\n' => scan.within(CutState::Plain),
             _ => outside(scan.of_kind(LineKind::Statement), b),
         },
-        CutState::Comment => match b {
-            b'\n' => outside(scan, b),
-            _ => scan,
-        },
-        CutState::Opened(quote) => {
-            if b == byte_of(quote) {
-                scan.within(CutState::OpenedTwice(quote))
-            } else {
-                in_short(scan, quote, b)
-            }
+        CutState::Comment if b == b'\n' => outside(scan, b),
+        CutState::Comment => scan,
+        CutState::Opened(quote) if b == byte_of(quote) => {
+            scan.within(CutState::OpenedTwice(quote))
         }
-        CutState::OpenedTwice(quote) => {
-            if b == byte_of(quote) {
-                scan.within(CutState::Long(quote))
-            } else {
-                outside(scan, b)
-            }
+        CutState::OpenedTwice(quote) if b == byte_of(quote) => scan.within(CutState::Long(quote)),
+        CutState::OpenedTwice(_) => outside(scan, b),
+        CutState::ShortEscape(quote) if b == b'\r' => {
+            scan.within(CutState::ShortEscapeReturn(quote))
         }
-        CutState::Short(quote) => in_short(scan, quote, b),
-        CutState::ShortEscape(quote) => match b {
-            b'\r' => scan.within(CutState::ShortEscapeReturn(quote)),
-            _ => scan.within(CutState::Short(quote)),
-        },
-        CutState::ShortEscapeReturn(quote) => match b {
-            b'\n' => scan.within(CutState::Short(quote)),
-            _ => in_short(scan, quote, b),
-        },
+        CutState::ShortEscape(quote) => scan.within(CutState::Short(quote)),
+        CutState::ShortEscapeReturn(quote) if b == b'\n' => scan.within(CutState::Short(quote)),
+        CutState::Opened(quote) | CutState::Short(quote) | CutState::ShortEscapeReturn(quote) => {
+            in_short(scan, quote, b)
+        }
         CutState::Long(quote) => in_long(scan, quote, CutState::LongQuote(quote), b),
         CutState::LongQuote(quote) => in_long(scan, quote, CutState::LongTwoQuotes(quote), b),
         CutState::LongTwoQuotes(quote) => in_long(scan, quote, CutState::Plain, b),

@@ -1,7 +1,0 @@
-use Rattle.std.proofs.Common.{◌≡◌, drop}
-use Rattle.std.specs.List.{list_all}
-use Rattle.bz_layout.specs.Respell.{is_plain}
-use Rattle.bz_layout.proofs.respell.are_plain.Given as goal
-
-abbrev pub invariant-loop-b : goal.invariant-loop-b
-invariant-loop-b l = list_all is_plain (drop l.b-index l.bytes) ≡ list_all is_plain l.bytes
