@@ -1,10 +1,7 @@
 //! The text of an argument that `set` adds.
 
 ghost use Rattle.std.specs.Prelude.{◌≡◌, ◌++◌, IfOk, IsFalse, IsTrue, OnOk};
-ghost use Rattle.bz_attribute.specs.Effects.{argument};
-ghost use Rattle.bz_attribute_commands.specs.Set.{new_value};
 ghost use Rattle.bz_attribute_commands.specs.Argument.{argument_line, argument_lines, new_argument};
-ghost use Rattle.bz_attribute_commands.specs.private.SetViews.{new_view};
 
 use crate::set::{New, new_of};
 use bz_command::{Text, quote};
@@ -23,15 +20,7 @@ pub fn put_argument(
         → out.new.items ≡ out.old.items ++ argument_lines (new_argument attr.now words.now)) }
     ensures nothing { IfOk result (λ put. IsFalse put → out.new.items ≡ out.old.items) }
 {
-    put_new(alloc, attr, new_of(attr, words, false), out)
-}
-
-fn put_new(alloc: Global, attr: &str, new: New<'_>, out: &mut Vec<u8>) -> Result<bool, NoMemory>
-    ensures put { IfOk result (λ put. IsTrue put → out.new.items
-        ≡ out.old.items ++ argument_lines (argument attr.now (new_value (new_view new.entry)))) }
-    ensures nothing { IfOk result (λ put. IsFalse put → out.new.items ≡ out.old.items) }
-{
-    match new {
+    match new_of(attr, words, false) {
         New::Number(digits) => put_line(attr, "", digits, "", out)?,
         New::Constant(name) => put_line(attr, "", name, "", out)?,
         New::String(word) => put_line(attr, "", quote(alloc, word)?.as_str(), "", out)?,
@@ -45,7 +34,7 @@ fn put_new(alloc: Global, attr: &str, new: New<'_>, out: &mut Vec<u8>) -> Result
     Ok(true)
 }
 
-/// Writes an argument on a line of its own, whose value is these texts one after another.
+// Writes an argument on a line of its own, whose value is these texts one after another.
 fn put_line(
     attr: &str,
     left: &str,

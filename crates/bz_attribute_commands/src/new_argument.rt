@@ -55,18 +55,9 @@ fn push_list<'a>(alloc: Global, words: &[Text], new: &mut Parts<'a>) -> Result<(
         ≡ map part_view new.old.items ++ items_parts (items_of (list_item (map string words.now) ∷ []))) }
 {
     push(new, Part::Open(GroupKind::List))?;
-    push_strings(alloc, words, new)?;
-    push(new, Part::Close(false))?;
-    Ok(())
-}
-
-// Appends the parts of elements that are strings.
-fn push_strings<'a>(alloc: Global, words: &[Text], new: &mut Parts<'a>) -> Result<(), NoMemory>
-    ensures { OnOk result
-        (map part_view new.new.items ≡ map part_view new.old.items ++ segs_parts (segs_of (map string words.now))) }
-{
     for word in words {
         push_element(alloc, word.as_str(), new)?;
     }
+    push(new, Part::Close(false))?;
     Ok(())
 }

@@ -25,10 +25,13 @@ pub fn is_value(new: New<'_>, parts: &[Part<'_>], value: usize, list: Option<usi
         → drop value (map part_view parts.now) ≡ value_parts nodes after
         → OnlyList nodes after (map part_view parts.now) list → result ≡ spec.is_value (new_view new.entry) nodes }
 {
-    match new {
-        New::Strings(words) => are_in_list(words, parts, list),
-        _ => is_token(new, &parts[value..]),
-    }
+    let New::Strings(words) = new else {
+        return is_token(new, &parts[value..]);
+    };
+    let Some(from) = list else {
+        return false;
+    };
+    are_strings(words, parts, from)
 }
 
 // The value is one token, which is the new one.
@@ -45,17 +48,6 @@ fn is_token(new: New<'_>, value: &[Part<'_>]) -> bool
         New::Number(digits) => matches!(kind, Kind::Integer) && *text == digits,
         New::Constant(name) => matches!(kind, Kind::Identifier) && *text == name,
         New::Strings(_) => false,
-    }
-}
-
-fn are_in_list(words: &[Text], parts: &[Part<'_>], list: Option<usize>) -> bool
-    requires { IfSome list (λ from. from ≤ length parts.now) }
-    ensures { (nodes : List Item) (after : List RowPart) → OnlyList nodes after (map part_view parts.now) list
-        → result ≡ spec.is_value (spec.NewStrings words.now) nodes }
-{
-    match list {
-        None => false,
-        Some(from) => are_strings(words, parts, from),
     }
 }
 

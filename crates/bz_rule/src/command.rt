@@ -12,14 +12,12 @@ ghost use Rattle.bz_rule.specs.declared.command.Action.TheVariants.{Rename};
 ghost use Rattle.bz_rule.specs.declared.command.CommandFault.TheVariants.{OutOfMemory};
 ghost use Rattle.bz_rule.specs.private.RowEdits.{edits_arguments};
 
-use crate::reader::{
-    attribute, attributes, breaks_line, ensure, field, moved, next_word, read_place,
-};
+use crate::reader::{attribute, attributes, breaks_line, ensure, moved, next_word, read_place};
 use bz_attribute::{Done, Edit, Env, Parts};
 use bz_attribute_commands::line::comment;
 use bz_attribute_commands::rename::rename;
 use bz_attribute_commands::set::{set, set_if_absent};
-use bz_command::{Attributes, Commented, Field, Moved, Seq, Setting, Text, is_kind};
+use bz_command::{Attributes, Commented, Field, Moved, Seq, Setting, Text, is_kind, read_field};
 use bz_list_commands::add::add;
 use bz_list_commands::moving::{Move, move_elements};
 use bz_list_commands::remove::remove;
@@ -256,7 +254,10 @@ fn read_print(alloc: Global, words: Vec<Text>) -> Result<Action, CommandFault>
 {
     let mut fields = with_room_for(alloc, words.as_slice(), 0)?;
     for word in words {
-        push(&mut fields, field(word)?)?;
+        push(
+            &mut fields,
+            read_field(word).ok_or(CommandFault::BadAttribute)?,
+        )?;
     }
     Ok(Action::Print(Seq::from_vec(fields)))
 }

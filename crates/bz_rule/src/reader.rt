@@ -5,10 +5,10 @@ ghost use Rattle.std.specs.Prelude.{◌≡◌, ◌≢◌, ◌∷◌, [], Err, Ma
 ghost use Rattle.std.specs.List.{list_any};
 ghost use Rattle.bz_command.specs.Arguments as arguments;
 ghost use Rattle.bz_rule.specs.Commands as spec;
-ghost use Rattle.bz_rule.specs.private.CommandSteps.{attribute_of, attributes_of, a_field, place_of};
+ghost use Rattle.bz_rule.specs.private.CommandSteps.{attribute_of, attributes_of, place_of};
 
 use crate::command::{Command, CommandFault, read_named};
-use bz_command::{Attributes, Commented, Field, Moved, Seq, Text, read_field, read_words};
+use bz_command::{Attributes, Commented, Moved, Seq, Text, read_words};
 use bz_token::is_identifier;
 use std::alloc::Global;
 
@@ -56,12 +56,6 @@ pub(crate) fn breaks_line(text: &str) -> bool
     ensures { result ≡ list_any arguments.breaks_line text.now }
 {
     text.as_bytes().iter().any(|b| *b == b'\n' || *b == b'\r')
-}
-
-pub(crate) fn field(word: Text) -> Result<Field, CommandFault>
-    ensures { result ≡ a_field word }
-{
-    read_field(word).ok_or(CommandFault::BadAttribute)
 }
 
 /// A star means every attribute.

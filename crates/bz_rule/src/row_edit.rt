@@ -80,12 +80,7 @@ pub(crate) fn keeps_head(command: &Command) -> bool
     ensures { result ≡ true → (home : labels.Package) (s : Statement) → KeepsHead s (rule_after command.now home s) }
 {
     match one_attribute(command) {
-        Some(attr) => {
-            if attr == "name" {
-                return false;
-            }
-            true
-        }
+        Some(attr) => attr != "name",
         None => matches!(command.action, Action::Comment(Commented::Rule, _)),
     }
 }

@@ -1,6 +1,6 @@
 //! An edit of the parts of a statement: it moves what stands behind its place, and no more.
 
-ghost use Rattle.std.specs.Prelude.{◌≡◌, ◌≤◌, ◌++◌, drop, length, IfOk, OnErr, OnOk};
+ghost use Rattle.std.specs.Prelude.{◌≡◌, ◌≤◌, length, IfOk, OnErr, OnOk};
 ghost use Rattle.std.specs.List.{splice};
 
 use bumpalo::Bump;
@@ -40,20 +40,10 @@ pub(crate) fn put_in<'a>(
 {
     let end = list.len();
     let behind = place.from + new.len();
-    make_room(list, place.to - place.from, new)?;
+    // Longer by what is too much of the new.
+    extend_from_slice(list, &new[new.len().min(place.to - place.from)..])?;
     list.copy_within(place.to..end, behind);
     list.truncate(behind + (end - place.to));
     list[place.from..behind].copy_from_slice(new);
-    Ok(())
-}
-
-// Makes a list longer where more is new than goes: by what is too much of the new.
-fn make_room<'a>(list: &mut Parts<'a>, gone: usize, new: &[Part<'a>]) -> Result<(), NoMemory>
-    ensures ok { OnOk result (list.new.items ≡ list.old.items ++ drop gone new.now) }
-    ensures err { OnErr result (list.new.items ≡ list.old.items) }
-{
-    if gone < new.len() {
-        extend_from_slice(list, &new[gone..])?;
-    }
     Ok(())
 }

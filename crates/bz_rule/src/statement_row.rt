@@ -10,7 +10,7 @@ ghost use Rattle.bz_command.specs.Labels.{Name};
 ghost use Rattle.bz_attribute.specs.Effects as effects;
 ghost use Rattle.bz_attribute.specs.Heads.{HasHead};
 ghost use Rattle.bz_attribute.specs.Marks as marks;
-ghost use Rattle.bz_attribute.specs.Rules.{Rule, is_text, kind_text, rule_of};
+ghost use Rattle.bz_attribute.specs.Rules.{is_text, rule_of};
 ghost use Rattle.bz_attribute.specs.Texts.{shown_text};
 ghost use Rattle.bz_attribute_commands.specs.Print.{prints};
 ghost use Rattle.bz_layout.specs.Layout.{layout_text};
@@ -180,21 +180,15 @@ impl<'a> StatementRow<'a> {
         }
     }
 
-    // The kind of the rule that it is.
-    fn kind(&self) -> &str
-        ensures { (r : Rule) → rule_of self.now.nodes ≡ Some r → kind_text r.kind ≡ result.now }
-    {
-        match &self.head {
-            None => "",
-            Some(head) => head.kind,
-        }
-    }
-
     fn rule(&self) -> RuleParts<'_, 'a>
         ensures { HasKindAndParts result self.now }
     {
+        let kind = match &self.head {
+            None => "",
+            Some(head) => head.kind,
+        };
         RuleParts {
-            kind: self.kind(),
+            kind,
             comments: self.comments,
             parts: self.row.parts.as_slice(),
         }

@@ -7,8 +7,6 @@ use Rattle.bz_command.specs.declared.arguments.Attributes.{Attributes}
 use Rattle.bz_command.specs.declared.arguments.Attributes.TheVariants.{Every, Named}
 use Rattle.bz_command.specs.declared.arguments.Commented.{Commented}
 use Rattle.bz_command.specs.declared.arguments.Commented.TheVariants.{Rule, Attribute, Value}
-use Rattle.bz_command.specs.declared.arguments.Field.{Field}
-use Rattle.bz_command.specs.Arguments.{field_of, is_field}
 use Rattle.bz_command.specs.Names.{is_identifier}
 
 abbrev pub attribute_of : List ℕ → Result (List ℕ) CommandFault
@@ -24,6 +22,3 @@ place_of [] = Ok Rule
 place_of (attr ∷ []) = if is_identifier attr then Ok (Attribute attr) else Err BadAttribute
 place_of (attr ∷ value ∷ []) = if is_identifier attr then Ok (Value attr value) else Err BadAttribute
 place_of _ = Err WrongCount
-
-abbrev pub a_field : List ℕ → Result Field CommandFault
-a_field word = if is_field word then Ok (field_of word) else Err BadAttribute

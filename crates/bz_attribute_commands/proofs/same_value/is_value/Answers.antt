@@ -1,14 +1,17 @@
-use Rattle.std.proofs.Common.{◌≡◌, List, [], ◌∷◌, refl, ap, sym, ◌∙◌}
+use Rattle.std.proofs.Common.{◌≡◌, ℕ, List, [], ◌∷◌, Bool, false, ◌&&◌, Option, map, refl, ap, subst, sym, ◌∙◌}
 use Rattle.bz_token.specs.declared.token.Kind.TheVariants.{Identifier, Integer, String}
-use Rattle.bz_tree.specs.Rows.{RowPart}
+use Rattle.bz_tree.specs.Rows.{RowPart, part_view}
 use Rattle.bz_tree.specs.Tree.{Item, leaf, group}
-use Rattle.bz_attribute.specs.Elements.{value_parts}
+use Rattle.bz_attribute.specs.Elements.{OnlyList, value_parts}
 use Rattle.bz_attribute_commands.specs.Set as spec
-use Rattle.bz_attribute_commands.specs.Set.{NewConstant, NewNumber, NewString, NewStrings, is_value}
+use Rattle.bz_attribute_commands.specs.Set.{NewConstant, NewNumber, NewString, NewStrings, are_strings, is_value}
 use Rattle.bz_attribute.proofs.Slices.{rest_seen}
+use Rattle.bz_attribute.specs.Lists.{is_list, is_only}
+use Rattle.bz_attribute.specs.Rules.{elements}
 use Rattle.bz_attribute_commands.specs.declared.set.New.{New}
 use Rattle.bz_attribute_commands.specs.private.SetViews.{new_view}
 use Rattle.bz_attribute_commands.specs.private.ValueParts.{one_token}
+use Rattle.bz_attribute_commands.proofs.SameValues.{in_list}
 use Rattle.bz_attribute_commands.proofs.same_value.is_value.Goals as goal
 
 -- two nodes are no token, and neither is a list
@@ -35,9 +38,20 @@ token_told (New.Constant name) (group k segs one_comma end ∷ []) after other =
 token_told (New.Strings words) (group k segs one_comma end ∷ []) after other = absurd (other words refl)
 token_told new (group k segs one_comma end ∷ y ∷ xs) after other = two (new_view new) (group k segs one_comma end) y xs
 
+-- no list is no list of strings
+no_list_told : (words : List (List ℕ)) (nodes : List Item) → is_only is_list nodes ≡ false → false ≡ is_value (NewStrings words) nodes
+no_list_told words [] h = refl
+no_list_told words (x ∷ []) h = sym (ap (λ (b : Bool). b && are_strings words (elements x)) h)
+no_list_told words (x ∷ y ∷ xs) h = refl
+
 pub returns-in_default : goal.returns-in_default
 returns-in_default c = λ nodes after read list.
     c.is_token.ensures ∙ ap (λ (ps : List RowPart). is_value (new_view c.args.new) (one_token ps)) (rest_seen c.args.parts.now c.args.value ∙ read) ∙ token_told c.args.new nodes after c.in_default.not-Strings
 
-pub returns-in-Strings : goal.returns-in-Strings
-returns-in-Strings c = λ nodes after read list. c.are_in_list.ensures nodes after list ∙ ap (λ (new : New). is_value (new_view new) nodes) (sym c.in-Strings.is)
+pub returns : goal.returns
+returns c = λ nodes after read list.
+    in_list c.in-Strings.words.now nodes after (map part_view c.args.parts.now) c.in-Some.from _ (subst (λ (o : Option ℕ). OnlyList nodes after (map part_view c.args.parts.now) o) c.in-Some.is list) c.are_strings.ensures
+    ∙ ap (λ (new : New). is_value (new_view new) nodes) (sym c.in-Strings.is)
+
+pub returns-in_default-list : goal.returns-in_default-list
+returns-in_default-list c = λ nodes after read list. no_list_told c.in-Strings.words.now nodes (subst (λ (o : Option ℕ). OnlyList nodes after (map part_view c.args.parts.now) o) c.in_default-list.is list) ∙ ap (λ (new : New). is_value (new_view new) nodes) (sym c.in-Strings.is)
