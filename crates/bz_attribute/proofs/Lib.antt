@@ -23,7 +23,6 @@ pub mod Mapped
 pub mod OnlyLists
 pub mod Passed
 pub mod PlaceFound
-pub mod RowArgs
 pub mod RowEdits
 pub mod RuleNodes
 pub mod RuleParts

@@ -1,23 +1,36 @@
 -- A value that is one list, and its end, by its parts.
-use Rattle.std.proofs.Common.{◌≡◌, ℕ, ◌+◌, List, [], ◌∷◌, ◌++◌, Bool, true, false, ◌&&◌, length, drop, refl, ap, sym, ◌∙◌, arith, append_assoc, drop-drop}
+use Rattle.std.proofs.Common.{◌≡◌, ℕ, ◌+◌, ◌-◌, ◌≤◌, map, take, length-append, length-drop, List, [], ◌∷◌, ◌++◌, Bool, true, false, ◌&&◌, length, drop, refl, ap, sym, ◌∙◌, arith, append_assoc, drop-drop}
 use Rattle.std.proofs.lemmas.Bool.{false≢true}
-use Rattle.std.proofs.Math.Seq.{drop-append_seam}
+use Rattle.std.proofs.Math.Seq.{drop-append_seam, take-append_seam}
+use Rattle.std.proofs.lemmas.List.{length-map}
+use Rattle.bz_tree.specs.declared.row.Part.{Part}
+use Rattle.bz_tree.specs.FromParts.{nodes_of_parts}
 use Rattle.bz_tree.specs.declared.tree.GroupKind.TheVariants.{List as ListKind}
 use Rattle.bz_tree.specs.Tree.{Item, leaf, group, Segs, items_of}
-use Rattle.bz_tree.specs.Rows.{RowPart, segment_end, item_parts, items_parts}
+use Rattle.bz_tree.specs.Rows.{RowPart, part_view, segment_end, item_parts, items_parts}
 use Rattle.bz_attribute.specs.Elements.{IsOnlyList, value_parts}
 use Rattle.bz_attribute.specs.Lists.{is_list, is_only}
 use Rattle.bz_attribute.specs.private.Ends.{parts_len}
 use Rattle.bz_attribute.specs.private.ListParts.{ItemEnds, begins_list, ends_value}
 use Rattle.bz_attribute.proofs.ItemParts.{opened, rest_of}
 use Rattle.bz_attribute.proofs.Lengths.{nodes_ended}
-use Rattle.bz_tree.proofs.Rows.FromParts.{segs_back}
+use Rattle.bz_tree.proofs.Rows.FromParts.{listed_back, nodes_back, segs_back}
 
 pub value_ended : (nodes : List Item) (after ps : List RowPart) (value end : ℕ) → drop value ps ≡ value_parts nodes after → end ≡ value + parts_len true 0 (drop value ps) → drop end ps ≡ segment_end ∷ after
 value_ended nodes after ps value end read is =
     let own : List RowPart = items_parts (items_of nodes) in
     let size : end ≡ value + length own = is ∙ ap (λ (n : ℕ). value + n) (ap (parts_len true 0) read ∙ nodes_ended (items_of nodes) after) in
     ap (λ (n : ℕ). drop n ps) size ∙ sym (drop-drop (length own) value ps) ∙ ap (drop (length own)) read ∙ drop-append_seam own (segment_end ∷ after)
+
+-- the nodes that are read of its parts
+pub value_read : (nodes : List Item) (after : List RowPart) (parts : List Part) (value end : ℕ) → drop value (map part_view parts) ≡ value_parts nodes after → drop end (map part_view parts) ≡ segment_end ∷ after
+    → (value ≤ end) × (end ≤ length parts) → nodes_of_parts (take (end - value) (drop value (map part_view parts))) ≡ nodes
+value_read nodes after parts value end read left within =
+    let ps : List RowPart = map part_view parts in
+    let own : List RowPart = items_parts (items_of nodes) in
+    let size : end - value ≡ length own =
+    omega (arith, ap length read, ap length left, length-drop value ps, length-drop end ps, length-append own (segment_end ∷ after), length-map parts part_view, within.0, within.1) in
+    ap nodes_of_parts ((λ i. take (size i) (read i)) ∙ take-append_seam own (segment_end ∷ after)) ∙ nodes_back (items_of nodes) ∙ listed_back nodes
 
 begins_told : (x : Item) (xs : List Item) (after : List RowPart) → begins_list (value_parts (x ∷ xs) after) ≡ is_list x
 begins_told (leaf kind text) xs after = refl

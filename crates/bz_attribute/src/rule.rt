@@ -1,11 +1,11 @@
 //! The view of a statement as a rule: reading only, no memory.
 
 ghost use Rattle.std.specs.Prelude.{◌≡◌, ◌∷◌, [], is_some, option_map, true};
-ghost use Rattle.bz_tree.specs.View.{node_view, nodes_view, seg_view};
+ghost use Rattle.bz_tree.specs.View.{node_view, nodes_view};
 ghost use Rattle.bz_attribute.specs.Rules as spec;
 
 use bz_token::Kind;
-use bz_tree::{GroupKind, Node, Seg};
+use bz_tree::{GroupKind, Node};
 
 /// Whether nodes are those of a rule.
 #[tactic(auto, using(crate::proofs::Calls::group_call, crate::proofs::Calls::rule_with_call, crate::proofs::Calls::rule_without_call, crate::proofs::Views::view_of_group))]
@@ -50,16 +50,6 @@ fn ident_of<'n>(node: &'n Node<'_>) -> Option<&'n str>
     match node {
         Node::Token(leaf) if matches!(leaf.kind, Kind::Identifier) => Some(leaf.text),
         _ => None,
-    }
-}
-
-/// The nodes of the value of a named argument.
-pub fn value_of<'n, 'a>(arg: &'n Seg<'a>) -> &'n [Node<'a>]
-    ensures { nodes_view result.now ≡ spec.value (seg_view arg.now) }
-{
-    match arg.nodes.as_slice() {
-        [_, _, value @ ..] => value,
-        _ => &[],
     }
 }
 

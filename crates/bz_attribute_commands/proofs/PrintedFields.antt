@@ -36,15 +36,6 @@ one_argument home attr head ps old new text told is = record {
   note = λ s r h. ap (note_of (ValueOf attr)) (sym (told s r h.row));
 }
 
--- the first argument of a name, read alone
-pub none_in : (o : Option Segment) → [] ≡ option_to_list o → o ≡ None
-none_in None h = refl
-none_in (Some a) h = absurd cc
-
-pub one_in : (o : Option Segment) (a : Segment) (more : List Segment) → a ∷ more ≡ option_to_list o → o ≡ Some a
-one_in None a more h = absurd cc
-one_in (Some b) a more h = let same : a ≡ b = cc in ap Some (sym same)
-
 -- the name and the kind
 pub name_and_kind : (home : Package) (head : Head) (ps : List RowPart) (old mid new : List ℕ) (told : Option Note) → HasPrinted home (ValueOf (codes "name") ∷ []) head ps old mid told
     → new ≡ (mid ++ 32 ∷ []) ++ head.kind.now → HasPrinted home (fields_of []) head ps old new told

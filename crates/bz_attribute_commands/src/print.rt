@@ -17,13 +17,13 @@ ghost use Rattle.bz_token.specs.Common.{map_or};
 
 use bz_attribute::equals::string_of;
 use bz_attribute::{
-    Done, Env, Executed, Head, Note, elements_at, is_list, only_text, place_of, push_home,
-    read_arguments, value_of,
+    Done, Env, Executed, Head, Note, elements_at, is_list, only_text, push_home, value_end,
+    value_place,
 };
 use bz_command::{Field, Text, quote, read_value};
 use bz_layout::flat;
 use bz_memory::{NoMemory, push_char, push_number, push_str, with_length_of};
-use bz_tree::{GroupKind, Node, Part, Seg};
+use bz_tree::{GroupKind, Node, Part, Seg, nodes_of_parts};
 use std::alloc::Global;
 
 /// Prints fields of the rule of this head and these parts, or its name and its kind where none is named; the note names
@@ -185,18 +185,13 @@ fn push_attribute<'f>(
         }
         _ => {}
     }
-    let place = place_of(parts, attr);
-    let args = read_arguments(env.alloc, &parts[place.from..place.to])?;
-    match args.as_slice() {
-        [] => {
-            push_str(text, "(missing)")?;
-            Ok(Some(attr))
-        }
-        [arg, ..] => {
-            push_value(env.alloc, text, value_of(arg))?;
-            Ok(None)
-        }
-    }
+    let Some(value) = value_place(parts, attr) else {
+        push_str(text, "(missing)")?;
+        return Ok(Some(attr));
+    };
+    let nodes = nodes_of_parts(env.alloc, &parts[value..value_end(parts, value)])?;
+    push_value(env.alloc, text, &nodes)?;
+    Ok(None)
 }
 
 fn push_value(alloc: Global, text: &mut String, value: &[Node<'_>]) -> Result<(), NoMemory>
