@@ -8,7 +8,7 @@ ghost use Rattle.bz_tree.specs.Tree.{items_of, segs_of};
 ghost use Rattle.bz_tree.specs.View.{node_view, group_view, nodes_view, segs_view};
 ghost use Rattle.bz_tree.specs.private.Machine.{accepts, role_of, each, is_whole, is_single, is_string_item, is_string, is_renamed, is_load_argument, are_load_arguments, are_loaded, is_load_group, is_load, is_nothing, is_statement};
 
-use crate::grammar::role::{Role, leaf_role};
+use crate::grammar::role::{Role, token_role};
 use crate::grammar::stage::{Goal, Stage, begin, group_role, may_end, next};
 use crate::tree::classes::is_load_word;
 use crate::tree::kinds::is_one;
@@ -31,7 +31,7 @@ fn role_of(node: &Node<'_>) -> Role
     ensures { result ≡ role_of (node_view node.now) }
 {
     match node {
-        Node::Token(leaf) => leaf_role(leaf),
+        Node::Token(leaf) => token_role(leaf.kind, leaf.text),
         Node::Group(group) => role_of_group(group),
     }
 }
@@ -40,13 +40,11 @@ fn role_of(node: &Node<'_>) -> Role
 fn role_of_group(group: &Group<'_>) -> Role
     ensures { result ≡ role_of (group_view group.now) }
 {
-    if !is_whole(group.kind, &group.segs) {
-        return Role::Stray;
+    if is_whole(group.kind, &group.segs) && each(begin(group.kind), &group.segs) {
+        group_role(group.kind)
+    } else {
+        Role::Stray
     }
-    if !each(begin(group.kind), &group.segs) {
-        return Role::Stray;
-    }
-    group_role(group.kind)
 }
 
 #[cycle(grammar)]
@@ -78,7 +76,7 @@ fn is_string_item(node: &Node<'_>) -> bool
     ensures { result ≡ is_string_item (node_view node.now) }
 {
     match node {
-        Node::Token(leaf) => matches!(leaf_role(leaf), Role::Value),
+        Node::Token(leaf) => matches!(token_role(leaf.kind, leaf.text), Role::Value),
         Node::Group(_) => false,
     }
 }

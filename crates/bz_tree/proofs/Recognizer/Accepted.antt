@@ -12,7 +12,7 @@ use Rattle.bz_tree.specs.declared.grammar.stage.Stage.TheVariants.{Refused, Want
 use Rattle.bz_tree.specs.Tree.{Item, leaf, group, Items, no_items, item, Segs, no_segs, seg}
 use Rattle.bz_tree.specs.Statement.{is_call}
 use Rattle.bz_tree.specs.Grammar.{token_role, is_prefix, is_operator, is_star, join, is_dot_role, begins_dot, IsBinOp, operator, not_in, IsTest, plain, conditional, IsChain, single, binary, IsTerm, primary, unary, IsPrimary, number, operand, AreSuffixes, no_suffix, member, suffix, IsSuffix, call, index, IsOperand, ident, text, paren, list, dict, list_comp, dict_comp, AreTests, no_test, one_test, AreArgs, no_arg, one_arg, IsArg, positional, keyword, starred, AreEntries, no_entry, one_entry, IsEntry, entry, IsElement, element, IsEntryElement, entry_element, IsFor, for, AreTargets, last_target, target, AreClauses, no_clause, for_clause, if_clause, IsIndex, at, slice, IsRange, upper, stepped, IsOptional, nothing, some}
-use Rattle.bz_tree.specs.private.Machine.{ends, is_target, in_chain, after_part, next_wanted, next_after, next_after_number, next_begun, next_argument, next_keyword, next, accepts, role_of, each}
+use Rattle.bz_tree.specs.private.Machine.{ends, is_target, in_chain, after_part, next_wanted, next_after, next, accepts, role_of, each}
 
 pub join_empty : (xs : Items) → join xs no_items ≡ xs
 join_empty no_items = refl
@@ -42,7 +42,7 @@ refused (item x xs) h = refused xs h
 abbrev pub Accepts : Goal → Bool → Items → Type 0
 Accepts p c xs = (accepts (Has p c) xs ≡ true) × (accepts (HasNumber p c) xs ≡ true)
 
-pub leave : (p : Goal) (c : Bool) (x : Item) (xs : Items) (r : Role) (s : Stage) → role_of x ≡ r → next_after p c r ≡ s → next_after_number p c r ≡ s → accepts s xs ≡ true → Accepts p c (item x xs)
+pub leave : (p : Goal) (c : Bool) (x : Item) (xs : Items) (r : Role) (s : Stage) → role_of x ≡ r → next_after p c r ≡ s → next (HasNumber p c) r ≡ s → accepts s xs ≡ true → Accepts p c (item x xs)
 leave p c x xs r s e here beside h = (step (Has p c) x xs r e (ap (λ q. accepts q xs) here ∙ h), step (HasNumber p c) x xs r e (ap (λ q. accepts q xs) beside ∙ h))
 
 chained : (p : Goal) (s : Stage) → is_target p ≡ false → in_chain p s ≡ s
@@ -89,7 +89,7 @@ pub whole : (s : Stage) (xs : Items) → accepts s (join xs no_items) ≡ true �
 whole s xs h = ap (accepts s) (sym (join_empty xs)) ∙ h
 
 -- where a part may be empty
-begun_step : (p : Goal) (r : Role) (xs : Items) → accepts (next_wanted p false r) xs ≡ true → accepts (next_begun p r) xs ≡ true
+begun_step : (p : Goal) (r : Role) (xs : Items) → accepts (next_wanted p false r) xs ≡ true → accepts (next (Begins p) r) xs ≡ true
 begun_step p Colon xs h = absurd (refused xs h)
 begun_step p _ xs h = h
 
@@ -98,7 +98,7 @@ begun p no_items h = absurd (false≢true h)
 begun p (item x xs) h = begun_step p (role_of x) xs h
 
 -- arguments
-keyword_step : (r : Role) (xs : Items) → accepts (next_after Alone false r) xs ≡ true → accepts (next_keyword r) xs ≡ true
+keyword_step : (r : Role) (xs : Items) → accepts (next_after Alone false r) xs ≡ true → accepts (next Keyword r) xs ≡ true
 keyword_step Equals xs h = absurd (refused xs h)
 keyword_step _ xs h = h
 
@@ -106,7 +106,7 @@ keyword_run : (xs : Items) → accepts (Has Alone false) xs ≡ true → accepts
 keyword_run no_items h = refl
 keyword_run (item x xs) h = keyword_step (role_of x) xs h
 
-argument_step : (r : Role) (xs : Items) → accepts (next_wanted Alone false r) xs ≡ true → accepts (next_argument r) xs ≡ true
+argument_step : (r : Role) (xs : Items) → accepts (next_wanted Alone false r) xs ≡ true → accepts (next Argument r) xs ≡ true
 argument_step Star xs h = absurd (refused xs h)
 argument_step Stars xs h = absurd (refused xs h)
 argument_step Name xs h = keyword_run xs h

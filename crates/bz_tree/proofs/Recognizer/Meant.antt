@@ -13,9 +13,9 @@ use Rattle.bz_tree.specs.declared.grammar.stage.Stage.{Stage}
 use Rattle.bz_tree.specs.declared.grammar.stage.Stage.TheVariants.{Refused, Wants, Has, HasNumber, Names, Excludes, Begins, Argument, Keyword}
 use Rattle.bz_tree.specs.Tree.{Item, leaf, group, Items, no_items, item, Segs, no_segs, seg}
 use Rattle.bz_tree.specs.Grammar.{token_role, is_prefix, is_operator, is_star, is_assignment, join, is_dot_role, begins_dot, IsBinOp, operator, not_in, IsTest, plain, conditional, IsChain, single, binary, IsTerm, primary, unary, IsPrimary, number, operand, AreSuffixes, no_suffix, member, suffix, IsSuffix, call, index, IsOperand, ident, text, paren, list, dict, list_comp, dict_comp, AreTests, no_test, one_test, AreArgs, no_arg, one_arg, IsArg, positional, keyword, starred, AreEntries, no_entry, one_entry, IsEntry, entry, IsElement, element, IsEntryElement, entry_element, IsFor, for, AreTargets, last_target, target, AreClauses, no_clause, for_clause, if_clause, IsIndex, at, slice, IsRange, upper, stepped, IsOptional, nothing, some}
-use Rattle.bz_tree.specs.private.Machine.{ends, is_target, in_chain, after_part, next_wanted, next_after, next_after_number, next_begun, next_argument, next_keyword, next, accepts, role_of, each, is_whole, group_role, begin}
+use Rattle.bz_tree.specs.private.Machine.{ends, is_target, in_chain, after_part, next_wanted, next_after, next, accepts, role_of, each, is_whole, group_role, begin}
 use Rattle.bz_tree.specs.Grammar.{leaf_role, word_role, operator_role, IsExpr, last_test, test}
-use Rattle.bz_tree.specs.private.Machine.{may_end, may_be_empty, is_single, leaves, after_left, after_right, after_element, after_target, after_clause, at_colon, after_condition, next_name, next_excluded}
+use Rattle.bz_tree.specs.private.Machine.{may_end, is_single, leaves}
 use Rattle.bz_tree.proofs.Recognizer.Accepted.{join_empty, join_assoc}
 
 -- the operators and operands after the first of a chain
@@ -289,62 +289,62 @@ condition_tail p i xs b r is second e ri third = record {
   follow = e.whole.follow;
 }
 
-left_tail : (x : Item) (xs : Items) (r : Role) → RoleMeans r x → Means (after_left r) xs → TestTail Left (item x xs)
+left_tail : (x : Item) (xs : Items) (r : Role) → RoleMeans r x → Means (after_part Left r) xs → TestTail Left (item x xs)
 left_tail x xs Comma k m = tail Left (item x xs) (left_comma x refl k (sides_of xs (wanted_whole Left xs m)))
 left_tail x xs Equals k m = tail Left (item x xs) (left_operator x refl (ap is_assignment k) (expr_of xs (wanted_whole Right xs m)))
 left_tail x xs Augmented k m = tail Left (item x xs) (left_operator x refl (ap is_assignment k) (expr_of xs (wanted_whole Right xs m)))
 left_tail x xs If k m = condition_tail Left x xs m.chain m.rest m.is m.is_chain m.after k m.after.whole.is_head
 left_tail x xs _ k m = absurd m
 
-right_tail : (x : Item) (xs : Items) (r : Role) → RoleMeans r x → Means (after_right r) xs → TestTail Right (item x xs)
+right_tail : (x : Item) (xs : Items) (r : Role) → RoleMeans r x → Means (after_part Right r) xs → TestTail Right (item x xs)
 right_tail x xs Comma k m = tail Right (item x xs) (right_comma x refl k (expr_of xs (wanted_whole Right xs m)))
 right_tail x xs If k m = condition_tail Right x xs m.chain m.rest m.is m.is_chain m.after k m.after.whole.is_head
 right_tail x xs _ k m = absurd m
 
-alone_tail : (x : Item) (xs : Items) (r : Role) → RoleMeans r x → Means (at_colon Alone Refused r) xs → TestTail Alone (item x xs)
+alone_tail : (x : Item) (xs : Items) (r : Role) → RoleMeans r x → Means (after_part Alone r) xs → TestTail Alone (item x xs)
 alone_tail x xs If k m = condition_tail Alone x xs m.chain m.rest m.is m.is_chain m.after k m.after.whole.is_head
 alone_tail x xs _ k m = absurd m
 
-step_tail : (x : Item) (xs : Items) (r : Role) → RoleMeans r x → Means (at_colon Step Refused r) xs → TestTail Step (item x xs)
+step_tail : (x : Item) (xs : Items) (r : Role) → RoleMeans r x → Means (after_part Step r) xs → TestTail Step (item x xs)
 step_tail x xs If k m = condition_tail Step x xs m.chain m.rest m.is m.is_chain m.after k m.after.whole.is_head
 step_tail x xs _ k m = absurd m
 
-key_tail : (x : Item) (xs : Items) (r : Role) → RoleMeans r x → Means (at_colon Key (Wants Alone false) r) xs → TestTail Key (item x xs)
+key_tail : (x : Item) (xs : Items) (r : Role) → RoleMeans r x → Means (after_part Key r) xs → TestTail Key (item x xs)
 key_tail x xs Colon k m = tail Key (item x xs) (record { colon = x; after = xs; is = refl; role = k; means = test_of xs (wanted_whole Alone xs m) })
 key_tail x xs If k m = condition_tail Key x xs m.chain m.rest m.is m.is_chain m.after k m.after.whole.is_head
 key_tail x xs _ k m = absurd m
 
-entry_key_tail : (x : Item) (xs : Items) (r : Role) → RoleMeans r x → Means (at_colon EntryKey (Wants Element false) r) xs → TestTail EntryKey (item x xs)
+entry_key_tail : (x : Item) (xs : Items) (r : Role) → RoleMeans r x → Means (after_part EntryKey r) xs → TestTail EntryKey (item x xs)
 entry_key_tail x xs Colon k m = tail EntryKey (item x xs) (record { colon = x; after = xs; is = refl; role = k; means = element_of xs (wanted_whole Element xs m) })
 entry_key_tail x xs If k m = condition_tail EntryKey x xs m.chain m.rest m.is m.is_chain m.after k m.after.whole.is_head
 entry_key_tail x xs _ k m = absurd m
 
-from_tail : (x : Item) (xs : Items) (r : Role) → RoleMeans r x → Means (at_colon From (Begins To) r) xs → TestTail From (item x xs)
+from_tail : (x : Item) (xs : Items) (r : Role) → RoleMeans r x → Means (after_part From r) xs → TestTail From (item x xs)
 from_tail x xs Colon k m = tail From (item x xs) (inr (record { colon = x; after = xs; is = refl; role = k; means = m }))
 from_tail x xs If k m = condition_tail From x xs m.chain m.rest m.is m.is_chain m.after k m.after.whole.is_head
 from_tail x xs _ k m = absurd m
 
-to_tail : (x : Item) (xs : Items) (r : Role) → RoleMeans r x → Means (at_colon To (Begins Step) r) xs → TestTail To (item x xs)
+to_tail : (x : Item) (xs : Items) (r : Role) → RoleMeans r x → Means (after_part To r) xs → TestTail To (item x xs)
 to_tail x xs Colon k m = tail To (item x xs) (inr (record { colon = x; after = xs; is = refl; role = k; means = m }))
 to_tail x xs If k m = condition_tail To x xs m.chain m.rest m.is m.is_chain m.after k m.after.whole.is_head
 to_tail x xs _ k m = absurd m
 
-element_tail : (x : Item) (xs : Items) (r : Role) → RoleMeans r x → Means (after_element r) xs → TestTail Element (item x xs)
+element_tail : (x : Item) (xs : Items) (r : Role) → RoleMeans r x → Means (after_part Element r) xs → TestTail Element (item x xs)
 element_tail x xs For k m = tail Element (item x xs) (for_of x xs k (targets_of xs (wanted_whole Target xs m)))
 element_tail x xs If k m = condition_tail Element x xs m.chain m.rest m.is m.is_chain m.after k m.after.whole.is_head
 element_tail x xs _ k m = absurd m
 
-target_tail : (x : Item) (xs : Items) (r : Role) → RoleMeans r x → Means (after_target r) xs → FollowTarget (item x xs)
+target_tail : (x : Item) (xs : Items) (r : Role) → RoleMeans r x → Means (after_part Target r) xs → FollowTarget (item x xs)
 target_tail x xs Comma k m = target_comma x refl k (targets_of xs (wanted_whole Target xs m))
 target_tail x xs In k m = target_in x refl k (clause_of xs (wanted_whole Clause xs m))
 target_tail x xs _ k m = absurd m
 
-clause_tail : (x : Item) (xs : Items) (r : Role) → RoleMeans r x → Means (after_clause r) xs → AreClauses (item x xs)
+clause_tail : (x : Item) (xs : Items) (r : Role) → RoleMeans r x → Means (after_part Clause r) xs → AreClauses (item x xs)
 clause_tail x xs For k m = for_clause (for_of x xs k (targets_of xs (wanted_whole Target xs m)))
 clause_tail x xs If k m = let w = clause_of xs (wanted_whole Clause xs m) in if_clause x (ap (item x) w.is) k w.is_chain w.clauses
 clause_tail x xs _ k m = absurd m
 
-else_tail : (p : Goal) (x : Item) (xs : Items) (r : Role) → RoleMeans r x → Means (after_condition p r) xs → AtElse p (item x xs)
+else_tail : (p : Goal) (x : Item) (xs : Items) (r : Role) → RoleMeans r x → Means (leaves p true r) xs → AtElse p (item x xs)
 else_tail p x xs Else k m = record { operator_text = x; after = xs; is = refl; role = k; whole = wanted_whole p xs m }
 else_tail p x xs _ k m = absurd m
 
@@ -465,15 +465,15 @@ had_means p c d x xs In fits k m = in_means p c d x xs k m
 had_means p c d x xs Not fits k m = excluded_had p c d x xs k (unchained p (Excludes p c) xs m)
 had_means p c d x xs r fits k m = after_had p c d (item x xs) (leaves_means p c x xs r k m)
 
-number_means : (p : Goal) (c : Bool) (x : Item) (xs : Items) (r : Role) → RoleMeans r x → Means (next_after_number p c r) xs → Had p c false (item x xs)
+number_means : (p : Goal) (c : Bool) (x : Item) (xs : Items) (r : Role) → RoleMeans r x → Means (next (HasNumber p c) r) xs → Had p c false (item x xs)
 number_means p c x xs Dot k m = absurd m
 number_means p c x xs r k m = had_means p c false x xs r (λ e. absurd (false≢true e)) k m
 
-name_means : (p : Goal) (c : Bool) (x : Item) (xs : Items) (r : Role) → RoleMeans r x → Means (next_name p c r) xs → Named p c (item x xs)
+name_means : (p : Goal) (c : Bool) (x : Item) (xs : Items) (r : Role) → RoleMeans r x → Means (next (Names p c) r) xs → Named p c (item x xs)
 name_means p c x xs Name k m = record { name = x; after = xs; is = refl; role = k; had = m }
 name_means p c x xs _ k m = absurd m
 
-excluded_means : (p : Goal) (c : Bool) (x : Item) (xs : Items) (r : Role) → RoleMeans r x → Means (next_excluded p c r) xs → Excluded p c (item x xs)
+excluded_means : (p : Goal) (c : Bool) (x : Item) (xs : Items) (r : Role) → RoleMeans r x → Means (next (Excludes p c) r) xs → Excluded p c (item x xs)
 excluded_means p c x xs In k m = record { operator_text = x; after = xs; is = refl; role = k; wanted = m }
 excluded_means p c x xs _ k m = absurd m
 
@@ -483,7 +483,7 @@ colon_begun To x xs k m = stepped x refl nothing k m
 colon_begun Step x xs k m = absurd m
 colon_begun _ x xs k m = tt
 
-begun_means : (p : Goal) (x : Item) (xs : Items) (r : Role) → RoleMeans r x → Means (next_begun p r) xs → Begun p (item x xs)
+begun_means : (p : Goal) (x : Item) (xs : Items) (r : Role) → RoleMeans r x → Means (next (Begins p) r) xs → Begun p (item x xs)
 begun_means p x xs Colon k m = colon_begun p x xs k m
 begun_means p x xs r k m = begun_of p (item x xs) (wanted_whole p (item x xs) (wanted_means p false x xs r k m))
 
@@ -491,13 +491,13 @@ keyed_arg : (x : Item) (xs : Items) → token_role x ≡ Name → Keyed xs → I
 keyed_arg x xs k (with_value e ee t) = keyword k ee t
 keyed_arg x xs k (without_value m) = positional (test_of (item x xs) (wanted_whole Alone (item x xs) (operand_means Alone false true x xs m (operand (ident k) m.are_suffixes))))
 
-argument_means : (x : Item) (xs : Items) (r : Role) → RoleMeans r x → Means (next_argument r) xs → IsArg (item x xs)
+argument_means : (x : Item) (xs : Items) (r : Role) → RoleMeans r x → Means (next Argument r) xs → IsArg (item x xs)
 argument_means x xs Star k m = starred (ap is_star k) (test_of xs (wanted_whole Alone xs m))
 argument_means x xs Stars k m = starred (ap is_star k) (test_of xs (wanted_whole Alone xs m))
 argument_means x xs Name k m = keyed_arg x xs k m
 argument_means x xs r k m = positional (test_of (item x xs) (wanted_whole Alone (item x xs) (wanted_means Alone false x xs r k m)))
 
-keyword_means : (x : Item) (xs : Items) (r : Role) → RoleMeans r x → Means (next_keyword r) xs → Keyed (item x xs)
+keyword_means : (x : Item) (xs : Items) (r : Role) → RoleMeans r x → Means (next Keyword r) xs → Keyed (item x xs)
 keyword_means x xs Equals k m = with_value x k (test_of xs (wanted_whole Alone xs m))
 keyword_means x xs r k m = without_value (had_means Alone false true x xs r (λ e. refl) k m)
 
@@ -527,7 +527,7 @@ had_end : (p : Goal) (c d : Bool) → (not c && ends p) ≡ true → Had p c d n
 had_end p false d h = after_had p false d no_items (part_end p h)
 had_end p true d h = absurd (false≢true h)
 
-begun_end : (p : Goal) → may_be_empty p ≡ true → Begun p no_items
+begun_end : (p : Goal) → may_end (Begins p) ≡ true → Begun p no_items
 begun_end To h = upper nothing
 begun_end Step h = nothing
 begun_end From h = absurd (false≢true h)

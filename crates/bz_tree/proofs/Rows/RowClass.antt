@@ -12,8 +12,8 @@ use Rattle.bz_tree.specs.declared.grammar.role.Role.TheVariants.{Dot, Comma, Col
 use Rattle.bz_tree.specs.declared.grammar.stage.Goal.TheVariants.{Left}
 use Rattle.bz_tree.specs.declared.grammar.stage.Stage.{Stage}
 use Rattle.bz_tree.specs.declared.grammar.stage.Stage.TheVariants.{Wants}
-use Rattle.bz_tree.specs.declared.row.spot.Naming.{Naming}
-use Rattle.bz_tree.specs.declared.row.spot.Naming.TheVariants.{Name, Join, End, Never, Lost}
+use Rattle.bz_tree.specs.declared.tree.classes.Naming.{Naming}
+use Rattle.bz_tree.specs.declared.tree.classes.Naming.TheVariants.{Name, Join, End, Never, Lost}
 use Rattle.bz_tree.specs.declared.row.spot.Read.{Read}
 use Rattle.bz_tree.specs.Tree.{Item, leaf, group, Segs, items_of}
 use Rattle.bz_tree.specs.Grammar.{leaf_role, word_role, operator_role, is_infix, is_assignment}
@@ -29,7 +29,7 @@ use Rattle.std.proofs.Math.Bool.{and-false, or-false, or_assoc}
 use Rattle.bz_tree.proofs.Trees.OneBracket.{same_either}
 
 -- a rule, from some node on
-abbrev from : Naming → List Item → Bool
+abbrev pub from : Naming → List Item → Bool
 from Name xs = is_rule xs
 from Join xs = is_rule_after xs
 from Never xs = false
@@ -43,7 +43,7 @@ naming_item n (group kind segs one_comma end) = called n kind
 naming_is : (x : Item) (r : Read) → (read_item x r).naming ≡ naming_item r.naming x
 naming_is va vb = grind arith
 
-from_step : (n : Naming) (x : Item) (xs : List Item) → from n (x ∷ xs) ≡ from (naming_item n x) xs
+pub from_step : (n : Naming) (x : Item) (xs : List Item) → from n (x ∷ xs) ≡ from (naming_item n x) xs
 from_step Name x xs = grind arith
 from_step Join x xs = grind arith
 from_step _ x xs = grind arith
@@ -121,7 +121,7 @@ operator_assigns text =
 word_assigns : (text : List ℕ) → is_assignment (word_role text) ≡ false
 word_assigns text = grind arith
 
-leaf_assigns : (kind : Kind) (text : List ℕ) → is_assignment (leaf_role kind text) ≡ is_assign (leaf kind text)
+pub leaf_assigns : (kind : Kind) (text : List ℕ) → is_assignment (leaf_role kind text) ≡ is_assign (leaf kind text)
 leaf_assigns OperatorToken text = operator_assigns text
 leaf_assigns Keyword text = word_assigns text
 leaf_assigns _ text = refl

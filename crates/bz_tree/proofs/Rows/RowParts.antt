@@ -4,8 +4,8 @@ use Rattle.std.proofs.lemmas.Bool.{false≢true, and_parts, and_from}
 use Rattle.bz_tree.specs.declared.tree.GroupKind.{GroupKind}
 use Rattle.bz_tree.specs.declared.tree.kinds.Preceding.TheVariants.{Operand}
 use Rattle.bz_tree.specs.declared.grammar.stage.Stage.{Stage}
-use Rattle.bz_tree.specs.declared.row.spot.Naming.{Naming}
-use Rattle.bz_tree.specs.declared.row.spot.Naming.TheVariants.{Never}
+use Rattle.bz_tree.specs.declared.tree.classes.Naming.{Naming}
+use Rattle.bz_tree.specs.declared.tree.classes.Naming.TheVariants.{Never}
 use Rattle.bz_tree.specs.declared.row.spot.SegmentCount.{SegmentCount}
 use Rattle.bz_tree.specs.declared.row.spot.SegmentCount.TheVariants.{Zero, One, More}
 use Rattle.bz_tree.specs.declared.row.spot.Read.{Read}

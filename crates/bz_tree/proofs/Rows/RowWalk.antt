@@ -3,10 +3,15 @@ use Rattle.std.proofs.Common.{◌≡◌, ℕ, ◌==◌, List, [], ◌∷◌, ◌
 use Rattle.std.proofs.lemmas.List.{map-append}
 use Rattle.std.proofs.lemmas.Bool.{false≢true, or_parts}
 use Rattle.std.proofs.lemmas.Bool.Decides.{nat_tests}
+use Rattle.std.specs.Prelude.{codes, count_by}
+use Rattle.std.specs.Str.{bytes_eq}
+use Rattle.std.proofs.lemmas.Slice.Eq.{bytes_eq-Decides}
 use Rattle.bz_token.specs.declared.token.Kind.{Kind}
+use Rattle.bz_token.specs.declared.token.Kind.TheVariants.{Operator}
 use Rattle.bz_token.specs.Places.{Placed}
 use Rattle.bz_tree.specs.declared.tree.GroupKind.{GroupKind}
 use Rattle.bz_tree.specs.declared.tree.kinds.Shape.{Shape}
+use Rattle.bz_tree.specs.declared.tree.kinds.Shape.TheVariants.{Round, Square, Curly}
 use Rattle.bz_tree.specs.declared.tree.kinds.Mark.{Mark}
 use Rattle.bz_tree.specs.declared.tree.kinds.Mark.TheVariants.{Open, Close, Comma, Comment, Newline, Plain}
 use Rattle.bz_tree.specs.declared.tree.kinds.Preceding.{Preceding}
@@ -19,7 +24,7 @@ use Rattle.bz_tree.specs.Brackets.{leaf_of, is_for_item, is_paren, group_with, e
 use Rattle.bz_tree.specs.Rows.{RowPart, opening, closing, segment_end, above, beside, beside_part, item_parts}
 use Rattle.bz_tree.specs.private.Machine.{next, may_end, begin, each, role_of, group_role}
 use Rattle.bz_tree.specs.private.Steps.{Walked, after_own, commented, to_last, done, has_one, kind_with, shape_of, Level, Levels, with_own, next_at}
-use Rattle.bz_tree.specs.private.RowSteps.{At, nothing, an_end, is_ended, called, shown_kind, start, read_group, Stand, around, with_node, with_here, RowState, step_to, is_refused, comment_part, after_comment_next, last_end, is_single, is_one_comma, close_on, close_below, row_next_at}
+use Rattle.bz_tree.specs.private.RowSteps.{is_ended, called, shown_kind, start, read_group, Stand, with_node, with_here, RowState, step_to, is_refused, comment_part, after_comment_next, last_end, is_single, is_one_comma, close_on, close_below, row_next_at}
 use Rattle.bz_tree.proofs.Trees.Complete.{same_itself}
 use Rattle.bz_tree.proofs.Trees.InPlace.{filled_push, filled_last}
 use Rattle.bz_tree.proofs.Trees.Sound.{none_is_some, some_injective, same_shape_is}
@@ -35,14 +40,15 @@ walked_of segs (fresh line) = record { segs = segs; before = []; nodes = []; suf
 walked_of segs (some before x xs line) = record { segs = segs; before = before; nodes = x ∷ xs; suffix = None; after = []; last = end_of_node line; trailing = false }
 walked_of segs (over before x xs suffix after) = record { segs = segs; before = before; nodes = x ∷ xs; suffix = suffix; after = after; last = no_token; trailing = false }
 
+abbrev is_comma : Mark → Bool
+is_comma Comma = true
+is_comma _ = false
+
 abbrev pub level_of : Bracket → Level
 level_of g = record { kind = g.kind; walked = Some (walked_of g.segs g.place); at = (read_of g).at }
 
-abbrev around_of : Bracket → Stand
-around_of g = around (stand_of g)
-
 abbrev pub image : Bracket → List Bracket → RowState
-image g gs = record { top = stand_of g; outer = map around_of gs; parts = all_parts g gs }
+image g gs = record { top = stand_of g; outer = map stand_of gs; parts = all_parts g gs }
 
 -- at the top there is one segment, and no comment after its suffix
 abbrev pub is_top : Place → Bool
@@ -91,7 +97,7 @@ stays : (kind : Option GroupKind) (ss rr : List Segment) (p q : Place) (gs : Lis
 stays kind ss rr p q gs ps top step new is top_is parts_are step_is good goods = record {
   to = bracket kind rr q;
   around = gs;
-  state_is = sym is ∙ (ap (λ s. step_to s ps (image (bracket kind ss p) gs)) top_is ∙ ap (λ xs. record { top = stand_of (bracket kind rr q); outer = map around_of gs; parts = xs }) (sym (all_push kind ss rr p q gs ps parts_are)));
+  state_is = sym is ∙ (ap (λ s. step_to s ps (image (bracket kind ss p) gs)) top_is ∙ ap (λ xs. record { top = stand_of (bracket kind rr q); outer = map stand_of gs; parts = xs }) (sym (all_push kind ss rr p q gs ps parts_are)));
   step_is = step_is;
   good = good;
   goods = goods;
@@ -168,13 +174,26 @@ leaf_leads t g gs new same good goods =
 comma_operator : (kind : Kind) (text : List ℕ) → kind_mark kind text ≡ Comma → (is_for_at kind text ≡ false) × (kind_after kind text ≡ Other)
 comma_operator va vb vc = grind arith
 
+comma_chain : (a b c d e f g : Bool) → cond a (Open Round) (cond b (Open Square) (cond c (Open Curly) (cond d (Close Round) (cond e (Close Square) (cond f (Close Curly) (cond g Comma Plain)))))) ≡ Comma → g ≡ true
+comma_chain va vb vc vd ve vf vg vh = grind arith
+
+-- it has no newline
+comma_line : (kind : Kind) (text : List ℕ) → kind_mark kind text ≡ Comma → count_by (λ b. b == 10) text ≡ 0
+comma_line Operator text h =
+    let is = comma_chain (bytes_eq text (codes "(")) (bytes_eq text (codes "[")) (bytes_eq text (codes "{")) (bytes_eq text (codes ")")) (bytes_eq text (codes "]")) (bytes_eq text (codes "}")) (bytes_eq text (codes ",")) h in
+    ap (count_by (λ b. b == 10)) ((bytes_eq-Decides text (codes ",")).0 is)
+comma_line _ text h = absurd (false≢true (ap is_comma h))
+
 top_comma_leads : (t : Placed) → mark_of t ≡ Comma → (segs : List Segment) (place : Place) (gs : List Bracket) (new : RowState) → row_next_at Comma t (image (bracket None segs place) gs) ≡ Some new
     → IsGoodAt None segs place → AreGood gs → Leads (next_at Comma t (level_of (bracket None segs place)) (map level_of gs)) new
 top_comma_leads t is segs place gs new same good goods =
-    let p = passed (is_ended (at_place place)) _ new same in
+    let line : t.line ≡ end_line t = omega (arith, comma_line t.kind t.text is) in
+    let p = passed (is_refused t (at_place place)) _ new same in
+    let r = or_parts (is_for_at t.kind t.text) _ (or_parts _ _ p.0).1 in
     let operator = comma_operator t.kind t.text is in
-    node_leads (bracket None segs place) gs (leaf_of t) t.line _ _ _ new operator.0 p.0 refl refl p.1
-    (ap (λ l. Some (l, map level_of gs)) (level_is None _ _ _ Other _ (sym (ap (λ b. kind_with b (Some (walked_of segs place)) None) operator.0)) refl (sym operator.1))) good goods
+    node_leads (bracket None segs place) gs (leaf_of t) (end_line t) _ _ _ new operator.0 r.1 refl refl p.1
+    (ap (λ l. Some (l, map level_of gs)) (level_is None _ _ _ Other _ (sym (ap (λ b. kind_with b (Some (walked_of segs place)) None) operator.0)) refl (sym operator.1))
+    ∙ ap (λ n. Some (with_own (level_of (bracket None segs place)) (node n (leaf_of t)), map level_of gs)) line) good goods
 
 -- a comma in a bracket
 abbrev with_last : List Segment → List (List ℕ) → List Item → Option (List ℕ) → List Segment
@@ -345,15 +364,12 @@ closes kind segs (over before x xs suffix after) ends same good =
 read_group_is : (kind : GroupKind) (segs : List Segment) (place : Place) (r : Read) → IsReadGroup kind segs place → read_group kind r ≡ read_item (group_at kind segs place) r
 read_group_is kind segs place r is = ap (λ role. record { stage = next r.stage role; at = Operand; naming = called r.naming kind; assigns = r.assigns }) (sym is)
 
-around_ended : (a : At) → is_ended (cond (is_ended a) an_end nothing) ≡ is_ended a
-around_ended va = grind arith
-
 close_leads_at : (shape : Shape) (t : Placed) (kind : GroupKind) (segs : List Segment) (place : Place) (h : Bracket) (hs : List Bracket) (ends : List RowPart) (new : RowState) → shape_of kind ≡ shape
     → last_end (at_place place) (may_end (read_items (start (Some kind)) (nodes_of place)).stage) ≡ Some ends
-    → close_on kind t.line ends (around_of h) (map around_of hs) (image (bracket (Some kind) segs place) (h ∷ hs)) ≡ Some new
+    → close_on kind t.line ends (stand_of h) (map stand_of hs) (image (bracket (Some kind) segs place) (h ∷ hs)) ≡ Some new
     → IsGoodAt (Some kind) segs place → IsGood h → AreGood hs → Leads (next_at (Close shape) t (level_of (bracket (Some kind) segs place)) (map level_of (h ∷ hs))) new
 close_leads_at shape t kind segs place h hs ends new fits ends_are same good good_h goods =
-    let p = passed (is_ended (around_of h).here) _ new same in
+    let p = passed (is_ended (stand_of h).here) _ new same in
     let c = closes kind segs place ends ends_are good in
     let i = done (walked_of segs place) in
     let one = is_one_comma kind (stand_of (bracket (Some kind) segs place)) in
@@ -365,9 +381,9 @@ close_leads_at shape t kind segs place h hs ends new fits ends_are same good goo
     sym (ap (λ qs. all_parts h hs ++ (opening (shown_kind n kind) ∷ qs)) (sym (c.parts_are one)) ∙ simp append_assoc) in
     let step_is : next_at (Close shape) t (level_of (bracket (Some kind) segs place)) (map level_of (h ∷ hs)) ≡ Some (with_own (level_of h) (node t.line g), map level_of hs) =
     ap (λ b. cond b (Some (with_own (level_of h) (node t.line g), map level_of hs)) None) (ap (λ s. same_shape (Some s) shape) fits ∙ same_itself shape) in
-    node_leads h hs g t.line (read_group kind (read_of h)) ps _ new refl (sym (around_ended (at_place h.place)) ∙ p.0) (read_group_is kind segs place (read_of h) c.role_is)
+    node_leads h hs g t.line (read_group kind (read_of h)) ps _ new refl p.0 (read_group_is kind segs place (read_of h) c.role_is)
     (ap (λ b. opening (shown_kind n kind) ∷ (all_segs_parts i.segs ++ (map above i.end ++ closing b ∷ []))) (one_comma_is kind segs place))
-    (ap (λ qs. record { top = with_node t.line (read_group kind (read_of h)) (stand_of h); outer = map around_of hs; parts = qs }) (sym parts_are) ∙ p.1)
+    (ap (λ qs. record { top = with_node t.line (read_group kind (read_of h)) (stand_of h); outer = map stand_of hs; parts = qs }) (sym parts_are) ∙ p.1)
     step_is good_h goods
 
 close_leads : (shape : Shape) (t : Placed) (kind : Option GroupKind) (segs : List Segment) (place : Place) (gs : List Bracket) (new : RowState) → row_next_at (Close shape) t (image (bracket kind segs place) gs) ≡ Some new
@@ -379,7 +395,7 @@ close_leads shape t (Some kind) segs place gs new same good goods = at_shape (sa
     s = image (bracket (Some kind) segs place) gs
 
     at_outer : (hs : List Bracket) (ends : List RowPart) → shape_of kind ≡ shape → last_end (at_place place) (may_end (read_items (start (Some kind)) (nodes_of place)).stage) ≡ Some ends
-        → close_below kind t.line ends (map around_of hs) (image (bracket (Some kind) segs place) hs) ≡ Some new → AreGood hs
+        → close_below kind t.line ends (map stand_of hs) (image (bracket (Some kind) segs place) hs) ≡ Some new → AreGood hs
         → Leads (next_at (Close shape) t (level_of (bracket (Some kind) segs place)) (map level_of hs)) new
     at_outer [] ends fits ends_are same goods = absurd (none_is_some new same)
     at_outer (h ∷ hs) ends fits ends_are same goods = close_leads_at shape t kind segs place h hs ends new fits ends_are same good goods.0 goods.1

@@ -21,74 +21,13 @@ ends EntryKey = false
 ends Target = false
 ends _ = true
 
--- where a part may be empty
-abbrev pub may_be_empty : Goal → Bool
-may_be_empty To = true
-may_be_empty Step = true
-may_be_empty _ = false
-
 abbrev pub may_end : Stage → Bool
 may_end (Has part asked) = not asked && ends part
 may_end (HasNumber part asked) = not asked && ends part
-may_end (Begins part) = may_be_empty part
+may_end (Begins To) = true
+may_end (Begins Step) = true
 may_end Keyword = true
 may_end _ = false
-
--- after the part's Test, its Primary (Target), or its Chain (Clause)
-abbrev pub after_left : Role → Stage
-after_left Comma = Wants Left false
-after_left Equals = Wants Right false
-after_left Augmented = Wants Right false
-after_left If = Wants Left true
-after_left _ = Refused
-
-abbrev pub after_right : Role → Stage
-after_right Comma = Wants Right false
-after_right If = Wants Right true
-after_right _ = Refused
-
-abbrev pub after_element : Role → Stage
-after_element For = Wants Target false
-after_element If = Wants Element true
-after_element _ = Refused
-
-abbrev pub after_target : Role → Stage
-after_target Comma = Wants Target false
-after_target In = Wants Clause false
-after_target _ = Refused
-
-abbrev pub after_clause : Role → Stage
-after_clause For = Wants Target false
-after_clause If = Wants Clause false
-after_clause _ = Refused
-
--- a part that ends at a colon, or, where nothing comes next, at the end
-abbrev pub at_colon : Goal → Stage → Role → Stage
-at_colon part next Colon = next
-at_colon part next If = Wants part true
-at_colon part next _ = Refused
-
-abbrev pub after_part : Goal → Role → Stage
-after_part Left r = after_left r
-after_part Right r = after_right r
-after_part Alone r = at_colon Alone Refused r
-after_part Key r = at_colon Key (Wants Alone false) r
-after_part Element r = after_element r
-after_part EntryKey r = at_colon EntryKey (Wants Element false) r
-after_part From r = at_colon From (Begins To) r
-after_part To r = at_colon To (Begins Step) r
-after_part Step r = at_colon Step Refused r
-after_part Target r = after_target r
-after_part Clause r = after_clause r
-
--- after the condition of a conditional
-abbrev pub after_condition : Goal → Role → Stage
-after_condition part Else = Wants part false
-after_condition part _ = Refused
-
-abbrev pub leaves : Goal → Bool → Role → Stage
-leaves part false r = after_part part r
-leaves part true r = after_condition part r
 
 abbrev pub is_target : Goal → Bool
 is_target Target = true
@@ -97,6 +36,30 @@ is_target _ = false
 -- a stage of chains: a Target has none
 abbrev pub in_chain : Goal → Stage → Stage
 in_chain part next = if is_target part then Refused else next
+
+-- what stands after a part: after its Test, its Primary (Target), or its Chain (Clause)
+abbrev pub after_part : Goal → Role → Stage
+after_part Left Comma = Wants Left false
+after_part Left Equals = Wants Right false
+after_part Left Augmented = Wants Right false
+after_part Right Comma = Wants Right false
+after_part Key Colon = Wants Alone false
+after_part EntryKey Colon = Wants Element false
+after_part From Colon = Begins To
+after_part To Colon = Begins Step
+after_part Element For = Wants Target false
+after_part Clause For = Wants Target false
+after_part Target Comma = Wants Target false
+after_part Target In = Wants Clause false
+after_part Clause If = Wants Clause false
+after_part part If = in_chain part (Wants part true)
+after_part _ _ = Refused
+
+-- `true`: after the condition of a conditional
+abbrev pub leaves : Goal → Bool → Role → Stage
+leaves part false r = after_part part r
+leaves part true Else = Wants part false
+leaves part true _ = Refused
 
 abbrev pub next_wanted : Goal → Bool → Role → Stage
 next_wanted part asked Name = Has part asked
@@ -117,42 +80,22 @@ next_after part asked In = if is_target part then leaves part asked In else Want
 next_after part asked Not = in_chain part (Excludes part asked)
 next_after part asked r = leaves part asked r
 
-abbrev pub next_after_number : Goal → Bool → Role → Stage
-next_after_number part asked Dot = Refused
-next_after_number part asked r = next_after part asked r
-
-abbrev pub next_name : Goal → Bool → Role → Stage
-next_name part asked Name = Has part asked
-next_name part asked _ = Refused
-
-abbrev pub next_excluded : Goal → Bool → Role → Stage
-next_excluded part asked In = Wants part asked
-next_excluded part asked _ = Refused
-
-abbrev pub next_begun : Goal → Role → Stage
-next_begun part Colon = after_part part Colon
-next_begun part r = next_wanted part false r
-
-abbrev pub next_argument : Role → Stage
-next_argument Star = Wants Alone false
-next_argument Stars = Wants Alone false
-next_argument Name = Keyword
-next_argument r = next_wanted Alone false r
-
-abbrev pub next_keyword : Role → Stage
-next_keyword Equals = Wants Alone false
-next_keyword r = next_after Alone false r
-
 abbrev pub next : Stage → Role → Stage
-next Refused r = Refused
 next (Wants part asked) r = next_wanted part asked r
 next (Has part asked) r = next_after part asked r
-next (HasNumber part asked) r = next_after_number part asked r
-next (Names part asked) r = next_name part asked r
-next (Excludes part asked) r = next_excluded part asked r
-next (Begins part) r = next_begun part r
-next Argument r = next_argument r
-next Keyword r = next_keyword r
+next (HasNumber part asked) Dot = Refused
+next (HasNumber part asked) r = next_after part asked r
+next (Names part asked) Name = Has part asked
+next (Excludes part asked) In = Wants part asked
+next (Begins part) Colon = after_part part Colon
+next (Begins part) r = next_wanted part false r
+next Argument Star = Wants Alone false
+next Argument Stars = Wants Alone false
+next Argument Name = Keyword
+next Argument r = next_wanted Alone false r
+next Keyword Equals = Wants Alone false
+next Keyword r = next_after Alone false r
+next _ _ = Refused
 
 -- the stage in which a segment of a group begins; what else a load's segments are, `is_load` says
 abbrev pub begin : GroupKind → Stage

@@ -15,15 +15,14 @@ use Rattle.bz_tree.specs.declared.grammar.role.Role.{Role}
 use Rattle.bz_tree.specs.declared.grammar.role.Role.TheVariants.{Stray}
 use Rattle.bz_tree.specs.declared.grammar.stage.Goal.TheVariants.{Left}
 use Rattle.bz_tree.specs.declared.grammar.stage.Stage.TheVariants.{Wants}
-use Rattle.bz_tree.specs.declared.row.spot.Naming.{Naming}
-use Rattle.bz_tree.specs.declared.row.spot.Naming.TheVariants.{Name, Join, End, Never, Lost}
+use Rattle.bz_tree.specs.declared.tree.classes.Naming.{Naming}
+use Rattle.bz_tree.specs.declared.tree.classes.Naming.TheVariants.{Name, Join, End, Never, Lost}
 use Rattle.bz_tree.specs.declared.row.spot.SegmentCount.{SegmentCount}
 use Rattle.bz_tree.specs.declared.row.spot.SegmentCount.TheVariants.{Zero, One, More}
 use Rattle.bz_tree.specs.declared.row.spot.Here.{Here}
 use Rattle.bz_tree.specs.declared.row.spot.Here.TheVariants.{Nothing, Comma as AfterComma, Node as AfterNode, Ended}
 use Rattle.bz_tree.specs.declared.row.spot.Read.{Read}
 use Rattle.bz_tree.specs.declared.row.spot.Spot.{Spot}
-use Rattle.bz_tree.specs.declared.row.spot.Around.{Around}
 use Rattle.bz_tree.specs.declared.row.rows.RowWalk.{RowWalk}
 use Rattle.bz_tree.specs.declared.row.Row.{Row}
 use Rattle.bz_tree.specs.Kinds.{mark_of, kind_after, is_for_at, group_kind, is_one, same_shape, is_operator_at}
@@ -106,13 +105,6 @@ pub record Stand : Type 0 where
 abbrev pub stand : Spot → Stand
 stand s = record { kind = s.kind; done = s.done; here = here_view s.here; read = s.read }
 
--- the same while another bracket is open in it: of what stands directly before, only an end is told
-abbrev pub around : Stand → Stand
-around s = record { kind = s.kind; done = s.done; here = if is_ended s.here then an_end else nothing; read = s.read }
-
-abbrev pub around_view : Around → Stand
-around_view a = record { kind = a.kind; done = a.done; here = if a.ended then an_end else nothing; read = a.read }
-
 abbrev pub new_stand : Option GroupKind → Stand
 new_stand kind = record { kind = kind; done = Zero; here = nothing; read = start kind }
 
@@ -134,7 +126,7 @@ pub record RowState : Type 0 where
   pub parts : List RowPart
 
 abbrev pub row_state : RowWalk → RowState
-row_state w = record { top = stand w.top; outer = reverse (map around_view w.outer.items); parts = map part_view w.parts.items }
+row_state w = record { top = stand w.top; outer = reverse (map stand w.outer.items); parts = map part_view w.parts.items }
 
 abbrev pub step_to : Stand → List RowPart → RowState → RowState
 step_to top parts s = record { top = top; outer = s.outer; parts = s.parts ++ parts }
@@ -152,18 +144,12 @@ leaf_next t s =
     if is_refused t s.top.here then None
     else Some (step_to (with_node (end_line t) (read_leaf t.kind t.text s.top.read) s.top) (a_token t.kind t.text ∷ []) s)
 
--- a comma that is a node
-abbrev pub top_comma_next : Placed → RowState → Option RowState
-top_comma_next t s =
-    if is_ended s.top.here then None
-    else Some (step_to (with_node t.line (read_leaf t.kind t.text s.top.read) s.top) (a_token t.kind t.text ∷ []) s)
-
 abbrev pub segment_next : ℕ → At → RowState → Option RowState
 segment_next line (a_node end) s = if may_end s.top.read.stage then Some (step_to (with_comma line s.top) (segment_end ∷ []) s) else None
 segment_next line _ s = None
 
 abbrev pub comma_next : Option GroupKind → Placed → RowState → Option RowState
-comma_next None t s = top_comma_next t s
+comma_next None t s = leaf_next t s
 comma_next (Some kind) t s = segment_next t.line s.top.here s
 
 -- a comment that is on the line of what stands before it, or not
@@ -189,7 +175,7 @@ comment_next an_end line text s = end_comment_next s.top.kind text s
 abbrev pub open_next : GroupKind → RowState → Option RowState
 open_next kind s =
     if is_one kind then None
-    else Some (record { top = new_stand (Some kind); outer = around s.top ∷ s.outer; parts = s.parts ++ opening (shown_kind s.top.read.naming kind) ∷ [] })
+    else Some (record { top = new_stand (Some kind); outer = s.top ∷ s.outer; parts = s.parts ++ opening (shown_kind s.top.read.naming kind) ∷ [] })
 
 -- what ends the last segment, if it may end
 abbrev pub last_end : At → Bool → Option (List RowPart)

@@ -11,8 +11,6 @@ use Rattle.bz_tree.specs.declared.tree.kinds.Preceding.TheVariants.{Other}
 use Rattle.bz_tree.specs.declared.tree.owners.Before.{Before}
 use Rattle.bz_tree.specs.declared.tree.owners.Before.TheVariants.{Nothing, Node as BeforeNode, Comma as BeforeComma}
 use Rattle.bz_tree.specs.declared.tree.owners.Walk.{Walk}
-use Rattle.bz_tree.specs.declared.tree.classes.Phase.{Phase}
-use Rattle.bz_tree.specs.declared.tree.classes.Phase.TheVariants.{Name, Join, End}
 use Rattle.bz_tree.specs.declared.tree.owners.Content.{Content}
 use Rattle.bz_tree.specs.declared.tree.build.Frame.{Frame}
 use Rattle.bz_tree.specs.declared.tree.build.State.{State}
@@ -23,8 +21,8 @@ use Rattle.bz_tree.specs.View.{text_of, texts, node_view, seg_view}
 use Rattle.bz_tree.specs.Kinds.{mark_of, is_one, group_kind, same_shape}
 use Rattle.bz_tree.specs.Owners.{Own, node, comma, comment, Last, no_token, end_of_node, end_of_comma, is_on, Inside}
 use Rattle.bz_tree.specs.Brackets.{leaf_of, own_of, preceding, is_for_item, group_with}
-use Rattle.bz_tree.specs.Statement.{segment_with, is_rule, is_rule_after}
-use Rattle.bz_token.specs.Common.{is_empty, is_filled}
+use Rattle.bz_tree.specs.Statement.{segment_with}
+use Rattle.bz_token.specs.Common.{is_filled}
 
 -- One bracket: the segments that are done, and of the segment here its nodes, the comments before its last node, its suffix so far, the comments after that.
 pub record Walked : Type 0 where
@@ -207,9 +205,3 @@ run top outer (t ∷ ts) = option_and_then (λ ls. run ls.0 ls.1 ts) (next t (to
 
 abbrev pub state : State → Levels
 state s = (level s.top, levels s.outer.items)
-
--- a rule, from some node on
-abbrev pub rule_from : Phase → List Item → Bool
-rule_from Name xs = is_rule xs
-rule_from Join xs = is_rule_after xs
-rule_from End xs = is_empty xs

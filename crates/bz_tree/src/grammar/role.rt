@@ -1,11 +1,8 @@
 //! What a token is to the grammar.
 
 ghost use Rattle.std.specs.Prelude.{◌≡◌, ◌<◌, ◌∷◌, [], length};
-ghost use Rattle.bz_tree.specs.View.{text_of};
-ghost use Rattle.bz_tree.specs.Grammar.{word_role, operator_role, is_infix, leaf_role};
-ghost use Rattle.bz_tree.specs.Statement.{is_augmented};
+ghost use Rattle.bz_tree.specs.Grammar.{word_role, operator_role, leaf_role, is_assignment};
 
-use crate::tree::Leaf;
 use bz_token::Kind;
 
 /// The role of a node in the grammar.
@@ -81,8 +78,10 @@ fn longer_role(text: &str) -> Role
 {
     match text {
         "**" => Role::Stars,
-        _ if is_augmented(text) => Role::Augmented,
-        _ if is_infix(text) => Role::Operator,
+        "+=" | "-=" | "*=" | "/=" | "//=" | "%=" | "&=" | "|=" | "^=" | "<<=" | ">>=" => {
+            Role::Augmented
+        }
+        "==" | "!=" | "<=" | ">=" | "<<" | ">>" | "//" => Role::Operator,
         _ => Role::Stray,
     }
 }
@@ -99,25 +98,12 @@ pub(crate) fn operator_role(text: &str) -> Role
     }
 }
 
-/// An operator that assigns, but for `=`.
-pub(crate) fn is_augmented(text: &str) -> bool
-    ensures { result ≡ is_augmented text.now }
+/// `=` and the augmented assignments.
+#[inline(always)]
+pub(crate) fn is_assignment(role: Role) -> bool
+    ensures { result ≡ is_assignment role }
 {
-    match text {
-        "+=" | "-=" | "*=" | "/=" | "//=" | "%=" | "&=" | "|=" | "^=" | "<<=" | ">>=" => true,
-        _ => false,
-    }
-}
-
-// An operator that stands between operands alone.
-fn is_infix(text: &str) -> bool
-    ensures { result ≡ is_infix text.now }
-{
-    match text {
-        "==" | "!=" | "<" | ">" | "<=" | ">=" | "|" | "^" | "&" | "<<" | ">>" | "/" | "//" | "%" =>
-            { true }
-        _ => false,
-    }
+    matches!(role, Role::Equals | Role::Augmented)
 }
 
 /// What a token of this kind and text is.
@@ -133,11 +119,4 @@ pub(crate) fn token_role(kind: Kind, text: &str) -> Role
         Kind::Operator => operator_role(text),
         _ => Role::Stray,
     }
-}
-
-#[inline(always)]
-pub(crate) fn leaf_role(leaf: &Leaf<'_>) -> Role
-    ensures { result ≡ leaf_role leaf.now.kind (text_of leaf.now.text) }
-{
-    token_role(leaf.kind, leaf.text)
 }

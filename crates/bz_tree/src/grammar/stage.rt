@@ -2,7 +2,7 @@
 //! `rows.rt` of rows.
 
 ghost use Rattle.std.specs.Prelude.{◌≡◌, true, false};
-ghost use Rattle.bz_tree.specs.private.Machine.{ends, may_end, after_left, after_right, after_element, after_target, after_clause, at_colon, after_part, leaves, in_chain, next_wanted, next_after, next_after_number, next_begun, next_argument, next, begin, group_role};
+ghost use Rattle.bz_tree.specs.private.Machine.{ends, may_end, after_part, leaves, in_chain, next_wanted, next_after, next, begin, group_role};
 
 use crate::grammar::role::Role;
 use crate::tree::GroupKind;
@@ -79,84 +79,25 @@ pub(crate) fn may_end(stage: Stage) -> bool
     }
 }
 
-fn after_left(role: Role) -> Stage
-    ensures { result ≡ after_left role }
-{
-    match role {
-        Role::Comma => Stage::Wants(Goal::Left, false),
-        Role::Equals | Role::Augmented => Stage::Wants(Goal::Right, false),
-        Role::If => Stage::Wants(Goal::Left, true),
-        _ => Stage::Refused,
-    }
-}
-
-fn after_right(role: Role) -> Stage
-    ensures { result ≡ after_right role }
-{
-    match role {
-        Role::Comma => Stage::Wants(Goal::Right, false),
-        Role::If => Stage::Wants(Goal::Right, true),
-        _ => Stage::Refused,
-    }
-}
-
-fn after_element(role: Role) -> Stage
-    ensures { result ≡ after_element role }
-{
-    match role {
-        Role::For => Stage::Wants(Goal::Target, false),
-        Role::If => Stage::Wants(Goal::Element, true),
-        _ => Stage::Refused,
-    }
-}
-
-fn after_target(role: Role) -> Stage
-    ensures { result ≡ after_target role }
-{
-    match role {
-        Role::Comma => Stage::Wants(Goal::Target, false),
-        Role::In => Stage::Wants(Goal::Clause, false),
-        _ => Stage::Refused,
-    }
-}
-
-fn after_clause(role: Role) -> Stage
-    ensures { result ≡ after_clause role }
-{
-    match role {
-        Role::For => Stage::Wants(Goal::Target, false),
-        Role::If => Stage::Wants(Goal::Clause, false),
-        _ => Stage::Refused,
-    }
-}
-
-// A part that ends at a colon, or, where nothing comes next, at the end.
-fn at_colon(part: Goal, next: Stage, role: Role) -> Stage
-    ensures { result ≡ at_colon part next role }
-{
-    match role {
-        Role::Colon => next,
-        Role::If => Stage::Wants(part, true),
-        _ => Stage::Refused,
-    }
-}
-
+// What stands after a part: after its Test, its Primary (Target), or its Chain (Clause).
 #[inline(always)]
 fn after_part(part: Goal, role: Role) -> Stage
     ensures { result ≡ after_part part role }
 {
-    match part {
-        Goal::Left => after_left(role),
-        Goal::Right => after_right(role),
-        Goal::Alone => at_colon(Goal::Alone, Stage::Refused, role),
-        Goal::Key => at_colon(Goal::Key, Stage::Wants(Goal::Alone, false), role),
-        Goal::Element => after_element(role),
-        Goal::EntryKey => at_colon(Goal::EntryKey, Stage::Wants(Goal::Element, false), role),
-        Goal::From => at_colon(Goal::From, Stage::Begins(Goal::To), role),
-        Goal::To => at_colon(Goal::To, Stage::Begins(Goal::Step), role),
-        Goal::Step => at_colon(Goal::Step, Stage::Refused, role),
-        Goal::Target => after_target(role),
-        Goal::Clause => after_clause(role),
+    match (part, role) {
+        (Goal::Left, Role::Comma) => Stage::Wants(Goal::Left, false),
+        (Goal::Left, Role::Equals | Role::Augmented) => Stage::Wants(Goal::Right, false),
+        (Goal::Right, Role::Comma) => Stage::Wants(Goal::Right, false),
+        (Goal::Key, Role::Colon) => Stage::Wants(Goal::Alone, false),
+        (Goal::EntryKey, Role::Colon) => Stage::Wants(Goal::Element, false),
+        (Goal::From, Role::Colon) => Stage::Begins(Goal::To),
+        (Goal::To, Role::Colon) => Stage::Begins(Goal::Step),
+        (Goal::Element | Goal::Clause, Role::For) => Stage::Wants(Goal::Target, false),
+        (Goal::Target, Role::Comma) => Stage::Wants(Goal::Target, false),
+        (Goal::Target, Role::In) => Stage::Wants(Goal::Clause, false),
+        (Goal::Clause, Role::If) => Stage::Wants(Goal::Clause, false),
+        (_, Role::If) => in_chain(part, Stage::Wants(part, true)),
+        _ => Stage::Refused,
     }
 }
 
@@ -208,49 +149,26 @@ fn next_after(part: Goal, asked: bool, role: Role) -> Stage
     }
 }
 
-fn next_after_number(part: Goal, asked: bool, role: Role) -> Stage
-    ensures { result ≡ next_after_number part asked role }
-{
-    match role {
-        Role::Dot => Stage::Refused,
-        _ => next_after(part, asked, role),
-    }
-}
-
-fn next_begun(part: Goal, role: Role) -> Stage
-    ensures { result ≡ next_begun part role }
-{
-    match role {
-        Role::Colon => after_part(part, role),
-        _ => next_wanted(part, false, role),
-    }
-}
-
-fn next_argument(role: Role) -> Stage
-    ensures { result ≡ next_argument role }
-{
-    match role {
-        Role::Star | Role::Stars => Stage::Wants(Goal::Alone, false),
-        Role::Name => Stage::Keyword,
-        _ => next_wanted(Goal::Alone, false, role),
-    }
-}
-
 /// The stage after a node of this role.
 #[inline(always)]
 pub(crate) fn next(stage: Stage, role: Role) -> Stage
     ensures { result ≡ next stage role }
 {
-    match stage {
-        Stage::Wants(part, asked) => next_wanted(part, asked, role),
-        Stage::Has(part, asked) => next_after(part, asked, role),
-        Stage::HasNumber(part, asked) => next_after_number(part, asked, role),
-        Stage::Names(part, asked) if matches!(role, Role::Name) => Stage::Has(part, asked),
-        Stage::Excludes(part, asked) if matches!(role, Role::In) => Stage::Wants(part, asked),
-        Stage::Begins(part) => next_begun(part, role),
-        Stage::Argument => next_argument(role),
-        Stage::Keyword if matches!(role, Role::Equals) => Stage::Wants(Goal::Alone, false),
-        Stage::Keyword => next_after(Goal::Alone, false, role),
+    match (stage, role) {
+        (Stage::Wants(part, asked), _) => next_wanted(part, asked, role),
+        (Stage::HasNumber(_, _), Role::Dot) => Stage::Refused,
+        (Stage::Has(part, asked) | Stage::HasNumber(part, asked), _) => {
+            next_after(part, asked, role)
+        }
+        (Stage::Names(part, asked), Role::Name) => Stage::Has(part, asked),
+        (Stage::Excludes(part, asked), Role::In) => Stage::Wants(part, asked),
+        (Stage::Begins(part), Role::Colon) => after_part(part, role),
+        (Stage::Begins(part), _) => next_wanted(part, false, role),
+        (Stage::Argument, Role::Star | Role::Stars) => Stage::Wants(Goal::Alone, false),
+        (Stage::Argument, Role::Name) => Stage::Keyword,
+        (Stage::Argument, _) => next_wanted(Goal::Alone, false, role),
+        (Stage::Keyword, Role::Equals) => Stage::Wants(Goal::Alone, false),
+        (Stage::Keyword, _) => next_after(Goal::Alone, false, role),
         _ => Stage::Refused,
     }
 }

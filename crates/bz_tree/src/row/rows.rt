@@ -14,11 +14,11 @@ ghost use Rattle.bz_tree.specs.Kinds.{group_kind, operator_mark};
 ghost use Rattle.bz_tree.specs.RowReads.{has_row};
 ghost use Rattle.bz_tree.specs.Rows.{IsRowOf, part_view};
 ghost use Rattle.bz_tree.specs.private.Machine.{may_end};
-ghost use Rattle.bz_tree.specs.private.RowSteps.{here_view, row_state, leaf_next, top_comma_next, comma_next, comment_part, after_comment_next, comment_next, open_next, last_end, close_next, row_next, row_next_at, row_view, row_run, row_start, is_stray, is_upright};
+ghost use Rattle.bz_tree.specs.private.RowSteps.{here_view, row_state, leaf_next, comma_next, comment_part, after_comment_next, comment_next, open_next, last_end, close_next, row_next, row_next_at, row_view, row_run, row_start, is_stray, is_upright};
 
 use crate::grammar::role::{Role, operator_role, token_role};
 use crate::grammar::stage::may_end;
-use crate::row::spot::{Around, Here, Spot, shown_kind};
+use crate::row::spot::{Here, Spot, shown_kind};
 use crate::row::{Part, Parts, Row};
 use crate::tree::GroupKind;
 use crate::tree::block::is_block_word;
@@ -41,7 +41,7 @@ const MOST_MORE: usize = 4096;
 #[derive(Drop)]
 pub(crate) struct RowWalk<'a> {
     pub(crate) parts: Parts<'a>,
-    pub(crate) outer: Vec<Around, &'a Bump>,
+    pub(crate) outer: Vec<Spot<'a>, &'a Bump>,
     pub(crate) top: Spot<'a>,
 }
 
@@ -77,7 +77,7 @@ impl<'a> RowWalk<'a> {
         Ok(true)
     }
 
-    // A keyword or a number, or what stands in no row.
+    // A keyword, a number, a comma at the top, where it is a node, or what stands in no row.
     #[inline(never)]
     fn push_other(&mut self, token: &Token<'a>) -> Result<bool, NoMemory>
         ensures { IfOk result
@@ -86,29 +86,12 @@ impl<'a> RowWalk<'a> {
         self.push_leaf(token, token.kind, token_role(token.kind, token.text))
     }
 
-    // At the top a comma is a node.
-    #[inline(never)]
-    fn add_top_comma(&mut self, token: &Token<'a>) -> Result<bool, NoMemory>
-        ensures { IfOk result
-            (λ some. then_some some (row_state self.new) ≡ top_comma_next (placed token.now) (row_state self.old)) }
-    {
-        if self.top.is_ended() {
-            return Ok(false);
-        }
-        push(&mut self.parts, Part::Token(token.kind, token.text))?;
-        self.top
-            .read
-            .add_leaf(token.kind, token.text, token_role(token.kind, token.text));
-        self.top.here = Here::Node(token.line, "");
-        Ok(true)
-    }
-
     fn add_comma(&mut self, token: &Token<'a>) -> Result<bool, NoMemory>
         ensures { IfOk result (λ some. then_some some (row_state self.new)
             ≡ comma_next self.old.top.kind (placed token.now) (row_state self.old)) }
     {
         if self.top.kind.is_none() {
-            return self.add_top_comma(token);
+            return self.push_other(token);
         }
         match self.top.here {
             Here::Node(_, _) if may_end(self.top.read.stage) => {
@@ -163,6 +146,8 @@ impl<'a> RowWalk<'a> {
         }
     }
 
+    // The bracket here becomes the innermost around a new one, in which nothing stands yet. It keeps its marks, among
+    // them what its nodes are so far, so that it goes on when the new one closes.
     fn open(&mut self, shape: Shape) -> Result<bool, NoMemory>
         ensures { IfOk result (λ some. then_some some (row_state self.new)
             ≡ open_next (group_kind shape self.old.top.read.at false) (row_state self.old)) }
@@ -175,15 +160,7 @@ impl<'a> RowWalk<'a> {
             &mut self.parts,
             Part::Open(shown_kind(self.top.read.naming, kind)),
         )?;
-        push(
-            &mut self.outer,
-            Around {
-                kind: self.top.kind,
-                done: self.top.done,
-                ended: self.top.is_ended(),
-                read: self.top.read,
-            },
-        )?;
+        push(&mut self.outer, self.top)?;
         self.top = Spot::new(Some(kind));
         Ok(true)
     }
@@ -209,6 +186,8 @@ impl<'a> RowWalk<'a> {
         }
     }
 
+    // The last segment of the bracket here ends, and the innermost around it is here again. There the closed one is one
+    // more node, which ends on this line; its own marks are gone.
     fn close(&mut self, shape: Shape, line: u64) -> Result<bool, NoMemory>
         ensures { IfOk result (λ some. then_some some (row_state self.new)
             ≡ close_next self.old.top.kind shape line (row_state self.old)) }
@@ -227,15 +206,11 @@ impl<'a> RowWalk<'a> {
         let Some(below) = self.outer.pop() else {
             return Ok(false);
         };
-        if below.ended {
+        if below.is_ended() {
             return Ok(false);
         }
-        self.top = Spot {
-            kind: below.kind,
-            done: below.done,
-            here: Here::Node(line, ""),
-            read: below.read,
-        };
+        self.top = below;
+        self.top.here = Here::Node(line, "");
         self.top.read.add_group(kind);
         Ok(true)
     }

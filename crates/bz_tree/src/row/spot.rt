@@ -7,34 +7,19 @@ ghost use Rattle.bz_tree.specs.Tree.{items_of};
 ghost use Rattle.bz_tree.specs.Rows.{part_view};
 ghost use Rattle.bz_tree.specs.FromParts.{nodes_of_parts};
 ghost use Rattle.bz_tree.specs.private.Machine.{is_load};
-ghost use Rattle.bz_tree.specs.private.RowSteps.{here_view, is_ended, named, called, shown_kind, start, read_leaf, read_group, one_more, new_stand, stand, with_comma, is_lost, read_class, end_class, is_one_comma};
+ghost use Rattle.bz_tree.specs.private.RowSteps.{here_view, is_ended, shown_kind, start, read_leaf, read_group, new_stand, stand, with_comma, is_lost, read_class, end_class, is_one_comma};
 
 use crate::grammar::is_load;
-use crate::grammar::role::Role;
+use crate::grammar::role::{Role, is_assignment};
 use crate::grammar::stage::{Goal, Stage, advance, begin, group_role, may_end};
 use crate::row::Part as RowPart;
 use crate::row::from_parts::nodes_of_parts;
-use crate::tree::classes::{is_call, is_dot_at};
+use crate::tree::classes::{Naming, called, is_call, named};
 use crate::tree::kinds::{Preceding, kind_after};
 use crate::tree::{Class, GroupKind};
 use bz_memory::NoMemory;
 use bz_token::Kind;
 use std::alloc::Global;
-
-// What the top is so far: the beginning of a rule, a rule, or none.
-#[derive(Clone, Copy)]
-pub(crate) enum Naming {
-    // An identifier comes next.
-    Name,
-    // `.` or the call comes next.
-    Join,
-    // It is a rule.
-    End,
-    // It is none.
-    Never,
-    // More stands after what would be a rule.
-    Lost,
-}
 
 // How many segments are done.
 #[derive(Clone, Copy)]
@@ -74,39 +59,6 @@ pub(crate) struct Spot<'a> {
     pub(crate) read: Read,
 }
 
-// The same while another bracket is open in it: what stands directly before matters no more, but for a segment's end.
-#[derive(Clone, Copy)]
-pub(crate) struct Around {
-    pub(crate) kind: Option<GroupKind>,
-    pub(crate) done: SegmentCount,
-    pub(crate) ended: bool,
-    pub(crate) read: Read,
-}
-
-// Not called in a bracket, where it is Never.
-#[inline(never)]
-fn named(naming: Naming, kind: Kind, text: &str) -> Naming
-    ensures { result ≡ named naming kind text.now }
-{
-    match naming {
-        Naming::Name if kind == Kind::Identifier => Naming::Join,
-        Naming::Join if is_dot_at(kind, text) => Naming::Name,
-        Naming::End | Naming::Lost => Naming::Lost,
-        _ => Naming::Never,
-    }
-}
-
-#[inline(never)]
-fn called(naming: Naming, kind: GroupKind) -> Naming
-    ensures { result ≡ called naming kind }
-{
-    match naming {
-        Naming::Join if is_call(kind) => Naming::End,
-        Naming::End | Naming::Lost => Naming::Lost,
-        _ => Naming::Never,
-    }
-}
-
 /// As what a bracket is shown that opens here.
 #[inline(always)]
 pub(crate) fn shown_kind(naming: Naming, kind: GroupKind) -> GroupKind
@@ -138,16 +90,6 @@ fn start(kind: Option<GroupKind>) -> Read
     }
 }
 
-#[inline(always)]
-fn one_more(done: SegmentCount) -> SegmentCount
-    ensures { result ≡ one_more done }
-{
-    match done {
-        SegmentCount::Zero => SegmentCount::One,
-        _ => SegmentCount::More,
-    }
-}
-
 impl Read {
     // After a token of this role.
     #[inline(always)]
@@ -160,7 +102,7 @@ impl Read {
         if !matches!(self.naming, Naming::Never) {
             self.naming = named(self.naming, kind, text);
         }
-        self.assigns = self.assigns || matches!(role, Role::Equals | Role::Augmented);
+        self.assigns = self.assigns || is_assignment(role);
     }
 
     #[inline(always)]
@@ -223,7 +165,10 @@ impl<'a> Spot<'a> {
     pub(crate) fn add_comma(&mut self, line: u64)
         ensures { stand self.new ≡ with_comma line (stand self.old) }
     {
-        self.done = one_more(self.done);
+        self.done = match self.done {
+            SegmentCount::Zero => SegmentCount::One,
+            _ => SegmentCount::More,
+        };
         self.here = Here::Comma(line);
         self.read = start(self.kind);
     }

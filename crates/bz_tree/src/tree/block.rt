@@ -7,7 +7,7 @@ ghost use Rattle.bz_tree.specs.View.{texts};
 ghost use Rattle.bz_tree.specs.Kinds.{mark_of};
 ghost use Rattle.bz_tree.specs.Blocks.{is_block_word, is_colon, popped, pushed, indented, block_indent, depth_after, has_colon, header_line, logical_lines, is_block, above};
 ghost use Rattle.bz_tree.specs.Statement.{last_token};
-ghost use Rattle.bz_tree.specs.private.BlockSteps.{lines_view, begun, next_counted, next_indent, first_lines};
+ghost use Rattle.bz_tree.specs.private.BlockSteps.{lines_view, next_indent, first_lines};
 
 use crate::tree::kinds::{Mark, mark_of};
 use crate::tree::span::last_token;
@@ -77,31 +77,23 @@ fn indented(opens: bool, column: u64, columns: &mut Vec<u64>) -> Result<bool, No
     }
 }
 
-fn next_counted(lines: &mut Indents, token: &Token<'_>) -> Result<bool, NoMemory>
-    ensures { IfOk result (λ some. then_some some (lines_view lines.new)
-        ≡ next_counted lines.old.inside (placed token.now) (lines_view lines.old)) }
-{
-    if !lines.inside && !indented(lines.opens, token.col, &mut lines.columns)? {
-        return Ok(false);
-    }
-    lines.opens = is_colon(token);
-    lines.inside = true;
-    Ok(true)
-}
-
 // The lines after a token. False: it is indented wrongly.
 fn next_indent(lines: &mut Indents, token: &Token<'_>) -> Result<bool, NoMemory>
     ensures { IfOk result (λ some. then_some some (lines_view lines.new)
         ≡ next_indent (mark_of (placed token.now)) (placed token.now) (lines_view lines.old)) }
 {
     match mark_of(token) {
-        Mark::Newline => {
-            lines.inside = false;
-            Ok(true)
+        Mark::Newline => lines.inside = false,
+        Mark::Comment => {}
+        _ => {
+            if !lines.inside && !indented(lines.opens, token.col, &mut lines.columns)? {
+                return Ok(false);
+            }
+            lines.opens = is_colon(token);
+            lines.inside = true;
         }
-        Mark::Comment => Ok(true),
-        _ => next_counted(lines, token),
     }
+    Ok(true)
 }
 
 fn first_lines(alloc: Global) -> Result<Indents, NoMemory>

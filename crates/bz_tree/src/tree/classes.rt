@@ -2,50 +2,75 @@
 
 ghost use Rattle.std.specs.Prelude.{◌≡◌, ◌≤◌, codes};
 ghost use Rattle.bz_tree.specs.Tree.{leaf};
-ghost use Rattle.bz_tree.specs.View.{text_of, node_view, nodes_view, seg_view};
-ghost use Rattle.bz_tree.specs.Statement.{is_rule, is_call, as_rule_call, rule_call, with_rule_call, is_assign_operator, is_assign, is_kept, is_load_word, class_of};
+ghost use Rattle.bz_tree.specs.View.{node_view, nodes_view, seg_view};
+ghost use Rattle.bz_tree.specs.Statement.{is_rule, is_call, as_rule_call, rule_call, with_rule_call, is_assign, is_kept, is_load_word, class_of};
 ghost use Rattle.bz_tree.specs.Kinds.{is_operator_at};
 ghost use Rattle.std.specs.List.{list_any};
+ghost use Rattle.bz_tree.specs.private.RowSteps.{named, called};
 
-use crate::grammar::role::is_augmented;
-use crate::tree::{Class, Group, GroupKind, Leaf, Node, Seg};
+use crate::grammar::role::{is_assignment, token_role};
+use crate::tree::{Class, Group, GroupKind, Node, Seg};
 use bz_token::Kind;
 
-// What may come next in a rule: an identifier, `.` or the call, nothing.
+/// What the nodes of a statement are so far: the beginning of a rule, a rule, or none.
 #[derive(Clone, Copy)]
-pub(crate) enum Phase {
+pub(crate) enum Naming {
+    // An identifier comes next.
     Name,
+    // `.` or the call comes next.
     Join,
+    // It is a rule.
     End,
+    // It is none.
+    Never,
+    // More stands after what would be a rule.
+    Lost,
 }
 
+// After a token. Not called in a bracket, where it is Never.
+#[inline(never)]
+pub(crate) fn named(naming: Naming, kind: Kind, text: &str) -> Naming
+    ensures { result ≡ named naming kind text.now }
+{
+    match naming {
+        Naming::Name if kind == Kind::Identifier => Naming::Join,
+        Naming::Join if is_dot(kind, text) => Naming::Name,
+        Naming::End | Naming::Lost => Naming::Lost,
+        _ => Naming::Never,
+    }
+}
+
+#[inline(never)]
+pub(crate) fn called(naming: Naming, kind: GroupKind) -> Naming
+    ensures { result ≡ called naming kind }
+{
+    match naming {
+        Naming::Join if is_call(kind) => Naming::End,
+        Naming::End | Naming::Lost => Naming::Lost,
+        _ => Naming::Never,
+    }
+}
+
+#[tactic(auto, using(crate::proofs::Rows::RowClass::from_step))]
 fn is_rule(nodes: &[Node<'_>]) -> bool
     ensures { result ≡ is_rule (nodes_view nodes.now) }
 {
-    let mut phase = Phase::Name;
+    let mut naming = Naming::Name;
     for node in nodes {
-        phase = match (phase, node) {
-            (Phase::Name, Node::Token(leaf)) if leaf.kind == Kind::Identifier => Phase::Join,
-            (Phase::Join, Node::Token(leaf)) if is_dot(leaf) => Phase::Name,
-            (Phase::Join, Node::Group(group)) if is_call(group.kind) => Phase::End,
-            _ => return false,
+        naming = match node {
+            Node::Token(leaf) => named(naming, leaf.kind, leaf.text),
+            Node::Group(group) => called(naming, group.kind),
         };
     }
-    matches!(phase, Phase::End)
+    matches!(naming, Naming::End)
 }
 
-/// The token between two names.
+// The token between two names.
 #[inline(always)]
-pub(crate) fn is_dot_at(kind: Kind, text: &str) -> bool
+fn is_dot(kind: Kind, text: &str) -> bool
     ensures { result ≡ is_operator_at (codes ".") kind text.now }
 {
     kind == Kind::Operator && text == "."
-}
-
-fn is_dot(leaf: &Leaf<'_>) -> bool
-    ensures { result ≡ is_operator_at (codes ".") leaf.now.kind (text_of leaf.now.text) }
-{
-    is_dot_at(leaf.kind, leaf.text)
 }
 
 pub(crate) fn is_call(kind: GroupKind) -> bool
@@ -92,17 +117,11 @@ pub(crate) fn with_rule_call(seg: Seg<'_>) -> Seg<'_>
     }
 }
 
-fn is_assign_operator(text: &str) -> bool
-    ensures { result ≡ is_assign_operator text.now }
-{
-    text == "=" || is_augmented(text)
-}
-
 fn is_assign(node: &Node<'_>) -> bool
     ensures { result ≡ is_assign (node_view node.now) }
 {
     match node {
-        Node::Token(leaf) => leaf.kind == Kind::Operator && is_assign_operator(leaf.text),
+        Node::Token(leaf) => is_assignment(token_role(leaf.kind, leaf.text)),
         Node::Group(_) => false,
     }
 }

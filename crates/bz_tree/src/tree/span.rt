@@ -79,12 +79,9 @@ pub(crate) fn last_seen<'a>(tokens: &[Token<'a>]) -> Option<Token<'a>>
 pub(crate) fn start_of(tokens: &[Token<'_>]) -> u64
     ensures { result ≡ start_of (map placed tokens.now) }
 {
-    match first_token(tokens) {
+    match first_token(tokens).or(first_seen(tokens)) {
         Some(token) => token.line,
-        None => match first_seen(tokens) {
-            Some(token) => token.line,
-            None => 0,
-        },
+        None => 0,
     }
 }
 
