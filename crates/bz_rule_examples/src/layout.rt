@@ -80,11 +80,11 @@ x[
 }
 "##;
 
-/// The canonical text of a chunk's statement, after a comment.
+/// The canonical text of the copy of a chunk's statement, after a comment.
 fn written(alloc: Global, text: &str) -> Result<Vec<u8>, Fail> {
     let mut out = b"# above\n".to_vec(alloc)?;
     if let Some(stmt) = read(alloc, text)? {
-        put_stmt(alloc, &stmt, &mut out)?;
+        put_stmt(alloc, &stmt.copy(alloc)?, &mut out)?;
     }
     Ok(out)
 }

@@ -394,14 +394,16 @@ fn put_tree(stmt: &Stmt<'_>, out: &mut String) -> Result<(), Fail> {
     put_suffix(stmt.suffix, out)
 }
 
+/// The copy of a statement.
 fn shown_tree(alloc: Global, stmt: &Stmt<'_>) -> Result<String, Fail> {
+    let copy = stmt.copy(alloc)?;
     let mut out = String::new(alloc);
-    put_tree(stmt, &mut out)?;
+    put_tree(&copy, &mut out)?;
     out.push('\n')?;
     Ok(out)
 }
 
-/// The statement of a chunk, or its fault.
+/// The copy of the statement of a chunk, or its fault.
 pub fn shown(alloc: Global, text: &str) -> Result<String, Fail> {
     match read(alloc, text) {
         Ok(None) => Ok(String::from_str(alloc, "blank\n")?),

@@ -9,6 +9,7 @@ ghost use Rattle.bz_tree.specs.FromParts.{nothing, with_node, with_segment, with
 ghost use Rattle.bz_tree.specs.private.PartSteps.{beside_text, content, content_of, last_beside, outers, nest};
 
 use crate::row::Part;
+use crate::row::tree_parts::push_parts;
 use crate::tree::{Class, Group, GroupKind, Leaf, Node, Seg, Stmt};
 use bz_memory::{NoMemory, push};
 use std::alloc::Global;
@@ -189,4 +190,18 @@ pub fn stmt_of_parts<'a>(
         start,
         end,
     })
+}
+
+impl<'a> Stmt<'a> {
+    ghost use Rattle.bz_tree.specs.View.{view};
+
+    /// An equal statement, line numbers included, whose texts are slices of those of this one. `Err`: memory was refused.
+    pub fn copy(&self, alloc: Global) -> Result<Stmt<'_>, NoMemory>
+        ensures equal { IfOk result (λ s. view s ≡ view self.now) }
+    {
+        let mut parts = Vec::new(alloc);
+        push_parts(self, &mut parts)?;
+        let stmt = stmt_of_parts(alloc, &parts, self.class, self.start, self.end)?;
+        Ok(stmt)
+    }
 }
