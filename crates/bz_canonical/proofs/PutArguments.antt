@@ -206,7 +206,8 @@ count_as_is : (xs : List Segment) → length (map as_it_is xs) ≡ count (segs_o
 count_as_is [] = refl
 count_as_is (a ∷ xs) = ap suc (count_as_is xs)
 
-pub value_read : (depth : ℕ) (attr text value rest : List ℕ) (named : Bool) → IsHeadRead attr text value named → IsValueEnd depth value rest → (w : List ℕ) × (text ≡ w ++ rest) × IsArgumentRead depth attr text rest w named
+pub value_read : (depth : ℕ) (attr text value rest : List ℕ) (named : Bool) → (h : IsHeadRead attr text value named) → IsValueEnd depth value rest
+    → (w : List ℕ) × (text ≡ w ++ rest) × (read : IsArgumentRead depth attr text rest w named) × (read.placed.arg.before ≡ h.notes)
 value_read depth attr text value rest named h v =
     let inner : List ℕ = h.word ++ (codes " = " ++ value) in
     let ident : IsTokenFront Identifier inner (codes " = " ++ value) = record { token = h.word; is = h.is; stays = refl; front = refl } in
@@ -223,6 +224,7 @@ value_read depth attr text value rest named h v =
         spells = refl;
         named_is = a.named_is;
       },
+      refl,
     )
 
 -- one after another

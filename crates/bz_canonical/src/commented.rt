@@ -1,15 +1,17 @@
-//! A comment line that is put above an argument whose value is one list of strings, by the lines of the argument.
+//! A comment line that is put above an argument, by the lines of the argument.
 
-ghost use Rattle.std.specs.Prelude.{◌≡◌, ◌==◌, ◌∷◌, ◌++◌, ℕ, List, IfOk, IfSome, IsTrue, false};
+ghost use Rattle.std.specs.Prelude.{◌≡◌, ◌<◌, ◌==◌, ◌∷◌, ◌++◌, ℕ, List, [], codes, IfOk, IfSome, IsTrue, OnOk, false};
 ghost use Rattle.bz_layout.specs.Pieces.{indent};
 ghost use Rattle.bz_canonical.specs.Commented.{CommentsLines};
-ghost use Rattle.bz_canonical.specs.private.Commented.{IsHeadBelow};
+ghost use Rattle.bz_canonical.specs.private.Commented.{IsHeadBelow, IsListBelow};
+ghost use Rattle.bz_canonical.specs.private.Rewritten.{IsValueEnd};
 
 use crate::added::BRACKETS;
+use crate::chunk::DEEPEST;
 use crate::front::before;
 use crate::lists::{is_last, put_list};
 use crate::notes::notes;
-use crate::put_arguments::argument_head;
+use crate::put_arguments::{argument_head, value_end};
 use bz_memory::{NoMemory, extend_from_slice};
 
 /// A comment line, and the attribute that it is put above.
@@ -19,9 +21,9 @@ pub struct NewComment<'c> {
     pub line: &'c str,
 }
 
-/// The argument that has these lines, with the comment line as the last above it, where its value is one list of
-/// strings (`edit_comment` of bz_engine asks): its lines go into the buffer, whose bytes are lost. False: it may be no
-/// such list. Err: memory is wanting.
+/// The argument that has these lines, with the comment line as the last above it, where its value stands as it is
+/// written, or is one list of strings (`edit_comment` of bz_engine asks): its lines go into the buffer, whose bytes are
+/// lost. False: it may be another value. Err: memory is wanting.
 pub fn put_commented(
     lines: &str,
     new: NewComment<'_>,
@@ -31,7 +33,7 @@ pub fn put_commented(
     ensures { IfOk result (λ put. IsTrue put
         → CommentsLines max_depth new.entry.attr.now new.entry.line.now lines.now written.new.items) }
 {
-    if max_depth < BRACKETS {
+    if max_depth < BRACKETS || max_depth > DEEPEST {
         return Ok(false);
     }
     let text = lines.as_bytes();
@@ -41,13 +43,43 @@ pub fn put_commented(
     let Some(above) = before(text, head.line.len()) else {
         return Ok(false);
     };
+    put_above(above, new.line, written)?;
+    if is_as_written(head.value, max_depth - 1) {
+        extend_from_slice(written, head.line)?;
+        return Ok(true);
+    }
+    put_below(head, written)
+}
+
+/// The comments above an argument, and the comment line after them.
+fn put_above(above: &[u8], line: &str, written: &mut Vec<u8>) -> Result<(), NoMemory>
+    ensures { OnOk result (written.new.items ≡ (above.now ++ codes "\n    ") ++ line.now) }
+{
+    written.clear();
+    extend_from_slice(written, above)?;
+    extend_from_slice(written, b"\n    ")?;
+    extend_from_slice(written, line.as_bytes())
+}
+
+/// The value here stands as it is written, and nothing follows its comma and the comment beside it.
+fn is_as_written(value: &[u8], depth: u8) -> bool
+    requires { depth < 254 }
+    ensures { IsTrue result → IsValueEnd depth value.now [] }
+{
+    match value_end(value, depth) {
+        Some(rest) => rest.is_empty(),
+        None => false,
+    }
+}
+
+/// Writes the argument below its comments, where its value is one list of strings.
+fn put_below(head: HeadBelow<'_>, written: &mut Vec<u8>) -> Result<bool, NoMemory>
+    ensures { IfOk result (λ put. IsTrue put → (w : List ℕ) × (written.new.items ≡ written.old.items ++ w)
+        × IsListBelow head.entry.line.now head.entry.value.now w) }
+{
     let Some(front) = before(head.line, head.value.len()) else {
         return Ok(false);
     };
-    written.clear();
-    extend_from_slice(written, above)?;
-    extend_from_slice(written, b"\n    ".as_slice())?;
-    extend_from_slice(written, new.line.as_bytes())?;
     extend_from_slice(written, front)?;
     let Some(end) = put_list(head.value, written)? else {
         return Ok(false);

@@ -79,7 +79,7 @@ pub(crate) fn argument_head<'t>(text: &'t [u8], attr: &[u8]) -> Option<ArgumentH
 
 /// What follows the value here and its comma, where it stands as it is written.
 #[inline(always)]
-fn value_end(value: &[u8], depth: u8) -> Option<&[u8]>
+pub(crate) fn value_end(value: &[u8], depth: u8) -> Option<&[u8]>
     requires { depth < 254 }
     ensures { IfSome result (λ rest. IsValueEnd depth value.now rest.now) }
 {

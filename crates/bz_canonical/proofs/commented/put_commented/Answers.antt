@@ -1,29 +1,51 @@
-use Rattle.std.proofs.Common.{◌≡◌, ◌<◌, ◌++◌, ◌-◌, ◌∙◌, ℕ, suc, List, ap, arith, subst}
-use Rattle.std.specs.Prelude.{IfSome}
+use Rattle.std.proofs.Common.{◌≡◌, ◌<◌, ◌∙◌, ◌-◌, ◌++◌, ℕ, suc, List, ap, arith, length, refl, subst, take}
+use Rattle.std.proofs.lemmas.Result.{IfOk-weaker}
+use Rattle.std.specs.Prelude.{IsTrue}
+use Rattle.bz_layout.specs.Pieces.{bytes_of, comments}
 use Rattle.bz_canonical.specs.Commented.{CommentsLines}
-use Rattle.bz_canonical.specs.private.Rewritten.{IsListRead}
-use Rattle.bz_canonical.proofs.CommentedLines.{lines_commented}
+use Rattle.bz_canonical.specs.private.Commented.{IsHeadBelow, IsListBelow}
+use Rattle.bz_canonical.proofs.CommentedLines.{lines_commented, lines_copied, upper}
+use Rattle.bz_canonical.proofs.Taken.{taken}
 use Rattle.bz_canonical.proofs.commented.put_commented.Goals as goal
 
-pub returns : goal.returns
-returns c = λ done.
-    let text = c.as_bytes-text.result.now in
-    let line = c.as_bytes-2.result.now in
+same : (max depth : ℕ) (attr name line text lines new : List ℕ) → suc depth ≡ max → attr ≡ name → text ≡ lines → CommentsLines (suc depth) attr line text new → CommentsLines max name line lines new
+same max depth attr name line text lines new deeper named is told =
+    subst (λ d. CommentsLines d name line lines new) deeper (subst (λ a. CommentsLines (suc depth) a line lines new) named (subst (λ t. CommentsLines (suc depth) attr line t new) is told))
+
+put : (attr line text at value above written : List ℕ) → (h : IsHeadBelow attr text at value) → above ≡ take (length text - length at) text → written ≡ upper above line → written ≡ upper (bytes_of (comments 1 h.notes)) line
+put attr line text at value above written h is over = over ∙ ap (λ (t : List ℕ). upper t line) (is ∙ taken text (bytes_of (comments 1 h.notes)) at h.front)
+
+pub returns-then-is_as_written : goal.returns-then-is_as_written
+returns-then-is_as_written c = λ done.
     let head = c.in-Some.head in
-    let above = c.in-Some-before.above.now in
-    let front = c.in-Some-before-2.front.now in
-    let last = c.is_last.ensures c.if-not-is_last.false in
-    let new = c.put_list.new.written.items in
-    let all = c.extend_from_slice-5.new.list.items in
-    let end = c.in-Some-2.end.now in
+    let depth = c.args.max_depth - 1 in
+    let deeper : suc depth ≡ c.args.max_depth = omega (arith, c.if-max_depth-lt-BRACKETS.false) in
+    let line = c.args.new.line.now in
+    let attr = c.as_bytes.result.now in
+    let text = c.as_bytes-text.result.now in
+    let at = head.line.now in
+    let new = c.extend_from_slice.new.list.items in
+    let over = put attr line text at head.value.now c.in-Some-before.above.now c.put_above.new.written.items c.in-Some.ensures c.in-Some-before.ensures c.in_ok-put_above.ensures in
+    same c.args.max_depth depth attr c.args.new.attr.now line text c.args.lines.now new deeper c.as_bytes.ensures.value c.as_bytes-text.ensures.value
+    (lines_copied depth attr line text at head.value.now new c.in-Some.ensures (c.if-is_as_written.ensures refl) (c.in_ok-extend_from_slice.ensures.items ∙ ap (λ (t : List ℕ). t ++ at) over))
+
+pub returns : goal.returns
+returns c =
+    let head = c.in-Some.head in
     let depth = c.args.max_depth - 1 in
     let deep : 0 < depth = omega (arith, c.if-max_depth-lt-BRACKETS.false) in
     let deeper : suc depth ≡ c.args.max_depth = omega (arith, c.if-max_depth-lt-BRACKETS.false) in
-    let got = subst (λ o. IfSome o (λ rest. (w : List ℕ) × (new ≡ c.extend_from_slice-4.new.list.items ++ w) × IsListRead head.value.now rest.now w)) c.in-Some-2.is c.in_ok-end.ensures in
-    let a = c.in_ok-extend_from_slice-2.ensures.items ∙ ap (λ (t : List ℕ). t ++ c.as_slice.result.now) (c.in_ok-extend_from_slice.ensures.items ∙ ap (λ (t : List ℕ). t ++ above) c.clear.ensures.items) ∙ ap (λ (t : List ℕ). above ++ t) c.as_slice.ensures in
-    subst (λ d. CommentsLines d c.args.new.attr.now c.args.new.line.now c.args.lines.now all) deeper
-    (subst (λ attr. CommentsLines (suc depth) attr c.args.new.line.now c.args.lines.now all) c.as_bytes.ensures.value
-    (subst (λ x. CommentsLines (suc depth) c.as_bytes.result.now x c.args.lines.now all) c.as_bytes-2.ensures.value
-    (subst (λ t. CommentsLines (suc depth) c.as_bytes.result.now line t all) c.as_bytes-text.ensures.value
-    (lines_commented depth c.as_bytes.result.now line text head.line.now head.value.now end got.0 above front _ _ _ new all deep c.in-Some.ensures got.2 last
-    c.in-Some-before.ensures c.in-Some-before-2.ensures a c.in_ok-extend_from_slice-3.ensures.items c.in_ok-extend_from_slice-4.ensures.items got.1 c.in_ok-extend_from_slice-5.ensures.items))))
+    let line = c.args.new.line.now in
+    let attr = c.as_bytes.result.now in
+    let text = c.as_bytes-text.result.now in
+    let at = head.line.now in
+    let new = c.put_below.new.written.items in
+    let old = c.put_above.new.written.items in
+    let over = put attr line text at head.value.now c.in-Some-before.above.now old c.in-Some.ensures c.in-Some-before.ensures c.in_ok-put_above.ensures in
+    IfOk-weaker c.put_below.result (λ put. IsTrue put → (w : List ℕ) × (new ≡ old ++ w) × IsListBelow at head.value.now w)
+    (λ put. IsTrue put → CommentsLines c.args.max_depth c.args.new.attr.now line c.args.lines.now new)
+    (λ put told done.
+    let w = told done in
+    same c.args.max_depth depth attr c.args.new.attr.now line text c.args.lines.now new deeper c.as_bytes.ensures.value c.as_bytes-text.ensures.value
+    (lines_commented depth attr line text at head.value.now w.0 new deep c.in-Some.ensures w.2 (w.1 ∙ ap (λ (t : List ℕ). t ++ w.0) over)))
+    c.put_below.ensures
