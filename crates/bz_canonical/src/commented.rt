@@ -8,7 +8,7 @@ ghost use Rattle.bz_canonical.specs.private.Rewritten.{IsValueEnd};
 
 use crate::added::BRACKETS;
 use crate::chunk::DEEPEST;
-use crate::front::before;
+use crate::front::{after, before, simple_string};
 use crate::lists::{is_last, put_list};
 use crate::notes::notes;
 use crate::put_arguments::{argument_head, value_end};
@@ -66,8 +66,23 @@ fn is_as_written(value: &[u8], depth: u8) -> bool
     requires { depth < 254 }
     ensures { IsTrue result → IsValueEnd depth value.now [] }
 {
+    // To walk over it would be in vain.
+    if has_several_in_place(value) {
+        return false;
+    }
     match value_end(value, depth) {
         Some(rest) => rest.is_empty(),
+        None => false,
+    }
+}
+
+/// A list here has several strings in place: it is written on lines.
+fn has_several_in_place(value: &[u8]) -> bool {
+    let Some(inside) = after(value, b'[') else {
+        return false;
+    };
+    match simple_string(inside) {
+        Some(first) => matches!(first.rest, [b',', ..]),
         None => false,
     }
 }
