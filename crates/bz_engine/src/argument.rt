@@ -29,7 +29,7 @@ pub(crate) enum EditedArgument<'s> {
     Lines(&'s [u8]),
 }
 
-/// What a command makes of an argument that is a list.
+/// What a command makes of an argument that is not read.
 #[derive(Clone, Copy)]
 enum EditedList {
     Unchanged,
@@ -88,8 +88,9 @@ pub(crate) fn edit_lines<'s>(
     edit_small_rule(script, command, spare)
 }
 
-/// What the command makes of the argument that has these lines, where it adds one value to a list of strings, or looks
-/// for one that is not in it. None: it may be another command, or another argument; then the buffer does not count.
+/// What the command makes of the argument that has these lines, where it adds one value to a list of strings, looks for
+/// one that is not in it, or puts a comment above. None: it may be another command, or another argument; then the buffer
+/// does not count.
 fn edit_list(
     script: ScriptRun<'_>,
     command: &Command,
