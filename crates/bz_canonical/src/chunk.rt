@@ -36,7 +36,8 @@ pub struct ArgumentPlace<'t> {
     pub after: &'t str,
 }
 
-/// The argument whose place is asked for: its name, and the name of the rules that are meant. None: all rules are.
+/// The argument whose place is asked for: its name, and the name of the rules that are meant. None: all rules are. An
+/// empty name of an argument: none is asked for.
 #[derive(Clone, Copy)]
 pub struct Asked<'c> {
     pub attr: &'c str,
@@ -44,8 +45,12 @@ pub struct Asked<'c> {
 }
 
 impl Asked<'_> {
-    /// Rules of this name are meant.
+    /// An argument of rules of this name is asked for.
+    #[inline(always)]
     pub(crate) fn is_of(self, name: &[u8]) -> bool {
+        if self.attr.is_empty() {
+            return false;
+        }
         match self.name {
             Some(asked) => asked.as_bytes() == name,
             None => true,

@@ -21,6 +21,7 @@ pub(crate) struct PutRule<'t> {
 }
 
 /// Passes the rule here. If it stands otherwise than it is written, what is written goes into the buffer.
+#[inline(always)]
 pub(crate) fn put_rule<'t>(
     text: &'t [u8],
     head: RuleHead<'t>,

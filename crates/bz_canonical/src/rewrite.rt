@@ -13,6 +13,7 @@ use bz_tree::Class;
 
 /// The chunk of the rule that begins with this head, where it stands as it would be written but for arguments whose
 /// value is a list of strings. If there are such, what is written goes into the buffer, whose bytes are lost.
+#[inline(always)]
 pub(crate) fn rule_chunk<'t>(
     text: &'t str,
     head: RuleHead<'t>,
@@ -53,6 +54,7 @@ fn name_in<'t>(text: &'t str, head: RuleHead<'_>) -> Option<&'t str>
 }
 
 /// The chunk of the rule of this name, which is in the buffer if it stands otherwise than it is written.
+#[inline(always)]
 fn chunk_of<'t>(
     text: &'t str,
     name: &'t str,
