@@ -7,16 +7,14 @@ use Rattle.bz_canonical.specs.private.Values.{AreNodesFront}
 use Rattle.bz_layout.specs.Pieces.{indent}
 use Rattle.bz_tree.specs.declared.tree.GroupKind.{GroupKind}
 use Rattle.bz_canonical.specs.private.Segments.{Continues, IsBesideFront, IsSegmentFront}
+use Rattle.bz_canonical.proofs.Tokens.{quoted_token}
 use Rattle.bz_canonical.proofs.Operands.{string_value, list_value, flat_group}
 use Rattle.bz_canonical.proofs.Chained.{value_nodes}
 use Rattle.bz_canonical.proofs.GroupSegments.{begin_flat, begin_notes, element_segment, finish_flat, finish_notes, more, or_no}
 
-token_of : (text inner rest : List ℕ) → IsQuotedFront text inner rest → IsTokenFront String text rest
-token_of text inner rest q = record { token = 34 ∷ (inner ++ 34 ∷ []); is = q.is; stays = refl; front = q.front }
-
 pub string_element : (level depth : ℕ) (text inner rest : List ℕ) → IsQuotedFront text inner rest → IsSegmentFront ListKind level depth text rest false
 string_element level depth text inner rest q =
-    element_segment level depth text rest false (value_nodes level depth text rest false (string_value text rest (token_of text inner rest q) level depth))
+    element_segment level depth text rest false (value_nodes level depth text rest false (string_value text rest (quoted_token text inner rest q) level depth))
 
 -- a list of one string in place
 pub single_list : (level below depth : ℕ) (text inside inner end rest : List ℕ) → suc below ≡ depth → text ≡ 91 ∷ inside → IsQuotedFront inside inner end → end ≡ 93 ∷ rest → AreNodesFront level depth text rest false

@@ -1,5 +1,5 @@
 -- Tokens at the front of a text, by their lengths.
-use Rattle.std.proofs.Common.{arith, ◌≡◌, ◌<◌, ◌∙◌, ℕ, zero, suc, List, ◌∷◌, ◌++◌, Bool, true, false, take, drop, refl, sym, ap, subst, take-append-drop}
+use Rattle.std.proofs.Common.{arith, ◌≡◌, ◌<◌, ◌∙◌, ℕ, zero, suc, List, [], ◌∷◌, ◌++◌, Bool, true, false, take, drop, refl, sym, ap, subst, take-append-drop}
 use Rattle.std.specs.Prelude.{if◌then◌else◌}
 use Rattle.std.specs.List.{prefix_len}
 use Rattle.bz_token.specs.declared.token.Kind.{Kind}
@@ -7,7 +7,7 @@ use Rattle.bz_token.specs.declared.token.Kind.TheVariants.{String}
 use Rattle.bz_token.specs.Lexical.{is_word_byte, is_text}
 use Rattle.bz_token.specs.Lengths.{front_word, word_length}
 use Rattle.bz_layout.specs.Respell.{respell}
-use Rattle.bz_canonical.specs.private.Fronts.{IsTokenFront}
+use Rattle.bz_canonical.specs.private.Fronts.{IsQuotedFront, IsTokenFront}
 
 pub token_front : (kind : Kind) (text rest : List ℕ) (n : ℕ) → is_text kind (take n text) ≡ true → respell kind (take n text) ≡ take n text → rest ≡ drop n text → IsTokenFront kind text rest
 token_front kind text rest n is stays back = record {
@@ -32,3 +32,7 @@ word_front kind text rest n some len stays back = token_front kind text rest n (
 pub quoted_stays : (text inside : List ℕ) (n : ℕ) → 0 < n → text ≡ 34 ∷ inside → respell String (take n text) ≡ take n text
 quoted_stays text inside zero some starts = absurd (omega (arith, some))
 quoted_stays text inside (suc n) some starts = subst (λ t. respell String (take (suc n) t) ≡ take (suc n) t) (sym starts) refl
+
+-- a string in double quotes whose value stands as it is
+pub quoted_token : (text inner rest : List ℕ) → IsQuotedFront text inner rest → IsTokenFront String text rest
+quoted_token text inner rest q = record { token = 34 ∷ (inner ++ 34 ∷ []); is = q.is; stays = refl; front = q.front }

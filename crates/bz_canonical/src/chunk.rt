@@ -2,7 +2,9 @@
 
 ghost use Rattle.std.specs.Prelude.{◌≡◌, ◌-◌, ◌<◌, ℕ, List, length, option_map, take, IfOk, IfSome};
 ghost use Rattle.bz_canonical.specs.Canonical.{IsCanonical, between};
+ghost use Rattle.bz_canonical.specs.private.Segments.{AreLinesFront};
 
+use crate::notes::lines;
 use crate::put_rule::rule_head;
 use crate::rewrite::rule_chunk;
 use crate::statement::statement;
@@ -34,48 +36,73 @@ pub struct ArgumentPlace<'t> {
     pub after: &'t str,
 }
 
+/// The argument whose place is asked for: its name, and the name of the rules that are meant. None: all rules are. An
+/// empty name of an argument: none is asked for.
+#[derive(Clone, Copy)]
+pub struct Asked<'c> {
+    pub attr: &'c str,
+    pub name: Option<&'c str>,
+}
+
+impl Asked<'_> {
+    /// An argument of rules of this name is asked for.
+    #[inline(always)]
+    pub(crate) fn is_of(self, name: &[u8]) -> bool {
+        if self.attr.is_empty() {
+            return false;
+        }
+        match self.name {
+            Some(asked) => asked.as_bytes() == name,
+            None => true,
+        }
+    }
+}
+
 // Brackets may be open so deep, and no deeper: an indent's level is one byte.
 pub(crate) const DEEPEST: u8 = 253;
 
 /// The chunk that the text begins with, where it is known what would be written of it, with the place of the argument
-/// of this name. The bytes in the buffer are lost: what is written of a rule goes there, if it stands otherwise. None:
+/// that is asked for. The bytes in the buffer are lost: what is written of a rule goes there, if it stands otherwise. None:
 /// it may be known or not. `canonical.rt` of bz_engine asks, before it reads anything.
 #[inline(always)]
 pub fn canonical<'t>(
     text: &'t str,
-    attr: &str,
+    asked: Asked<'_>,
     max_depth: u8,
     written: &'t mut Vec<u8>,
 ) -> Result<Option<CanonicalChunk<'t>>, NoMemory>
-    ensures { IfOk result (λ told. IfSome told (λ found. IsCanonical max_depth attr.now found.class
+    ensures { IfOk result (λ told. IfSome told (λ found. IsCanonical max_depth asked.entry.attr.now found.class
         (option_map (λ name. name.now) found.name) (option_map between found.place)
         found.chunk.now found.written.now text.now)) }
 {
     if max_depth > DEEPEST {
         return Ok(None);
     }
-    if let Some(head) = rule_head(text.as_bytes()) {
-        return rule_chunk(text, head, attr, max_depth, written);
+    let start = lines(text.as_bytes());
+    if let Some(head) = rule_head(start) {
+        return rule_chunk(text, head, asked, max_depth, written);
     }
-    match unnamed_rule(text, attr, max_depth) {
+    match unnamed_rule(start, asked, max_depth) {
         Some(rule) => {
             let Some(found) = unnamed_chunk(text, rule, written)? else {
                 return Ok(None);
             };
             Ok(Some(found))
         }
-        None => Ok(other_chunk(text, max_depth)),
+        None => Ok(other_chunk(text, start, max_depth)),
     }
 }
 
 /// The same, where it stands as it would be written. There is no place of an argument.
-fn other_chunk(text: &str, max_depth: u8) -> Option<CanonicalChunk<'_>>
-    requires { max_depth < 254 }
+#[inline(never)]
+fn other_chunk<'t>(text: &'t str, start: &'t [u8], max_depth: u8) -> Option<CanonicalChunk<'t>>
+    requires depth { max_depth < 254 }
+    requires lines { AreLinesFront text.now start.now }
     ensures { IfSome result (λ found. (attr : List ℕ) → IsCanonical max_depth attr found.class
         (option_map (λ name. name.now) found.name) (option_map between found.place)
         found.chunk.now found.written.now text.now) }
 {
-    let read = statement(text.as_bytes(), max_depth)?;
+    let read = statement(text.as_bytes(), start, max_depth)?;
     let chunk = without(text, read.rest.len())?;
     let written = without(text, read.end.len())?;
     match read.name {

@@ -73,8 +73,27 @@ fn after_some(text: &[u8], len: usize) -> Option<&[u8]>
 }
 
 /// What follows the string here that begins with a double quote.
+#[tactic(auto, using(crate::proofs::Tokens::quoted_token))]
 #[inline(always)]
 pub(crate) fn string(text: &[u8]) -> Option<&[u8]>
+    ensures { IfSome result (λ rest. IsTokenFront String text.now rest.now) }
+{
+    // Most stand as they are, in one quote.
+    match simple_string(text) {
+        Some(simple) => match simple.rest {
+            [b'"', ..] => any_string(text),
+            _ => Some(simple.rest),
+        },
+        None => match text {
+            [b'"', ..] => any_string(text),
+            _ => None,
+        },
+    }
+}
+
+/// The same of any string.
+#[inline(never)]
+fn any_string(text: &[u8]) -> Option<&[u8]>
     ensures { IfSome result (λ rest. IsTokenFront String text.now rest.now) }
 {
     let _inside = after(text, b'"')?;

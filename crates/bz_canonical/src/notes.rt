@@ -79,9 +79,15 @@ pub(crate) fn lines(text: &[u8]) -> &[u8]
 fn note_line(text: &[u8]) -> Option<&[u8]>
     ensures { IfSome result (λ rest. IsTokenFront Comment text.now (10 ∷ rest.now)) }
 {
-    let end = comment(text)?;
-    let rest = after(end, b'\n')?;
-    Some(rest)
+    // Most lines are none: where a comment would begin, one look shows it.
+    match text {
+        [b'#', ..] => {
+            let end = comment(text)?;
+            let rest = after(end, b'\n')?;
+            Some(rest)
+        }
+        _ => None,
+    }
 }
 
 /// What follows the comment that stands beside a segment, or the segment, where there is none.

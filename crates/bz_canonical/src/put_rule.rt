@@ -1,10 +1,12 @@
 //! A rule as it would be written, where lists of strings in it stand otherwise.
 
-ghost use Rattle.std.specs.Prelude.{◌+◌, ◌<◌, ◌-◌, codes, length, take, option_map, if◌then◌else◌, IfOk, IfSome, bytes_eq, true, false};
+ghost use Rattle.std.specs.Prelude.{ℕ, List, ◌+◌, ◌<◌, ◌-◌, codes, length, take, option_map, if◌then◌else◌, IfOk, IfSome, bytes_eq, true, false};
+ghost use Rattle.bz_canonical.specs.private.Segments.{AreLinesFront};
 ghost use Rattle.bz_canonical.specs.private.Rewritten.{IsRuleEnd, IsRuleHead, IsRulePlace, IsRuleRead, put_ends};
 
+use crate::chunk::Asked;
 use crate::front::{Word, after, after_word, before, identifier, line, simple_string};
-use crate::notes::{beside, lines};
+use crate::notes::beside;
 use crate::put_arguments::{Lines, Pending, PutPlace, Sought, put_arguments};
 use bz_memory::{NoMemory, extend_from_slice};
 
@@ -19,16 +21,17 @@ pub(crate) struct PutRule<'t> {
 }
 
 /// Passes the rule here. If it stands otherwise than it is written, what is written goes into the buffer.
+#[inline(always)]
 pub(crate) fn put_rule<'t>(
     text: &'t [u8],
     head: RuleHead<'t>,
-    attr: &[u8],
+    asked: Asked<'_>,
     depth: u8,
     written: &mut Vec<u8>,
 ) -> Result<Option<PutRule<'t>>, NoMemory>
     requires deep { depth < 253 }
     requires head { IsRuleHead text.now head.name.now head.inside.now head.rest.now }
-    ensures { IfOk result (λ told. IfSome told (λ read. IsRuleRead (depth + 1) attr.now head.entry.name.now
+    ensures { IfOk result (λ told. IfSome told (λ read. IsRuleRead (depth + 1) asked.entry.attr.now head.entry.name.now
         text.now read.rest.now
         (if read.as_is then take (length text.now - length read.rest.now) text.now else written.new.items)
         (option_map put_ends read.place))) }
@@ -38,6 +41,7 @@ pub(crate) fn put_rule<'t>(
         from: text,
         rest: head.rest,
     };
+    let attr = asked.attr.as_bytes();
     let Some(read) = put_arguments(start, Sought { attr, depth }, written)? else {
         return Ok(None);
     };
@@ -47,7 +51,7 @@ pub(crate) fn put_rule<'t>(
     let Some(rest) = rule_end(read.at.rest) else {
         return Ok(None);
     };
-    let place = place_of(text, head, attr, read.place);
+    let place = place_of(text, head, asked, read.place);
     if written.is_empty() {
         return Ok(Some(PutRule {
             place,
@@ -76,12 +80,13 @@ pub(crate) struct RuleHead<'t> {
     pub(crate) rest: &'t [u8],
 }
 
-/// The beginning of the rule here, whose name is its first argument, on a line of its own.
+/// The beginning of the rule whose kind is here, after the comments above it, and whose name is its first argument, on a
+/// line of its own.
 #[inline(always)]
-pub(crate) fn rule_head(text: &[u8]) -> Option<RuleHead<'_>>
-    ensures { IfSome result (λ head. IsRuleHead text.now head.name.now head.inside.now head.rest.now) }
+pub(crate) fn rule_head(start: &[u8]) -> Option<RuleHead<'_>>
+    ensures { IfSome result (λ head. (text : List ℕ) → AreLinesFront text start.now
+        → IsRuleHead text head.name.now head.inside.now head.rest.now) }
 {
-    let start = lines(text);
     let bracket = identifier(start)?;
     let inside = after(bracket, b'(')?;
     let first = line(inside, 1)?;
@@ -111,13 +116,16 @@ fn rule_end(text: &[u8]) -> Option<&[u8]>
 fn place_of<'t>(
     text: &[u8],
     head: RuleHead<'t>,
-    attr: &[u8],
+    asked: Asked<'_>,
     place: Option<PutPlace<'t>>,
 ) -> Option<PutPlace<'t>>
-    ensures { IfSome (option_map put_ends result) (IsRulePlace (bytes_eq attr.now (codes "name")) text.now
+    ensures { IfSome (option_map put_ends result) (IsRulePlace (bytes_eq asked.entry.attr.now (codes "name")) text.now
         head.entry.inside.now head.entry.rest.now (option_map put_ends place.entry)) }
 {
-    if attr != b"name".as_slice() {
+    if !asked.is_of(head.name) {
+        return None;
+    }
+    if asked.attr.as_bytes() != b"name".as_slice() {
         return place;
     }
     let start = text.len().checked_sub(head.inside.len())?;

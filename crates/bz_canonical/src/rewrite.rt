@@ -4,7 +4,7 @@ ghost use Rattle.std.specs.Prelude.{◌≡◌, ◌-◌, ◌<◌, ℕ, List, leng
 ghost use Rattle.bz_canonical.specs.Canonical.{IsCanonical, between};
 ghost use Rattle.bz_canonical.specs.private.Rewritten.{IsPutPlaceIn, IsRuleHead, IsRuleRead, put_ends};
 
-use crate::chunk::{ArgumentPlace, CanonicalChunk, without};
+use crate::chunk::{ArgumentPlace, Asked, CanonicalChunk, without};
 use crate::put_arguments::PutPlace;
 use crate::put_rule::{PutRule, RuleHead, put_rule};
 use bz_memory::NoMemory;
@@ -13,23 +13,24 @@ use bz_tree::Class;
 
 /// The chunk of the rule that begins with this head, where it stands as it would be written but for arguments whose
 /// value is a list of strings. If there are such, what is written goes into the buffer, whose bytes are lost.
+#[inline(always)]
 pub(crate) fn rule_chunk<'t>(
     text: &'t str,
     head: RuleHead<'t>,
-    attr: &str,
+    asked: Asked<'_>,
     max_depth: u8,
     written: &'t mut Vec<u8>,
 ) -> Result<Option<CanonicalChunk<'t>>, NoMemory>
     requires deep { max_depth < 254 }
     requires head { IsRuleHead text.now head.name.now head.inside.now head.rest.now }
-    ensures { IfOk result (λ told. IfSome told (λ found. IsCanonical max_depth attr.now found.class
+    ensures { IfOk result (λ told. IfSome told (λ found. IsCanonical max_depth asked.entry.attr.now found.class
         (option_map (λ name. name.now) found.name) (option_map between found.place)
         found.chunk.now found.written.now text.now)) }
 {
     let Some(depth) = max_depth.checked_sub(1) else {
         return Ok(None);
     };
-    let Some(read) = put_rule(text.as_bytes(), head, attr.as_bytes(), depth, written)? else {
+    let Some(read) = put_rule(text.as_bytes(), head, asked, depth, written)? else {
         return Ok(None);
     };
     let Some(name) = name_in(text, head) else {
@@ -53,6 +54,7 @@ fn name_in<'t>(text: &'t str, head: RuleHead<'_>) -> Option<&'t str>
 }
 
 /// The chunk of the rule of this name, which is in the buffer if it stands otherwise than it is written.
+#[inline(always)]
 fn chunk_of<'t>(
     text: &'t str,
     name: &'t str,

@@ -1,11 +1,12 @@
 //! A statement that stands as it would be written, with its comments.
 
 ghost use Rattle.std.specs.Prelude.{◌<◌, option_map, IfSome};
+ghost use Rattle.bz_canonical.specs.private.Segments.{AreLinesFront};
 ghost use Rattle.bz_canonical.specs.private.Statements.{IsStatementFront};
 
 use crate::bare::bare_statement;
 use crate::front::after;
-use crate::notes::{beside, lines};
+use crate::notes::beside;
 use bz_tree::Class;
 
 /// A statement, and what follows it.
@@ -20,14 +21,18 @@ pub(crate) struct ReadStatement<'t> {
     pub(crate) rest: &'t [u8],
 }
 
-/// The statement that the text begins with.
+/// The statement that the text begins with, whose comments are followed by what is here.
 #[inline(always)]
-pub(crate) fn statement(text: &[u8], max_depth: u8) -> Option<ReadStatement<'_>>
-    requires { max_depth < 254 }
+pub(crate) fn statement<'t>(
+    text: &'t [u8],
+    start: &'t [u8],
+    max_depth: u8,
+) -> Option<ReadStatement<'t>>
+    requires depth { max_depth < 254 }
+    requires lines { AreLinesFront text.now start.now }
     ensures { IfSome result (λ read. IsStatementFront max_depth read.class (option_map (λ name. name.now) read.name)
         text.now read.end.now read.rest.now) }
 {
-    let start = lines(text);
     if let Some(rest) = after(start, b'\n') {
         if start.len() == text.len() {
             return None;

@@ -4,12 +4,12 @@ ghost use Rattle.std.specs.Prelude.{◌≡◌, ◌<◌, ◌-◌, ◌∷◌, ◌+
 ghost use Rattle.bz_tree.specs.declared.tree.Class.TheVariants.{Rule as RuleClass};
 ghost use Rattle.bz_tree.specs.declared.tree.GroupKind.TheVariants.{RuleCall};
 ghost use Rattle.bz_canonical.specs.Canonical.{IsCanonical, between};
-ghost use Rattle.bz_canonical.specs.private.Segments.{IsSegmentFront};
+ghost use Rattle.bz_canonical.specs.private.Segments.{AreLinesFront, IsSegmentFront};
 ghost use Rattle.bz_canonical.specs.private.Unnamed.{IsStatementEnd, IsUnnamedRule};
 
-use crate::chunk::{ArgumentPlace, CanonicalChunk, without};
+use crate::chunk::{ArgumentPlace, Asked, CanonicalChunk, without};
 use crate::front::{after, before, identifier};
-use crate::notes::{beside, lines};
+use crate::notes::beside;
 use crate::rule::has_argument_name;
 use crate::segments::named_segment;
 use bz_memory::{NoMemory, extend_from_slice};
@@ -27,23 +27,28 @@ pub(crate) struct UnnamedRule<'t> {
     rest: &'t [u8],
 }
 
-/// The rule here, whose argument is neither `name` nor has the name that is asked for.
-pub(crate) fn unnamed_rule<'t>(text: &'t str, attr: &str, max_depth: u8) -> Option<UnnamedRule<'t>>
+/// The rule whose kind is here, after the comments above it, and whose argument is neither `name` nor has the name that
+/// is asked for. None also where a rule of a name is asked for.
+#[inline(never)]
+pub(crate) fn unnamed_rule<'t>(
+    start: &'t [u8],
+    asked: Asked<'_>,
+    max_depth: u8,
+) -> Option<UnnamedRule<'t>>
     requires { max_depth < 254 }
-    ensures { IfSome result (λ rule. IsUnnamedRule max_depth attr.now text.now rule.argument.now rule.close.now
-        rule.rest.now) }
+    ensures { IfSome result (λ rule. (text : List ℕ) → AreLinesFront text start.now
+        → IsUnnamedRule max_depth asked.entry.attr.now text rule.argument.now rule.close.now rule.rest.now) }
 {
-    if attr.is_empty() {
+    if asked.attr.is_empty() || asked.name.is_some() {
         return None;
     }
     let depth = max_depth.checked_sub(1)?;
-    let start = lines(text.as_bytes());
     let bracket = identifier(start)?;
     let argument = after(bracket, b'(')?;
     let close = only_argument(argument, depth)?;
     let end = after(close, b')')?;
     let call = before(bracket, end.len())?;
-    let sought = attr.as_bytes();
+    let sought = asked.attr.as_bytes();
     if has_argument_name(call, b"name".as_slice()) || has_argument_name(call, sought) {
         return None;
     }
@@ -77,6 +82,7 @@ fn statement_end(text: &[u8]) -> Option<&[u8]>
 }
 
 /// The chunk of such a rule. What is written of it with one more argument is in the buffer, whose bytes are lost.
+#[inline(never)]
 pub(crate) fn unnamed_chunk<'t>(
     text: &'t str,
     rule: UnnamedRule<'t>,

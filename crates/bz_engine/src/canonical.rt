@@ -150,18 +150,22 @@ fn find_canonical<'a>(
         found.chunk.chunk.now found.chunk.written.now text.now)) }
     ensures size { IfOk result (λ told. IfSome told (λ found. length found.chunk.chunk.now ≤ max_statement)) }
 {
-    let attr = script.passes.asked_attribute();
-    let Some(chunk) = canonical(text, attr, script.max_depth, written)? else {
+    let asked = script.passes.asked();
+    let Some(chunk) = canonical(text, asked, script.max_depth, written)? else {
         return Ok(None);
     };
     if chunk.chunk.len() as u64 > max_statement {
         return Ok(None);
     }
-    Ok(Some(Found { chunk, attr }))
+    Ok(Some(Found {
+        chunk,
+        attr: asked.attr,
+    }))
 }
 
-/// The script on the statement of such a chunk, by the first of these: no pass marks it; the one command leaves it as
-/// it is, fails on it, or edits one argument. False, with nothing done: the statement is to be seen.
+/// The script on the statement of such a chunk: no pass marks it, or `edit_marked` knows what is made of it. False, with
+/// nothing done: the statement is to be seen.
+#[inline(always)]
 fn edit_unseen(
     script: ScriptRun<'_>,
     found: Found<'_>,
@@ -178,6 +182,24 @@ fn edit_unseen(
         put_canonical(script, found.chunk, progress, text)?;
         return Ok(true);
     }
+    edit_marked(script, found, progress, text)
+}
+
+/// The script on the statement of such a chunk, by the first of these: the one command leaves it as it is, fails on it,
+/// or edits one argument. False, with nothing done: the statement is to be seen.
+#[inline(never)]
+fn edit_marked(
+    script: ScriptRun<'_>,
+    found: Found<'_>,
+    progress: &mut Progress,
+    text: &mut Vec<u8>,
+) -> Result<bool, NoMemory>
+    requires fits { Fits progress.old.kept script.passes.now }
+    ensures fits { OnOk result (Fits progress.new.kept script.entry.passes.now) }
+    ensures line { OnOk result (progress.new.line ≡ progress.old.line) }
+    ensures edited { IfOk result (EditsFound (run_of script.entry) found.entry progress.old progress.new
+        text.old.items text.new.items) }
+{
     let Some(only) = marking(script, found) else {
         return Ok(false);
     };
@@ -307,6 +329,7 @@ fn name_key(name: Option<&str>) -> Key<'_>
 }
 
 /// Writes the chunk of a statement that the script passes by.
+#[inline(always)]
 fn put_canonical(
     script: ScriptRun<'_>,
     found: CanonicalChunk<'_>,

@@ -69,6 +69,7 @@ pub(crate) fn edit_first(
 }
 
 /// The script on the chunk that has these tokens.
+#[inline(never)]
 fn edit_tokens<'a>(
     script: ScriptRun<'a>,
     chunk: &'a str,

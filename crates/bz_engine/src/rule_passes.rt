@@ -8,6 +8,7 @@ ghost use Rattle.bz_engine.specs.private.Found.{one_pass};
 ghost use Rattle.bz_engine.specs.private.Named.{all_named};
 
 use crate::answer::{asked_attribute, is_answerable};
+use bz_canonical::Asked;
 use bz_command::Pass;
 use bz_memory::{NoMemory, from_str};
 use bz_passes::passes::{Keyed, Passes};
@@ -118,9 +119,20 @@ impl RulePasses {
         self.may_be_known
     }
 
-    /// The attribute whose argument is to be looked for in a text. Empty: there is none.
-    pub(crate) fn asked_attribute(&self) -> &str {
-        self.attr.as_str()
+    /// The argument whose place is to be looked for in a text. Its name is empty: there is none.
+    pub(crate) fn asked(&self) -> Asked<'_> {
+        Asked {
+            attr: self.attr.as_str(),
+            name: self.name_of_one(),
+        }
+    }
+
+    /// The name of the rules that its one pass marks, where it asks for one.
+    fn name_of_one(&self) -> Option<&str> {
+        let [pass] = self.as_slice() else {
+            return None;
+        };
+        pass.target.asked()
     }
 }
 

@@ -8,7 +8,7 @@ use Rattle.bz_canonical.proofs.put_rule.put_rule.Goals as goal
 pub returns-then-is_empty : goal.returns-then-is_empty
 returns-then-is_empty c =
     let text = c.args.text.now in
-    let attr = c.args.attr.now in
+    let attr = c.args.asked.attr.now in
     let head = c.args.head in
     let read = c.in-Some.read in
     let rest = c.in-Some-rule_end.rest.now in
@@ -16,7 +16,7 @@ returns-then-is_empty c =
     let h = c.requires.head in
     let front = head_of text head.name.now head.inside.now head.rest.now h in
     let puts = subst (λ (o : Option PutArguments). IfSome o (λ read. Puts c.clear.new.self.items (record { from = text; to = head.rest.now }) buffer (pending read.at)
-    (λ begun w. AreArgumentsRead c.args.depth attr head.rest.now read.at.rest.now begun w read.some (option_map put_ends read.place)))) c.in-Some.is c.in_ok-read.ensures in
+    (λ begun w. AreArgumentsRead c.args.depth attr head.rest.now read.at.rest.now begun w read.some (option_map put_ends read.place)))) c.in-Some.is (rw c.as_bytes-attr.ensures.value at c.in_ok-read.ensures) in
     let got = puts text front (rule_begun text head.name.now head.inside.now head.rest.now h c.clear.new.self.items c.clear.ensures.items) in
     let all = rule_pending c.args.depth attr text head.name.now head.inside.now head.rest.now read.at.rest.now rest read.at.from.now buffer got.0 read.some (option_map put_ends read.place) (option_map put_ends c.place_of-place.result) h
     got.1 got.2 c.if-not-read.false c.in-Some-rule_end.ensures c.place_of-place.ensures in
@@ -26,7 +26,7 @@ returns-then-is_empty c =
 pub returns : goal.returns
 returns c =
     let text = c.args.text.now in
-    let attr = c.args.attr.now in
+    let attr = c.args.asked.attr.now in
     let head = c.args.head in
     let read = c.in-Some.read in
     let rest = c.in-Some-rule_end.rest.now in
@@ -34,7 +34,7 @@ returns c =
     let h = c.requires.head in
     let front = head_of text head.name.now head.inside.now head.rest.now h in
     let puts = subst (λ (o : Option PutArguments). IfSome o (λ read. Puts c.clear.new.self.items (record { from = text; to = head.rest.now }) buffer (pending read.at)
-    (λ begun w. AreArgumentsRead c.args.depth attr head.rest.now read.at.rest.now begun w read.some (option_map put_ends read.place)))) c.in-Some.is c.in_ok-read.ensures in
+    (λ begun w. AreArgumentsRead c.args.depth attr head.rest.now read.at.rest.now begun w read.some (option_map put_ends read.place)))) c.in-Some.is (rw c.as_bytes-attr.ensures.value at c.in_ok-read.ensures) in
     let got = puts text front (rule_begun text head.name.now head.inside.now head.rest.now h c.clear.new.self.items c.clear.ensures.items) in
     let all = rule_pending c.args.depth attr text head.name.now head.inside.now head.rest.now read.at.rest.now rest read.at.from.now buffer got.0 read.some (option_map put_ends read.place) (option_map put_ends c.place_of-place.result) h
     got.1 got.2 c.if-not-read.false c.in-Some-rule_end.ensures c.place_of-place.ensures in

@@ -1,6 +1,6 @@
 use Rattle.bz_token.specs.declared.token.Kind.TheVariants.{String}
 use Rattle.bz_canonical.proofs.Tokens.{token_front, quoted_stays}
-use Rattle.bz_canonical.proofs.front.string.Goals as goal
+use Rattle.bz_canonical.proofs.front.any_string.Goals as goal
 
 pub returns : goal.returns
 returns c =
