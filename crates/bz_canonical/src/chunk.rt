@@ -39,12 +39,12 @@ pub struct ArgumentPlace<'t> {
 /// The argument whose place is asked for: its name, and the name of the rules that are meant. None: all rules are. An
 /// empty name of an argument: none is asked for.
 #[derive(Clone, Copy)]
-pub struct Asked<'c> {
+pub struct Lookup<'c> {
     pub attr: &'c str,
     pub name: Option<&'c str>,
 }
 
-impl Asked<'_> {
+impl Lookup<'_> {
     /// An argument of rules of this name is asked for.
     #[inline(always)]
     pub(crate) fn is_of(self, name: &[u8]) -> bool {
@@ -67,7 +67,7 @@ pub(crate) const DEEPEST: u8 = 253;
 #[inline(always)]
 pub fn canonical<'t>(
     text: &'t str,
-    asked: Asked<'_>,
+    asked: Lookup<'_>,
     max_depth: u8,
     written: &'t mut Vec<u8>,
 ) -> Result<Option<CanonicalChunk<'t>>, NoMemory>

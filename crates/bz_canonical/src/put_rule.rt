@@ -4,7 +4,7 @@ ghost use Rattle.std.specs.Prelude.{ℕ, List, ◌+◌, ◌<◌, ◌-◌, codes,
 ghost use Rattle.bz_canonical.specs.private.Segments.{AreLinesFront};
 ghost use Rattle.bz_canonical.specs.private.Rewritten.{IsRuleEnd, IsRuleHead, IsRulePlace, IsRuleRead, put_ends};
 
-use crate::chunk::Asked;
+use crate::chunk::Lookup;
 use crate::front::{Word, after, after_word, before, identifier, line, simple_string};
 use crate::notes::beside;
 use crate::put_arguments::{Lines, Pending, PutPlace, Sought, put_arguments};
@@ -25,7 +25,7 @@ pub(crate) struct PutRule<'t> {
 pub(crate) fn put_rule<'t>(
     text: &'t [u8],
     head: RuleHead<'t>,
-    asked: Asked<'_>,
+    asked: Lookup<'_>,
     depth: u8,
     written: &mut Vec<u8>,
 ) -> Result<Option<PutRule<'t>>, NoMemory>
@@ -116,7 +116,7 @@ fn rule_end(text: &[u8]) -> Option<&[u8]>
 fn place_of<'t>(
     text: &[u8],
     head: RuleHead<'t>,
-    asked: Asked<'_>,
+    asked: Lookup<'_>,
     place: Option<PutPlace<'t>>,
 ) -> Option<PutPlace<'t>>
     ensures { IfSome (option_map put_ends result) (IsRulePlace (bytes_eq asked.entry.attr.now (codes "name")) text.now

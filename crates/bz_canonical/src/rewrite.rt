@@ -4,7 +4,7 @@ ghost use Rattle.std.specs.Prelude.{◌≡◌, ◌-◌, ◌<◌, ℕ, List, leng
 ghost use Rattle.bz_canonical.specs.Canonical.{IsCanonical, between};
 ghost use Rattle.bz_canonical.specs.private.Rewritten.{IsPutPlaceIn, IsRuleHead, IsRuleRead, put_ends};
 
-use crate::chunk::{ArgumentPlace, Asked, CanonicalChunk, without};
+use crate::chunk::{ArgumentPlace, Lookup, CanonicalChunk, without};
 use crate::put_arguments::PutPlace;
 use crate::put_rule::{PutRule, RuleHead, put_rule};
 use bz_memory::NoMemory;
@@ -17,7 +17,7 @@ use bz_tree::Class;
 pub(crate) fn rule_chunk<'t>(
     text: &'t str,
     head: RuleHead<'t>,
-    asked: Asked<'_>,
+    asked: Lookup<'_>,
     max_depth: u8,
     written: &'t mut Vec<u8>,
 ) -> Result<Option<CanonicalChunk<'t>>, NoMemory>

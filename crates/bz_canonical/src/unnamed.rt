@@ -7,7 +7,7 @@ ghost use Rattle.bz_canonical.specs.Canonical.{IsCanonical, between};
 ghost use Rattle.bz_canonical.specs.private.Segments.{AreLinesFront, IsSegmentFront};
 ghost use Rattle.bz_canonical.specs.private.Unnamed.{IsStatementEnd, IsUnnamedRule};
 
-use crate::chunk::{ArgumentPlace, Asked, CanonicalChunk, without};
+use crate::chunk::{ArgumentPlace, Lookup, CanonicalChunk, without};
 use crate::front::{after, before, identifier};
 use crate::notes::beside;
 use crate::rule::has_argument_name;
@@ -32,7 +32,7 @@ pub(crate) struct UnnamedRule<'t> {
 #[inline(never)]
 pub(crate) fn unnamed_rule<'t>(
     start: &'t [u8],
-    asked: Asked<'_>,
+    asked: Lookup<'_>,
     max_depth: u8,
 ) -> Option<UnnamedRule<'t>>
     requires { max_depth < 254 }

@@ -8,7 +8,7 @@ ghost use Rattle.bz_engine.specs.private.Found.{one_pass};
 ghost use Rattle.bz_engine.specs.private.Named.{all_named};
 
 use crate::answer::{asked_attribute, is_answerable};
-use bz_canonical::Asked;
+use bz_canonical::Lookup;
 use bz_command::Pass;
 use bz_memory::{NoMemory, from_str};
 use bz_passes::passes::{Keyed, Passes};
@@ -120,8 +120,8 @@ impl RulePasses {
     }
 
     /// The argument whose place is to be looked for in a text. Its name is empty: there is none.
-    pub(crate) fn asked(&self) -> Asked<'_> {
-        Asked {
+    pub(crate) fn asked(&self) -> Lookup<'_> {
+        Lookup {
             attr: self.attr.as_str(),
             name: self.name_of_one(),
         }
