@@ -79,26 +79,20 @@ pub(crate) fn is_call(kind: GroupKind) -> bool
     matches!(kind, GroupKind::Call | GroupKind::RuleCall)
 }
 
-fn as_rule_call(node: Node<'_>) -> Node<'_>
-    ensures value { node_view result ≡ as_rule_call (node_view node.entry) }
-{
-    match node {
-        Node::Token(leaf) => Node::Token(leaf),
-        Node::Group(group) => Node::Group(Group {
-            kind: GroupKind::RuleCall,
-            segs: group.segs,
-            one_comma: group.one_comma,
-            end: group.end,
-        }),
-    }
-}
-
+// If the last of them is a bracket, it is the call of a rule.
 fn rule_call(nodes: Vec<Node<'_>>) -> Vec<Node<'_>>
     ensures value { nodes_view result.items ≡ rule_call (nodes_view nodes.entry.items) }
 {
     let mut nodes = nodes;
-    if let Some(node) = nodes.pop() {
-        nodes.push_reserved(as_rule_call(node));
+    match nodes.pop() {
+        Some(Node::Group(group)) => nodes.push_reserved(Node::Group(Group {
+            kind: GroupKind::RuleCall,
+            segs: group.segs,
+            one_comma: group.one_comma,
+            end: group.end,
+        })),
+        Some(node) => nodes.push_reserved(node),
+        None => {}
     }
     nodes
 }
