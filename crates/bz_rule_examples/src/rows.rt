@@ -227,7 +227,7 @@ fn row_of<'a>(alloc: Global, bump: &'a Bump, text: &'a str) -> Result<Option<Row
         return Ok(None);
     }
     match tokens(bump, text, 1, 100) {
-        Ok(tokens) => Ok(read_row(alloc, bump, tokens)?),
+        Ok(tokens) => Ok(read_row(bump, tokens)?),
         Err(_) => Ok(None),
     }
 }

@@ -1,7 +1,6 @@
 //! What a statement is to the layout and to the commands.
 
 ghost use Rattle.std.specs.Prelude.{◌≡◌, ◌≤◌, codes};
-ghost use Rattle.bz_tree.specs.Tree.{leaf};
 ghost use Rattle.bz_tree.specs.View.{node_view, nodes_view, seg_view};
 ghost use Rattle.bz_tree.specs.Statement.{is_rule, is_call, as_rule_call, rule_call, with_rule_call, is_assign, is_kept, is_load_word, class_of};
 ghost use Rattle.bz_tree.specs.Kinds.{is_operator_at};
@@ -131,18 +130,11 @@ fn has_assign(nodes: &[Node<'_>]) -> bool
     false
 }
 
-/// The keyword `load`.
-pub(crate) fn is_load_at(kind: Kind, text: &str) -> bool
-    ensures { result ≡ is_load_word (leaf kind text.now) }
-{
-    kind == Kind::Keyword && text == "load"
-}
-
-pub(crate) fn is_load_word(node: &Node<'_>) -> bool
+fn is_load_word(node: &Node<'_>) -> bool
     ensures { result ≡ is_load_word (node_view node.now) }
 {
     match node {
-        Node::Token(leaf) => is_load_at(leaf.kind, leaf.text),
+        Node::Token(leaf) => leaf.kind == Kind::Keyword && leaf.text == "load",
         Node::Group(_) => false,
     }
 }
