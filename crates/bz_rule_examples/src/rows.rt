@@ -222,12 +222,12 @@ fn shown_row(alloc: Global, row: &Row<'_>) -> Result<String, Fail> {
 }
 
 /// The row of a short chunk. None: it has none, or no tokens.
-fn row_of<'a>(alloc: Global, bump: &'a Bump, text: &'a str) -> Result<Option<Row<'a>>, Fail> {
+fn row_of<'a>(bump: &'a Bump, text: &'a str) -> Result<Option<Row<'a>>, Fail> {
     if text.len() > 1000 {
         return Ok(None);
     }
     match tokens(bump, text, 1, 100) {
-        Ok(tokens) => Ok(read_row(alloc, bump, tokens)?),
+        Ok(tokens) => Ok(read_row(bump, tokens)?),
         Err(_) => Ok(None),
     }
 }
@@ -235,7 +235,7 @@ fn row_of<'a>(alloc: Global, bump: &'a Bump, text: &'a str) -> Result<Option<Row
 /// The row of a chunk as text.
 fn shown(alloc: Global, text: &str) -> Result<String, Fail> {
     let bump = Bump::new(alloc);
-    let row = row_of(alloc, &bump, text)?.ok_or("no row")?;
+    let row = row_of(&bump, text)?.ok_or("no row")?;
     let shown = shown_row(alloc, &row)?;
     Ok(shown)
 }
@@ -277,7 +277,7 @@ fn shown_tokens(alloc: Global, text: &str) -> Result<String, Fail> {
 fn has_row(alloc: Global, text: &str) -> Result<bool, Fail> {
     let text = plain(alloc, text)?;
     let bump = Bump::new(alloc);
-    Ok(row_of(alloc, &bump, text.as_str())?.is_some())
+    Ok(row_of(&bump, text.as_str())?.is_some())
 }
 
 #[test]

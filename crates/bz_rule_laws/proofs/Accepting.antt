@@ -3,7 +3,7 @@ use Rattle.std.proofs.Common.{◌≡◌, ℕ, List, [], Bool, true, false, None,
 use Rattle.std.proofs.lemmas.Bool.{cases_Bool, and_parts, false≢true}
 use Rattle.bz_token.specs.declared.token.Kind.TheVariants.{Identifier}
 use Rattle.bz_tree.specs.declared.tree.GroupKind.TheVariants.{Call, List as ListKind}
-use Rattle.bz_tree.specs.declared.grammar.role.Role.TheVariants.{Value}
+use Rattle.bz_tree.specs.declared.grammar.role.Role.TheVariants.{Bracket}
 use Rattle.bz_tree.specs.Tree.{leaf, group, Items, no_items, item, Segs, no_segs, seg}
 use Rattle.bz_tree.specs.Grammar.{IsTest, plain, single, primary, operand, no_suffix, suffix, call, ident, list, AreTests, no_test, one_test, AreArgs, no_arg, one_arg, IsArg, last_test, IsStatement, expression}
 use Rattle.bz_tree.specs.private.Machine.{accepts, begin, each, is_statement, role_of}
@@ -42,7 +42,7 @@ args_each segs h = elim (cases_Bool (each (begin Call) segs)) [
 ]
 
 -- a list whose elements are in the grammar is an operand
-pub list_role : (segs : Segs) (one_comma : Bool) (end : List (List ℕ)) → AreTests segs → role_of (group ListKind segs one_comma end) ≡ Value
+pub list_role : (segs : Segs) (one_comma : Bool) (end : List (List ℕ)) → AreTests segs → role_of (group ListKind segs one_comma end) ≡ Bracket
 list_role segs one_comma end h = rw (tests_each segs h) refl
 
 pub test_accepted : (xs : Items) → IsTest xs → accepts (begin ListKind) xs ≡ true

@@ -6,11 +6,10 @@ pub mod stage;
 ghost use Rattle.std.specs.Prelude.{◌≡◌};
 ghost use Rattle.bz_tree.specs.Tree.{items_of, segs_of};
 ghost use Rattle.bz_tree.specs.View.{node_view, group_view, nodes_view, segs_view};
-ghost use Rattle.bz_tree.specs.private.Machine.{accepts, role_of, each, is_whole, is_single, is_string_item, is_string, is_renamed, is_load_argument, are_load_arguments, are_loaded, is_load_group, is_load, is_nothing, is_statement};
+ghost use Rattle.bz_tree.specs.private.Machine.{accepts, role_of, each, is_whole, is_single, is_statement};
 
 use crate::grammar::role::{Role, token_role};
-use crate::grammar::stage::{Goal, Stage, begin, group_role, may_end, next};
-use crate::tree::classes::is_load_word;
+use crate::grammar::stage::{Stage, begin, group_role, later, may_end, next};
 use crate::tree::kinds::is_one;
 use crate::tree::{Group, GroupKind, Node, Seg};
 
@@ -51,10 +50,12 @@ fn role_of_group(group: &Group<'_>) -> Role
 fn each(stage: Stage, segs: &[Seg<'_>]) -> bool
     ensures { result ≡ each stage (segs_of (segs_view segs.now)) }
 {
+    let mut stage = stage;
     for seg in segs {
         if !accepts(stage, &seg.nodes) {
             return false;
         }
+        stage = later(stage);
     }
     true
 }
@@ -63,7 +64,10 @@ fn each(stage: Stage, segs: &[Seg<'_>]) -> bool
 fn is_whole(kind: GroupKind, segs: &[Seg<'_>]) -> bool
     ensures { result ≡ is_whole kind (segs_of (segs_view segs.now)) }
 {
-    !is_one(kind) || is_single(segs)
+    match kind {
+        GroupKind::Load => !segs.is_empty(),
+        _ => !is_one(kind) || is_single(segs),
+    }
 }
 
 fn is_single(segs: &[Seg<'_>]) -> bool
@@ -72,92 +76,9 @@ fn is_single(segs: &[Seg<'_>]) -> bool
     segs.len() == 1
 }
 
-fn is_string_item(node: &Node<'_>) -> bool
-    ensures { result ≡ is_string_item (node_view node.now) }
-{
-    match node {
-        Node::Token(leaf) => matches!(token_role(leaf.kind, leaf.text), Role::Value),
-        Node::Group(_) => false,
-    }
-}
-
-// A string alone.
-fn is_string(nodes: &[Node<'_>]) -> bool
-    ensures { result ≡ is_string (items_of (nodes_view nodes.now)) }
-{
-    match nodes {
-        [node] => is_string_item(node),
-        _ => false,
-    }
-}
-
-// A name, `=` and a string.
-fn is_renamed(nodes: &[Node<'_>]) -> bool
-    ensures { result ≡ is_renamed (items_of (nodes_view nodes.now)) }
-{
-    match nodes {
-        [name, equals, string] => matches!(role_of(name), Role::Name)
-            && matches!(role_of(equals), Role::Equals)
-            && is_string_item(string),
-        _ => false,
-    }
-}
-
-fn is_load_argument(nodes: &[Node<'_>]) -> bool
-    ensures { result ≡ is_load_argument (items_of (nodes_view nodes.now)) }
-{
-    is_string(nodes) || is_renamed(nodes)
-}
-
-fn are_load_arguments(segs: &[Seg<'_>]) -> bool
-    ensures { result ≡ are_load_arguments (segs_of (segs_view segs.now)) }
-{
-    for seg in segs {
-        if !is_load_argument(&seg.nodes) {
-            return false;
-        }
-    }
-    true
-}
-
-// What stands after `load`: a string, and more strings with or without names.
-fn are_loaded(segs: &[Seg<'_>]) -> bool
-    ensures { result ≡ are_loaded (segs_of (segs_view segs.now)) }
-{
-    match segs.split_first() {
-        None => false,
-        Some((first, rest)) => is_string(&first.nodes) && are_load_arguments(rest),
-    }
-}
-
-fn is_load_group(node: &Node<'_>) -> bool
-    ensures { result ≡ is_load_group (node_view node.now) }
-{
-    match node {
-        Node::Token(_) => false,
-        Node::Group(group) => matches!(group.kind, GroupKind::Load) && are_loaded(&group.segs),
-    }
-}
-
-/// Whether the nodes are those of a load.
-pub(crate) fn is_load(nodes: &[Node<'_>]) -> bool
-    ensures { result ≡ is_load (items_of (nodes_view nodes.now)) }
-{
-    match nodes {
-        [word, group] => is_load_word(word) && is_load_group(group),
-        _ => false,
-    }
-}
-
-fn is_nothing(nodes: &[Node<'_>]) -> bool
-    ensures { result ≡ is_nothing (items_of (nodes_view nodes.now)) }
-{
-    nodes.is_empty()
-}
-
 /// Whether the nodes are those of a statement.
 pub(crate) fn is_statement(nodes: &[Node<'_>]) -> bool
     ensures { result ≡ is_statement (items_of (nodes_view nodes.now)) }
 {
-    is_nothing(nodes) || is_load(nodes) || accepts(Stage::Wants(Goal::Left, false), nodes)
+    accepts(Stage::Statement, nodes)
 }

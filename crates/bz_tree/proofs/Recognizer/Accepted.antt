@@ -1,17 +1,21 @@
 -- What is in the grammar is accepted by the recognizer.
 use Rattle.std.proofs.Common.{arith, ◌≡◌, ℕ, List, Bool, true, false, cond, refl, sym, ap, ◌∙◌}
 use Rattle.std.proofs.lemmas.Bool.{false≢true, and_from}
+use Rattle.std.specs.Prelude.{codes}
+use Rattle.std.proofs.lemmas.Slice.Eq.{bytes_eq-Decides}
+use Rattle.bz_token.specs.declared.token.Kind.{Kind}
+use Rattle.bz_token.specs.declared.token.Kind.TheVariants.{Keyword as KeywordToken}
 use Rattle.bz_tree.specs.declared.tree.GroupKind.{GroupKind}
 use Rattle.bz_tree.specs.declared.tree.GroupKind.TheVariants.{Call, RuleCall, Paren, List as ListKind, Dict, ListComp, DictComp}
 use Rattle.bz_tree.specs.declared.grammar.role.Role.{Role}
-use Rattle.bz_tree.specs.declared.grammar.role.Role.TheVariants.{Name, Number, Value, Suffix, Dot, Comma, Colon, Equals, If, Else, For, In, Not, Tilde, Sum, Star, Stars, Operator, Stray}
+use Rattle.bz_tree.specs.declared.grammar.role.Role.TheVariants.{Name, Number, Value, Bracket, Suffix, Dot, Comma, Colon, Equals, If, Else, For, In, Not, Tilde, Sum, Star, Stars, Operator, LoadWord, Stray}
 use Rattle.bz_tree.specs.declared.grammar.stage.Goal.{Goal}
 use Rattle.bz_tree.specs.declared.grammar.stage.Goal.TheVariants.{Alone, Key, Element, EntryKey, From, To, Step, Target, Clause}
 use Rattle.bz_tree.specs.declared.grammar.stage.Stage.{Stage}
 use Rattle.bz_tree.specs.declared.grammar.stage.Stage.TheVariants.{Refused, Wants, Has, HasNumber, Names, Excludes, Begins, Argument, Keyword}
 use Rattle.bz_tree.specs.Tree.{Item, leaf, group, Items, no_items, item, Segs, no_segs, seg}
-use Rattle.bz_tree.specs.Statement.{is_call}
-use Rattle.bz_tree.specs.Grammar.{token_role, is_prefix, is_operator, is_star, join, is_dot_role, begins_dot, IsBinOp, operator, not_in, IsTest, plain, conditional, IsChain, single, binary, IsTerm, primary, unary, IsPrimary, number, operand, AreSuffixes, no_suffix, member, suffix, IsSuffix, call, index, IsOperand, ident, text, paren, list, dict, list_comp, dict_comp, AreTests, no_test, one_test, AreArgs, no_arg, one_arg, IsArg, positional, keyword, starred, AreEntries, no_entry, one_entry, IsEntry, entry, IsElement, element, IsEntryElement, entry_element, IsFor, for, AreTargets, last_target, target, AreClauses, no_clause, for_clause, if_clause, IsIndex, at, slice, IsRange, upper, stepped, IsOptional, nothing, some}
+use Rattle.bz_tree.specs.Statement.{is_call, is_load_word}
+use Rattle.bz_tree.specs.Grammar.{token_role, leaf_role, word_role, is_prefix, is_operator, is_star, join, is_dot_role, begins_dot, IsBinOp, operator, not_in, IsTest, plain, conditional, IsChain, single, binary, IsTerm, primary, unary, IsPrimary, number, operand, AreSuffixes, no_suffix, member, suffix, IsSuffix, call, index, IsOperand, ident, text, paren, list, dict, list_comp, dict_comp, AreTests, no_test, one_test, AreArgs, no_arg, one_arg, IsArg, positional, keyword, starred, AreEntries, no_entry, one_entry, IsEntry, entry, IsElement, element, IsEntryElement, entry_element, IsFor, for, AreTargets, last_target, target, AreClauses, no_clause, for_clause, if_clause, IsIndex, at, slice, IsRange, upper, stepped, IsOptional, nothing, some}
 use Rattle.bz_tree.specs.private.Machine.{ends, is_target, in_chain, after_part, next_wanted, next_after, next, accepts, role_of, each}
 
 pub join_empty : (xs : Items) → join xs no_items ≡ xs
@@ -26,12 +30,21 @@ abbrev is_stray : Role → Bool
 is_stray Stray = true
 is_stray _ = false
 
+-- to the grammar the word `load` stands nowhere in an expression
+load_stray : (kind : Kind) (bytes : List ℕ) → is_load_word (leaf kind bytes) ≡ true → is_stray (leaf_role kind bytes) ≡ true
+load_stray KeywordToken bytes h = ap (λ word. is_stray (word_role word)) ((bytes_eq-Decides bytes (codes "load")).0 h)
+load_stray _ bytes h = absurd (false≢true h)
+
 -- a token is what the recognizer takes it for
 pub role_known : (x : Item) (r : Role) → token_role x ≡ r → is_stray r ≡ false → role_of x ≡ r
-role_known (leaf kind bytes) r e known = e
+role_known (leaf kind bytes) r e known = at (is_load_word (leaf kind bytes)) refl
+  where
+    at : (b : Bool) → is_load_word (leaf kind bytes) ≡ b → cond b LoadWord (leaf_role kind bytes) ≡ r
+    at true is = absurd (false≢true (sym known ∙ ap is_stray (sym e) ∙ load_stray kind bytes is))
+    at false is = e
 role_known (group kind segs one_comma end) r e known = absurd (false≢true (sym known ∙ ap is_stray (sym e)))
 
-step : (s : Stage) (x : Item) (xs : Items) (r : Role) → role_of x ≡ r → accepts (next s r) xs ≡ true → accepts s (item x xs) ≡ true
+pub step : (s : Stage) (x : Item) (xs : Items) (r : Role) → role_of x ≡ r → accepts (next s r) xs ≡ true → accepts s (item x xs) ≡ true
 step s x xs r e h = ap (λ q. accepts (next s q) xs) e ∙ h
 
 pub refused : (xs : Items) → accepts Refused xs ≡ true → ⊥
@@ -164,11 +177,11 @@ mutual
   pub operand_run : {x : Item} → IsOperand x → (p : Goal) (c : Bool) (xs : Items) → accepts (Has p c) xs ≡ true → accepts (Wants p c) (item x xs) ≡ true
   operand_run (ident {x} e) p c xs h = step (Wants p c) x xs Name (role_known x Name e refl) h
   operand_run (text {x} e) p c xs h = step (Wants p c) x xs Value (role_known x Value e refl) h
-  operand_run (paren {segs} {one_comma} {end} ts) p c xs h = step (Wants p c) (group Paren segs one_comma end) xs Value (ap (λ b. cond b Value Stray) (tests_run ts)) h
-  operand_run (list {segs} {one_comma} {end} ts) p c xs h = step (Wants p c) (group ListKind segs one_comma end) xs Value (ap (λ b. cond b Value Stray) (tests_run ts)) h
-  operand_run (dict {segs} {one_comma} {end} es) p c xs h = step (Wants p c) (group Dict segs one_comma end) xs Value (ap (λ b. cond b Value Stray) (entries_run es)) h
-  operand_run (list_comp {before} {nodes} {beside} {one_comma} {end} e) p c xs h = step (Wants p c) (group ListComp (seg before nodes beside no_segs) one_comma end) xs Value (ap (λ b. cond b Value Stray) (and_from _ true (element_run e) refl)) h
-  operand_run (dict_comp {before} {nodes} {beside} {one_comma} {end} e) p c xs h = step (Wants p c) (group DictComp (seg before nodes beside no_segs) one_comma end) xs Value (ap (λ b. cond b Value Stray) (and_from _ true (entry_element_run e) refl)) h
+  operand_run (paren {segs} {one_comma} {end} ts) p c xs h = step (Wants p c) (group Paren segs one_comma end) xs Bracket (ap (λ b. cond b Bracket Stray) (tests_run ts)) h
+  operand_run (list {segs} {one_comma} {end} ts) p c xs h = step (Wants p c) (group ListKind segs one_comma end) xs Bracket (ap (λ b. cond b Bracket Stray) (tests_run ts)) h
+  operand_run (dict {segs} {one_comma} {end} es) p c xs h = step (Wants p c) (group Dict segs one_comma end) xs Bracket (ap (λ b. cond b Bracket Stray) (entries_run es)) h
+  operand_run (list_comp {before} {nodes} {beside} {one_comma} {end} e) p c xs h = step (Wants p c) (group ListComp (seg before nodes beside no_segs) one_comma end) xs Bracket (ap (λ b. cond b Bracket Stray) (and_from _ true (element_run e) refl)) h
+  operand_run (dict_comp {before} {nodes} {beside} {one_comma} {end} e) p c xs h = step (Wants p c) (group DictComp (seg before nodes beside no_segs) one_comma end) xs Bracket (ap (λ b. cond b Bracket Stray) (and_from _ true (entry_element_run e) refl)) h
 
   pub tests_run : {segs : Segs} → AreTests segs → each (Wants Alone false) segs ≡ true
   tests_run no_test = refl

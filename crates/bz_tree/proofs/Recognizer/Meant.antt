@@ -1,21 +1,22 @@
 -- What the recognizer accepts is in the grammar.
-use Rattle.std.proofs.Common.{arith, ◌≡◌, ℕ, List, Bool, true, false, not, ◌&&◌, cond, refl, sym, ap, subst, ◌∙◌, ◌⊎◌, inl, inr}
+use Rattle.std.proofs.Common.{arith, ◌≡◌, ℕ, List, Bool, true, false, not, ◌&&◌, cond, refl, sym, ap, subst, ◌∙◌, ◌⊎◌, inl, inr, Option}
 use Rattle.std.proofs.lemmas.Bool.{false≢true, and_parts}
 use Rattle.bz_token.specs.declared.token.Kind.{Kind}
 use Rattle.bz_token.specs.declared.token.Kind.TheVariants.{Keyword as KeywordToken, Operator as OperatorToken}
 use Rattle.bz_tree.specs.declared.tree.GroupKind.{GroupKind}
 use Rattle.bz_tree.specs.declared.tree.GroupKind.TheVariants.{Call, RuleCall, Load, Paren, List as ListKind, Index, Dict, ListComp, DictComp}
 use Rattle.bz_tree.specs.declared.grammar.role.Role.{Role}
-use Rattle.bz_tree.specs.declared.grammar.role.Role.TheVariants.{Name, Number, Value, Suffix, Dot, Comma, Colon, Equals, Augmented, If, Else, For, In, Not, Tilde, Sum, Star, Stars, Operator, Stray}
+use Rattle.bz_tree.specs.declared.grammar.role.Role.TheVariants.{Name, Number, Value, Bracket, Suffix, Dot, Comma, Colon, Equals, Augmented, If, Else, For, In, Not, Tilde, Sum, Star, Stars, Operator, LoadWord, LoadGroup, Stray}
 use Rattle.bz_tree.specs.declared.grammar.stage.Goal.{Goal}
 use Rattle.bz_tree.specs.declared.grammar.stage.Goal.TheVariants.{Left, Right, Alone, Key, Element, EntryKey, From, To, Step, Target, Clause}
 use Rattle.bz_tree.specs.declared.grammar.stage.Stage.{Stage}
-use Rattle.bz_tree.specs.declared.grammar.stage.Stage.TheVariants.{Refused, Wants, Has, HasNumber, Names, Excludes, Begins, Argument, Keyword}
+use Rattle.bz_tree.specs.declared.grammar.stage.Stage.TheVariants.{Refused, Statement, Wants, Has, HasNumber, Names, Excludes, Begins, Argument, Keyword, Loads, Text, LoadArgument, Renames, Done}
 use Rattle.bz_tree.specs.Tree.{Item, leaf, group, Items, no_items, item, Segs, no_segs, seg}
 use Rattle.bz_tree.specs.Grammar.{token_role, is_prefix, is_operator, is_star, is_assignment, join, is_dot_role, begins_dot, IsBinOp, operator, not_in, IsTest, plain, conditional, IsChain, single, binary, IsTerm, primary, unary, IsPrimary, number, operand, AreSuffixes, no_suffix, member, suffix, IsSuffix, call, index, IsOperand, ident, text, paren, list, dict, list_comp, dict_comp, AreTests, no_test, one_test, AreArgs, no_arg, one_arg, IsArg, positional, keyword, starred, AreEntries, no_entry, one_entry, IsEntry, entry, IsElement, element, IsEntryElement, entry_element, IsFor, for, AreTargets, last_target, target, AreClauses, no_clause, for_clause, if_clause, IsIndex, at, slice, IsRange, upper, stepped, IsOptional, nothing, some}
 use Rattle.bz_tree.specs.private.Machine.{ends, is_target, in_chain, after_part, next_wanted, next_after, next, accepts, role_of, each, is_whole, group_role, begin}
-use Rattle.bz_tree.specs.Grammar.{leaf_role, word_role, operator_role, IsExpr, last_test, test}
-use Rattle.bz_tree.specs.private.Machine.{may_end, is_single, leaves}
+use Rattle.bz_tree.specs.Statement.{is_load_word}
+use Rattle.bz_tree.specs.Grammar.{leaf_role, word_role, operator_role, IsExpr, last_test, test, IsString, string, IsLoadArg, loaded, renamed, AreLoadArgs, no_load_arg, load_arg, load, IsStatement, comments, load_statement, expression, assignment}
+use Rattle.bz_tree.specs.private.Machine.{may_end, is_single, leaves, later}
 use Rattle.bz_tree.proofs.Recognizer.Accepted.{join_empty, join_assoc}
 
 -- the operators and operands after the first of a chain
@@ -37,7 +38,7 @@ test_from a q first no_condition = subst IsTest (sym (join_empty a)) (plain firs
 test_from a q first (condition i e is ri second re third) = conditional i e (ap (join a) is) first ri second re third
 
 -- an Expr, or two and an assignment operator_text
-pub data Sides : Items → Type 0 where
+data Sides : Items → Type 0 where
   one_side : {xs : Items} → IsExpr xs → Sides xs
   two_sides : {xs a b : Items} (s : Item) → xs ≡ join a (item s b) → IsExpr a → is_assignment (token_role s) ≡ true → IsExpr b → Sides xs
 
@@ -181,6 +182,16 @@ data Keyed : Items → Type 0 where
   with_value : {xs : Items} (e : Item) → token_role e ≡ Equals → IsTest xs → Keyed (item e xs)
   without_value : {xs : Items} → Had Alone false true xs → Keyed xs
 
+-- the parts of a load
+data IsLoadGroup : Item → Type 0 where
+  load_group : {before : List (List ℕ)} {nodes : Items} {beside : Option (List ℕ)} {segs : Segs} {one_comma : Bool} {end : List (List ℕ)} → IsString nodes → AreLoadArgs segs → IsLoadGroup (group Load (seg before nodes beside segs) one_comma end)
+
+data AfterLoad : Items → Type 0 where
+  after_load : {g : Item} → IsLoadGroup g → AfterLoad (item g no_items)
+
+data Renamed : Items → Type 0 where
+  value : {e : Item} {xs : Items} → token_role e ≡ Equals → IsString xs → Renamed (item e xs)
+
 -- what stands from a stage on
 abbrev Means : Stage → Items → Type 0
 Means Refused xs = ⊥
@@ -192,10 +203,18 @@ Means (Excludes p c) xs = Excluded p c xs
 Means (Begins p) xs = Begun p xs
 Means Argument xs = IsArg xs
 Means Keyword xs = Keyed xs
+Means Statement xs = IsStatement xs
+Means Loads xs = AfterLoad xs
+Means Text xs = IsString xs
+Means LoadArgument xs = IsLoadArg xs
+Means Renames xs = Renamed xs
+Means Done xs = xs ≡ no_items
 
 -- what a node of a role is
 abbrev RoleMeans : Role → Item → Type 0
-RoleMeans Value x = IsOperand x
+RoleMeans Bracket x = IsOperand x
+RoleMeans LoadWord x = is_load_word x ≡ true
+RoleMeans LoadGroup x = IsLoadGroup x
 RoleMeans Suffix x = IsSuffix x
 RoleMeans r x = token_role x ≡ r
 
@@ -393,7 +412,8 @@ operand_means p c d x xs m first = record {
 
 wanted_means : (p : Goal) (c : Bool) (x : Item) (xs : Items) (r : Role) → RoleMeans r x → Means (next_wanted p c r) xs → Wanted p c (item x xs)
 wanted_means p c x xs Name k m = operand_means p c true x xs m (operand (ident k) m.are_suffixes)
-wanted_means p c x xs Value k m = operand_means p c true x xs m (operand k m.are_suffixes)
+wanted_means p c x xs Value k m = operand_means p c true x xs m (operand (text k) m.are_suffixes)
+wanted_means p c x xs Bracket k m = operand_means p c true x xs m (operand k m.are_suffixes)
 wanted_means p c x xs Number k m = operand_means p c false x xs m (number k m.are_suffixes (m.bare refl))
 wanted_means p c x xs Sum k m = prefixed p c x xs (ap is_prefix k) (unchained p (Wants p c) xs m)
 wanted_means p c x xs Tilde k m = prefixed p c x xs (ap is_prefix k) (unchained p (Wants p c) xs m)
@@ -501,6 +521,38 @@ keyword_means : (x : Item) (xs : Items) (r : Role) → RoleMeans r x → Means (
 keyword_means x xs Equals k m = with_value x k (test_of xs (wanted_whole Alone xs m))
 keyword_means x xs r k m = without_value (had_means Alone false true x xs r (λ e. refl) k m)
 
+-- loads
+text_means : (x : Item) (xs : Items) (r : Role) → RoleMeans r x → Means (next Text r) xs → IsString (item x xs)
+text_means x xs Value k m = subst (λ ys. IsString (item x ys)) (sym m) (string k)
+text_means x xs _ k m = absurd m
+
+renamed_arg : (x : Item) (xs : Items) → token_role x ≡ Name → Renamed xs → IsLoadArg (item x xs)
+renamed_arg x xs k (value e s) = renamed k e s
+
+load_argument_means : (x : Item) (xs : Items) (r : Role) → RoleMeans r x → Means (next LoadArgument r) xs → IsLoadArg (item x xs)
+load_argument_means x xs Value k m = loaded (text_means x xs Value k m)
+load_argument_means x xs Name k m = renamed_arg x xs k m
+load_argument_means x xs _ k m = absurd m
+
+renames_means : (x : Item) (xs : Items) (r : Role) → RoleMeans r x → Means (next Renames r) xs → Renamed (item x xs)
+renames_means x xs Equals k m = value k m
+renames_means x xs _ k m = absurd m
+
+loads_means : (x : Item) (xs : Items) (r : Role) → RoleMeans r x → Means (next Loads r) xs → AfterLoad (item x xs)
+loads_means x xs LoadGroup k m = subst (λ ys. AfterLoad (item x ys)) (sym m) (after_load k)
+loads_means x xs _ k m = absurd m
+
+load_of : (x : Item) (xs : Items) → is_load_word x ≡ true → AfterLoad xs → IsStatement (item x xs)
+load_of x xs k (after_load (load_group s args)) = load_statement (load k s args)
+
+sides_mean : {xs : Items} → Sides xs → IsStatement xs
+sides_mean (one_side e) = expression e
+sides_mean (two_sides s is ea es eb) = assignment s is ea es eb
+
+statement_means : (x : Item) (xs : Items) (r : Role) → RoleMeans r x → Means (next Statement r) xs → IsStatement (item x xs)
+statement_means x xs LoadWord k m = load_of x xs k m
+statement_means x xs r k m = sides_mean (sides_of (item x xs) (wanted_whole Left (item x xs) (wanted_means Left false x xs r k m)))
+
 step_means : (s : Stage) (x : Item) (xs : Items) (r : Role) → RoleMeans r x → Means (next s r) xs → Means s (item x xs)
 step_means Refused x xs r k m = m
 step_means (Wants p c) x xs r k m = wanted_means p c x xs r k m
@@ -511,6 +563,12 @@ step_means (Excludes p c) x xs r k m = excluded_means p c x xs r k m
 step_means (Begins p) x xs r k m = begun_means p x xs r k m
 step_means Argument x xs r k m = argument_means x xs r k m
 step_means Keyword x xs r k m = keyword_means x xs r k m
+step_means Statement x xs r k m = statement_means x xs r k m
+step_means Loads x xs r k m = loads_means x xs r k m
+step_means Text x xs r k m = text_means x xs r k m
+step_means LoadArgument x xs r k m = load_argument_means x xs r k m
+step_means Renames x xs r k m = renames_means x xs r k m
+step_means Done x xs r k m = absurd m
 
 -- at the end
 part_end : (p : Goal) → ends p ≡ true → Tail p no_items
@@ -538,12 +596,14 @@ end_means (Has p c) h = had_end p c true h
 end_means (HasNumber p c) h = had_end p c false h
 end_means (Begins p) h = begun_end p h
 end_means Keyword h = without_value (had_end Alone false true refl)
+end_means Statement h = comments
+end_means Done h = refl
 end_means _ h = absurd (false≢true h)
 
 -- groups
 abbrev EachMeans : Stage → Segs → Type 0
 EachMeans s no_segs = Unit {0}
-EachMeans s (seg before nodes beside segs) = Means s nodes × EachMeans s segs
+EachMeans s (seg before nodes beside segs) = Means s nodes × EachMeans (later s) segs
 
 tests_of : (segs : Segs) → EachMeans (Wants Alone false) segs → AreTests segs
 tests_of no_segs m = no_test
@@ -569,11 +629,19 @@ dict_comp_of : (segs : Segs) (one_comma : Bool) (end : List (List ℕ)) → is_s
 dict_comp_of (seg before nodes beside no_segs) one_comma end alone m = dict_comp (entry_element_of nodes (wanted_whole EntryKey nodes m.0))
 dict_comp_of _ one_comma end alone m = absurd (false≢true alone)
 
+load_args_of : (segs : Segs) → EachMeans LoadArgument segs → AreLoadArgs segs
+load_args_of no_segs m = no_load_arg
+load_args_of (seg before nodes beside segs) m = load_arg m.0 (load_args_of segs m.1)
+
+load_group_of : (segs : Segs) (one_comma : Bool) (end : List (List ℕ)) → is_whole Load segs ≡ true → EachMeans Text segs → IsLoadGroup (group Load segs one_comma end)
+load_group_of no_segs one_comma end whole m = absurd (false≢true whole)
+load_group_of (seg before nodes beside segs) one_comma end whole m = load_group m.0 (load_args_of segs m.1)
+
 -- a group whose segments mean something is what its role says
 sound_group : (kind : GroupKind) (segs : Segs) (one_comma : Bool) (end : List (List ℕ)) → is_whole kind segs ≡ true → EachMeans (begin kind) segs → RoleMeans (group_role kind) (group kind segs one_comma end)
 sound_group Call segs one_comma end whole m = call refl (args_of segs m)
 sound_group RuleCall segs one_comma end whole m = call refl (args_of segs m)
-sound_group Load segs one_comma end whole m = refl
+sound_group Load segs one_comma end whole m = load_group_of segs one_comma end whole m
 sound_group Paren segs one_comma end whole m = paren (tests_of segs m)
 sound_group ListKind segs one_comma end whole m = list (tests_of segs m)
 sound_group Index segs one_comma end whole m = index_of segs one_comma end whole m
@@ -587,26 +655,35 @@ group_means kind segs one_comma end m true true whole good = sound_group kind se
 group_means kind segs one_comma end m true false whole good = refl
 group_means kind segs one_comma end m false good' whole good = refl
 
--- no token is a suffix
-abbrev is_suffix_role : Role → Bool
-is_suffix_role Suffix = true
-is_suffix_role _ = false
+-- what no token is to the grammar
+abbrev pub is_apart : Role → Bool
+is_apart Suffix = true
+is_apart Bracket = true
+is_apart LoadWord = true
+is_apart LoadGroup = true
+is_apart _ = false
 
-word_plain : (word : List ℕ) → is_suffix_role (word_role word) ≡ false
+word_plain : (word : List ℕ) → is_apart (word_role word) ≡ false
 word_plain word = grind arith
 
-operator_plain : (word : List ℕ) → is_suffix_role (operator_role word) ≡ false
+operator_plain : (word : List ℕ) → is_apart (operator_role word) ≡ false
 operator_plain word = grind arith
 
-leaf_plain : (kind : Kind) (word : List ℕ) → is_suffix_role (leaf_role kind word) ≡ false
+pub leaf_plain : (kind : Kind) (word : List ℕ) → is_apart (leaf_role kind word) ≡ false
 leaf_plain KeywordToken word = word_plain word
 leaf_plain OperatorToken word = operator_plain word
 leaf_plain _ word = refl
 
-token_means : (x : Item) (r : Role) → token_role x ≡ r → is_suffix_role r ≡ false → RoleMeans r x
-token_means x Value e apart = text e
+token_means : (x : Item) (r : Role) → token_role x ≡ r → is_apart r ≡ false → RoleMeans r x
 token_means x Suffix e apart = absurd (false≢true (sym apart))
+token_means x Bracket e apart = absurd (false≢true (sym apart))
+token_means x LoadWord e apart = absurd (false≢true (sym apart))
+token_means x LoadGroup e apart = absurd (false≢true (sym apart))
 token_means x _ e apart = e
+
+leaf_means : (kind : Kind) (word : List ℕ) (b : Bool) → is_load_word (leaf kind word) ≡ b → RoleMeans (cond b LoadWord (leaf_role kind word)) (leaf kind word)
+leaf_means kind word true is = is
+leaf_means kind word false is = token_means (leaf kind word) (leaf_role kind word) refl (leaf_plain kind word)
 
 mutual
   -- what the recognizer accepts is in the grammar
@@ -615,19 +692,12 @@ mutual
   accepts_means (item x xs) s h = step_means s x xs (role_of x) (role_means x) (accepts_means xs (next s (role_of x)) h)
 
   role_means : (x : Item) → RoleMeans (role_of x) x
-  role_means (leaf kind word) = token_means (leaf kind word) (leaf_role kind word) refl (leaf_plain kind word)
+  role_means (leaf kind word) = leaf_means kind word (is_load_word (leaf kind word)) refl
   role_means (group kind segs one_comma end) = group_means kind segs one_comma end (λ s h. segs_means segs s h) (is_whole kind segs) (each (begin kind) segs) refl refl
 
   segs_means : (segs : Segs) (s : Stage) → each s segs ≡ true → EachMeans s segs
   segs_means no_segs s h = tt
-  segs_means (seg before nodes beside segs) s h = let p = and_parts (accepts s nodes) (each s segs) h in (accepts_means nodes s p.0, segs_means segs s p.1)
+  segs_means (seg before nodes beside segs) s h = let p = and_parts (accepts s nodes) (each (later s) segs) h in (accepts_means nodes s p.0, segs_means segs (later s) p.1)
 
-pub statement_means : (xs : Items) → accepts (Wants Left false) xs ≡ true → Sides xs
-statement_means xs h = sides_of xs (wanted_whole Left xs (accepts_means xs (Wants Left false) h))
-
--- the name and the operator_text of an argument
-pub named_token : (x : Item) → role_of x ≡ Name → token_role x ≡ Name
-named_token x e = subst (λ r. RoleMeans r x) e (role_means x)
-
-pub equals_token : (x : Item) → role_of x ≡ Equals → token_role x ≡ Equals
-equals_token x e = subst (λ r. RoleMeans r x) e (role_means x)
+pub statement_read : (xs : Items) → accepts Statement xs ≡ true → IsStatement xs
+statement_read xs h = accepts_means xs Statement h

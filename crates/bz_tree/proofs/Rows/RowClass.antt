@@ -1,5 +1,5 @@
 -- The class of a statement, by its nodes one at a time, and the nodes of a rule as they are shown.
-use Rattle.std.proofs.Common.{arith, ◌≡◌, ℕ, List, [], ◌∷◌, Bool, true, false, cond, ◌||◌, refl, sym, ap, ◌∙◌}
+use Rattle.std.proofs.Common.{arith, ◌≡◌, ℕ, List, [], ◌∷◌, Bool, true, false, cond, ◌&&◌, ◌||◌, refl, sym, ap, ◌∙◌}
 use Rattle.std.specs.Prelude.{codes}
 use Rattle.std.specs.Str.{bytes_eq}
 use Rattle.std.proofs.lemmas.Bool.{false≢true, and_parts}
@@ -8,20 +8,24 @@ use Rattle.bz_token.specs.declared.token.Kind.{Kind}
 use Rattle.bz_token.specs.declared.token.Kind.TheVariants.{Keyword, Operator as OperatorToken, Kept}
 use Rattle.bz_tree.specs.declared.tree.GroupKind.{GroupKind}
 use Rattle.bz_tree.specs.declared.tree.Class.TheVariants.{Assign, Rule, Other, Load as LoadClass}
-use Rattle.bz_tree.specs.declared.grammar.role.Role.TheVariants.{Dot, Comma, Colon, Equals, Augmented, Tilde, Sum, Star, Stars, Operator, Stray}
-use Rattle.bz_tree.specs.declared.grammar.stage.Goal.TheVariants.{Left}
+use Rattle.bz_tree.specs.declared.grammar.role.Role.{Role}
+use Rattle.bz_tree.specs.declared.grammar.role.Role.TheVariants.{Suffix, Dot, Comma, Colon, Equals, Augmented, Else, In, Not, Tilde, Sum, Star, Stars, Operator, LoadWord, Stray}
+use Rattle.bz_tree.specs.declared.grammar.stage.Goal.{Goal}
+use Rattle.bz_tree.specs.declared.grammar.stage.Goal.TheVariants.{Alone, Target}
 use Rattle.bz_tree.specs.declared.grammar.stage.Stage.{Stage}
-use Rattle.bz_tree.specs.declared.grammar.stage.Stage.TheVariants.{Wants}
+use Rattle.bz_tree.specs.declared.grammar.stage.Stage.TheVariants.{Refused, Statement, Wants, Has, HasNumber, Names, Excludes, Begins, Argument, Keyword as KeywordStage, Loads, Text, LoadArgument, Renames, Done}
 use Rattle.bz_tree.specs.declared.tree.classes.Naming.{Naming}
 use Rattle.bz_tree.specs.declared.tree.classes.Naming.TheVariants.{Name, Join, End, Never, Lost}
 use Rattle.bz_tree.specs.declared.row.spot.Read.{Read}
 use Rattle.bz_tree.specs.Tree.{Item, leaf, group, Segs, items_of}
-use Rattle.bz_tree.specs.Grammar.{leaf_role, word_role, operator_role, is_infix, is_assignment}
-use Rattle.bz_tree.specs.Statement.{is_call, is_rule, is_rule_after, as_rule_call, rule_call, is_assign_operator, is_assign, is_load_word, is_kept, class_of, is_augmented}
-use Rattle.bz_tree.specs.private.Machine.{next, accepts, is_load, is_load_group}
-use Rattle.bz_tree.specs.private.RowSteps.{named, called, is_rule_read, is_lost, read_class}
+use Rattle.bz_tree.specs.Grammar.{leaf_role, operator_role, is_infix, is_assignment}
+use Rattle.bz_tree.specs.Statement.{is_ident, is_call, is_rule, is_rule_after, as_rule_call, rule_call, is_assign_operator, is_assign, is_load_word, is_kept, class_of, is_augmented}
+use Rattle.bz_tree.specs.private.Machine.{may_end, in_chain, after_part, leaves, next_wanted, next_after, next, begin, group_role, is_whole, kind_role, accepts, role_of, each}
+use Rattle.bz_tree.specs.private.RowSteps.{named, called, is_rule_read, is_lost, is_done, read_class}
 use Rattle.bz_tree.proofs.Recognizer.Accepted.{refused}
-use Rattle.bz_tree.proofs.Rows.RowParts.{read_item, read_items, shown_item, shown}
+use Rattle.bz_tree.proofs.Recognizer.Meant.{is_apart, leaf_plain}
+use Rattle.bz_tree.proofs.Recognizer.Recognized.{load_word}
+use Rattle.bz_tree.proofs.Rows.RowParts.{read_item, read_items, shown_item, shown, item_stage, accepts_read}
 use Rattle.bz_token.specs.Common.{is_empty}
 use Rattle.bz_token.specs.Lexical.{is_one_of}
 use Rattle.std.specs.List.{list_any}
@@ -118,10 +122,10 @@ operator_assigns text =
     (λ e. no_assign text (codes ".") e refl) (λ e. no_assign text (codes ",") e refl) (λ e. no_assign text (codes ":") e refl) (λ e. no_assign text (codes "~") e refl) (λ e. no_assign text (codes "*") e refl) (λ e. no_assign text (codes "**") e refl)
     (λ e. no_assign_among text (codes "+") (codes "-") (bytes_eq text (codes "+")) refl e refl refl) refl
 
-word_assigns : (text : List ℕ) → is_assignment (word_role text) ≡ false
+word_assigns : (text : List ℕ) → is_assignment (kind_role Keyword text) ≡ false
 word_assigns text = grind arith
 
-pub leaf_assigns : (kind : Kind) (text : List ℕ) → is_assignment (leaf_role kind text) ≡ is_assign (leaf kind text)
+pub leaf_assigns : (kind : Kind) (text : List ℕ) → is_assignment (kind_role kind text) ≡ is_assign (leaf kind text)
 leaf_assigns OperatorToken text = operator_assigns text
 leaf_assigns Keyword text = word_assigns text
 leaf_assigns _ text = refl
@@ -140,7 +144,7 @@ record Same (n : Naming) (s : Stage) (xs : List Item) : Type 0 where
   assigns_same : list_any is_assign (rule_call xs) ≡ list_any is_assign xs
   rule_same : from n (rule_call xs) ≡ from n xs
 
-after_leaf : (n : Naming) (kind : Kind) (text : List ℕ) (s : Stage) (y : Item) (ys : List Item) → Same (named n kind text) (next s (leaf_role kind text)) (y ∷ ys) → Same n s (leaf kind text ∷ y ∷ ys)
+after_leaf : (n : Naming) (kind : Kind) (text : List ℕ) (s : Stage) (y : Item) (ys : List Item) → Same (named n kind text) (next s (kind_role kind text)) (y ∷ ys) → Same n s (leaf kind text ∷ y ∷ ys)
 after_leaf n kind text s y ys same = record {
   accepts_same = same.accepts_same;
   assigns_same = ap (λ b. is_assign (leaf kind text) || b) same.assigns_same;
@@ -153,7 +157,7 @@ call_same va vb vc vd ve vf = grind arith
 same_from : (xs : List Item) (n : Naming) (s : Stage) → from n xs ≡ true → Same n s xs
 same_from [] n s h = record { accepts_same = refl; assigns_same = refl; rule_same = refl }
 same_from (leaf kind text ∷ []) n s h = record { accepts_same = refl; assigns_same = refl; rule_same = refl }
-same_from (leaf kind text ∷ y ∷ ys) n s h = after_leaf n kind text s y ys (same_from (y ∷ ys) (named n kind text) (next s (leaf_role kind text)) (sym (from_step n (leaf kind text) (y ∷ ys)) ∙ h))
+same_from (leaf kind text ∷ y ∷ ys) n s h = after_leaf n kind text s y ys (same_from (y ∷ ys) (named n kind text) (next s (kind_role kind text)) (sym (from_step n (leaf kind text) (y ∷ ys)) ∙ h))
 same_from (group kind segs one_comma end ∷ []) Join s h = call_same kind segs one_comma end s (and_parts (is_call kind) true h).0
 same_from (group kind segs one_comma end ∷ y ∷ ys) Join s h = absurd (false≢true (sym (and-false (is_call kind)) ∙ h))
 same_from (group kind segs one_comma end ∷ xs) _ s h = absurd (false≢true h)
@@ -165,33 +169,158 @@ with_same xs s false e = (refl, refl, refl)
 pub with_rule_accepts : (xs : List Item) (s : Stage) → accepts s (items_of (with_rule xs)) ≡ accepts s (items_of xs)
 with_rule_accepts xs s = (with_same xs s (is_rule xs) refl).0
 
+-- the stages of a load after its keyword, and those of other statements after the first node
+abbrev is_late : Stage → Bool
+is_late Loads = true
+is_late Done = true
+is_late Refused = true
+is_late _ = false
+
+abbrev is_usual : Stage → Bool
+is_usual Statement = false
+is_usual Loads = false
+is_usual Text = false
+is_usual LoadArgument = false
+is_usual Renames = false
+is_usual Done = false
+is_usual _ = true
+
+late_next : (s : Stage) (r : Role) → is_late s ≡ true → is_late (next s r) ≡ true
+late_next va vb vc = grind arith
+
+late_ends : (s : Stage) → is_late s ≡ true → may_end s ≡ true → is_done s ≡ true
+late_ends va vb vc = grind arith
+
+wanted_usual : (p : Goal) (c : Bool) (r : Role) → is_usual (next_wanted p c r) ≡ true
+wanted_usual va vb vc = grind arith
+
+part_usual : (p : Goal) (r : Role) → is_usual (after_part p r) ≡ true
+part_usual va vb = grind arith
+
+leaves_usual : (p : Goal) (c : Bool) (r : Role) → is_usual (leaves p c r) ≡ true
+leaves_usual p false r = part_usual p r
+leaves_usual p true Else = refl
+leaves_usual p true _ = refl
+
+chain_usual : (p : Goal) (s : Stage) → is_usual s ≡ true → is_usual (in_chain p s) ≡ true
+chain_usual va vb vc = grind arith
+
+in_usual : (p : Goal) (c : Bool) → is_usual (next_after p c In) ≡ true
+in_usual Target c = leaves_usual Target c In
+in_usual _ c = refl
+
+after_usual : (p : Goal) (c : Bool) (r : Role) → is_usual (next_after p c r) ≡ true
+after_usual p c Dot = refl
+after_usual p c Suffix = refl
+after_usual p c Sum = chain_usual p (Wants p c) refl
+after_usual p c Star = chain_usual p (Wants p c) refl
+after_usual p c Operator = chain_usual p (Wants p c) refl
+after_usual p c In = in_usual p c
+after_usual p c Not = chain_usual p (Excludes p c) refl
+after_usual p c r = leaves_usual p c r
+
+number_usual : (p : Goal) (c : Bool) (r : Role) → is_usual (next (HasNumber p c) r) ≡ true
+number_usual p c Dot = refl
+number_usual p c r = after_usual p c r
+
+begins_usual : (p : Goal) (r : Role) → is_usual (next (Begins p) r) ≡ true
+begins_usual p Colon = part_usual p Colon
+begins_usual p r = wanted_usual p false r
+
+argument_usual : (r : Role) → is_usual (next Argument r) ≡ true
+argument_usual va = grind arith
+
+keyword_usual : (r : Role) → is_usual (next KeywordStage r) ≡ true
+keyword_usual Equals = refl
+keyword_usual r = after_usual Alone false r
+
+names_usual : (p : Goal) (c : Bool) (r : Role) → is_usual (next (Names p c) r) ≡ true
+names_usual va vb vc = grind arith
+
+excludes_usual : (p : Goal) (c : Bool) (r : Role) → is_usual (next (Excludes p c) r) ≡ true
+excludes_usual va vb vc = grind arith
+
+usual_next : (s : Stage) (r : Role) → is_usual s ≡ true → is_usual (next s r) ≡ true
+usual_next Refused r h = refl
+usual_next (Wants p c) r h = wanted_usual p c r
+usual_next (Has p c) r h = after_usual p c r
+usual_next (HasNumber p c) r h = number_usual p c r
+usual_next (Names p c) r h = names_usual p c r
+usual_next (Excludes p c) r h = excludes_usual p c r
+usual_next (Begins p) r h = begins_usual p r
+usual_next Argument r h = argument_usual r
+usual_next KeywordStage r h = keyword_usual r
+usual_next _ r h = absurd (false≢true h)
+
+usual_done : (s : Stage) → is_usual s ≡ true → is_done s ≡ false
+usual_done va vb = grind arith
+
+late_read : (xs : List Item) (r : Read) → is_late r.stage ≡ true → is_late (read_items r xs).stage ≡ true
+late_read [] r h = h
+late_read (x ∷ xs) r h = late_read xs (read_item x r) (ap is_late (item_stage x r) ∙ late_next r.stage (role_of x) h)
+
+usual_read : (xs : List Item) (r : Read) → is_usual r.stage ≡ true → is_usual (read_items r xs).stage ≡ true
+usual_read [] r h = h
+usual_read (x ∷ xs) r h = usual_read xs (read_item x r) (ap is_usual (item_stage x r) ∙ usual_next r.stage (role_of x) h)
+
+-- a node that is not `load`
+abbrev is_word : Role → Bool
+is_word LoadWord = true
+is_word _ = false
+
+word_begins : (r : Role) → is_word r ≡ false → is_usual (next Statement r) ≡ true
+word_begins va vb = grind arith
+
+leaf_word : (kind : Kind) (text : List ℕ) → is_word (leaf_role kind text) ≡ false
+leaf_word kind text = apart (leaf_role kind text) (leaf_plain kind text)
+  where
+    apart : (r : Role) → is_apart r ≡ false → is_word r ≡ false
+    apart va vb = grind arith
+
+group_word : (kind : GroupKind) (b : Bool) → is_word (cond b (group_role kind) Stray) ≡ false
+group_word va vb = grind arith
+
+no_word : (x : Item) → is_load_word x ≡ false → is_word (role_of x) ≡ false
+no_word (leaf kind text) h = ap (λ b. is_word (cond b LoadWord (leaf_role kind text))) h ∙ leaf_word kind text
+no_word (group kind segs one_comma end) h = group_word kind (is_whole kind segs && each (begin kind) segs)
+
 -- the class of nodes that are in the grammar
-load_role : (text : List ℕ) (b : Bool) → bytes_eq text (codes "load") ≡ b → (xs : List Item) → accepts (next (Wants Left false) (word_role text)) (items_of xs) ≡ true → b ≡ false
-load_role text false is xs h = refl
-load_role text true is xs h = absurd (refused (items_of xs) (ap (λ t. accepts (next (Wants Left false) (word_role t)) (items_of xs)) (sym ((bytes_eq-Decides text (codes "load")).0 is)) ∙ h))
+kept_stray : (x : Item) (xs : List Item) → accepts Statement (items_of (x ∷ xs)) ≡ true → is_kept x ≡ false
+kept_stray (leaf Kept text) xs h = absurd (refused (items_of xs) h)
+kept_stray (leaf _ text) xs h = refl
+kept_stray (group kind segs one_comma end) xs h = refl
 
-first_is : (x : Item) (xs : List Item) → accepts (Wants Left false) (items_of (x ∷ xs)) ≡ true → (is_kept x ≡ false) × (is_load_word x ≡ false)
-first_is (leaf Kept text) xs h = absurd (refused (items_of xs) h)
-first_is (leaf Keyword text) xs h = (refl, load_role text (bytes_eq text (codes "load")) refl xs h)
-first_is (leaf _ text) xs h = (refl, refl)
-first_is (group kind segs one_comma end) xs h = (refl, refl)
+other_class : (x : Item) (xs : List Item) → is_load_word x ≡ false → accepts Statement (items_of (x ∷ xs)) ≡ true → class_of (x ∷ xs) ≡ cond (list_any is_assign (x ∷ xs)) Assign (cond (is_rule (x ∷ xs)) Rule Other)
+other_class x xs off h = rw (kept_stray x xs h, off) refl
 
-accepted_class : (xs : List Item) → accepts (Wants Left false) (items_of xs) ≡ true → class_of xs ≡ cond (list_any is_assign xs) Assign (cond (is_rule xs) Rule Other)
-accepted_class [] h = absurd (false≢true h)
-accepted_class (x ∷ xs) h = let p = first_is x xs h in rw (p.0, p.1) refl
+load_class : (x : Item) (xs : List Item) → is_load_word x ≡ true → class_of (with_rule (x ∷ xs)) ≡ LoadClass
+load_class (leaf Keyword text) xs h = ap (λ b. cond b LoadClass (cond (list_any is_assign (leaf Keyword text ∷ xs)) Assign (cond (is_rule (leaf Keyword text ∷ xs)) Rule Other))) h
+load_class (leaf _ text) xs h = absurd (false≢true h)
+load_class (group kind segs one_comma end) xs h = absurd (false≢true h)
 
-pub class_is : (xs : List Item) (r : Read) → r.naming ≡ Name → r.assigns ≡ false → accepts (Wants Left false) (items_of xs) ≡ true → read_class (read_items r xs) ≡ class_of (with_rule xs)
-class_is xs r name none h =
-    let same = with_same xs (Wants Left false) (is_rule xs) refl in
-    let read : read_class (read_items r xs) ≡ cond (list_any is_assign xs) Assign (cond (is_rule xs) Rule Other) =
-    ap (λ b. cond b Assign (cond (is_rule_read (read_items r xs).naming) Rule Other)) (read_assigns xs r ∙ ap (λ b. b || list_any is_assign xs) none)
-    ∙ ap (λ b. cond (list_any is_assign xs) Assign (cond b Rule Other)) (rule_read xs r ∙ ap (λ n. from n xs) name) in
-    read ∙ (ap (λ b. cond b Assign (cond (is_rule xs) Rule Other)) (sym same.1) ∙ (ap (λ b. cond (list_any is_assign (with_rule xs)) Assign (cond b Rule Other)) (sym same.2) ∙ sym (accepted_class (with_rule xs) (same.0 ∙ h))))
+class_other : (x : Item) (xs : List Item) (b : Bool) → is_rule (x ∷ xs) ≡ b → is_load_word x ≡ false → accepts Statement (items_of (cond b (rule_call (x ∷ xs)) (x ∷ xs))) ≡ true
+    → class_of (cond b (rule_call (x ∷ xs)) (x ∷ xs)) ≡ cond (list_any is_assign (cond b (rule_call (x ∷ xs)) (x ∷ xs))) Assign (cond (is_rule (cond b (rule_call (x ∷ xs)) (x ∷ xs))) Rule Other)
+class_other x xs false e off h = other_class x xs off h
+class_other x (y ∷ ys) true e off h = other_class x (rule_call (y ∷ ys)) off h
+class_other (leaf kind text) [] true e off h = absurd (false≢true (and_parts (is_ident kind) false e).1)
+class_other (group kind segs one_comma end) [] true e off h = absurd (false≢true e)
 
--- the class of a load
-word_is : (x : Item) → is_load_word x ≡ true → is_kept x ≡ false
-word_is va vb = grind arith
-
-pub load_class : (xs : List Item) → is_load (items_of xs) ≡ true → class_of xs ≡ LoadClass
-load_class (w ∷ g ∷ []) h = let p = and_parts (is_load_word w) (is_load_group g) h in rw (word_is w p.0, p.0) refl
-load_class _ h = absurd (false≢true h)
+pub class_is : (x : Item) (xs : List Item) (r : Read) → r.stage ≡ Statement → r.naming ≡ Name → r.assigns ≡ false → accepts Statement (items_of (x ∷ xs)) ≡ true → read_class (read_items r (x ∷ xs)) ≡ class_of (with_rule (x ∷ xs))
+class_is x xs r starts name none h = at (is_load_word x) refl
+  where
+    at : (b : Bool) → is_load_word x ≡ b → read_class (read_items r (x ∷ xs)) ≡ class_of (with_rule (x ∷ xs))
+    at true is =
+        let all = read_items r (x ∷ xs) in
+        let first : is_late (read_item x r).stage ≡ true = ap is_late (item_stage x r) ∙ (ap (λ s. is_late (next s (role_of x))) starts ∙ ap (λ q. is_late (next Statement q)) (load_word x is)) in
+        let ends : may_end all.stage ≡ true = sym (accepts_read (x ∷ xs) r) ∙ (ap (λ s. accepts s (items_of (x ∷ xs))) starts ∙ h) in
+        ap (λ d. cond d LoadClass (cond all.assigns Assign (cond (is_rule_read all.naming) Rule Other))) (late_ends all.stage (late_read xs (read_item x r) first) ends) ∙ sym (load_class x xs is)
+    at false is =
+        let all = read_items r (x ∷ xs) in
+        let same = with_same (x ∷ xs) Statement (is_rule (x ∷ xs)) refl in
+        let first : is_usual (read_item x r).stage ≡ true = ap is_usual (item_stage x r) ∙ (ap (λ s. is_usual (next s (role_of x))) starts ∙ word_begins (role_of x) (no_word x is)) in
+        ap (λ d. cond d LoadClass (cond all.assigns Assign (cond (is_rule_read all.naming) Rule Other))) (usual_done all.stage (usual_read xs (read_item x r) first))
+        ∙ (ap (λ b. cond b Assign (cond (is_rule_read all.naming) Rule Other)) (read_assigns (x ∷ xs) r ∙ ap (λ b. b || list_any is_assign (x ∷ xs)) none)
+        ∙ (ap (λ b. cond (list_any is_assign (x ∷ xs)) Assign (cond b Rule Other)) (rule_read (x ∷ xs) r ∙ ap (λ n. from n (x ∷ xs)) name)
+        ∙ (ap (λ b. cond b Assign (cond (is_rule (x ∷ xs)) Rule Other)) (sym same.1)
+        ∙ (ap (λ b. cond (list_any is_assign (with_rule (x ∷ xs))) Assign (cond b Rule Other)) (sym same.2)
+        ∙ sym (class_other x xs (is_rule (x ∷ xs)) refl is (same.0 ∙ h))))))

@@ -1,31 +1,27 @@
 -- The row that the walk finds is that of the statement of its tokens.
-use Rattle.std.proofs.Common.{◌≡◌, ℕ, ◌==◌, List, [], ◌∷◌, ◌++◌, map, Bool, true, false, not, cond, ◌&&◌, ◌||◌, Option, Some, None, IfSome, IsSome, option_map, option_and_then, refl, sym, ap, subst, ◌∙◌, append-nil}
+use Rattle.std.proofs.Common.{◌≡◌, ℕ, ◌==◌, List, [], ◌∷◌, ◌++◌, map, Bool, true, false, not, ◌&&◌, Option, Some, None, IfSome, IsSome, option_map, option_and_then, refl, sym, ap, subst, ◌∙◌, append-nil}
 use Rattle.std.specs.Bool.{then_some}
-use Rattle.std.proofs.lemmas.Bool.{false≢true, and_parts, or_left, or_right, not-true}
+use Rattle.std.proofs.lemmas.Bool.{false≢true, and_parts, not-true}
 use Rattle.bz_token.specs.Places.{Placed}
 use Rattle.bz_token.specs.Reading.{AreTokensOf}
 use Rattle.bz_tree.specs.declared.tree.GroupKind.{GroupKind}
 use Rattle.bz_tree.specs.declared.tree.Class.{Class}
-use Rattle.bz_tree.specs.declared.tree.Class.TheVariants.{Load, Comment}
-use Rattle.bz_tree.specs.declared.grammar.stage.Goal.TheVariants.{Left}
-use Rattle.bz_tree.specs.declared.grammar.stage.Stage.TheVariants.{Wants}
+use Rattle.bz_tree.specs.declared.tree.Class.TheVariants.{Comment}
+use Rattle.bz_tree.specs.declared.grammar.stage.Stage.TheVariants.{Statement as Begins}
 use Rattle.bz_tree.specs.declared.row.Row.{Row}
-use Rattle.bz_tree.specs.declared.row.spot.Read.{Read}
 use Rattle.bz_tree.specs.Tree.{Item, Segment, Statement, items_of}
 use Rattle.bz_tree.specs.Kinds.{mark_of}
 use Rattle.bz_tree.specs.Statement.{class_of, first_token, first_seen, start_of, end_of, statement_with}
 use Rattle.bz_tree.specs.Blocks.{is_block_word}
 use Rattle.bz_tree.specs.Chunk.{indent_at, IsOneOf, IsStatementIn}
 use Rattle.bz_tree.specs.Rows.{RowPart, above, beside_part, IsRowOf}
-use Rattle.bz_tree.specs.private.Machine.{accepts, may_end, is_load, is_nothing, is_statement}
+use Rattle.bz_tree.specs.private.Machine.{accepts, may_end, is_statement}
 use Rattle.bz_tree.specs.private.Steps.{new_level, run}
-use Rattle.bz_tree.specs.FromParts.{nodes_of_parts}
 use Rattle.bz_tree.specs.private.RowSteps.{start, RowState, row_next, RowView, row_view, read_class, is_lost, row_end, row_run, row_start, is_upright}
 use Rattle.bz_tree.proofs.Trees.Plain.{plain_is}
 use Rattle.bz_tree.proofs.Trees.Sound.{none_is_some, some_injective}
 use Rattle.bz_tree.proofs.Rows.RowParts.{Place, none, some, over, Bracket, bracket, read_items, shown, nodes_parts, accepts_read}
-use Rattle.bz_tree.proofs.Rows.RowClass.{with_rule, shown_rule, with_rule_accepts, class_is, load_class}
-use Rattle.bz_tree.proofs.Rows.FromParts.{statement_back}
+use Rattle.bz_tree.proofs.Rows.RowClass.{with_rule, shown_rule, with_rule_accepts, class_is}
 use Rattle.bz_tree.proofs.Rows.RowWalk.{level_of, image, IsGoodAt, IsGood, AreGood, next_leads}
 use Rattle.bz_token.specs.Common.{map_or}
 
@@ -41,45 +37,26 @@ abbrev row_of : List RowPart → Class → RowView
 row_of ps c = record { parts = ps; class = c }
 
 -- the end of the tokens
-plain_ends : (lost : Bool) (ps : List RowPart) (c : Class) (r : RowView) → option_map (row_of ps) (then_some (not lost) c) ≡ Some r → (lost ≡ false) × (row_of ps c ≡ r)
-plain_ends false ps c r h = (refl, some_injective (row_of ps c) r h)
-plain_ends true ps c r h = absurd (none_is_some r h)
-
-load_ends : (lost load : Bool) (ps : List RowPart) (c : Class) (r : RowView) → option_map (row_of ps) (then_some (not lost && load) c) ≡ Some r → (lost ≡ false) × (load ≡ true) × (row_of ps c ≡ r)
-load_ends false true ps c r h = (refl, refl, some_injective (row_of ps c) r h)
-load_ends false false ps c r h = absurd (none_is_some r h)
-load_ends true load ps c r h = absurd (none_is_some r h)
+class_ends : (ends : Bool) (ps : List RowPart) (c : Class) (r : RowView) → option_map (row_of ps) (then_some ends c) ≡ Some r → (ends ≡ true) × (row_of ps c ≡ r)
+class_ends true ps c r h = (refl, some_injective (row_of ps c) r h)
+class_ends false ps c r h = absurd (none_is_some r h)
 
 -- the parts of the statement's segment, and the class that the walk finds
-abbrev shown_parts : List (List ℕ) → List Item → Option (List ℕ) → List RowPart
-shown_parts before nodes suffix = map above before ++ (nodes_parts (shown (start None) nodes) ++ beside_part suffix)
-
-abbrev class_when : Bool → Read → List RowPart → Option Class
-class_when ends r ps = cond ends (then_some (not (is_lost r.naming)) (read_class r)) (then_some (not (is_lost r.naming) && is_load (items_of (nodes_of_parts ps))) Load)
-
-segment_found : (before : List (List ℕ)) (nodes : List Item) (suffix : Option (List ℕ)) (answer : Option Segment) (ps : List RowPart) (r : RowView) → answer ≡ Some (record { before = before; nodes = with_rule nodes; suffix = suffix })
-    → ps ≡ shown_parts before nodes suffix → (ends : Bool) → may_end (read_items (start None) nodes).stage ≡ ends → option_map (row_of ps) (class_when ends (read_items (start None) nodes) ps) ≡ Some r → Found answer r
-segment_found before nodes suffix answer ps r answer_is ps_are true ends same =
-    let p = plain_ends (is_lost (read_items (start None) nodes).naming) ps _ r same in
-    let accepted : accepts (Wants Left false) (items_of nodes) ≡ true = accepts_read nodes (start None) ∙ ends in
+segment_found : (before : List (List ℕ)) (x : Item) (xs : List Item) (suffix : Option (List ℕ)) (answer : Option Segment) (ps : List RowPart) (r : RowView) → answer ≡ Some (record { before = before; nodes = with_rule (x ∷ xs); suffix = suffix })
+    → ps ≡ map above before ++ (nodes_parts (shown (start None) (x ∷ xs)) ++ beside_part suffix)
+    → (let read = read_items (start None) (x ∷ xs) in option_map (row_of ps) (then_some (may_end read.stage && not (is_lost read.naming)) (read_class read)) ≡ Some r) → Found answer r
+segment_found before x xs suffix answer ps r answer_is ps_are same =
+    let nodes = x ∷ xs in
+    let read = read_items (start None) nodes in
+    let p = class_ends (may_end read.stage && not (is_lost read.naming)) ps (read_class read) r same in
+    let q = and_parts (may_end read.stage) (not (is_lost read.naming)) p.0 in
+    let accepted : accepts Begins (items_of nodes) ≡ true = accepts_read nodes (start None) ∙ q.0 in
     record {
       segment = record { before = before; nodes = with_rule nodes; suffix = suffix };
       answer_is = answer_is;
-      parts_are = ap (λ (v : RowView). v.parts) (sym p.1) ∙ (ps_are ∙ ap (λ xs. map above before ++ (nodes_parts xs ++ beside_part suffix)) (shown_rule nodes (start None) refl p.0));
-      class_is = ap (λ (v : RowView). v.class) (sym p.1) ∙ class_is nodes (start None) refl refl accepted;
-      grammar = or_right (is_nothing (items_of (with_rule nodes)) || is_load (items_of (with_rule nodes))) _ (with_rule_accepts nodes (Wants Left false) ∙ accepted);
-    }
-segment_found before nodes suffix answer ps r answer_is ps_are false ends same =
-    let p = load_ends (is_lost (read_items (start None) nodes).naming) (is_load (items_of (nodes_of_parts ps))) ps Load r same in
-    let are : ps ≡ map above before ++ (nodes_parts (with_rule nodes) ++ beside_part suffix) = ps_are ∙ ap (λ xs. map above before ++ (nodes_parts xs ++ beside_part suffix)) (shown_rule nodes (start None) refl p.0) in
-    let loads : is_load (items_of (with_rule nodes)) ≡ true =
-    ap (λ xs. is_load (items_of xs)) (sym (ap nodes_of_parts are ∙ statement_back (record { before = before; nodes = with_rule nodes; suffix = suffix; class = Load; start = 0; end = 0 }))) ∙ p.1 in
-    record {
-      segment = record { before = before; nodes = with_rule nodes; suffix = suffix };
-      answer_is = answer_is;
-      parts_are = ap (λ (v : RowView). v.parts) (sym p.2) ∙ are;
-      class_is = ap (λ (v : RowView). v.class) (sym p.2) ∙ sym (load_class (with_rule nodes) loads);
-      grammar = or_left (is_nothing (items_of (with_rule nodes)) || is_load (items_of (with_rule nodes))) _ (or_right (is_nothing (items_of (with_rule nodes))) _ loads);
+      parts_are = ap (λ (v : RowView). v.parts) (sym p.1) ∙ (ps_are ∙ ap (λ ys. map above before ++ (nodes_parts ys ++ beside_part suffix)) (shown_rule nodes (start None) refl (not-true (is_lost read.naming) q.1)));
+      class_is = ap (λ (v : RowView). v.class) (sym p.1) ∙ class_is x xs (start None) refl refl refl accepted;
+      grammar = with_rule_accepts nodes Begins ∙ accepted;
     }
 
 top_found : (place : Place) (r : RowView) → IsGoodAt None [] place → row_end None [] (image (bracket None [] place) []) ≡ Some r → Found (run (level_of (bracket None [] place)) [] []) r
@@ -93,15 +70,15 @@ top_found (none after) r good same =
       grammar = refl;
     }
 top_found (some before x xs line) r good same =
-    segment_found before (x ∷ xs) None _ _ r
+    segment_found before x xs None _ _ r
     (ap (λ bs. Some (record { before = bs; nodes = with_rule (x ∷ xs); suffix = None })) (append-nil before))
     (ap (λ ps. map above before ++ ps) (sym (append-nil (nodes_parts (shown (start None) (x ∷ xs))))))
-    (may_end (read_items (start None) (x ∷ xs)).stage) refl same
+    same
 top_found (over before x xs suffix []) r good same =
-    segment_found before (x ∷ xs) suffix _ _ r
+    segment_found before x xs suffix _ _ r
     (ap (λ bs. Some (record { before = bs; nodes = with_rule (x ∷ xs); suffix = suffix })) (append-nil before))
     (ap (λ ps. map above before ++ (nodes_parts (shown (start None) (x ∷ xs)) ++ ps)) (append-nil (beside_part suffix)))
-    (may_end (read_items (start None) (x ∷ xs)).stage) refl same
+    same
 top_found _ r good same = absurd (false≢true good.1)
 
 end_found : (kind : Option GroupKind) (segs : List Segment) (place : Place) (gs : List Bracket) (r : RowView) → IsGoodAt kind segs place → row_run (image (bracket kind segs place) gs) [] ≡ Some r

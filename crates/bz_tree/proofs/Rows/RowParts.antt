@@ -12,7 +12,7 @@ use Rattle.bz_tree.specs.declared.row.spot.Read.{Read}
 use Rattle.bz_tree.specs.Tree.{Item, leaf, group, Segment, items_of, segs_of}
 use Rattle.bz_tree.specs.Brackets.{after_item}
 use Rattle.bz_tree.specs.Rows.{RowPart, opening, segment_end, above, beside, beside_part, item_parts, items_parts, segs_parts}
-use Rattle.bz_tree.specs.private.Machine.{next, may_end, accepts, role_of, each}
+use Rattle.bz_tree.specs.private.Machine.{next, may_end, later, accepts, role_of, each}
 use Rattle.bz_tree.specs.private.Steps.{to_last}
 use Rattle.bz_tree.specs.private.RowSteps.{At, nothing, a_comma, a_node, an_end, called, shown_kind, start, read_leaf, one_more, Stand}
 
@@ -47,8 +47,16 @@ abbrev pub read_items : Read → List Item → Read
 read_items r [] = r
 read_items r (x ∷ xs) = read_items (read_item x r) xs
 
+-- the stage in which a segment begins after these, and what its nodes are before the first
+abbrev pub stage_after : List Segment → Stage → Stage
+stage_after [] stage = stage
+stage_after (s ∷ ss) stage = later stage
+
+abbrev pub begun : Option GroupKind → List Segment → Read
+begun kind segs = record (start kind) { stage = stage_after segs (start kind).stage }
+
 abbrev pub read_of : Bracket → Read
-read_of g = read_items (start g.kind) (nodes_of g.place)
+read_of g = read_items (begun g.kind g.segs) (nodes_of g.place)
 
 abbrev pub at_place : Place → At
 at_place (none after) = nothing
@@ -83,14 +91,14 @@ abbrev pub ending : Option GroupKind → List RowPart
 ending None = []
 ending (Some kind) = segment_end ∷ []
 
-abbrev pub place_parts : Option GroupKind → Place → List RowPart
-place_parts kind (none after) = map above after
-place_parts kind (fresh line) = []
-place_parts kind (some before x xs line) = map above before ++ nodes_parts (shown (start kind) (x ∷ xs))
-place_parts kind (over before x xs suffix after) = map above before ++ (nodes_parts (shown (start kind) (x ∷ xs)) ++ (ending kind ++ (beside_part suffix ++ map above after)))
+abbrev pub place_parts : Read → Option GroupKind → Place → List RowPart
+place_parts r kind (none after) = map above after
+place_parts r kind (fresh line) = []
+place_parts r kind (some before x xs line) = map above before ++ nodes_parts (shown r (x ∷ xs))
+place_parts r kind (over before x xs suffix after) = map above before ++ (nodes_parts (shown r (x ∷ xs)) ++ (ending kind ++ (beside_part suffix ++ map above after)))
 
 abbrev pub bracket_parts : Bracket → List RowPart
-bracket_parts g = all_segs_parts g.segs ++ place_parts g.kind g.place
+bracket_parts g = all_segs_parts g.segs ++ place_parts (begun g.kind g.segs) g.kind g.place
 
 abbrev pub opening_part : Read → Option GroupKind → List RowPart
 opening_part r None = []
@@ -122,7 +130,7 @@ nodes_more (x ∷ xs) ys = ap (λ ps. item_parts x ++ ps) (nodes_more xs ys) ∙
 pub item_at : (x : Item) (r : Read) → (read_item x r).at ≡ after_item x
 item_at va vb = grind arith
 
-item_stage : (x : Item) (r : Read) → (read_item x r).stage ≡ next r.stage (role_of x)
+pub item_stage : (x : Item) (r : Read) → (read_item x r).stage ≡ next r.stage (role_of x)
 item_stage va vb = grind arith
 
 -- what the recognizer says of the nodes
@@ -151,9 +159,25 @@ pub segs_push : (ss : List Segment) (s : Segment) → all_segs_parts (ss ++ s �
 segs_push [] s = ap (λ ps. map above s.before ++ (nodes_parts s.nodes ++ (segment_end ∷ ps))) (append-nil (beside_part s.suffix))
 segs_push (r ∷ ss) s = ap (λ ps. map above r.before ++ (nodes_parts r.nodes ++ (segment_end ∷ (beside_part r.suffix ++ ps)))) (segs_push ss s) ∙ simp append_assoc
 
-pub each_push : (ss : List Segment) (s : Segment) (stage : Stage) → each stage (segs_of ss) ≡ true → accepts stage (items_of s.nodes) ≡ true → each stage (segs_of (ss ++ s ∷ [])) ≡ true
+later_twice : (stage : Stage) → later (later stage) ≡ later stage
+later_twice va = grind arith
+
+after_later : (ss : List Segment) (stage : Stage) → stage_after ss (later stage) ≡ later stage
+after_later [] stage = refl
+after_later (s ∷ ss) stage = later_twice stage
+
+pub after_push : (ss : List Segment) (s : Segment) (stage : Stage) → stage_after (ss ++ s ∷ []) stage ≡ later stage
+after_push [] s stage = refl
+after_push (r ∷ ss) s stage = refl
+
+pub after_last : (ss : List Segment) (text : List ℕ) (stage : Stage) → stage_after (to_last text ss) stage ≡ stage_after ss stage
+after_last [] text stage = refl
+after_last (s ∷ []) text stage = refl
+after_last (s ∷ r ∷ ss) text stage = refl
+
+pub each_push : (ss : List Segment) (s : Segment) (stage : Stage) → each stage (segs_of ss) ≡ true → accepts (stage_after ss stage) (items_of s.nodes) ≡ true → each stage (segs_of (ss ++ s ∷ [])) ≡ true
 each_push [] s stage all here = and_from _ _ here refl
-each_push (r ∷ ss) s stage all here = let p = and_parts _ _ all in and_from _ _ p.0 (each_push ss s stage p.1 here)
+each_push (r ∷ ss) s stage all here = let p = and_parts _ _ all in and_from _ _ p.0 (each_push ss s (later stage) p.1 (ap (λ t. accepts t (items_of s.nodes)) (after_later ss stage) ∙ here))
 
 pub done_push : (ss : List Segment) (s : Segment) → done_of (ss ++ s ∷ []) ≡ one_more (done_of ss)
 done_push va vb = grind arith
@@ -190,7 +214,7 @@ each_beside va vb vc vd ve = grind arith
 pub each_last : (ss : List Segment) (text : List ℕ) (stage : Stage) → each stage (segs_of (to_last text ss)) ≡ each stage (segs_of ss)
 each_last [] text stage = refl
 each_last (s ∷ []) text stage = each_beside s.before s.nodes s.suffix text stage
-each_last (s ∷ r ∷ ss) text stage = ap (λ b. accepts stage (items_of s.nodes) && b) (each_last (r ∷ ss) text stage)
+each_last (s ∷ r ∷ ss) text stage = ap (λ b. accepts stage (items_of s.nodes) && b) (each_last (r ∷ ss) text (later stage))
 
 pub done_last : (ss : List Segment) (text : List ℕ) → done_of (to_last text ss) ≡ done_of ss
 done_last va vb = grind arith

@@ -17,18 +17,18 @@ use Rattle.bz_tree.specs.declared.tree.kinds.Mark.TheVariants.{Open, Close, Comm
 use Rattle.bz_tree.specs.declared.tree.kinds.Preceding.{Preceding}
 use Rattle.bz_tree.specs.declared.tree.kinds.Preceding.TheVariants.{Operand, Other}
 use Rattle.bz_tree.specs.declared.row.spot.Read.{Read}
-use Rattle.bz_tree.specs.Tree.{Item, Segment, segs_of}
+use Rattle.bz_tree.specs.Tree.{Item, Segment, no_segs, segs_of}
 use Rattle.bz_tree.specs.Kinds.{kind_mark, mark_of, kind_after, is_for_at, group_kind, is_one, same_shape}
 use Rattle.bz_tree.specs.Owners.{node, comma, comment, no_token, end_of_node, end_of_comma, Inside}
 use Rattle.bz_tree.specs.Brackets.{leaf_of, is_for_item, is_paren, group_with, end_line}
 use Rattle.bz_tree.specs.Rows.{RowPart, opening, closing, segment_end, above, beside, beside_part, item_parts}
-use Rattle.bz_tree.specs.private.Machine.{next, may_end, begin, each, role_of, group_role}
+use Rattle.bz_tree.specs.private.Machine.{next, may_end, begin, is_whole, each, role_of, group_role}
 use Rattle.bz_tree.specs.private.Steps.{Walked, after_own, commented, to_last, done, has_one, kind_with, shape_of, Level, Levels, with_own, next_at}
-use Rattle.bz_tree.specs.private.RowSteps.{is_ended, called, shown_kind, start, read_group, Stand, with_node, with_here, RowState, step_to, is_refused, comment_part, after_comment_next, last_end, is_single, is_one_comma, close_on, close_below, row_next_at}
+use Rattle.bz_tree.specs.private.RowSteps.{is_ended, called, shown_kind, start, later_start, read_group, is_text, Stand, with_node, with_here, RowState, step_to, is_refused, comment_part, after_comment_next, last_end, is_single, is_one_comma, close_on, close_below, row_next_at}
 use Rattle.bz_tree.proofs.Trees.Complete.{same_itself}
 use Rattle.bz_tree.proofs.Trees.InPlace.{filled_push, filled_last}
 use Rattle.bz_tree.proofs.Trees.Sound.{none_is_some, some_injective, same_shape_is}
-use Rattle.bz_tree.proofs.Rows.RowParts.{Place, none, fresh, some, over, Bracket, bracket, nodes_of, read_item, read_items, read_of, at_place, done_of, stand_of, shown_item, shown, nodes_parts, all_segs_parts, place_parts, bracket_parts, all_parts, all_push, read_push, shown_push, nodes_more, item_at, accepts_read, never_shown, segs_push, each_push, done_push, is_open, open_push, beside_last, each_last, done_last}
+use Rattle.bz_tree.proofs.Rows.RowParts.{Place, none, fresh, some, over, Bracket, bracket, nodes_of, read_item, read_items, stage_after, begun, after_push, after_last, read_of, at_place, done_of, stand_of, shown_item, shown, nodes_parts, all_segs_parts, place_parts, bracket_parts, all_parts, all_push, read_push, shown_push, nodes_more, item_at, accepts_read, never_shown, segs_push, each_push, done_push, is_open, open_push, beside_last, each_last, done_last}
 use Rattle.bz_token.specs.Common.{is_filled}
 use Rattle.bz_tree.proofs.Trees.Walking.{level_is}
 use Rattle.std.proofs.lemmas.Option.{cond_some}
@@ -119,19 +119,19 @@ node_walked one x line segs (over before y ys suffix after) h = absurd (false≢
 nodes_added : (x : Item) (line : ℕ) (place : Place) → is_ended (at_place place) ≡ false → nodes_of (add_node x line place) ≡ nodes_of place ++ x ∷ []
 nodes_added va vb vc vd = grind arith
 
-read_added : (kind : Option GroupKind) (x : Item) (line : ℕ) (place : Place) → is_ended (at_place place) ≡ false → read_items (start kind) (nodes_of (add_node x line place)) ≡ read_item x (read_items (start kind) (nodes_of place))
-read_added kind x line place h = ap (read_items (start kind)) (nodes_added x line place h) ∙ read_push (nodes_of place) (start kind) x
+read_added : (r : Read) (x : Item) (line : ℕ) (place : Place) → is_ended (at_place place) ≡ false → read_items r (nodes_of (add_node x line place)) ≡ read_item x (read_items r (nodes_of place))
+read_added r x line place h = ap (read_items r) (nodes_added x line place h) ∙ read_push (nodes_of place) r x
 
-parts_added : (kind : Option GroupKind) (x : Item) (line : ℕ) (place : Place) → is_ended (at_place place) ≡ false
-    → place_parts kind (add_node x line place) ≡ place_parts kind place ++ item_parts (shown_item (read_items (start kind) (nodes_of place)).naming x)
-parts_added kind x line (none after) h = ap (λ ps. map above after ++ ps) (append-nil (item_parts (shown_item (start kind).naming x)))
-parts_added kind x line (fresh end) h = append-nil (item_parts (shown_item (start kind).naming x))
-parts_added kind x line (some before y ys end) h =
-    let shown_x = shown_item (read_items (start kind) (y ∷ ys)).naming x in
-    let more : nodes_parts (shown (start kind) ((y ∷ ys) ++ x ∷ [])) ≡ nodes_parts (shown (start kind) (y ∷ ys)) ++ item_parts shown_x =
-    ap nodes_parts (shown_push (y ∷ ys) (start kind) x) ∙ (nodes_more (shown (start kind) (y ∷ ys)) (shown_x ∷ []) ∙ ap (λ ps. nodes_parts (shown (start kind) (y ∷ ys)) ++ ps) (append-nil (item_parts shown_x))) in
-    ap (λ ps. map above before ++ ps) more ∙ sym (append_assoc (map above before) (nodes_parts (shown (start kind) (y ∷ ys))) (item_parts shown_x))
-parts_added kind x line (over before y ys suffix after) h = absurd (false≢true (sym h))
+parts_added : (r : Read) (kind : Option GroupKind) (x : Item) (line : ℕ) (place : Place) → is_ended (at_place place) ≡ false
+    → place_parts r kind (add_node x line place) ≡ place_parts r kind place ++ item_parts (shown_item (read_items r (nodes_of place)).naming x)
+parts_added r kind x line (none after) h = ap (λ ps. map above after ++ ps) (append-nil (item_parts (shown_item r.naming x)))
+parts_added r kind x line (fresh end) h = append-nil (item_parts (shown_item r.naming x))
+parts_added r kind x line (some before y ys end) h =
+    let shown_x = shown_item (read_items r (y ∷ ys)).naming x in
+    let more : nodes_parts (shown r ((y ∷ ys) ++ x ∷ [])) ≡ nodes_parts (shown r (y ∷ ys)) ++ item_parts shown_x =
+    ap nodes_parts (shown_push (y ∷ ys) r x) ∙ (nodes_more (shown r (y ∷ ys)) (shown_x ∷ []) ∙ ap (λ ps. nodes_parts (shown r (y ∷ ys)) ++ ps) (append-nil (item_parts shown_x))) in
+    ap (λ ps. map above before ++ ps) more ∙ sym (append_assoc (map above before) (nodes_parts (shown r (y ∷ ys))) (item_parts shown_x))
+parts_added r kind x line (over before y ys suffix after) h = absurd (false≢true (sym h))
 
 here_added : (x : Item) (line : ℕ) (place : Place) → is_ended (at_place place) ≡ false → at_place (add_node x line place) ≡ at_place (some [] x [] line)
 here_added va vb vc vd = grind arith
@@ -150,7 +150,7 @@ node_level : (kind : Option GroupKind) (segs : List Segment) (place : Place) (x 
     → with_own (level_of (bracket kind segs place)) (node line x) ≡ level_of (bracket kind segs (add_node x line place))
 node_level kind segs place x line no_for h =
     level_is _ kind _ _ _ _ (ap (λ b. kind_with b (Some (walked_of segs place)) kind) no_for) (node_walked (has_one kind) x line segs place h)
-    (sym (ap (λ (r : Read). r.at) (read_added kind x line place h) ∙ item_at x (read_items (start kind) (nodes_of place))))
+    (sym (ap (λ (r : Read). r.at) (read_added (begun kind segs) x line place h) ∙ item_at x (read_items (begun kind segs) (nodes_of place))))
 
 node_leads : (g : Bracket) (gs : List Bracket) (x : Item) (line : ℕ) (read : Read) (ps : List RowPart) (step : Option Levels) (new : RowState) → is_for_item x ≡ false → is_ended (at_place g.place) ≡ false
     → read ≡ read_item x (read_of g) → ps ≡ item_parts (shown_item (read_of g).naming x) → step_to (with_node line read (stand_of g)) ps (image g gs) ≡ new
@@ -158,9 +158,9 @@ node_leads : (g : Bracket) (gs : List Bracket) (x : Item) (line : ℕ) (read : R
 node_leads g gs x line read ps step new no_for h read_is parts_are is step_is good goods =
     let to = add_node x line g.place in
     let top_is : with_node line read (stand_of g) ≡ stand_of (bracket g.kind g.segs to) =
-    ap (λ r. with_node line r (stand_of g)) (read_is ∙ sym (read_added g.kind x line g.place h)) ∙ ap (λ a. record { kind = g.kind; done = done_of g.segs; here = a; read = read_items (start g.kind) (nodes_of to) }) (sym (here_added x line g.place h)) in
+    ap (λ r. with_node line r (stand_of g)) (read_is ∙ sym (read_added (begun g.kind g.segs) x line g.place h)) ∙ ap (λ a. record { kind = g.kind; done = done_of g.segs; here = a; read = read_items (begun g.kind g.segs) (nodes_of to) }) (sym (here_added x line g.place h)) in
     let more : bracket_parts (bracket g.kind g.segs to) ≡ bracket_parts g ++ ps =
-    ap (λ qs. all_segs_parts g.segs ++ qs) (parts_added g.kind x line g.place h) ∙ (sym (append_assoc (all_segs_parts g.segs) (place_parts g.kind g.place) _) ∙ ap (λ qs. bracket_parts g ++ qs) (sym parts_are)) in
+    ap (λ qs. all_segs_parts g.segs ++ qs) (parts_added (begun g.kind g.segs) g.kind x line g.place h) ∙ (sym (append_assoc (all_segs_parts g.segs) (place_parts (begun g.kind g.segs) g.kind g.place) _) ∙ ap (λ qs. bracket_parts g ++ qs) (sym parts_are)) in
     stays g.kind g.segs g.segs g.place to gs ps _ step new is top_is more (step_is ∙ ap (λ l. Some (l, map level_of gs)) (node_level g.kind g.segs g.place x line no_for h)) (good_added g.kind g.segs x line g.place h good) goods
 
 leaf_leads : (t : Placed) (g : Bracket) (gs : List Bracket) (new : RowState) → row_next_at Plain t (image g gs) ≡ Some new → IsGood g → AreGood gs → Leads (next_at Plain t (level_of g) (map level_of gs)) new
@@ -202,16 +202,16 @@ with_last segs before nodes suffix = segs ++ record { before = before; nodes = n
 segment_parts : (kind : GroupKind) (segs : List Segment) (before : List (List ℕ)) (x : Item) (xs : List Item) (line : ℕ)
     → all_segs_parts (with_last segs before (x ∷ xs) None) ≡ bracket_parts (bracket (Some kind) segs (some before x xs line)) ++ segment_end ∷ []
 segment_parts kind segs before x xs line =
-    segs_push segs _ ∙ ap (λ ys. all_segs_parts segs ++ (map above before ++ (nodes_parts ys ++ segment_end ∷ []))) (sym (never_shown (x ∷ xs) (start (Some kind)) refl)) ∙ simp append_assoc
+    segs_push segs _ ∙ ap (λ ys. all_segs_parts segs ++ (map above before ++ (nodes_parts ys ++ segment_end ∷ []))) (sym (never_shown (x ∷ xs) (begun (Some kind) segs) refl)) ∙ simp append_assoc
 
-segment_good : (kind : GroupKind) (segs : List Segment) (before : List (List ℕ)) (nodes : List Item) (suffix : Option (List ℕ)) → each (begin kind) (segs_of segs) ≡ true → may_end (read_items (start (Some kind)) nodes).stage ≡ true
+segment_good : (kind : GroupKind) (segs : List Segment) (before : List (List ℕ)) (nodes : List Item) (suffix : Option (List ℕ)) → each (begin kind) (segs_of segs) ≡ true → may_end (read_items (begun (Some kind) segs) nodes).stage ≡ true
     → each (begin kind) (segs_of (with_last segs before nodes suffix)) ≡ true
-segment_good kind segs before nodes suffix all ends = each_push segs _ (begin kind) all (accepts_read nodes (start (Some kind)) ∙ ends)
+segment_good kind segs before nodes suffix all ends = each_push segs _ (begin kind) all (accepts_read nodes (begun (Some kind) segs) ∙ ends)
 
 segment_leads : (t : Placed) (kind : GroupKind) (segs : List Segment) (place : Place) (gs : List Bracket) (new : RowState) → row_next_at Comma t (image (bracket (Some kind) segs place) gs) ≡ Some new
     → IsGoodAt (Some kind) segs place → AreGood gs → Leads (next_at Comma t (level_of (bracket (Some kind) segs place)) (map level_of gs)) new
 segment_leads t kind segs (some before x xs end) gs new same good goods =
-    let p = cond_some (may_end (read_items (start (Some kind)) (x ∷ xs)).stage) _ new same in
+    let p = cond_some (may_end (read_items (begun (Some kind) segs) (x ∷ xs)).stage) _ new same in
     let rr = with_last segs before (x ∷ xs) None in
     let w = walked_of segs (some before x xs end) in
     let own : after_own (is_one kind) (comma t) (Some w) ≡ Some (walked_of rr (fresh t.line)) =
@@ -219,7 +219,8 @@ segment_leads t kind segs (some before x xs end) gs new same good goods =
     ∙ (ap (λ bs. Some (record { segs = with_last segs bs (x ∷ xs) None; before = []; nodes = []; suffix = None; after = []; last = end_of_comma t.line; trailing = true })) (append-nil before)
     ∙ ap (λ b. Some (record { segs = rr; before = []; nodes = []; suffix = None; after = []; last = end_of_comma t.line; trailing = b })) (sym (filled_push segs _))) in
     stays (Some kind) segs rr (some before x xs end) (fresh t.line) gs (segment_end ∷ []) _ _ new p.1
-    (ap (λ d. record { kind = Some kind; done = d; here = at_place (fresh t.line); read = start (Some kind) }) (sym (done_push segs _)))
+    (ap (λ d. record { kind = Some kind; done = d; here = at_place (fresh t.line); read = later_start (Some kind) }) (sym (done_push segs _))
+    ∙ ap (λ s. record { kind = Some kind; done = done_of rr; here = at_place (fresh t.line); read = record (start (Some kind)) { stage = s } }) (sym (after_push segs _ (begin kind))))
     (append-nil (all_segs_parts rr) ∙ segment_parts kind segs before x xs end)
     (ap (λ v. Some (leveled (Some kind) v Other, map level_of gs)) own)
     (good.0, segment_good kind segs before (x ∷ xs) None good.1 p.0, open_push segs before (x ∷ xs)) goods
@@ -241,7 +242,8 @@ comma_comment_leads t kind segs end false e gs new is good goods =
 comma_comment_leads t kind segs end true e gs new is good goods =
     let rr = to_last t.text segs in
     stays (Some kind) segs rr (fresh end) (none []) gs (beside t.text ∷ []) _ _ new is
-    (ap (λ d. record { kind = Some kind; done = d; here = at_place (none []); read = start (Some kind) }) (sym (done_last segs t.text)))
+    (ap (λ d. record { kind = Some kind; done = d; here = at_place (none []); read = begun (Some kind) segs }) (sym (done_last segs t.text))
+    ∙ ap (λ s. record { kind = Some kind; done = done_of rr; here = at_place (none []); read = record (start (Some kind)) { stage = s } }) (sym (after_last segs t.text (begin kind))))
     (append-nil (all_segs_parts rr) ∙ (beside_last segs t.text good.2 ∙ ap (λ ps. ps ++ beside t.text ∷ []) (sym (append-nil (all_segs_parts segs)))))
     (ap (λ b. Some (leveled (Some kind) (Some (commented (end_of_comma end) b t.text (walked_of segs (fresh end)))) Other, map level_of gs)) e
     ∙ ap (λ b. Some (leveled (Some kind) (Some (record { segs = rr; before = []; nodes = []; suffix = None; after = []; last = no_token; trailing = b })) Other, map level_of gs)) (sym (filled_last t.text segs)))
@@ -254,8 +256,8 @@ ended_place false text before x xs = over before x xs None (text ∷ [])
 
 ended_level : (t : Placed) (kind : Option GroupKind) (segs : List Segment) (before : List (List ℕ)) (x : Item) (xs : List Item) (end : ℕ) (on : Bool) → (end == t.line) ≡ on
     → with_own (level_of (bracket kind segs (some before x xs end))) (comment t.line t.text) ≡ level_of (bracket kind segs (ended_place on t.text before x xs))
-ended_level t kind segs before x xs end true e = ap (λ b. leveled kind (Some (commented (end_of_node end) b t.text (walked_of segs (some before x xs end)))) (read_items (start kind) (x ∷ xs)).at) e
-ended_level t kind segs before x xs end false e = ap (λ b. leveled kind (Some (commented (end_of_node end) b t.text (walked_of segs (some before x xs end)))) (read_items (start kind) (x ∷ xs)).at) e
+ended_level t kind segs before x xs end true e = ap (λ b. leveled kind (Some (commented (end_of_node end) b t.text (walked_of segs (some before x xs end)))) (read_items (begun kind segs) (x ∷ xs)).at) e
+ended_level t kind segs before x xs end false e = ap (λ b. leveled kind (Some (commented (end_of_node end) b t.text (walked_of segs (some before x xs end)))) (read_items (begun kind segs) (x ∷ xs)).at) e
 
 node_comment_leads : (t : Placed) (kind : Option GroupKind) (segs : List Segment) (before : List (List ℕ)) (x : Item) (xs : List Item) (end : ℕ) (on : Bool) → (end == t.line) ≡ on → (gs : List Bracket) (new : RowState)
     → after_comment_next kind on t.text (image (bracket kind segs (some before x xs end)) gs) ≡ Some new
@@ -302,8 +304,27 @@ group_at kind segs place = group_with kind (done (walked_of segs place))
 abbrev IsReadGroup : GroupKind → List Segment → Place → Type 0
 IsReadGroup kind segs place = role_of (group_at kind segs place) ≡ group_role kind
 
-group_role_is : (kind : GroupKind) (i : Inside) → is_one kind ≡ false → each (begin kind) (segs_of i.segs) ≡ true → role_of (group_with kind i) ≡ group_role kind
-group_role_is kind i no_one all = rw (no_one, all) refl
+group_role_is : (kind : GroupKind) (i : Inside) → is_whole kind (segs_of i.segs) ≡ true → each (begin kind) (segs_of i.segs) ≡ true → role_of (group_with kind i) ≡ group_role kind
+group_role_is kind i whole all = rw (whole, all) refl
+
+-- a load has a segment
+whole_some : (kind : GroupKind) (s : Segment) (ss : List Segment) → is_one kind ≡ false → is_whole kind (segs_of (s ∷ ss)) ≡ true
+whole_some va vb vc vd = grind arith
+
+whole_push : (kind : GroupKind) (ss : List Segment) (s : Segment) → is_one kind ≡ false → is_whole kind (segs_of (ss ++ s ∷ [])) ≡ true
+whole_push kind [] s h = whole_some kind s [] h
+whole_push kind (r ∷ ss) s h = whole_some kind r (ss ++ s ∷ []) h
+
+whole_open : (kind : GroupKind) (ss : List Segment) → is_one kind ≡ false → is_open ss ≡ true → is_whole kind (segs_of ss) ≡ true
+whole_open kind [] h last = absurd (false≢true last)
+whole_open kind (s ∷ ss) h last = whole_some kind s ss h
+
+whole_none : (kind : GroupKind) → is_one kind ≡ false → is_text (begin kind) ≡ false → is_whole kind no_segs ≡ true
+whole_none va vb vc = grind arith
+
+whole_after : (kind : GroupKind) (ss : List Segment) → is_one kind ≡ false → is_text (stage_after ss (begin kind)) ≡ false → is_whole kind (segs_of ss) ≡ true
+whole_after kind [] h no_text = whole_none kind h no_text
+whole_after kind (s ∷ ss) h no_text = whole_some kind s ss h
 
 -- `(x,)`
 and_false : (a b : Bool) → (a && b && false) ≡ false
@@ -332,40 +353,42 @@ record Closes (kind : GroupKind) (segs : List Segment) (place : Place) (ends : L
       ≡ all_segs_parts (done (walked_of segs place)).segs ++ (map above (done (walked_of segs place)).end ++ closing c ∷ [])
   role_is : IsReadGroup kind segs place
 
-closes : (kind : GroupKind) (segs : List Segment) (place : Place) (ends : List RowPart) → last_end (at_place place) (may_end (read_items (start (Some kind)) (nodes_of place)).stage) ≡ Some ends → IsGoodAt (Some kind) segs place
+closes : (kind : GroupKind) (segs : List Segment) (place : Place) (ends : List RowPart) → last_end (at_place place) (read_items (begun (Some kind) segs) (nodes_of place)).stage ≡ Some ends → IsGoodAt (Some kind) segs place
     → Closes kind segs place ends
-closes kind segs (none after) ends same good = record {
-  parts_are = λ c. ap (λ ps. bracket_parts (bracket (Some kind) segs (none after)) ++ (ps ++ closing c ∷ [])) (sym (some_injective [] ends same)) ∙ simp append_assoc;
-  role_is = group_role_is kind (done (walked_of segs (none after))) good.0 good.1;
-}
+closes kind segs (none after) ends same good =
+    let p = passed (is_text (stage_after segs (begin kind))) [] ends same in
+    record {
+      parts_are = λ c. ap (λ ps. bracket_parts (bracket (Some kind) segs (none after)) ++ (ps ++ closing c ∷ [])) (sym p.1) ∙ simp append_assoc;
+      role_is = group_role_is kind (done (walked_of segs (none after))) (whole_after kind segs good.0 p.0) good.1;
+    }
 closes kind segs (fresh line) ends same good = record {
   parts_are = λ c. ap (λ ps. bracket_parts (bracket (Some kind) segs (fresh line)) ++ (ps ++ closing c ∷ [])) (sym (some_injective [] ends same)) ∙ ap (λ ps. ps ++ closing c ∷ []) (append-nil (all_segs_parts segs));
-  role_is = group_role_is kind (done (walked_of segs (fresh line))) good.0 good.1;
+  role_is = group_role_is kind (done (walked_of segs (fresh line))) (whole_open kind segs good.0 good.2) good.1;
 }
 closes kind segs (some before x xs line) ends same good =
-    let p = cond_some (may_end (read_items (start (Some kind)) (x ∷ xs)).stage) _ ends same in
+    let p = cond_some (may_end (read_items (begun (Some kind) segs) (x ∷ xs)).stage) _ ends same in
     record {
       parts_are = λ c.
           ap (λ ps. bracket_parts (bracket (Some kind) segs (some before x xs line)) ++ (ps ++ closing c ∷ [])) (sym p.1)
           ∙ (sym (append_assoc (bracket_parts (bracket (Some kind) segs (some before x xs line))) (segment_end ∷ []) (closing c ∷ []))
           ∙ ap (λ ps. ps ++ closing c ∷ []) (sym (segment_parts kind segs before x xs line)));
-      role_is = group_role_is kind (done (walked_of segs (some before x xs line))) good.0 (segment_good kind segs before (x ∷ xs) None good.1 p.0);
+      role_is = group_role_is kind (done (walked_of segs (some before x xs line))) (whole_push kind segs _ good.0) (segment_good kind segs before (x ∷ xs) None good.1 p.0);
     }
 closes kind segs (over before x xs suffix after) ends same good =
-    let p = cond_some (may_end (read_items (start (Some kind)) (x ∷ xs)).stage) _ ends same in
+    let p = cond_some (may_end (read_items (begun (Some kind) segs) (x ∷ xs)).stage) _ ends same in
     record {
       parts_are = λ c.
           ap (λ ps. bracket_parts (bracket (Some kind) segs (over before x xs suffix after)) ++ (ps ++ closing c ∷ [])) (sym p.1)
-          ∙ (ap (λ ys. (all_segs_parts segs ++ (map above before ++ (nodes_parts ys ++ (segment_end ∷ (beside_part suffix ++ map above after))))) ++ closing c ∷ []) (never_shown (x ∷ xs) (start (Some kind)) refl)
+          ∙ (ap (λ ys. (all_segs_parts segs ++ (map above before ++ (nodes_parts ys ++ (segment_end ∷ (beside_part suffix ++ map above after))))) ++ closing c ∷ []) (never_shown (x ∷ xs) (begun (Some kind) segs) refl)
           ∙ sym (ap (λ ps. ps ++ (map above after ++ closing c ∷ [])) (segs_push segs (record { before = before; nodes = x ∷ xs; suffix = suffix })) ∙ simp append_assoc));
-      role_is = group_role_is kind (done (walked_of segs (over before x xs suffix after))) good.0 (segment_good kind segs before (x ∷ xs) suffix good.1 p.0);
+      role_is = group_role_is kind (done (walked_of segs (over before x xs suffix after))) (whole_push kind segs _ good.0) (segment_good kind segs before (x ∷ xs) suffix good.1 p.0);
     }
 
 read_group_is : (kind : GroupKind) (segs : List Segment) (place : Place) (r : Read) → IsReadGroup kind segs place → read_group kind r ≡ read_item (group_at kind segs place) r
 read_group_is kind segs place r is = ap (λ role. record { stage = next r.stage role; at = Operand; naming = called r.naming kind; assigns = r.assigns }) (sym is)
 
 close_leads_at : (shape : Shape) (t : Placed) (kind : GroupKind) (segs : List Segment) (place : Place) (h : Bracket) (hs : List Bracket) (ends : List RowPart) (new : RowState) → shape_of kind ≡ shape
-    → last_end (at_place place) (may_end (read_items (start (Some kind)) (nodes_of place)).stage) ≡ Some ends
+    → last_end (at_place place) (read_items (begun (Some kind) segs) (nodes_of place)).stage ≡ Some ends
     → close_on kind t.line ends (stand_of h) (map stand_of hs) (image (bracket (Some kind) segs place) (h ∷ hs)) ≡ Some new
     → IsGoodAt (Some kind) segs place → IsGood h → AreGood hs → Leads (next_at (Close shape) t (level_of (bracket (Some kind) segs place)) (map level_of (h ∷ hs))) new
 close_leads_at shape t kind segs place h hs ends new fits ends_are same good good_h goods =
@@ -394,19 +417,19 @@ close_leads shape t (Some kind) segs place gs new same good goods = at_shape (sa
     s : RowState
     s = image (bracket (Some kind) segs place) gs
 
-    at_outer : (hs : List Bracket) (ends : List RowPart) → shape_of kind ≡ shape → last_end (at_place place) (may_end (read_items (start (Some kind)) (nodes_of place)).stage) ≡ Some ends
+    at_outer : (hs : List Bracket) (ends : List RowPart) → shape_of kind ≡ shape → last_end (at_place place) (read_items (begun (Some kind) segs) (nodes_of place)).stage ≡ Some ends
         → close_below kind t.line ends (map stand_of hs) (image (bracket (Some kind) segs place) hs) ≡ Some new → AreGood hs
         → Leads (next_at (Close shape) t (level_of (bracket (Some kind) segs place)) (map level_of hs)) new
     at_outer [] ends fits ends_are same goods = absurd (none_is_some new same)
     at_outer (h ∷ hs) ends fits ends_are same goods = close_leads_at shape t kind segs place h hs ends new fits ends_are same good goods.0 goods.1
 
-    at_ends : (o : Option (List RowPart)) → last_end (at_place place) (may_end (read_items (start (Some kind)) (nodes_of place)).stage) ≡ o → shape_of kind ≡ shape
+    at_ends : (o : Option (List RowPart)) → last_end (at_place place) (read_items (begun (Some kind) segs) (nodes_of place)).stage ≡ o → shape_of kind ≡ shape
         → option_and_then (λ parts. close_below kind t.line parts s.outer s) o ≡ Some new → Leads (next_at (Close shape) t (level_of (bracket (Some kind) segs place)) (map level_of gs)) new
     at_ends None ends_are fits same = absurd (none_is_some new same)
     at_ends (Some ends) ends_are fits same = at_outer gs ends fits ends_are same goods
 
     at_shape : (b : Bool) → same_shape (Some (shape_of kind)) shape ≡ b
-        → cond b (option_and_then (λ parts. close_below kind t.line parts s.outer s) (last_end (at_place place) (may_end (read_items (start (Some kind)) (nodes_of place)).stage))) None ≡ Some new
+        → cond b (option_and_then (λ parts. close_below kind t.line parts s.outer s) (last_end (at_place place) (read_items (begun (Some kind) segs) (nodes_of place)).stage)) None ≡ Some new
         → Leads (next_at (Close shape) t (level_of (bracket (Some kind) segs place)) (map level_of gs)) new
     at_shape false fits same = absurd (none_is_some new same)
     at_shape true fits same = at_ends _ refl (some_injective _ _ (same_shape_is (Some (shape_of kind)) shape fits)) same

@@ -5,7 +5,7 @@ use Rattle.bz_tree.specs.declared.tree.kinds.Mark.{Mark}
 use Rattle.bz_tree.specs.declared.tree.kinds.Mark.TheVariants.{Open, Close, Comma, Comment, Newline, Plain}
 use Rattle.bz_tree.specs.Kinds.{mark_of}
 use Rattle.bz_tree.specs.Blocks.{is_colon, in_front, with_token, logical_lines, indented, ends_open, bad_line, block_indent, header_line, depth_after, has_colon}
-use Rattle.bz_tree.specs.private.BlockSteps.{Lines, begun, next_counted, next_indent, indent_run, first_lines, colon_at, ends_header, begins_header, colon_run}
+use Rattle.bz_tree.specs.private.BlockSteps.{Lines, begun, next_indent, indent_run, colon_at, ends_header, begins_header, colon_run}
 
 -- what the walk finds in the lines that begin in this state
 abbrev found_in : Bool → Lines → List (List Placed) → Option ℕ
@@ -21,7 +21,7 @@ line_after t ts o = elim o [ None ↦ Some t.line | Some new ↦ indent_run new 
 
 -- a token that counts
 counted_found : (t : Placed) (ts : List Placed) → Found ts → (columns : List ℕ) (opens inside : Bool) → (ls : List (List Placed)) → logical_lines ts ≡ ls
-    → line_after t ts (next_counted inside t (record { columns = columns; opens = opens; inside = inside })) ≡ found_in inside (record { columns = columns; opens = opens; inside = inside }) (in_front t ls)
+    → line_after t ts (option_map (begun t) (cond inside (Some columns) (indented opens t.col columns))) ≡ found_in inside (record { columns = columns; opens = opens; inside = inside }) (in_front t ls)
 counted_found t ts more columns opens true [] is = more columns (is_colon t) true ∙ ap (found_in true (begun t columns)) is
 counted_found t ts more columns opens true (l ∷ ls) is = more columns (is_colon t) true ∙ ap (found_in true (begun t columns)) is
 counted_found t ts more columns opens false [] is = at_indent (indented opens t.col columns)
@@ -56,7 +56,7 @@ run_found [] = λ columns opens inside. at_inside columns opens inside
     at_inside columns opens false = refl
 run_found (t ∷ ts) = λ columns opens inside. mark_found (mark_of t) t ts (run_found ts) columns opens inside
 
-pub indent_found : (ts : List Placed) → indent_run first_lines ts ≡ block_indent ts
+pub indent_found : (ts : List Placed) → indent_run (record { columns = 1 ∷ []; opens = false; inside = false }) ts ≡ block_indent ts
 indent_found ts = run_found ts (1 ∷ []) false false
 
 -- the header's colon

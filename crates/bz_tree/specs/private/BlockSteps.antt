@@ -1,9 +1,8 @@
 -- For private clauses: the walks over the tokens of a block.
-use Rattle.std.specs.Prelude.{ℕ, ◌+◌, ◌≡◌, ◌<◌, ◌++◌, List, [], ◌∷◌, reverse, Bool, true, false, if◌then◌else◌, ◌==◌, ◌&&◌, ◌||◌, Option, Some, None, option_map}
+use Rattle.std.specs.Prelude.{ℕ, ◌+◌, ◌≡◌, ◌<◌, ◌++◌, List, [], ◌∷◌, Bool, true, false, if◌then◌else◌, ◌==◌, ◌&&◌, ◌||◌, Option, Some, None, option_map}
 use Rattle.bz_token.specs.Places.{Placed}
 use Rattle.bz_tree.specs.declared.tree.kinds.Mark.{Mark}
 use Rattle.bz_tree.specs.declared.tree.kinds.Mark.TheVariants.{Comment, Newline}
-use Rattle.bz_tree.specs.declared.tree.block.Indents.{Indents}
 use Rattle.bz_tree.specs.Kinds.{mark_of}
 use Rattle.bz_tree.specs.Blocks.{is_colon, indented, depth_after, IsAt, is_block_word}
 use Rattle.bz_tree.specs.Statement.{first_token, last_seen}
@@ -14,27 +13,17 @@ pub record Lines : Type 0 where
   pub opens : Bool
   pub inside : Bool
 
-abbrev pub lines_view : Indents → Lines
-lines_view i = record { columns = reverse i.columns.items; opens = i.opens; inside = i.inside }
-
 abbrev pub begun : Placed → List ℕ → Lines
 begun t columns = record { columns = columns; opens = is_colon t; inside = true }
-
-abbrev pub next_counted : Bool → Placed → Lines → Option Lines
-next_counted true t s = Some (begun t s.columns)
-next_counted false t s = option_map (begun t) (indented s.opens t.col s.columns)
 
 abbrev pub next_indent : Mark → Placed → Lines → Option Lines
 next_indent Newline t s = Some (record { columns = s.columns; opens = s.opens; inside = false })
 next_indent Comment t s = Some s
-next_indent _ t s = next_counted s.inside t s
+next_indent _ t s = option_map (begun t) (if s.inside then Some s.columns else indented s.opens t.col s.columns)
 
 abbrev pub indent_run : Lines → List Placed → Option ℕ
 indent_run s [] = None
 indent_run s (t ∷ ts) = elim (next_indent (mark_of t) t s) [ None ↦ Some t.line | Some new ↦ indent_run new ts ]
-
-abbrev pub first_lines : Lines
-first_lines = record { columns = 1 ∷ []; opens = false; inside = false }
 
 -- in the header line, so many brackets being open; `inside`: it has begun
 abbrev pub colon_at : Mark → Placed → ℕ → Bool → Bool → Bool

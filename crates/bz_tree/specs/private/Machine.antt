@@ -1,13 +1,14 @@
 -- For private clauses: the recognizer of the grammar, which goes over the nodes of a segment once.
-use Rattle.std.specs.Prelude.{Bool, true, false, not, ◌&&◌, ◌||◌, if◌then◌else◌}
+use Rattle.std.specs.Prelude.{ℕ, List, Bool, true, false, not, ◌&&◌, ◌||◌, if◌then◌else◌}
+use Rattle.bz_token.specs.declared.token.Kind.{Kind}
 use Rattle.bz_tree.specs.declared.tree.GroupKind.{GroupKind}
 use Rattle.bz_tree.specs.declared.tree.GroupKind.TheVariants.{Call, RuleCall, Load, Paren, List as ListKind, Index, Dict, ListComp, DictComp}
 use Rattle.bz_tree.specs.declared.grammar.role.Role.{Role}
-use Rattle.bz_tree.specs.declared.grammar.role.Role.TheVariants.{Name, Number, Value, Suffix, Dot, Comma, Colon, Equals, Augmented, If, Else, For, In, Not, Tilde, Sum, Star, Stars, Operator, Stray}
+use Rattle.bz_tree.specs.declared.grammar.role.Role.TheVariants.{Name, Number, Value, Bracket, Suffix, Dot, Comma, Colon, Equals, Augmented, If, Else, For, In, Not, Tilde, Sum, Star, Stars, Operator, LoadWord, LoadGroup, Stray}
 use Rattle.bz_tree.specs.declared.grammar.stage.Goal.{Goal}
 use Rattle.bz_tree.specs.declared.grammar.stage.Goal.TheVariants.{Left, Right, Alone, Key, Element, EntryKey, From, To, Step, Target, Clause}
 use Rattle.bz_tree.specs.declared.grammar.stage.Stage.{Stage}
-use Rattle.bz_tree.specs.declared.grammar.stage.Stage.TheVariants.{Refused, Wants, Has, HasNumber, Names, Excludes, Begins, Argument, Keyword}
+use Rattle.bz_tree.specs.declared.grammar.stage.Stage.TheVariants.{Refused, Statement, Wants, Has, HasNumber, Names, Excludes, Begins, Argument, Keyword, Loads, Text, LoadArgument, Renames, Done}
 use Rattle.bz_tree.specs.Kinds.{is_one}
 use Rattle.bz_tree.specs.Tree.{Item, leaf, group, Items, no_items, item, Segs, no_segs, seg}
 use Rattle.bz_tree.specs.Statement.{is_load_word}
@@ -26,7 +27,9 @@ may_end (Has part asked) = not asked && ends part
 may_end (HasNumber part asked) = not asked && ends part
 may_end (Begins To) = true
 may_end (Begins Step) = true
+may_end Statement = true
 may_end Keyword = true
+may_end Done = true
 may_end _ = false
 
 abbrev pub is_target : Goal → Bool
@@ -64,6 +67,7 @@ leaves part true _ = Refused
 abbrev pub next_wanted : Goal → Bool → Role → Stage
 next_wanted part asked Name = Has part asked
 next_wanted part asked Value = Has part asked
+next_wanted part asked Bracket = Has part asked
 next_wanted part asked Number = HasNumber part asked
 next_wanted part asked Sum = in_chain part (Wants part asked)
 next_wanted part asked Tilde = in_chain part (Wants part asked)
@@ -95,13 +99,20 @@ next Argument Name = Keyword
 next Argument r = next_wanted Alone false r
 next Keyword Equals = Wants Alone false
 next Keyword r = next_after Alone false r
+next Statement LoadWord = Loads
+next Statement r = next_wanted Left false r
+next Loads LoadGroup = Done
+next Text Value = Done
+next LoadArgument Value = Done
+next LoadArgument Name = Renames
+next Renames Equals = Text
 next _ _ = Refused
 
--- the stage in which a segment of a group begins; what else a load's segments are, `is_load` says
+-- the stage in which the first segment of a group begins, and that in which one begins after one that began in this stage
 abbrev pub begin : GroupKind → Stage
 begin Call = Argument
 begin RuleCall = Argument
-begin Load = Argument
+begin Load = Text
 begin Paren = Wants Alone false
 begin ListKind = Wants Alone false
 begin Index = Begins From
@@ -109,13 +120,17 @@ begin Dict = Wants Key false
 begin ListComp = Wants Element false
 begin DictComp = Wants EntryKey false
 
+abbrev pub later : Stage → Stage
+later Text = LoadArgument
+later stage = stage
+
 -- what a group whose segments are in the grammar is
 abbrev pub group_role : GroupKind → Role
 group_role Call = Suffix
 group_role RuleCall = Suffix
 group_role Index = Suffix
-group_role Load = Stray
-group_role _ = Value
+group_role Load = LoadGroup
+group_role _ = Bracket
 
 abbrev pub is_single : Segs → Bool
 is_single no_segs = false
@@ -124,7 +139,12 @@ is_single (seg before nodes beside (seg more others last segs)) = false
 
 -- a group of this kind may have so many segments
 abbrev pub is_whole : GroupKind → Segs → Bool
+is_whole Load no_segs = false
 is_whole kind segs = not (is_one kind) || is_single segs
+
+-- what a token is to the recognizer, to which the keyword `load` is a role of its own
+abbrev pub kind_role : Kind → List ℕ → Role
+kind_role kind text = if is_load_word (leaf kind text) then LoadWord else leaf_role kind text
 
 abbrev mutual
   -- these items lead from the stage to an end
@@ -133,65 +153,14 @@ abbrev mutual
   accepts stage (item x xs) = accepts (next stage (role_of x)) xs
 
   pub role_of : Item → Role
-  role_of (leaf kind text) = leaf_role kind text
+  role_of (leaf kind text) = kind_role kind text
   role_of (group kind segs one_comma end) = if is_whole kind segs && each (begin kind) segs then group_role kind else Stray
 
   -- each segment does
   pub each : Stage → Segs → Bool
   each stage no_segs = true
-  each stage (seg before nodes beside segs) = accepts stage nodes && each stage segs
-
-abbrev pub is_value : Role → Bool
-is_value Value = true
-is_value _ = false
-
-abbrev pub is_name : Role → Bool
-is_name Name = true
-is_name _ = false
-
-abbrev pub is_equals : Role → Bool
-is_equals Equals = true
-is_equals _ = false
-
-abbrev pub is_string_item : Item → Bool
-is_string_item (leaf kind text) = is_value (leaf_role kind text)
-is_string_item (group kind segs one_comma end) = false
-
-abbrev pub is_string : Items → Bool
-is_string (item x no_items) = is_string_item x
-is_string _ = false
-
-abbrev pub is_renamed : Items → Bool
-is_renamed (item n (item e (item x no_items))) = is_name (role_of n) && is_equals (role_of e) && is_string_item x
-is_renamed _ = false
-
-abbrev pub is_load_argument : Items → Bool
-is_load_argument xs = is_string xs || is_renamed xs
-
-abbrev pub are_load_arguments : Segs → Bool
-are_load_arguments no_segs = true
-are_load_arguments (seg before nodes beside segs) = is_load_argument nodes && are_load_arguments segs
-
-abbrev pub are_loaded : Segs → Bool
-are_loaded no_segs = false
-are_loaded (seg before nodes beside segs) = is_string nodes && are_load_arguments segs
-
-abbrev pub is_load_kind : GroupKind → Bool
-is_load_kind Load = true
-is_load_kind _ = false
-
-abbrev pub is_load_group : Item → Bool
-is_load_group (leaf kind text) = false
-is_load_group (group kind segs one_comma end) = is_load_kind kind && are_loaded segs
-
-abbrev pub is_load : Items → Bool
-is_load (item w (item g no_items)) = is_load_word w && is_load_group g
-is_load _ = false
-
-abbrev pub is_nothing : Items → Bool
-is_nothing no_items = true
-is_nothing (item x xs) = false
+  each stage (seg before nodes beside segs) = accepts stage nodes && each (later stage) segs
 
 -- the nodes of a statement
 abbrev pub is_statement : Items → Bool
-is_statement xs = is_nothing xs || is_load xs || accepts (Wants Left false) xs
+is_statement xs = accepts Statement xs

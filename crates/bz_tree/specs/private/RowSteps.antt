@@ -13,8 +13,8 @@ use Rattle.bz_tree.specs.declared.tree.kinds.Mark.TheVariants.{Open, Close, Comm
 use Rattle.bz_tree.specs.declared.tree.kinds.Preceding.TheVariants.{Operand, Other}
 use Rattle.bz_tree.specs.declared.grammar.role.Role.{Role}
 use Rattle.bz_tree.specs.declared.grammar.role.Role.TheVariants.{Stray}
-use Rattle.bz_tree.specs.declared.grammar.stage.Goal.TheVariants.{Left}
-use Rattle.bz_tree.specs.declared.grammar.stage.Stage.TheVariants.{Wants}
+use Rattle.bz_tree.specs.declared.grammar.stage.Stage.{Stage}
+use Rattle.bz_tree.specs.declared.grammar.stage.Stage.TheVariants.{Statement, Text, Done}
 use Rattle.bz_tree.specs.declared.tree.classes.Naming.{Naming}
 use Rattle.bz_tree.specs.declared.tree.classes.Naming.TheVariants.{Name, Join, End, Never, Lost}
 use Rattle.bz_tree.specs.declared.row.spot.SegmentCount.{SegmentCount}
@@ -28,12 +28,10 @@ use Rattle.bz_tree.specs.declared.row.Row.{Row}
 use Rattle.bz_tree.specs.Kinds.{mark_of, kind_after, is_for_at, group_kind, is_one, same_shape, is_operator_at}
 use Rattle.bz_tree.specs.Brackets.{is_paren, end_line}
 use Rattle.bz_tree.specs.Blocks.{is_block_word}
-use Rattle.bz_tree.specs.Tree.{leaf, items_of}
-use Rattle.bz_tree.specs.Grammar.{leaf_role, is_assignment}
-use Rattle.bz_tree.specs.Statement.{is_ident, is_call, is_load_word}
+use Rattle.bz_tree.specs.Grammar.{is_assignment}
+use Rattle.bz_tree.specs.Statement.{is_ident, is_call}
 use Rattle.bz_tree.specs.Rows.{RowPart, a_token, opening, closing, segment_end, above, beside, part_view}
-use Rattle.bz_tree.specs.FromParts.{nodes_of_parts}
-use Rattle.bz_tree.specs.private.Machine.{next, begin, may_end, group_role, is_load}
+use Rattle.bz_tree.specs.private.Machine.{next, begin, later, may_end, group_role, kind_role}
 use Rattle.bz_tree.specs.private.Steps.{shape_of}
 
 -- Where the walk stands in a bracket: no node of a segment has come, and no comma directly before; directly after a comma on this
@@ -77,15 +75,15 @@ shown_kind _ kind = kind
 
 -- the nodes of a segment so far
 abbrev pub start : Option GroupKind → Read
-start None = record { stage = Wants Left false; at = Other; naming = Name; assigns = false }
+start None = record { stage = Statement; at = Other; naming = Name; assigns = false }
 start (Some kind) = record { stage = begin kind; at = Other; naming = Never; assigns = false }
 
 abbrev pub read_leaf : Kind → List ℕ → Read → Read
 read_leaf kind text r = record {
-  stage = next r.stage (leaf_role kind text);
+  stage = next r.stage (kind_role kind text);
   at = kind_after kind text;
   naming = named r.naming kind text;
-  assigns = r.assigns || is_assignment (leaf_role kind text);
+  assigns = r.assigns || is_assignment (kind_role kind text);
 }
 
 abbrev pub read_group : GroupKind → Read → Read
@@ -112,9 +110,12 @@ new_stand kind = record { kind = kind; done = Zero; here = nothing; read = start
 abbrev pub with_node : ℕ → Read → Stand → Stand
 with_node line read s = record { kind = s.kind; done = s.done; here = a_node line; read = read }
 
+abbrev pub later_start : Option GroupKind → Read
+later_start kind = record (start kind) { stage = later (start kind).stage }
+
 -- after a comma on this line
 abbrev pub with_comma : ℕ → Stand → Stand
-with_comma line s = record { kind = s.kind; done = one_more s.done; here = a_comma line; read = start s.kind }
+with_comma line s = record { kind = s.kind; done = one_more s.done; here = a_comma line; read = later_start s.kind }
 
 abbrev pub with_here : At → Stand → Stand
 with_here here s = record { kind = s.kind; done = s.done; here = here; read = s.read }
@@ -136,7 +137,7 @@ is_stray Stray = true
 is_stray _ = false
 
 abbrev pub is_refused : Placed → At → Bool
-is_refused t here = (is_stray (leaf_role t.kind t.text) && not (is_load_word (leaf t.kind t.text))) || (is_for_at t.kind t.text || is_ended here)
+is_refused t here = is_stray (kind_role t.kind t.text) || (is_for_at t.kind t.text || is_ended here)
 
 -- Each of the following is none where the statement is left to its tree.
 abbrev pub leaf_next : Placed → RowState → Option RowState
@@ -177,12 +178,17 @@ open_next kind s =
     if is_one kind then None
     else Some (record { top = new_stand (Some kind); outer = s.top ∷ s.outer; parts = s.parts ++ opening (shown_kind s.top.read.naming kind) ∷ [] })
 
+-- the first segment of a load, which has one
+abbrev pub is_text : Stage → Bool
+is_text Text = true
+is_text _ = false
+
 -- what ends the last segment, if it may end
-abbrev pub last_end : At → Bool → Option (List RowPart)
-last_end nothing ends = Some []
-last_end (a_comma line) ends = Some []
-last_end (a_node line) ends = if ends then Some (segment_end ∷ []) else None
-last_end an_end ends = if ends then Some [] else None
+abbrev pub last_end : At → Stage → Option (List RowPart)
+last_end nothing stage = if is_text stage then None else Some []
+last_end (a_comma line) stage = Some []
+last_end (a_node line) stage = if may_end stage then Some (segment_end ∷ []) else None
+last_end an_end stage = if may_end stage then Some [] else None
 
 abbrev pub is_single : SegmentCount → Bool
 is_single One = true
@@ -210,7 +216,7 @@ abbrev pub close_next : Option GroupKind → Shape → ℕ → RowState → Opti
 close_next None shape line s = None
 close_next (Some kind) shape line s =
     if same_shape (Some (shape_of kind)) shape
-    then option_and_then (λ parts. close_below kind line parts s.outer s) (last_end s.top.here (may_end s.top.read.stage))
+    then option_and_then (λ parts. close_below kind line parts s.outer s) (last_end s.top.here s.top.read.stage)
     else None
 
 abbrev pub row_next_at : Mark → Placed → RowState → Option RowState
@@ -240,18 +246,20 @@ abbrev pub is_lost : Naming → Bool
 is_lost Lost = true
 is_lost _ = false
 
+abbrev pub is_done : Stage → Bool
+is_done Done = true
+is_done _ = false
+
 abbrev pub read_class : Read → Class
-read_class r = if r.assigns then Assign else (if is_rule_read r.naming then Rule else OtherClass)
+read_class r = if is_done r.stage then LoadClass else (if r.assigns then Assign else (if is_rule_read r.naming then Rule else OtherClass))
 
 -- the class of a statement that ends here; none: it is left to its tree
-abbrev pub end_class : At → Read → List RowPart → Option Class
-end_class nothing r parts = Some CommentClass
-end_class _ r parts =
-    if may_end r.stage then then_some (not (is_lost r.naming)) (read_class r)
-    else then_some (not (is_lost r.naming) && is_load (items_of (nodes_of_parts parts))) LoadClass
+abbrev pub end_class : At → Read → Option Class
+end_class nothing r = Some CommentClass
+end_class _ r = then_some (may_end r.stage && not (is_lost r.naming)) (read_class r)
 
 abbrev pub row_end : Option GroupKind → List Stand → RowState → Option RowView
-row_end None [] s = option_map (λ class. record { parts = s.parts; class = class }) (end_class s.top.here s.top.read s.parts)
+row_end None [] s = option_map (λ class. record { parts = s.parts; class = class }) (end_class s.top.here s.top.read)
 row_end _ outer s = None
 
 abbrev pub row_run : RowState → List Placed → Option RowView

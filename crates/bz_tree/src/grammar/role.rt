@@ -1,7 +1,9 @@
 //! What a token is to the grammar.
 
 ghost use Rattle.std.specs.Prelude.{◌≡◌, ◌<◌, ◌∷◌, [], length};
-ghost use Rattle.bz_tree.specs.Grammar.{word_role, operator_role, leaf_role, is_assignment};
+ghost use Rattle.bz_token.specs.declared.token.Kind.TheVariants.{Keyword};
+ghost use Rattle.bz_tree.specs.Grammar.{operator_role, is_assignment};
+ghost use Rattle.bz_tree.specs.private.Machine.{kind_role};
 
 use bz_token::Kind;
 
@@ -11,8 +13,10 @@ pub enum Role {
     /// An identifier.
     Name,
     Number,
-    /// A string, or a bracket that is an operand.
+    /// A string.
     Value,
+    /// A bracket that is an operand.
+    Bracket,
     /// A call or an index.
     Suffix,
     Dot,
@@ -35,14 +39,19 @@ pub enum Role {
     Stars,
     /// Any other binary operator.
     Operator,
+    /// The keyword `load`.
+    LoadWord,
+    /// The bracket of a load.
+    LoadGroup,
     /// What stands nowhere in an expression.
     Stray,
 }
 
 fn word_role(text: &str) -> Role
-    ensures { result ≡ word_role text.now }
+    ensures { result ≡ kind_role Keyword text.now }
 {
     match text {
+        "load" => Role::LoadWord,
         "if" => Role::If,
         "else" => Role::Else,
         "for" => Role::For,
@@ -109,7 +118,7 @@ pub(crate) fn is_assignment(role: Role) -> bool
 /// What a token of this kind and text is.
 #[inline(always)]
 pub(crate) fn token_role(kind: Kind, text: &str) -> Role
-    ensures { result ≡ leaf_role kind text.now }
+    ensures { result ≡ kind_role kind text.now }
 {
     match kind {
         Kind::Identifier => Role::Name,

@@ -2,7 +2,7 @@
 //! `rows.rt` of rows.
 
 ghost use Rattle.std.specs.Prelude.{◌≡◌, true, false};
-ghost use Rattle.bz_tree.specs.private.Machine.{ends, may_end, after_part, leaves, in_chain, next_wanted, next_after, next, begin, group_role};
+ghost use Rattle.bz_tree.specs.private.Machine.{ends, may_end, after_part, leaves, in_chain, next_wanted, next_after, next, begin, later, group_role};
 
 use crate::grammar::role::Role;
 use crate::tree::GroupKind;
@@ -39,6 +39,8 @@ pub(crate) enum Goal {
 pub(crate) enum Stage {
     /// Nothing: this is no part of the grammar.
     Refused,
+    /// The start of a statement, which may be empty.
+    Statement,
     /// An operand, or a prefix.
     Wants(Goal, bool),
     /// What may stand after an operand.
@@ -55,6 +57,16 @@ pub(crate) enum Stage {
     Argument,
     /// What may stand after the name that begins an argument.
     Keyword,
+    /// The bracket of a load.
+    Loads,
+    /// A string of a load.
+    Text,
+    /// The same, or a name for it.
+    LoadArgument,
+    /// The `=` after that name.
+    Renames,
+    /// Nothing more.
+    Done,
 }
 
 fn ends(part: Goal) -> bool
@@ -74,7 +86,7 @@ pub(crate) fn may_end(stage: Stage) -> bool
     match stage {
         Stage::Has(part, asked) | Stage::HasNumber(part, asked) => !asked && ends(part),
         Stage::Begins(part) => matches!(part, Goal::To | Goal::Step),
-        Stage::Keyword => true,
+        Stage::Statement | Stage::Keyword | Stage::Done => true,
         _ => false,
     }
 }
@@ -127,7 +139,7 @@ fn next_wanted(part: Goal, asked: bool, role: Role) -> Stage
     ensures { result ≡ next_wanted part asked role }
 {
     match role {
-        Role::Name | Role::Value => Stage::Has(part, asked),
+        Role::Name | Role::Value | Role::Bracket => Stage::Has(part, asked),
         Role::Number => Stage::HasNumber(part, asked),
         Role::Sum | Role::Tilde | Role::Not => in_chain(part, Stage::Wants(part, asked)),
         _ => Stage::Refused,
@@ -162,13 +174,21 @@ pub(crate) fn next(stage: Stage, role: Role) -> Stage
         }
         (Stage::Names(part, asked), Role::Name) => Stage::Has(part, asked),
         (Stage::Excludes(part, asked), Role::In) => Stage::Wants(part, asked),
-        (Stage::Begins(part), Role::Colon) => after_part(part, role),
-        (Stage::Begins(part), _) => next_wanted(part, false, role),
+        (Stage::Begins(part), _) => match role {
+            Role::Colon => after_part(part, role),
+            _ => next_wanted(part, false, role),
+        },
         (Stage::Argument, Role::Star | Role::Stars) => Stage::Wants(Goal::Alone, false),
         (Stage::Argument, Role::Name) => Stage::Keyword,
         (Stage::Argument, _) => next_wanted(Goal::Alone, false, role),
         (Stage::Keyword, Role::Equals) => Stage::Wants(Goal::Alone, false),
         (Stage::Keyword, _) => next_after(Goal::Alone, false, role),
+        (Stage::Statement, Role::LoadWord) => Stage::Loads,
+        (Stage::Statement, _) => next_wanted(Goal::Left, false, role),
+        (Stage::Loads, Role::LoadGroup) => Stage::Done,
+        (Stage::Text | Stage::LoadArgument, Role::Value) => Stage::Done,
+        (Stage::LoadArgument, Role::Name) => Stage::Renames,
+        (Stage::Renames, Role::Equals) => Stage::Text,
         _ => Stage::Refused,
     }
 }
@@ -186,7 +206,10 @@ pub(crate) fn advance(stage: &mut Stage, role: Role)
     ensures { stage.new ≡ next stage.old role }
 {
     match (*stage, role) {
-        (Stage::Wants(part, asked), Role::Name | Role::Value) => *stage = Stage::Has(part, asked),
+        (Stage::Wants(part, asked), Role::Name | Role::Value | Role::Bracket) => {
+            *stage = Stage::Has(part, asked);
+        }
+        (Stage::Statement, Role::Name) => *stage = Stage::Has(Goal::Left, false),
         (Stage::Argument, Role::Name) => *stage = Stage::Keyword,
         (Stage::Keyword, Role::Equals) => *stage = Stage::Wants(Goal::Alone, false),
         (Stage::Has(_, _), Role::Suffix) => {}
@@ -194,17 +217,29 @@ pub(crate) fn advance(stage: &mut Stage, role: Role)
     }
 }
 
-/// The stage in which a segment of a group begins. What else a load's segments are, `is_load` says.
+/// The stage in which the first segment of a group begins.
 pub(crate) fn begin(kind: GroupKind) -> Stage
     ensures { result ≡ begin kind }
 {
     match kind {
-        GroupKind::Call | GroupKind::RuleCall | GroupKind::Load => Stage::Argument,
+        GroupKind::Call | GroupKind::RuleCall => Stage::Argument,
+        GroupKind::Load => Stage::Text,
         GroupKind::Paren | GroupKind::List => Stage::Wants(Goal::Alone, false),
         GroupKind::Index => Stage::Begins(Goal::From),
         GroupKind::Dict => Stage::Wants(Goal::Key, false),
         GroupKind::ListComp => Stage::Wants(Goal::Element, false),
         GroupKind::DictComp => Stage::Wants(Goal::EntryKey, false),
+    }
+}
+
+/// The stage in which a segment begins after one that began in this stage.
+#[inline(always)]
+pub(crate) fn later(stage: Stage) -> Stage
+    ensures { result ≡ later stage }
+{
+    match stage {
+        Stage::Text => Stage::LoadArgument,
+        _ => stage,
     }
 }
 
@@ -214,7 +249,7 @@ pub(crate) fn group_role(kind: GroupKind) -> Role
 {
     match kind {
         GroupKind::Call | GroupKind::RuleCall | GroupKind::Index => Role::Suffix,
-        GroupKind::Load => Role::Stray,
-        _ => Role::Value,
+        GroupKind::Load => Role::LoadGroup,
+        _ => Role::Bracket,
     }
 }

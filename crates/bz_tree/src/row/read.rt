@@ -48,7 +48,7 @@ pub fn read_statement<'a>(
     requires tokens { (depth : ℕ) × AreTokensOf first_line depth text.now (map placed tokens.now) }
     ensures { IsReadByTokens first_line text.now (map placed tokens.now) result }
 {
-    if let Some(row) = read_row(alloc, bump, tokens)? {
+    if let Some(row) = read_row(bump, tokens)? {
         return Ok(Some(row));
     }
     let chunk = Chunk {
@@ -78,7 +78,7 @@ pub fn read_text<'a>(
     ensures blank { IfOk result (λ o. IfNone o (IsBlank first_line max_depth text.now)) }
     ensures fault { IfErr result (IsFaultIn first_line max_depth text.now) }
 {
-    if let Some(row) = row_of_text(alloc, bump, text, first_line, max_depth)? {
+    if let Some(row) = row_of_text(bump, text, first_line, max_depth)? {
         return Ok(Some(row));
     }
     match parse(alloc, text, first_line, max_depth)? {

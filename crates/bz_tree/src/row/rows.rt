@@ -1,28 +1,26 @@
 //! The row of a chunk's statement: a walk over the tokens that pushes its parts in order. `read.rt` calls `read_row`
 //! with all tokens of a chunk; `text_row.rt` gives them to a `RowWalk` in batches.
 
-ghost use Rattle.std.specs.Prelude.{ℕ, List, [], ◌≡◌, ◌++◌, ◌&&◌, ◌≤◌, ◌+◌, length, not, false, map, IfOk, IfSome, IsTrue, option_map, ◌^◌, ◌⊎◌, IfNone, None};
+ghost use Rattle.std.specs.Prelude.{ℕ, List, [], ◌≡◌, ◌++◌, ◌≤◌, ◌+◌, length, false, map, IfOk, IfSome, IsTrue, option_map, ◌^◌, ◌⊎◌, IfNone, None};
 ghost use Rattle.std.specs.Bool.{then_some};
 ghost use Rattle.bz_token.specs.Places.{Placed, placed};
 ghost use Rattle.bz_token.specs.Reading.{AreTokensOf};
 ghost use Rattle.bz_token.specs.declared.token.Kind.TheVariants.{Operator};
-ghost use Rattle.bz_tree.specs.Tree.{leaf, Statement};
-ghost use Rattle.bz_tree.specs.Statement.{end_of, is_load_word};
-ghost use Rattle.bz_tree.specs.Grammar.{leaf_role};
+ghost use Rattle.bz_tree.specs.Tree.{Statement};
+ghost use Rattle.bz_tree.specs.Statement.{end_of};
 ghost use Rattle.bz_tree.specs.Chunk.{IsStatementIn};
 ghost use Rattle.bz_tree.specs.Kinds.{group_kind, operator_mark};
 ghost use Rattle.bz_tree.specs.RowReads.{has_row};
 ghost use Rattle.bz_tree.specs.Rows.{IsRowOf, part_view};
-ghost use Rattle.bz_tree.specs.private.Machine.{may_end};
-ghost use Rattle.bz_tree.specs.private.RowSteps.{here_view, row_state, leaf_next, comma_next, comment_part, after_comment_next, comment_next, open_next, last_end, close_next, row_next, row_next_at, row_view, row_run, row_start, is_stray, is_upright};
+ghost use Rattle.bz_tree.specs.private.Machine.{kind_role};
+ghost use Rattle.bz_tree.specs.private.RowSteps.{here_view, row_state, leaf_next, comma_next, comment_part, after_comment_next, comment_next, open_next, last_end, close_next, row_next, row_next_at, row_view, row_run, row_start, is_upright};
 
 use crate::grammar::role::{Role, operator_role, token_role};
-use crate::grammar::stage::may_end;
+use crate::grammar::stage::{Stage, may_end};
 use crate::row::spot::{Here, Spot, shown_kind};
 use crate::row::{Part, Parts, Row};
 use crate::tree::GroupKind;
 use crate::tree::block::is_block_word;
-use crate::tree::classes::is_load_at;
 use crate::tree::kinds::{
     Mark, Shape, group_kind, is_for_at, is_one, operator_mark, same_shape, shape_of,
 };
@@ -31,7 +29,6 @@ use crate::tree::span::{counted_end_of, first_seen, first_token, newlines, start
 use bumpalo::Bump;
 use bz_memory::{NoMemory, push, with_room_within};
 use bz_token::{Kind, Token};
-use std::alloc::Global;
 use std::cmp::min;
 
 // The most room beside a part for each token.
@@ -63,12 +60,12 @@ impl<'a> RowWalk<'a> {
     #[inline(always)]
     fn push_leaf(&mut self, token: &Token<'a>, kind: Kind, role: Role) -> Result<bool, NoMemory>
         requires kind { kind ≡ token.now.kind }
-        requires role { role ≡ leaf_role token.now.kind token.now.text.now }
+        requires role { role ≡ kind_role token.now.kind token.now.text.now }
         ensures { IfOk result
             (λ some. then_some some (row_state self.new) ≡ leaf_next (placed token.now) (row_state self.old)) }
     {
         let text = token.text;
-        if is_stray(role, kind, text) || is_for_at(kind, text) || self.top.is_ended() {
+        if matches!(role, Role::Stray) || is_for_at(kind, text) || self.top.is_ended() {
             return Ok(false);
         }
         push(&mut self.parts, Part::Token(kind, text))?;
@@ -171,7 +168,7 @@ impl<'a> RowWalk<'a> {
         ensures top { self.new.top ≡ self.old.top }
         ensures parts { IfOk result (λ some. then_some some (map part_view self.new.parts.items)
             ≡ option_map (λ ps. map part_view self.old.parts.items ++ ps)
-            (last_end (here_view self.old.top.here) (may_end self.old.top.read.stage))) }
+            (last_end (here_view self.old.top.here) self.old.top.read.stage)) }
     {
         match self.top.here {
             Here::Node(_, _) => {
@@ -182,7 +179,8 @@ impl<'a> RowWalk<'a> {
                 Ok(true)
             }
             Here::Ended => Ok(may_end(self.top.read.stage)),
-            _ => Ok(true),
+            Here::Nothing => Ok(!matches!(self.top.read.stage, Stage::Text)),
+            Here::Comma(_) => Ok(true),
         }
     }
 
@@ -262,37 +260,22 @@ impl<'a> RowWalk<'a> {
     }
 
     /// The statement's first token is on the line `start`, and its last ends on `end`.
-    pub(crate) fn finish(
-        self,
-        alloc: Global,
-        start: u64,
-        end: u64,
-    ) -> Result<Option<Row<'a>>, NoMemory>
-        ensures row { IfOk result (λ o. option_map row_view o ≡ row_run (row_state self.entry) []) }
-        ensures lines { IfOk result (λ o. IfSome o (λ row. (row.start ≡ start) × (row.end ≡ end))) }
+    pub(crate) fn finish(self, start: u64, end: u64) -> Option<Row<'a>>
+        ensures row { option_map row_view result ≡ row_run (row_state self.entry) [] }
+        ensures lines { IfSome result (λ row. (row.start ≡ start) × (row.end ≡ end)) }
     {
         let RowWalk { parts, outer, top } = self;
         if top.kind.is_some() || !outer.is_empty() {
-            return Ok(None);
+            return None;
         }
-        let Some(class) = top.class(alloc, &parts)? else {
-            return Ok(None);
-        };
-        Ok(Some(Row {
+        let class = top.class()?;
+        Some(Row {
             parts,
             class,
             start,
             end,
-        }))
+        })
     }
-}
-
-// A token that stands in no row.
-#[inline(always)]
-fn is_stray(role: Role, kind: Kind, text: &str) -> bool
-    ensures { result ≡ (is_stray role && not (is_load_word (leaf kind text.now))) }
-{
-    matches!(role, Role::Stray) && !is_load_at(kind, text)
 }
 
 #[inline(always)]
@@ -320,11 +303,7 @@ pub(crate) fn is_upright(first: Option<Token<'_>>) -> bool
 /// statement has these tokens, or it is one of those that `parse_tokens` alone reads: a block, a comprehension, an
 /// index, more after what would be a rule, a comment in the middle of a segment or before its comma. `Err`: memory was
 /// refused.
-pub fn read_row<'a>(
-    alloc: Global,
-    bump: &'a Bump,
-    tokens: &[Token<'a>],
-) -> Result<Option<Row<'a>>, NoMemory>
+pub fn read_row<'a>(bump: &'a Bump, tokens: &[Token<'a>]) -> Result<Option<Row<'a>>, NoMemory>
     ensures row { IfOk result (λ o. IfSome o (λ row. (first depth : ℕ) (text : List ℕ)
         → AreTokensOf first depth text (map placed tokens.now)
         → (s : Statement) × IsStatementIn first depth text s × IsRowOf s row)) }
@@ -345,6 +324,5 @@ pub fn read_row<'a>(
     if !walk.add_tokens(tokens)? {
         return Ok(None);
     }
-    let row = walk.finish(alloc, start_of(tokens), end)?;
-    Ok(row)
+    Ok(walk.finish(start_of(tokens), end))
 }

@@ -1,25 +1,16 @@
 //! Where the walk that reads a row stands in a bracket, or at the top.
 
-ghost use Rattle.std.specs.Prelude.{◌≡◌, not, ◌&&◌, map, IfOk};
+ghost use Rattle.std.specs.Prelude.{◌≡◌, not};
 ghost use Rattle.std.specs.Bool.{then_some};
-ghost use Rattle.bz_tree.specs.Grammar.{leaf_role};
-ghost use Rattle.bz_tree.specs.Tree.{items_of};
-ghost use Rattle.bz_tree.specs.Rows.{part_view};
-ghost use Rattle.bz_tree.specs.FromParts.{nodes_of_parts};
-ghost use Rattle.bz_tree.specs.private.Machine.{is_load};
+ghost use Rattle.bz_tree.specs.private.Machine.{kind_role};
 ghost use Rattle.bz_tree.specs.private.RowSteps.{here_view, is_ended, shown_kind, start, read_leaf, read_group, new_stand, stand, with_comma, is_lost, read_class, end_class, is_one_comma};
 
-use crate::grammar::is_load;
 use crate::grammar::role::{Role, is_assignment};
-use crate::grammar::stage::{Goal, Stage, advance, begin, group_role, may_end};
-use crate::row::Part as RowPart;
-use crate::row::from_parts::nodes_of_parts;
+use crate::grammar::stage::{Stage, advance, begin, group_role, later, may_end};
 use crate::tree::classes::{Naming, called, is_call, named};
 use crate::tree::kinds::{Preceding, kind_after};
 use crate::tree::{Class, GroupKind};
-use bz_memory::NoMemory;
 use bz_token::Kind;
-use std::alloc::Global;
 
 // How many segments are done.
 #[derive(Clone, Copy)]
@@ -76,7 +67,7 @@ fn start(kind: Option<GroupKind>) -> Read
 {
     match kind {
         None => Read {
-            stage: Stage::Wants(Goal::Left, false),
+            stage: Stage::Statement,
             at: Preceding::Other,
             naming: Naming::Name,
             assigns: false,
@@ -94,7 +85,7 @@ impl Read {
     // After a token of this role.
     #[inline(always)]
     pub(crate) fn add_leaf(&mut self, kind: Kind, text: &str, role: Role)
-        requires { role ≡ leaf_role kind text.now }
+        requires { role ≡ kind_role kind text.now }
         ensures { self.new ≡ read_leaf kind text.now self.old }
     {
         advance(&mut self.stage, role);
@@ -120,24 +111,13 @@ impl Read {
     fn class(&self) -> Option<Class>
         ensures { result ≡ then_some (not (is_lost self.now.naming)) (read_class self.now) }
     {
-        match self.naming {
-            Naming::Lost => None,
+        match (self.naming, self.stage) {
+            (Naming::Lost, _) => None,
+            (_, Stage::Done) => Some(Class::Load),
             _ if self.assigns => Some(Class::Assign),
-            Naming::End => Some(Class::Rule),
+            (Naming::End, _) => Some(Class::Rule),
             _ => Some(Class::Other),
         }
-    }
-
-    // The class of a statement that is a load, or nothing. Loads are rare, so their nodes may be made for this.
-    fn load_class(&self, alloc: Global, parts: &[RowPart<'_>]) -> Result<Option<Class>, NoMemory>
-        ensures { IfOk result (λ class. class ≡ then_some
-            (not (is_lost self.now.naming) && is_load (items_of (nodes_of_parts (map part_view parts.now))))
-            Class.Load) }
-    {
-        if matches!(self.naming, Naming::Lost) || !is_load(&nodes_of_parts(alloc, parts)?) {
-            return Ok(None);
-        }
-        Ok(Some(Class::Load))
     }
 }
 
@@ -171,21 +151,17 @@ impl<'a> Spot<'a> {
         };
         self.here = Here::Comma(line);
         self.read = start(self.kind);
+        self.read.stage = later(self.read.stage);
     }
 
-    // The class of a statement of these parts that ends here. None: it is left to its tree.
-    pub(crate) fn class(
-        &self,
-        alloc: Global,
-        parts: &[RowPart<'_>],
-    ) -> Result<Option<Class>, NoMemory>
-        ensures { IfOk result
-            (λ class. class ≡ end_class (here_view self.now.here) self.now.read (map part_view parts.now)) }
+    // The class of a statement that ends here. None: it is left to its tree.
+    pub(crate) fn class(&self) -> Option<Class>
+        ensures { result ≡ end_class (here_view self.now.here) self.now.read }
     {
         match self.here {
-            Here::Nothing => Ok(Some(Class::Comment)),
-            _ if may_end(self.read.stage) => Ok(self.read.class()),
-            _ => self.read.load_class(alloc, parts),
+            Here::Nothing => Some(Class::Comment),
+            _ if may_end(self.read.stage) => self.read.class(),
+            _ => None,
         }
     }
 

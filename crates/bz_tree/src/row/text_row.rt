@@ -15,7 +15,6 @@ use crate::tree::span::{end_line, first_token, last_token};
 use bumpalo::Bump;
 use bz_memory::NoMemory;
 use bz_token::TokenReader;
-use std::alloc::Global;
 
 // The commas of so many bytes tell how many parts a long text has.
 const FRONT: usize = 4096;
@@ -44,7 +43,6 @@ fn first_room(text: &str) -> usize
 /// than the row. The chunk's first line has this number, and at most so many brackets may be open at once. None: the
 /// chunk has a fault or comments alone, or `read_row` has no row of it. `Err`: memory was refused.
 pub(crate) fn row_of_text<'a>(
-    alloc: Global,
     bump: &'a Bump,
     text: &'a str,
     first_line: u64,
@@ -83,6 +81,5 @@ pub(crate) fn row_of_text<'a>(
     if !reader.is_complete() {
         return Ok(None);
     }
-    let row = walk.finish(alloc, first.line, end_line(&last))?;
-    Ok(row)
+    Ok(walk.finish(first.line, end_line(&last)))
 }

@@ -5,9 +5,8 @@ ghost use Rattle.std.specs.Bool.{then_some};
 ghost use Rattle.bz_token.specs.Places.{placed};
 ghost use Rattle.bz_tree.specs.View.{texts};
 ghost use Rattle.bz_tree.specs.Kinds.{mark_of};
-ghost use Rattle.bz_tree.specs.Blocks.{is_block_word, is_colon, popped, pushed, indented, block_indent, depth_after, has_colon, header_line, logical_lines, is_block, above};
+ghost use Rattle.bz_tree.specs.Blocks.{is_block_word, is_colon, indented, block_indent, depth_after, has_colon, header_line, logical_lines, is_block, above};
 ghost use Rattle.bz_tree.specs.Statement.{last_token};
-ghost use Rattle.bz_tree.specs.private.BlockSteps.{lines_view, next_indent, first_lines};
 
 use crate::tree::kinds::{Mark, mark_of};
 use crate::tree::span::last_token;
@@ -28,94 +27,51 @@ fn is_colon(token: &Token<'_>) -> bool
     token.kind == Kind::Operator && token.text == ":"
 }
 
-// The lines of a block that are still open, by the columns of their first tokens.
-#[derive(Drop)]
-pub(crate) struct Indents {
-    pub(crate) columns: Vec<u64>,
-    // The last token is `:`.
-    pub(crate) opens: bool,
-    // A line has begun.
-    pub(crate) inside: bool,
-}
-
-// False: no line that is open stands in this column.
-fn popped(columns: &mut Vec<u64>, column: u64) -> bool
-    ensures { then_some result (reverse columns.new.items) ≡ popped column (reverse columns.old.items) }
-{
-    while let Some(last) = columns.pop() {
-        if last == column {
-            columns.push_reserved(last);
-            return true;
-        }
-    }
-    false
-}
-
-// False: the column is not to the right of the line above.
-fn pushed(columns: &mut Vec<u64>, column: u64) -> Result<bool, NoMemory>
-    ensures { IfOk result (λ some. then_some some (reverse columns.new.items)
-        ≡ pushed column (reverse columns.old.items)) }
-{
-    if let Some(last) = columns.last() {
-        if *last >= column {
-            return Ok(false);
-        }
-    }
-    push(columns, column)?;
-    Ok(true)
-}
-
-// False: a line is indented wrongly.
+// The columns are those of the lines that are still open. False: a line in this column is indented wrongly.
 fn indented(opens: bool, column: u64, columns: &mut Vec<u64>) -> Result<bool, NoMemory>
     ensures { IfOk result (λ some. then_some some (reverse columns.new.items)
         ≡ indented opens column (reverse columns.old.items)) }
 {
     if opens {
-        pushed(columns, column)
-    } else {
-        Ok(popped(columns, column))
-    }
-}
-
-// The lines after a token. False: it is indented wrongly.
-fn next_indent(lines: &mut Indents, token: &Token<'_>) -> Result<bool, NoMemory>
-    ensures { IfOk result (λ some. then_some some (lines_view lines.new)
-        ≡ next_indent (mark_of (placed token.now)) (placed token.now) (lines_view lines.old)) }
-{
-    match mark_of(token) {
-        Mark::Newline => lines.inside = false,
-        Mark::Comment => {}
-        _ => {
-            if !lines.inside && !indented(lines.opens, token.col, &mut lines.columns)? {
+        if let Some(last) = columns.last() {
+            if *last >= column {
                 return Ok(false);
             }
-            lines.opens = is_colon(token);
-            lines.inside = true;
+        }
+        push(columns, column)?;
+        return Ok(true);
+    }
+    while let Some(last) = columns.pop() {
+        if last == column {
+            columns.push_reserved(last);
+            return Ok(true);
         }
     }
-    Ok(true)
-}
-
-fn first_lines(alloc: Global) -> Result<Indents, NoMemory>
-    ensures { IfOk result (λ i. lines_view i ≡ first_lines) }
-{
-    let mut columns = Vec::new(alloc);
-    push(&mut columns, 1)?;
-    Ok(Indents {
-        columns,
-        opens: false,
-        inside: false,
-    })
+    Ok(false)
 }
 
 /// The line of the first logical line of a block that is indented wrongly.
+#[tactic(auto, using(crate::proofs::Trees::BlockLines::indent_found))]
 pub(crate) fn block_indent(alloc: Global, tokens: &[Token<'_>]) -> Result<Option<u64>, NoMemory>
     ensures { IfOk result (λ o. o ≡ block_indent (map placed tokens.now)) }
 {
-    let mut lines = first_lines(alloc)?;
+    let mut columns = Vec::new(alloc);
+    push(&mut columns, 1)?;
+    // The last token is `:`.
+    let mut opens = false;
+    // A line has begun.
+    let mut inside = false;
     for token in tokens {
-        if !next_indent(&mut lines, token)? {
-            return Ok(Some(token.line));
+        match mark_of(token) {
+            Mark::Newline => inside = false,
+            Mark::Comment => {}
+            _ => {
+                if !inside && !indented(opens, token.col, &mut columns)? {
+                    return Ok(Some(token.line));
+                }
+                opens = is_colon(token);
+                inside = true;
+            }
         }
     }
     Ok(None)

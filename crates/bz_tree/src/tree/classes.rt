@@ -1,7 +1,6 @@
 //! What a statement is to the layout and to the commands.
 
 ghost use Rattle.std.specs.Prelude.{◌≡◌, ◌≤◌, codes};
-ghost use Rattle.bz_tree.specs.Tree.{leaf};
 ghost use Rattle.bz_tree.specs.View.{node_view, nodes_view, seg_view};
 ghost use Rattle.bz_tree.specs.Statement.{is_rule, is_call, as_rule_call, rule_call, with_rule_call, is_assign, is_kept, is_load_word, class_of};
 ghost use Rattle.bz_tree.specs.Kinds.{is_operator_at};
@@ -79,26 +78,20 @@ pub(crate) fn is_call(kind: GroupKind) -> bool
     matches!(kind, GroupKind::Call | GroupKind::RuleCall)
 }
 
-fn as_rule_call(node: Node<'_>) -> Node<'_>
-    ensures value { node_view result ≡ as_rule_call (node_view node.entry) }
-{
-    match node {
-        Node::Token(leaf) => Node::Token(leaf),
-        Node::Group(group) => Node::Group(Group {
-            kind: GroupKind::RuleCall,
-            segs: group.segs,
-            one_comma: group.one_comma,
-            end: group.end,
-        }),
-    }
-}
-
+// If the last of them is a bracket, it is the call of a rule.
 fn rule_call(nodes: Vec<Node<'_>>) -> Vec<Node<'_>>
     ensures value { nodes_view result.items ≡ rule_call (nodes_view nodes.entry.items) }
 {
     let mut nodes = nodes;
-    if let Some(node) = nodes.pop() {
-        nodes.push_reserved(as_rule_call(node));
+    match nodes.pop() {
+        Some(Node::Group(group)) => nodes.push_reserved(Node::Group(Group {
+            kind: GroupKind::RuleCall,
+            segs: group.segs,
+            one_comma: group.one_comma,
+            end: group.end,
+        })),
+        Some(node) => nodes.push_reserved(node),
+        None => {}
     }
     nodes
 }
@@ -137,18 +130,11 @@ fn has_assign(nodes: &[Node<'_>]) -> bool
     false
 }
 
-/// The keyword `load`.
-pub(crate) fn is_load_at(kind: Kind, text: &str) -> bool
-    ensures { result ≡ is_load_word (leaf kind text.now) }
-{
-    kind == Kind::Keyword && text == "load"
-}
-
-pub(crate) fn is_load_word(node: &Node<'_>) -> bool
+fn is_load_word(node: &Node<'_>) -> bool
     ensures { result ≡ is_load_word (node_view node.now) }
 {
     match node {
-        Node::Token(leaf) => is_load_at(leaf.kind, leaf.text),
+        Node::Token(leaf) => leaf.kind == Kind::Keyword && leaf.text == "load",
         Node::Group(_) => false,
     }
 }

@@ -9,7 +9,7 @@ use crate::tree::GroupKind;
 use bz_token::{Kind, Token};
 
 /// The shape of a bracket.
-#[derive(Clone, Copy)]
+#[derive(Clone, Copy, PartialEq, Eq)]
 pub enum Shape {
     Round,
     Square,
@@ -73,12 +73,7 @@ pub(crate) fn operator_mark(text: &str) -> Mark
 pub(crate) fn same_shape(opened: Shape, shape: Shape) -> bool
     ensures { result ≡ same_shape (Some opened) shape }
 {
-    match (opened, shape) {
-        (Shape::Round, Shape::Round) => true,
-        (Shape::Square, Shape::Square) => true,
-        (Shape::Curly, Shape::Curly) => true,
-        _ => false,
-    }
+    opened == shape
 }
 
 /// The shape of a group's bracket.

@@ -8,4 +8,4 @@ abbrev pub invariant-accepts-loop-node : goal.invariant-accepts-loop-node
 invariant-accepts-loop-node l = accepts l.stage (items_of (nodes_view (drop l.node-index l.nodes))) ≡ accepts l.initial.stage (items_of (nodes_view l.nodes))
 
 abbrev pub invariant-each-loop-seg : goal.invariant-each-loop-seg
-invariant-each-loop-seg l = each l.stage (segs_of (segs_view (drop l.seg-index l.segs))) ≡ each l.stage (segs_of (segs_view l.segs))
+invariant-each-loop-seg l = each l.stage (segs_of (segs_view (drop l.seg-index l.segs))) ≡ each l.initial.stage (segs_of (segs_view l.segs))

@@ -13,7 +13,7 @@ returns c =
     let seen : IsSome (first_seen (map placed c.args.tokens.now)) = grind (arith, common_steps) in
     let ends = rw c.in-Some.is at c.counted_end_of.ensures.end in
     let run = c.in_ok-add_tokens.ensures.some [] (search rules) ∙ ap (λ s. row_run s (ts ++ [])) c.in_ok-walk.ensures ∙ ap (row_run row_start) (append-nil ts) in
-    record { row = upright_rows ts c.start_of.result c.in-Some.end c.in_ok-row.row (c.in_ok-row.ensures.row ∙ run) c.in_ok-row.ensures.lines c.start_of.ensures ends seen (ap is_upright (sym c.first_token.ensures) ∙ sym c.is_upright.ensures ∙ c.if-not-is_upright.false); none = no_row ts _ c.in_ok-row.row (c.in_ok-row.ensures.row ∙ run) }
+    record { row = upright_rows ts c.start_of.result c.in-Some.end c.finish.result (c.finish.ensures.row ∙ run) c.finish.ensures.lines c.start_of.ensures ends seen (ap is_upright (sym c.first_token.ensures) ∙ sym c.is_upright.ensures ∙ c.if-not-is_upright.false); none = no_row ts _ c.finish.result (c.finish.ensures.row ∙ run) }
 
 pub returns-then-not-branch-clause-none : goal.returns-then-not-branch-clause-none
 returns-then-not-branch-clause-none c =

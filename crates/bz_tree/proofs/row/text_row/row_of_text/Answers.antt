@@ -27,13 +27,13 @@ pub returns-clause-row : goal.returns-clause-row
 returns-clause-row c =
     let i = c.loop-reader.invariant in
     let are = ((c.is_complete.ensures c.args.first_line c.args.max_depth c.args.text.now i.given i.read).0 (search rules)).1 in
-    row_of_batches c.args.first_line c.args.max_depth c.args.text.now c.loop-reader.reader c.loop-reader.walk c.loop-reader.first c.loop-reader.last c.in-Some.first c.in-Some-last.last c.in_ok-row.row c.end_line.result
-    i c.in-Some.is c.in-Some-last.is are c.in_ok-row.ensures.row c.in_ok-row.ensures.lines c.end_line.ensures
+    row_of_batches c.args.first_line c.args.max_depth c.args.text.now c.loop-reader.reader c.loop-reader.walk c.loop-reader.first c.loop-reader.last c.in-Some.first c.in-Some-last.last c.finish.result c.end_line.result
+    i c.in-Some.is c.in-Some-last.is are c.finish.ensures.row c.finish.ensures.lines c.end_line.ensures
 
 pub returns-clause-none : goal.returns-clause-none
 returns-clause-none c =
     let done : left c.loop-reader.reader ≡ 0 = search rules in
-    unfinished c.args.first_line c.args.max_depth c.args.text.now c.loop-reader.reader c.loop-reader.walk c.loop-reader.first c.loop-reader.last c.in_ok-row.row c.loop-reader.invariant done c.in_ok-row.ensures.row
+    unfinished c.args.first_line c.args.max_depth c.args.text.now c.loop-reader.reader c.loop-reader.walk c.loop-reader.first c.loop-reader.last c.finish.result c.loop-reader.invariant done c.finish.ensures.row
 
 pub returns-then-not-branch-clause-none : goal.returns-then-not-branch-clause-none
 returns-then-not-branch-clause-none c =

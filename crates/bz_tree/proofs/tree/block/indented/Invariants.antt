@@ -1,6 +1,6 @@
 use Rattle.std.proofs.Common.{◌≡◌, reverse, length}
 use Rattle.bz_tree.specs.Blocks.{popped}
-use Rattle.bz_tree.proofs.tree.block.popped.Given as goal
+use Rattle.bz_tree.proofs.tree.block.indented.Given as goal
 
 abbrev pub invariant-loop-last : goal.invariant-loop-last
 invariant-loop-last l = popped l.column (reverse l.columns.items) ≡ popped l.column (reverse l.initial.columns.items)
