@@ -106,7 +106,8 @@ fn move_meant<'a>(
         (map part_view parts.now) (map part_view written.new.items) e) }
 {
     let old = place_of(parts, change.old);
-    let gone = edit_in(ArgumentEdit::Strings(edit), parts, old, written)?;
+    let strings = ArgumentEdit::Strings(edit);
+    let gone = edit_in(edit.env.alloc, strings, parts, old, written)?;
     if !gone.done.changed {
         return Ok(Edit::none(Done::quiet(false)));
     }
