@@ -179,7 +179,6 @@ fn write_new<'a>(
 }
 
 // Writes them with the elements at the end of the first list part of an attribute, or in a new one.
-#[tactic(auto, using(crate::proofs::MovedRules::put_nowhere))]
 fn write_with<'a>(
     attr: &str,
     parts: &[Part<'a>],
