@@ -18,7 +18,7 @@ items_join (x ∷ xs) ys = ap (λ (ps : List RowPart). item_parts x ++ ps) (item
 abbrev pub opened : List Item → List RowPart
 opened front = items_parts (items_of front) ++ opening ListKind ∷ []
 
-list_cut : (front : List Item) (l : ListRest) (after : List RowPart) → value_parts (front ++ list_item l ∷ l.items) after ≡ opened front ++ rest_parts l after
+pub list_cut : (front : List Item) (l : ListRest) (after : List RowPart) → value_parts (front ++ list_item l ∷ l.items) after ≡ opened front ++ rest_parts l after
 list_cut front l after =
     let inner : List RowPart = segs_parts (segs_of l.elements) ++ (map above l.end ++ closing l.one_comma ∷ []) in
     let last : List RowPart = items_parts (items_of l.items) in

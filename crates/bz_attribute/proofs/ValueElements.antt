@@ -1,13 +1,13 @@
 -- A walk over all elements of a value.
-use Rattle.std.proofs.Common.{◌≡◌, ℕ, ◌+◌, ◌-◌, List, [], ◌∷◌, ◌++◌, Bool, true, false, ◌||◌, if◌then◌else◌, Option, None, Some, is_some, map, length, take, drop, ap, sym, ◌∙◌, arith, append_assoc, length-append, drop-drop, take-add}
+use Rattle.std.proofs.Common.{◌≡◌, ℕ, ◌+◌, ◌-◌, ◌≤◌, List, [], ◌∷◌, ◌++◌, Bool, true, false, ◌||◌, if◌then◌else◌, Option, None, Some, is_some, map, length, take, drop, ap, sym, ◌∙◌, arith, append_assoc, length-append, drop-drop, take-add}
 use Rattle.std.specs.Prelude.{IfNone}
 use Rattle.std.specs.List.{list_any, flat_map}
-use Rattle.std.proofs.lemmas.List.{length-map, map-append}
+use Rattle.std.proofs.lemmas.List.{append_cancel_left, length-map, map-append}
 use Rattle.std.proofs.Math.Seq.{drop-append_seam, take-append_seam}
 use Rattle.bz_tree.specs.Tree.{Item, Segment, items_of, segs_of}
 use Rattle.bz_tree.specs.Rows.{RowPart, above, beside_part, closing, items_parts, segment_end, segs_parts}
 use Rattle.bz_attribute.specs.Effects.{edit_first, edit_element_from, with_comment}
-use Rattle.bz_attribute.specs.Elements.{IsElementOf, IsListIn, IsNextElement, ListRest, elements_left, found_rest, rest_parts, value_parts}
+use Rattle.bz_attribute.specs.Elements.{IsElementOf, IsListIn, IsNextElement, ListRest, edited_rest, elements_left, found_rest, rest_parts, value_parts}
 use Rattle.bz_attribute.specs.Lists.{parts_from}
 use Rattle.bz_attribute.specs.private.ListParts.{HasElement, HasEmptied}
 use Rattle.bz_attribute.proofs.EditedAt.{segs_join}
@@ -17,21 +17,39 @@ use Rattle.bz_attribute.proofs.ListEdits.{ended, long_opened, opened}
 abbrev last : ListRest → List RowPart → List RowPart
 last l after = map above l.end ++ closing l.one_comma ∷ value_parts l.items after
 
--- it is passed, where an element after it is edited
-found_list : (p : Segment → Bool) (f : Segment → Segment) (l : ListRest) (after ps : List RowPart) (at to : ℕ) → l.elements ≡ [] → drop at ps ≡ rest_parts l after → (n : IsListIn false l.items after ps (at + length l.end + 1) to)
-    → take at ps ++ rest_parts (found_rest p f l) after ≡ take to ps ++ rest_parts (found_rest p f n.list) after
-found_list p f l after ps at to none read n =
-    let own : List RowPart = map above l.end ++ closing l.one_comma ∷ opened n.front in
+-- the parts of what is left of a value up to the next list part
+abbrev up_to_next : ListRest → List Item → List RowPart
+up_to_next l front = map above l.end ++ closing l.one_comma ∷ opened front
+
+next_taken : (l : ListRest) (after ps : List RowPart) (at to : ℕ) → l.elements ≡ [] → drop at ps ≡ rest_parts l after → (n : IsListIn false l.items after ps (at + length l.end + 1) to) → take to ps ≡ take at ps ++ up_to_next l n.front
+next_taken l after ps at to none read n =
+    let own : List RowPart = up_to_next l n.front in
     let cut : drop at ps ≡ own ++ rest_parts n.list after =
     read ∙ ap (λ (ss : List Segment). segs_parts (segs_of ss) ++ last l after) none
     ∙ ap (λ (xs : List Item). map above l.end ++ closing l.one_comma ∷ value_parts xs after) n.are ∙ ended l.end l.one_comma n.front n.list after in
     let size : to - at ≡ length own = omega (arith, n.begins, long_opened n.front, length-append (map above l.end) (closing l.one_comma ∷ opened n.front), length-map l.end above) in
-    let front : take to ps ≡ take at ps ++ own =
-    ap (λ (k : ℕ). take k ps) (omega (arith, n.begins)) ∙ take-add at (to - at) ps ∙ ap (λ (qs : List RowPart). take at ps ++ qs) ((λ i. take (size i) (cut i)) ∙ take-append_seam own (rest_parts n.list after)) in
-    let made : rest_parts (found_rest p f l) after ≡ own ++ rest_parts (found_rest p f n.list) after =
-    ap (λ (ss : List Segment). rest_parts (found_rest p f (record l { elements = ss })) after) none
-    ∙ ap (λ (xs : List Item). map above l.end ++ closing l.one_comma ∷ value_parts xs after) (n.found p f) ∙ ended l.end l.one_comma n.front (found_rest p f n.list) after in
-    ap (λ (qs : List RowPart). take at ps ++ qs) made ∙ sym (append_assoc (take at ps) own (rest_parts (found_rest p f n.list) after)) ∙ ap (λ (qs : List RowPart). qs ++ rest_parts (found_rest p f n.list) after) (sym front)
+    ap (λ (k : ℕ). take k ps) (omega (arith, n.begins)) ∙ take-add at (to - at) ps ∙ ap (λ (qs : List RowPart). take at ps ++ qs) ((λ i. take (size i) (cut i)) ∙ take-append_seam own (rest_parts n.list after))
+
+-- it is passed, where what comes after is edited
+list_passed : (l l2 m2 : ListRest) (after ps : List RowPart) (at to : ℕ) → l.elements ≡ [] → drop at ps ≡ rest_parts l after → (n : IsListIn false l.items after ps (at + length l.end + 1) to) → rest_parts l2 after ≡ up_to_next l n.front ++ rest_parts m2 after
+    → take at ps ++ rest_parts l2 after ≡ take to ps ++ rest_parts m2 after
+list_passed l l2 m2 after ps at to none read n made =
+    ap (λ (qs : List RowPart). take at ps ++ qs) made ∙ sym (append_assoc (take at ps) (up_to_next l n.front) (rest_parts m2 after))
+    ∙ ap (λ (qs : List RowPart). qs ++ rest_parts m2 after) (sym (next_taken l after ps at to none read n))
+
+found_list : (p : Segment → Bool) (f : Segment → Segment) (l : ListRest) (after ps : List RowPart) (at to : ℕ) → l.elements ≡ [] → drop at ps ≡ rest_parts l after → (n : IsListIn false l.items after ps (at + length l.end + 1) to)
+    → take at ps ++ rest_parts (found_rest p f l) after ≡ take to ps ++ rest_parts (found_rest p f n.list) after
+found_list p f l after ps at to none read n =
+    list_passed l (found_rest p f l) (found_rest p f n.list) after ps at to none read n
+    (ap (λ (ss : List Segment). rest_parts (found_rest p f (record l { elements = ss })) after) none
+    ∙ ap (λ (xs : List Item). map above l.end ++ closing l.one_comma ∷ value_parts xs after) (n.found p f) ∙ ended l.end l.one_comma n.front (found_rest p f n.list) after)
+
+edited_list : (f : Segment → List Segment) (l : ListRest) (after ps : List RowPart) (at to : ℕ) → l.elements ≡ [] → drop at ps ≡ rest_parts l after → (n : IsListIn false l.items after ps (at + length l.end + 1) to)
+    → take at ps ++ rest_parts (edited_rest (flat_map f) l) after ≡ take to ps ++ rest_parts (edited_rest (flat_map f) n.list) after
+edited_list f l after ps at to none read n =
+    list_passed l (edited_rest (flat_map f) l) (edited_rest (flat_map f) n.list) after ps at to none read n
+    (ap (λ (ss : List Segment). rest_parts (edited_rest (flat_map f) (record l { elements = ss })) after) none
+    ∙ ap (λ (xs : List Item). map above l.end ++ closing l.one_comma ∷ value_parts xs after) (n.edit (flat_map f)) ∙ ended l.end l.one_comma n.front (edited_rest (flat_map f) n.list) after)
 
 abbrev HasNext : List RowPart → ℕ → ℕ → Type 0
 HasNext ps end from = (rest : ListRest) (after : List RowPart) → rest.elements ≡ [] → drop end ps ≡ rest_parts rest after → IsListIn false rest.items after ps (end + length rest.end + 1) from
@@ -49,6 +67,7 @@ next_emptied ps at end from emptied next none = λ l after read.
       same = m.same ∙ next_left m.left n.list [] m.none n.lists;
       read = n.read;
       found = λ p f. m.found p f ∙ found_list p f m.left after ps end from m.none m.read n;
+      edited = λ f. m.edited f ∙ edited_list f m.left after ps end from m.none m.read n;
     }
 
 -- the first element that is left passes, or not
@@ -87,6 +106,16 @@ line_above line s qs ps at token cut begins =
     ∙ ap (λ (zs : List RowPart). take at ps ++ zs) (append_assoc own (above line ∷ []) qs)
     ∙ sym (append_assoc (take at ps) own (above line ∷ qs)) ∙ (λ i. sym front i ++ above line ∷ sym left i)
 
+-- it is edited, and then the others
+edited_first : (f : Segment → List Segment) (l : ListRest) (after ps : List RowPart) (at from : ℕ) (s : Segment) (ss : List Segment) → from ≡ at → l.elements ≡ s ∷ ss
+    → rest_parts (edited_rest (flat_map f) l) after ≡ take (from - at) (drop at ps) ++ (segs_parts (segs_of (f s)) ++ rest_parts (edited_rest (flat_map f) (record l { elements = ss })) after)
+edited_first f l after ps at from s ss begins are =
+    let none : from - at ≡ 0 = omega (arith, begins) in
+    ap (λ (zs : List Segment). rest_parts (edited_rest (flat_map f) (record l { elements = zs })) after) are
+    ∙ ap (λ (qs : List RowPart). qs ++ last (edited_rest (flat_map f) l) after) (segs_join (f s) (flat_map f ss))
+    ∙ append_assoc (segs_parts (segs_of (f s))) (segs_parts (segs_of (flat_map f ss))) (last (edited_rest (flat_map f) l) after)
+    ∙ ap (λ (k : ℕ). take k (drop at ps) ++ (segs_parts (segs_of (f s)) ++ rest_parts (edited_rest (flat_map f) (record l { elements = ss })) after)) (sym none)
+
 element_next : (l : ListRest) (after ps : List RowPart) (at from token to : ℕ) (string : Option (List ℕ)) → from ≡ at → drop at ps ≡ rest_parts l after → IsElementOf l after ps at token to string → IsNextElement l after ps at from token to string
 element_next l after ps at from token to string begins read e =
     let s : Segment = e.element in
@@ -100,6 +129,8 @@ element_next l after ps at from token to string begins read e =
       element = s;
       left = record l { elements = e.others };
       are = ap (λ (ss : List Segment). ss ++ flat_map (λ ss. ss) (parts_from false l.items)) e.are;
+      begins = e.begins ∙ ap (λ (k : ℕ). k + length s.before) (sym begins);
+      edited = λ f. edited_first f l after ps at from s e.others begins e.are;
       own =
           let size : to - from ≡ length own = omega (arith, begins, e.ends) in
           (λ i. take (size i) (drop (begins i) ps)) ∙ ap (take (length own)) e.own ∙ take-append_seam own (drop to ps);
@@ -118,9 +149,9 @@ pub next_here : (ps : List RowPart) (at from token to : ℕ) (string : Option (L
     → IsNextElement l after ps at from token to string
 next_here ps at from token to string l after begins next read = element_next l after ps at from token to string begins read (next l after read)
 
-pub next_later : (ps : List RowPart) (at end list from token to : ℕ) (string : Option (List ℕ)) (l : ListRest) (after : List RowPart) → from ≡ list → HasEmptied ps at end → HasNext ps end list → HasElement ps list token to string → drop at ps ≡ rest_parts l after
+pub next_later : (ps : List RowPart) (at end list from token to : ℕ) (string : Option (List ℕ)) (l : ListRest) (after : List RowPart) → at ≤ end → from ≡ list → HasEmptied ps at end → HasNext ps end list → HasElement ps list token to string → drop at ps ≡ rest_parts l after
     → IsNextElement l after ps at from token to string
-next_later ps at end list from token to string l after begins emptied next element read =
+next_later ps at end list from token to string l after order begins emptied next element read =
     let m = emptied l after read in
     let n = next m.left after m.none m.read in
     let e = element_next n.list after ps list from token to string begins n.read (element n.list after n.read) in
@@ -130,6 +161,15 @@ next_later ps at end list from token to string l after begins emptied next eleme
       element = e.element;
       left = e.left;
       are = m.same ∙ next_left m.left n.list [] m.none n.lists ∙ e.are;
+      begins = e.begins;
+      edited = λ f.
+          let later : List RowPart = segs_parts (segs_of (f e.element)) ++ rest_parts (edited_rest (flat_map f) e.left) after in
+          let none : from - list ≡ 0 = omega (arith, begins) in
+          append_cancel_left (take at ps) (rest_parts (edited_rest (flat_map f) l) after) (take (from - at) (drop at ps) ++ later)
+          (m.edited f ∙ edited_list f m.left after ps end list m.none m.read n
+          ∙ ap (λ (qs : List RowPart). take list ps ++ qs) (e.edited f ∙ ap (λ (k : ℕ). take k (drop list ps) ++ later) none)
+          ∙ ap (λ (qs : List RowPart). qs ++ later) (ap (λ (k : ℕ). take k ps) (omega (arith, begins, order, n.begins)) ∙ take-add at (from - at) ps)
+          ∙ append_assoc (take at ps) (take (from - at) (drop at ps)) later);
       own = e.own;
       read = e.read;
       text = e.text;

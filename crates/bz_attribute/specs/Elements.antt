@@ -61,6 +61,10 @@ found_rest p f l =
     if list_any p l.elements then record l { elements = edit_first p (λ s. f s ∷ []) l.elements }
     else record l { items = edit_element_from p f false l.items }
 
+-- what is left of a value, where the elements of each list part are edited
+abbrev pub edited_rest : (List Segment → List Segment) → ListRest → ListRest
+edited_rest f l = record l { elements = f l.elements; items = edit_from f false l.items }
+
 -- The first list part of nodes that stand at `from`: its elements begin at `to`.
 pub record IsListIn (whole : Bool) (nodes : List Item) (after ps : List RowPart) (from to : ℕ) : Type 0 where
   pub front : List Item
@@ -113,9 +117,13 @@ pub record IsNextElement (l : ListRest) (after ps : List RowPart) (at from token
   pub element : Segment
   pub left : ListRest
   pub are : elements_left l ≡ element ∷ elements_left left
+  pub begins : token ≡ from + length element.before
   pub own : take (to - from) (drop from ps) ≡ segs_parts (segs_of (element ∷ []))
   pub read : drop to ps ≡ rest_parts left after
   pub text : string ≡ only_text element.nodes
+  -- each is edited: this one, and then those after it
+  pub edited : (f : Segment → List Segment) → rest_parts (edited_rest (flat_map f) l) after
+      ≡ take (from - at) (drop at ps) ++ (segs_parts (segs_of (f element)) ++ rest_parts (edited_rest (flat_map f) left) after)
   -- the first that passes gets a comment line: this one, or one of those after it
   pub line : (p : Segment → Bool) (line : List ℕ) → p element ≡ true
       → take at ps ++ rest_parts (found_rest p (with_comment line) l) after ≡ take token ps ++ above line ∷ drop token ps

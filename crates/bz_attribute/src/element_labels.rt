@@ -1,10 +1,10 @@
 //! The labels of the elements of a value, walked over among the parts of a rule.
 
-ghost use Rattle.std.specs.Prelude.{◌≡◌, ◌≤◌, ℕ, List, IsTrue, drop, map, length, option_map, IfOk, IfSome, option_and_then};
-ghost use Rattle.bz_tree.specs.Rows.{RowPart, part_view};
+ghost use Rattle.std.specs.Prelude.{◌≡◌, ◌≤◌, ℕ, List, IsTrue, map, length, option_map, IfOk, IfSome, option_and_then};
+ghost use Rattle.bz_tree.specs.Rows.{part_view};
 ghost use Rattle.bz_tree.specs.Tree.{Segment};
-ghost use Rattle.bz_attribute.specs.Elements.{AreLists, ListRest, elements_left, rest_parts};
-ghost use Rattle.bz_attribute.specs.private.ElementSets.{choice, is_among, is_in, kept};
+ghost use Rattle.bz_attribute.specs.Elements.{AreLists};
+ghost use Rattle.bz_attribute.specs.private.ElementSets.{choice, is_in, kept};
 ghost use Rattle.bz_command.specs.LabelSetViews.{has};
 ghost use Rattle.bz_command.specs.private.ByteSteps.{left, is_good};
 ghost use Rattle.bz_command.specs.Values.{value_of};
@@ -35,6 +35,7 @@ fn kept_value<'a>(
 
 /// The labels of the elements of list parts that equal one of the words, or without words of all elements, as far as
 /// these are strings with a value. The elements of the first list part begin at `list`.
+#[tactic(auto, using(crate::proofs::LabelsFound::none_labelled))]
 pub fn labels_of<'s>(
     alloc: Global,
     home: &'s Package,
@@ -48,27 +49,10 @@ pub fn labels_of<'s>(
         → AreLists (map part_view parts.now) list lists
         → (text : List ℕ) → has set text ≡ is_in home.now (choice words.entry) lists text) }
 {
-    match list {
-        None => Ok(LabelSet::new(alloc, home)),
-        Some(from) => labels_from(alloc, home, words, parts, from),
-    }
-}
-
-#[tactic(auto, using(crate::proofs::LabelsFound::none_labelled))]
-fn labels_from<'s>(
-    alloc: Global,
-    home: &'s Package,
-    words: Option<&WordSet<'_>>,
-    parts: &[Part<'s>],
-    from: usize,
-) -> Result<LabelSet<'s>, NoMemory>
-    requires { from ≤ length parts.now }
-    ensures home { IfOk result (λ set. set.home.now ≡ home.now) }
-    ensures all { IfOk result (λ set. (rest : ListRest) (after : List RowPart)
-        → drop from (map part_view parts.now) ≡ rest_parts rest after
-        → (text : List ℕ) → has set text ≡ is_among home.now (choice words.entry) (elements_left rest) text) }
-{
     let mut set = LabelSet::new(alloc, home);
+    let Some(from) = list else {
+        return Ok(set);
+    };
     let mut at = from;
     while let Some(element) = next_of_value(parts, at) {
         if let Some(value) = kept_value(home, words, element.string) {

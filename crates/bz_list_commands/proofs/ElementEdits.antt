@@ -1,29 +1,28 @@
--- The elements of an argument, edited one by one among its parts.
-use Rattle.std.proofs.Common.{◌≡◌, ℕ, ◌+◌, ◌≤◌, List, [], ◌∷◌, ◌++◌, Bool, true, false, ◌||◌, if◌then◌else◌, Option, Some, None, length, map, drop, refl, ap, sym, subst, ◌∙◌, arith, append_assoc, append-nil, length-append, drop-drop}
-use Rattle.std.specs.List.{list_any}
+-- The elements of a value, edited one by one among its parts.
+use Rattle.std.proofs.Common.{◌≡◌, ℕ, ◌+◌, ◌-◌, ◌≤◌, List, [], ◌∷◌, ◌++◌, Bool, true, false, ◌||◌, not, if◌then◌else◌, Option, Some, None, length, map, take, drop, refl, ap, sym, subst, ◌∙◌, arith, append_assoc, append-nil, length-append, length-drop, length-take-le, drop-drop, take-append-drop}
+use Rattle.std.specs.List.{list_any, flat_map}
 use Rattle.std.proofs.lemmas.Bool.{false≢true}
-use Rattle.std.proofs.lemmas.Grind.{flat_map-append}
-use Rattle.std.proofs.lemmas.List.{length-map}
+use Rattle.std.proofs.lemmas.List.{append_cancel_right, length-map}
 use Rattle.std.proofs.lemmas.List.Folds.{list_any-append}
 use Rattle.std.proofs.Math.Seq.{drop-append_seam}
+use Rattle.std.proofs.Math.Bool.{or-false, or_assoc}
+use Rattle.bz_token.specs.Common.{is_empty}
 use Rattle.bz_token.specs.declared.token.Kind.TheVariants.{String}
-use Rattle.bz_tree.specs.declared.tree.GroupKind.TheVariants.{List as ListKind}
-use Rattle.bz_tree.specs.Tree.{Item, leaf, group, Segment, items_of, segs_of}
-use Rattle.bz_tree.specs.Rows.{RowPart, a_token, above, beside_part, closing, opening, segment_end, items_parts, segs_parts}
-use Rattle.bz_attribute.specs.Rules.{only_text}
-use Rattle.bz_attribute.specs.Elements.{HasNoList, IsElementOf, IsListIn, ListRest, list_item, rest_parts, value_parts}
-use Rattle.bz_attribute.specs.Lists.{parts_from, edit_from}
-use Rattle.bz_attribute.proofs.EditedAt.{segs_join}
-use Rattle.std.proofs.Math.Bool.{or-false, or-true, or_assoc}
-use Rattle.bz_list_commands.specs.declared.rewriting.Written.{Written}
-use Rattle.bz_list_commands.specs.private.StringEdits.{become, become_all, in_place, is_meant, literal_in, means_in}
+use Rattle.bz_tree.specs.Tree.{Item, leaf, group, Segment, items_of, no_segs, seg, segs_of}
+use Rattle.bz_tree.specs.Rows.{RowPart, a_token, above, beside_part, closing, segment_end, items_parts, segs_parts}
+use Rattle.bz_command.specs.Labels.{Package}
+use Rattle.bz_attribute.specs.Rules.{elements, only_text}
+use Rattle.bz_attribute.specs.Elements.{HasNoList, IsListIn, IsNextElement, ListRest, edited_rest, elements_left, rest_parts, value_parts}
+use Rattle.bz_attribute.specs.Lists.{edit_from, edit_list, is_part, is_plus, parts_from}
+use Rattle.bz_attribute.specs.declared.place.Place.{Place}
+use Rattle.bz_attribute.proofs.LabelSets.{any_joined}
+use Rattle.bz_attribute.proofs.ListEdits.{list_cut, long_opened, opened}
+use Rattle.bz_list_commands.specs.private.StringEdits.{become, become_all, in_place, is_meant, literal_in, means_in, place_in}
 use Rattle.bz_list_commands.specs.declared.string_edit.Meant.{Meant}
 use Rattle.bz_list_commands.specs.declared.string_edit.Meant.TheVariants.{Any, Unlike, Word, Words}
-use Rattle.bz_command.specs.Labels.{Package}
-use Rattle.bz_list_commands.specs.private.WrittenParts.{HasPut, IsWithin, IsWritten}
-use Rattle.bz_list_commands.specs.private.ElementEdits.{HasEditedElement, HasEditedFront, HasEditedList, HasEditedLists, HasEditedValue}
-use Rattle.bz_list_commands.proofs.WrittenParts.{passed}
-use Rattle.bz_attribute.proofs.ListEdits.{items_join}
+use Rattle.bz_list_commands.specs.private.WrittenParts.{IsWritten, literal_parts}
+use Rattle.bz_list_commands.specs.private.ElementEdits.{HasEditedFront, HasEditedValue}
+use Rattle.bz_list_commands.proofs.WrittenParts.{between, passed, passed_to, put}
 
 -- what stands after some parts
 pub after_them : (ps xs ys : List RowPart) (at k : ℕ) → drop at ps ≡ xs ++ ys → k ≡ at + length xs → drop k ps ≡ ys
@@ -53,181 +52,144 @@ strings_only home (Word word) literal h = refl
 strings_only home (Words set) literal h = refl
 strings_only home (Unlike old new) literal h = refl
 
-joined : (a b c d : List RowPart) → ((a ++ b) ++ c) ++ d ≡ a ++ (b ++ (c ++ d))
-joined a b c d = simp append_assoc
+-- places are not none, where one more is among them
+pub some_more : (places more : List Place) (place : Place) (b : Bool) → more ≡ places ++ place ∷ [] → b ≡ true → not (is_empty more) ≡ (not (is_empty places) || b)
+some_more [] more place b is true_is = rw (is, true_is) refl
+some_more (first ∷ places) more place b is true_is = rw is refl
 
--- its string becomes another
-pub element_put : (p : Option (List ℕ) → Bool) (literal : List ℕ) (w next : Written) (token to n : ℕ) (string : Option (List ℕ)) (ps before out : List RowPart) → p None ≡ false → p string ≡ true → IsWithin w n → w.at ≤ token → IsWithin next n
-    → HasPut (record w { at = token }) next (token + 1) (Some literal) ps before out → HasEditedElement p (Some literal) w (record next { at = to }) token to string ps before out
-element_put p literal w next token to n string ps before out none is within order within2 put = record {
-  at = refl;
-  changed = put.changed ∙ sym (ap (λ (b : Bool). w.changed || b) is ∙ or-true w.changed);
-  are = λ list after e target h.
-      let s : Segment = e.element in
-      let one : IsString s.nodes = is_string s.nodes p none (ap p (sym e.text) ∙ is) in
-      let comments : List RowPart = map above s.before in
-      let last : List RowPart = segment_end ∷ (beside_part s.suffix ++ []) in
-      let own : drop w.at ps ≡ comments ++ (a_token String one.text ∷ (last ++ drop to ps)) =
-      e.own ∙ ap (λ (nodes : List Item). (comments ++ (items_parts (items_of nodes) ++ last)) ++ drop to ps) one.are ∙ append_assoc comments (a_token String one.text ∷ last) (drop to ps) in
-      let begins : token ≡ w.at + length comments = omega (arith, e.begins, length-map s.before above) in
-      let at_token : drop token ps ≡ a_token String one.text ∷ (last ++ drop to ps) = after_them ps comments (a_token String one.text ∷ (last ++ drop to ps)) w.at token own begins in
-      let at_last : drop (token + 1) ps ≡ last ++ drop to ps = after_them ps (a_token String one.text ∷ []) (last ++ drop to ps) token (token + 1) at_token refl in
-      let ends : to ≡ token + 1 + length last =
-      omega (arith, e.ends, begins, ap (λ (nodes : List Item). length (comments ++ (items_parts (items_of nodes) ++ last))) one.are, length-append comments (a_token String one.text ∷ last)) in
-      let first = passed w ps before target comments token n within h (and_them ps comments (a_token String one.text ∷ (last ++ drop to ps)) w.at token own begins) begins in
-      let second = put.are (target ++ comments) first in
-      let third = passed next ps out ((target ++ comments) ++ a_token String literal ∷ []) last to n within2 second (ap (λ (k : ℕ). drop k ps) put.at ∙ at_last) (omega (arith, ends, put.at)) in
-      let whole : ((target ++ comments) ++ a_token String literal ∷ []) ++ last ≡ target ++ (comments ++ a_token String literal ∷ last) = joined target comments (a_token String literal ∷ []) last in
-      let goes : become p (Some literal) s ≡ in_place (Some literal) s = ap (λ (b : Bool). if b then in_place (Some literal) s else s ∷ []) (ap p (sym e.text) ∙ is) in
-      subst (λ (t : List RowPart). IsWritten (record next { at = to }) ps out t) (whole ∙ ap (λ (ss : List Segment). target ++ segs_parts (segs_of ss)) (sym goes)) third;
-}
+pub none_more : (places : List Place) (b : Bool) → b ≡ false → not (is_empty places) ≡ (not (is_empty places) || b)
+none_more places b none = sym (ap (λ (c : Bool). not (is_empty places) || c) none ∙ or-false (not (is_empty places)))
 
--- an element that is no such string stays
-pub element_passed : (p : Option (List ℕ) → Bool) (literal : Option (List ℕ)) (w : Written) (token to n : ℕ) (string : Option (List ℕ)) (ps out : List RowPart) → IsWithin w n → p string ≡ false
-    → HasEditedElement p literal w (record w { at = to }) token to string ps out out
-element_passed p literal w token to n string ps out within none = record {
-  at = refl;
-  changed = sym (ap (λ (b : Bool). w.changed || b) none ∙ or-false w.changed);
-  are = λ list after e target h.
-      let s : Segment = e.element in
-      let stays : become p literal s ≡ s ∷ [] = ap (λ (o : Option (List ℕ)). if p o then in_place literal s else s ∷ []) (sym e.text) ∙ ap (λ (b : Bool). if b then in_place literal s else s ∷ []) none in
-      subst (λ (ss : List Segment). IsWritten (record w { at = to }) ps out (target ++ segs_parts (segs_of ss))) (sym stays)
-      (passed w ps out target (segs_parts (segs_of (s ∷ []))) to n within h e.own e.ends);
-}
+-- what comes of the next element, and of what stands before it
+abbrev up_to : (Option (List ℕ) → Bool) → Option (List ℕ) → List RowPart → ℕ → ℕ → Segment → List RowPart
+up_to p literal ps at from s = take (from - at) (drop at ps) ++ segs_parts (segs_of (become p literal s))
 
--- the walk over the elements of a list part
-pub none_edited : (p : Option (List ℕ) → Bool) (literal : Option (List ℕ)) (list : ListRest) (after : List RowPart) (w : Written) (ps out : List RowPart) → drop w.at ps ≡ rest_parts list after → HasEditedFront p literal list after w w ps out out
-none_edited p literal list after w ps out read = record {
-  front = [];
-  others = list.elements;
-  are = refl;
-  read = read;
-  changed = sym (or-false w.changed);
-  written = λ target h. subst (λ (t : List RowPart). IsWritten w ps out t) (sym (append-nil target)) h;
-}
+abbrev IsOn : (Option (List ℕ) → Bool) → Option (List ℕ) → List RowPart → ℕ → ℕ → ℕ → List Place → List Place → Segment → Type 0
+IsOn p literal ps at from to places more s =
+    (target : List RowPart) → IsWritten (literal_parts literal) ps places at target → IsWritten (literal_parts literal) ps more to (target ++ up_to p literal ps at from s)
 
-any_last : (p : Segment → Bool) (ss : List Segment) (s : Segment) (b : Bool) → ((b || list_any p ss) || p s) ≡ (b || list_any p (ss ++ s ∷ []))
-any_last p ss s true = refl
-any_last p ss s false = sym (list_any-append p ss (s ∷ []) ∙ ap (λ (b : Bool). list_any p ss || b) (or-false (p s)))
+-- an element that is not meant stays
+pub element_stays : (p : Option (List ℕ) → Bool) (literal : Option (List ℕ)) (l : ListRest) (after ps : List RowPart) (at from token to : ℕ) (string : Option (List ℕ)) (places : List Place) → at ≤ from → from ≤ to → (n : IsNextElement l after ps at from token to string) → p string ≡ false
+    → IsOn p literal ps at from to places places n.element
+element_stays p literal l after ps at from token to string places first second n none target h =
+    let s : Segment = n.element in
+    let stays : become p literal s ≡ s ∷ [] = ap (λ (o : Option (List ℕ)). if p o then in_place literal s else s ∷ []) (sym n.text) ∙ ap (λ (b : Bool). if b then in_place literal s else s ∷ []) none in
+    let own : take (to - at) (drop at ps) ≡ up_to p literal ps at from s =
+    between ps at from to first second ∙ ap (λ (qs : List RowPart). take (from - at) (drop at ps) ++ qs) (n.own ∙ ap (λ (ss : List Segment). segs_parts (segs_of ss)) (sym stays)) in
+    subst (λ (qs : List RowPart). IsWritten (literal_parts literal) ps places to (target ++ qs)) own (passed_to (literal_parts literal) ps target places at to (omega (arith, first, second)) h)
 
-one_on : (p : Option (List ℕ) → Bool) (literal : Option (List ℕ)) (ss : List Segment) (s : Segment) (target : List RowPart)
-    → (target ++ segs_parts (segs_of (become_all p literal ss))) ++ segs_parts (segs_of (become p literal s)) ≡ target ++ segs_parts (segs_of (become_all p literal (ss ++ s ∷ [])))
-one_on p literal ss s target =
-    append_assoc target (segs_parts (segs_of (become_all p literal ss))) (segs_parts (segs_of (become p literal s)))
-    ∙ ap (λ (qs : List RowPart). target ++ qs) (sym (segs_join (become_all p literal ss) (become p literal s))
-    ∙ ap (λ (zs : List Segment). segs_parts (segs_of zs)) (sym (flat_map-append (become p literal) ss (s ∷ []) ∙ ap (λ (zs : List Segment). become_all p literal ss ++ zs) (append-nil (become p literal s)))))
+joined : (a b c d e : List RowPart) → (((a ++ b) ++ c) ++ d) ++ e ≡ a ++ (b ++ (c ++ (d ++ e)))
+joined a b c d e = simp append_assoc
 
-pub one_edited : (p : Option (List ℕ) → Bool) (literal : Option (List ℕ)) (list : ListRest) (after : List RowPart) (w mid next : Written) (token to : ℕ) (string : Option (List ℕ)) (ps before one two : List RowPart)
-    → (f : HasEditedFront p literal list after w mid ps before one) → IsElementOf (record list { elements = f.others }) after ps mid.at token to string → HasEditedElement p literal mid next token to string ps one two
-    → HasEditedFront p literal list after w next ps before two
-one_edited p literal list after w mid next token to string ps before one two f e made =
-    let s : Segment = e.element in
+-- one that is meant makes way, or its string does
+pub element_put : (p : Option (List ℕ) → Bool) (literal : Option (List ℕ)) (l : ListRest) (after ps : List RowPart) (at from token to : ℕ) (string : Option (List ℕ)) (places more : List Place) → at ≤ from → from ≤ to → to ≤ length ps
+    → ((new : List ℕ) → literal ≡ Some new → p None ≡ false) → (n : IsNextElement l after ps at from token to string) → p string ≡ true → more ≡ places ++ place_in literal from token to ∷ [] → IsOn p literal ps at from to places more n.element
+element_put p None l after ps at from token to string places more first second fits strings n is made target h =
+    let s : Segment = n.element in
+    let before : List RowPart = take (from - at) (drop at ps) in
+    let goes : become p None s ≡ [] = ap (λ (b : Bool). if b then [] else s ∷ []) (ap p (sym n.text) ∙ is) in
+    subst (λ (qs : List RowPart). IsWritten [] ps more to qs) (append_assoc target before [] ∙ ap (λ (ss : List Segment). target ++ (before ++ segs_parts (segs_of ss))) (sym goes))
+    (put [] ps (target ++ before) places more (record { from = from; to = to }) made second (passed_to [] ps target places at from first h))
+element_put p (Some literal) l after ps at from token to string places more first second fits strings n is made target h =
+    let s : Segment = n.element in
+    let new : List RowPart = a_token String literal ∷ [] in
+    let one : IsString s.nodes = is_string s.nodes p (strings literal refl) (ap p (sym n.text) ∙ is) in
+    let before : List RowPart = take (from - at) (drop at ps) in
+    let comments : List RowPart = map above s.before in
+    let last : List RowPart = segment_end ∷ (beside_part s.suffix ++ []) in
+    let all : take (to - from) (drop from ps) ≡ comments ++ (a_token String one.text ∷ last) = n.own ∙ ap (λ (nodes : List Item). comments ++ (items_parts (items_of nodes) ++ last)) one.are in
+    let back : from + (to - from) ≡ to = omega (arith, second) in
+    let own : drop from ps ≡ comments ++ (a_token String one.text ∷ (last ++ drop to ps)) =
+    sym (take-append-drop (to - from) (drop from ps)) ∙ (λ i. all i ++ drop (to - from) (drop from ps)) ∙ append_assoc comments (a_token String one.text ∷ last) (drop (to - from) (drop from ps))
+    ∙ ap (λ (qs : List RowPart). comments ++ (a_token String one.text ∷ (last ++ qs))) (drop-drop (to - from) from ps ∙ ap (λ (k : ℕ). drop k ps) back) in
+    let long : length (take (to - from) (drop from ps)) ≡ to - from = length-take-le (to - from) (drop from ps) (omega (arith, length-drop from ps, fits, second)) in
+    let begins : token ≡ from + length comments = omega (arith, n.begins, length-map s.before above) in
+    let at_token : drop token ps ≡ a_token String one.text ∷ (last ++ drop to ps) = after_them ps comments (a_token String one.text ∷ (last ++ drop to ps)) from token own begins in
+    let at_last : drop (token + 1) ps ≡ last ++ drop to ps = after_them ps (a_token String one.text ∷ []) (last ++ drop to ps) token (token + 1) at_token refl in
+    let ends : to ≡ token + 1 + length last = omega (arith, begins, second, long, ap length all, length-append comments (a_token String one.text ∷ last)) in
+    let at_from = passed_to new ps target places at from first h in
+    let string_at = passed new ps (target ++ before) comments places from token at_from (and_them ps comments (a_token String one.text ∷ (last ++ drop to ps)) from token own begins) begins in
+    let after_string = put new ps ((target ++ before) ++ comments) places more (record { from = token; to = token + 1 }) made (omega arith) string_at in
+    let whole = passed new ps (((target ++ before) ++ comments) ++ new) last more (token + 1) to after_string at_last ends in
+    let goes : become p (Some literal) s ≡ in_place (Some literal) s = ap (λ (b : Bool). if b then in_place (Some literal) s else s ∷ []) (ap p (sym n.text) ∙ is) in
+    subst (λ (qs : List RowPart). IsWritten new ps more to qs) (joined target before comments new last ∙ ap (λ (ss : List Segment). target ++ (before ++ segs_parts (segs_of ss))) (sym goes)) whole
+
+-- the walk over the elements
+pub none_edited : (p : Option (List ℕ) → Bool) (literal : Option (List ℕ)) (nodes : List Item) (after ps : List RowPart) (from to : ℕ) (places : List Place) → drop from ps ≡ value_parts nodes after → IsListIn true nodes after ps from to → HasEditedFront p literal nodes after ps from to places places
+none_edited p literal nodes after ps from to places read l =
+    let some : List (List Segment) = parts_from false l.list.items in
+    let cut : drop from ps ≡ opened l.front ++ rest_parts l.list after = read ∙ ap (λ (xs : List Item). value_parts xs after) l.are ∙ list_cut l.front l.list after in
     record {
-      front = f.front ++ s ∷ [];
-      others = e.others;
-      are = f.are ∙ ap (λ (zs : List Segment). f.front ++ zs) e.are ∙ sym (append_assoc f.front (s ∷ []) e.others);
-      read = ap (λ (k : ℕ). drop k ps) made.at ∙ e.read;
-      changed = made.changed ∙ (λ i. f.changed i || p (e.text i)) ∙ any_last (is_meant p) f.front s w.changed;
-      written = λ target h. subst (λ (t : List RowPart). IsWritten next ps two t) (one_on p literal f.front s target) (made.are (record list { elements = f.others }) after e (target ++ segs_parts (segs_of (become_all p literal f.front))) (f.written target h));
-    }
-
-pub all_edited : (p : Option (List ℕ) → Bool) (literal : Option (List ℕ)) (list : ListRest) (after : List RowPart) (w next : Written) (ps before out : List RowPart) → (f : HasEditedFront p literal list after w next ps before out) → f.others ≡ []
-    → HasEditedList p literal list after w next ps before out
-all_edited p literal list after w next ps before out f none =
-    let all : list.elements ≡ f.front = f.are ∙ ap (λ (zs : List Segment). f.front ++ zs) none ∙ append-nil f.front in
-    record {
-      read = f.read ∙ ap (λ (zs : List Segment). rest_parts (record list { elements = zs }) after) none;
-      changed = f.changed ∙ ap (λ (zs : List Segment). w.changed || list_any (is_meant p) zs) (sym all);
-      written = λ target h. subst (λ (zs : List Segment). IsWritten next ps out (target ++ segs_parts (segs_of (become_all p literal zs)))) (sym all) (f.written target h);
-    }
-
--- the walk over the list parts of a value
-pub no_list_yet : (p : Option (List ℕ) → Bool) (literal : Option (List ℕ)) (nodes : List Item) (after : List RowPart) (w : Written) (list : Option ℕ) (ps out : List RowPart) → drop w.at ps ≡ value_parts nodes after
-    → ((to : ℕ) → list ≡ Some to → IsListIn true nodes after ps w.at to) → (list ≡ None → HasNoList true nodes) → HasEditedLists p literal nodes after w w list ps out out
-no_list_yet p literal nodes after w list ps out read some none =
-    let here : w.at + 0 ≡ w.at = omega arith in
-    record {
-      whole = true;
-      left = nodes;
-      lag = [];
-      done = [];
-      read = read;
-      changed = refl;
-      total = refl;
-      written = λ target h. subst (λ (t : List RowPart). IsWritten w ps out t) (sym (append-nil target)) h;
-      some = λ to is. subst (λ (k : ℕ). IsListIn true nodes after ps k to) (sym here) (some to is);
-      none = none;
-    }
-
--- what is passed up to the elements of the next list part
-abbrev pub up_to_list : List RowPart → List Item → List RowPart
-up_to_list lag front = lag ++ (items_parts (items_of front) ++ opening ListKind ∷ [])
-
--- how a list part ends
-abbrev pub list_end : ListRest → List RowPart
-list_end list = map above list.end ++ closing list.one_comma ∷ []
-
-moved_end : (a b : List RowPart) (x : RowPart) → (a ++ x ∷ []) ++ b ≡ a ++ x ∷ b
-moved_end a b x = append_assoc a (x ∷ []) b
-
-moved_list : (lag before els end later after : List RowPart) (x y e : RowPart) → lag ++ ((before ++ ((x ∷ (els ++ (end ++ y ∷ []))) ++ later)) ++ e ∷ after) ≡ (lag ++ (before ++ x ∷ [])) ++ (els ++ (end ++ y ∷ (later ++ e ∷ after)))
-moved_list lag before els end later after x y e = simp append_assoc
-
-list_before : (list : ListRest) (front : List Item) (lag after : List RowPart) → lag ++ value_parts (front ++ list_item list ∷ list.items) after ≡ up_to_list lag front ++ rest_parts list after
-list_before list front lag after =
-    ap (λ (qs : List RowPart). lag ++ (qs ++ segment_end ∷ after)) (items_join front (list_item list ∷ list.items))
-    ∙ moved_list lag (items_parts (items_of front)) (segs_parts (segs_of list.elements)) (map above list.end) (items_parts (items_of list.items)) after (opening ListKind) (closing list.one_comma) segment_end
-
-split_list : (done lag before els ends later : List RowPart) (x : RowPart) → (done ++ ((lag ++ (before ++ x ∷ [])) ++ els)) ++ (ends ++ later) ≡ done ++ (lag ++ (before ++ ((x ∷ (els ++ ends)) ++ later)))
-split_list done lag before els ends later x = simp append_assoc
-
-pub one_list : (p : Option (List ℕ) → Bool) (literal : Option (List ℕ)) (nodes : List Item) (after : List RowPart) (w mid next : Written) (from n : ℕ) (more : Option ℕ) (ps before one two : List RowPart)
-    → (ls : HasEditedLists p literal nodes after w mid (Some from) ps before one) → IsWithin mid n
-    → ((list : ListRest) (rest : List RowPart) → drop from ps ≡ rest_parts list rest → HasEditedList p literal list rest (record mid { at = from }) next ps one two)
-    → ((to : ℕ) → more ≡ Some to → (list : ListRest) (rest : List RowPart) → list.elements ≡ [] → drop next.at ps ≡ rest_parts list rest → IsListIn false list.items rest ps (next.at + length list.end + 1) to)
-    → (more ≡ None → (list : ListRest) (rest : List RowPart) → list.elements ≡ [] → drop next.at ps ≡ rest_parts list rest → HasNoList false list.items)
-    → HasEditedLists p literal nodes after w next more ps before two
-one_list p literal nodes after w mid next from n more ps before one two ls within edits some none =
-    let il = ls.some from refl in
-    let list : ListRest = il.list in
-    let f : List Segment → List Segment = become_all p literal in
-    let els : List RowPart = segs_parts (segs_of (f list.elements)) in
-    let up : List RowPart = up_to_list ls.lag il.front in
-    let later : List Item = edit_from f false list.items in
-    let made = edits list after il.read in
-    let here : drop mid.at ps ≡ up ++ rest_parts list after = ls.read ∙ ap (λ (zs : List Item). ls.lag ++ value_parts zs after) il.are ∙ list_before list il.front ls.lag after in
-    let size : from ≡ mid.at + length up =
-    omega (arith, il.begins, length-append ls.lag (items_parts (items_of il.front) ++ opening ListKind ∷ []), length-append (items_parts (items_of il.front)) (opening ListKind ∷ [])) in
-    let any : List (List Segment) → Bool = list_any (list_any (is_meant p)) in
-    let next_from : next.at + length list.end + 1 ≡ next.at + length (list_end list) = omega (arith, length-append (map above list.end) (closing list.one_comma ∷ []), length-map list.end above) in
-    record {
-      whole = false;
-      left = list.items;
-      lag = list_end list;
-      done = ls.done ++ (up ++ els);
-      read = made.read ∙ sym (moved_end (map above list.end) (value_parts list.items after) (closing list.one_comma));
-      changed = ap (λ (b : Bool). b || any (parts_from false list.items)) made.changed ∙ or_assoc mid.changed (list_any (is_meant p) list.elements) (any (parts_from false list.items))
-          ∙ ap (λ (zs : List (List Segment)). mid.changed || any zs) (sym il.lists) ∙ ls.changed;
-      total = split_list ls.done ls.lag (items_parts (items_of il.front)) els (list_end list) (items_parts (items_of later)) (opening ListKind)
-          ∙ ap (λ (qs : List RowPart). ls.done ++ (ls.lag ++ qs)) (sym (items_join il.front (list_item (record list { elements = f list.elements }) ∷ later)))
-          ∙ ap (λ (zs : List Item). ls.done ++ (ls.lag ++ items_parts (items_of zs))) (sym (il.edit f)) ∙ ls.total;
+      left = l.list;
+      made = opened l.front;
+      read = l.read;
+      changed = ap (λ (b : Bool). not (is_empty places) || b)
+          (list_any-append (is_meant p) l.list.elements (flat_map (λ ss. ss) some) ∙ ap (λ (b : Bool). list_any (is_meant p) l.list.elements || b) (any_joined (is_meant p) some)
+          ∙ ap (list_any (list_any (is_meant p))) (sym l.lists));
+      total = sym (ap (λ (xs : List Item). value_parts xs after) (l.edit (become_all p literal)) ∙ list_cut l.front (edited_rest (become_all p literal) l.list) after);
       written = λ target h.
-          subst (λ (t : List RowPart). IsWritten next ps two t) (joined target ls.done up els)
-          (made.written ((target ++ ls.done) ++ up) (passed mid ps one (target ++ ls.done) up from n within (ls.written target h) (and_them ps up (rest_parts list after) mid.at from here size) size));
-      some = λ to is. subst (λ (k : ℕ). IsListIn false list.items after ps k to) next_from (some to is (record list { elements = [] }) after refl made.read);
-      none = λ is. none is (record list { elements = [] }) after refl made.read;
+          passed (literal_parts literal) ps target (opened l.front) places from to h (cut ∙ ap (λ (qs : List RowPart). opened l.front ++ qs) (sym l.read)) (omega (arith, l.begins, long_opened l.front));
     }
 
-pub all_lists : (p : Option (List ℕ) → Bool) (literal : Option (List ℕ)) (nodes : List Item) (after : List RowPart) (w next : Written) (list : Option ℕ) (ps before out : List RowPart) → HasEditedLists p literal nodes after w next list ps before out → list ≡ None
-    → HasEditedValue p literal nodes after w next ps before out
-all_lists p literal nodes after w next list ps before out ls is =
-    let no = ls.none is in
-    let own : List RowPart = items_parts (items_of ls.left) in
+grouped : (a b c d : List RowPart) → (a ++ (b ++ c)) ++ d ≡ a ++ (b ++ (c ++ d))
+grouped a b c d = simp append_assoc
+
+pub one_edited : (p : Option (List ℕ) → Bool) (literal : Option (List ℕ)) (nodes : List Item) (after ps : List RowPart) (start at from token to : ℕ) (string : Option (List ℕ)) (old places more : List Place) → (f : HasEditedFront p literal nodes after ps start at old places)
+    → (n : IsNextElement f.left after ps at from token to string) → not (is_empty more) ≡ (not (is_empty places) || p string) → IsOn p literal ps at from to places more n.element → HasEditedFront p literal nodes after ps start to old more
+one_edited p literal nodes after ps start at from token to string old places more f n changed on =
+    let own : List RowPart = segs_parts (segs_of (become p literal n.element)) in
+    let later : List Segment = elements_left n.left in
     record {
-      rest = ls.lag ++ own;
-      done = ls.done;
-      read = ls.read ∙ sym (append_assoc ls.lag own (segment_end ∷ after));
-      changed = sym (or-false next.changed) ∙ ap (λ (zs : List (List Segment)). next.changed || list_any (list_any (is_meant p)) zs) (sym no.none) ∙ ls.changed;
-      total = ap (λ (zs : List Item). ls.done ++ (ls.lag ++ items_parts (items_of zs))) (sym (no.same (become_all p literal))) ∙ ls.total;
-      written = ls.written;
+      left = n.left;
+      made = f.made ++ up_to p literal ps at from n.element;
+      read = n.read;
+      changed = ap (λ (b : Bool). b || list_any (is_meant p) later) changed ∙ or_assoc (not (is_empty places)) (p string) (list_any (is_meant p) later)
+          ∙ (λ i. not (is_empty places) || (p (n.text i) || list_any (is_meant p) later)) ∙ ap (λ (ss : List Segment). not (is_empty places) || list_any (is_meant p) ss) (sym n.are) ∙ f.changed;
+      total = grouped f.made (take (from - at) (drop at ps)) own (rest_parts (edited_rest (become_all p literal) n.left) after) ∙ ap (λ (qs : List RowPart). f.made ++ qs) (sym (n.edited (become p literal))) ∙ f.total;
+      written = λ target h. subst (λ (qs : List RowPart). IsWritten (literal_parts literal) ps more to qs) (append_assoc target f.made (up_to p literal ps at from n.element)) (on (target ++ f.made) (f.written target h));
     }
+
+-- where no element is left, nothing is edited
+nil_both : (xs ys : List Segment) → xs ++ ys ≡ [] → (xs ≡ []) × (ys ≡ [])
+nil_both [] ys h = (refl, h)
+nil_both (x ∷ xs) ys h = absurd cc
+
+empty_stays : (g : Segment → List Segment) (x : Item) → elements x ≡ [] → edit_list (flat_map g) x ≡ x
+empty_stays g (leaf kind text) h = refl
+empty_stays g (group kind no_segs one_comma end) h = refl
+empty_stays g (group kind (seg before nodes suffix segs) one_comma end) h = absurd cc
+
+rest_stays : (g : Segment → List Segment) (start : Bool) (xs : List Item) → flat_map (λ ss. ss) (parts_from start xs) ≡ [] → edit_from (flat_map g) start xs ≡ xs
+rest_stays g start [] h = refl
+rest_stays g start (x ∷ xs) h =
+    elim (is_part start x xs) as (λ b. flat_map (λ ss. ss) ((if b then elements x ∷ [] else []) ++ parts_from (is_plus x) xs) ≡ [] → (if b then edit_list (flat_map g) x else x) ∷ edit_from (flat_map g) (is_plus x) xs ≡ x ∷ xs)
+    [ true ↦ λ k. let both = nil_both (elements x) (flat_map (λ ss. ss) (parts_from (is_plus x) xs)) k in (λ i. empty_stays g x both.0 i ∷ rest_stays g (is_plus x) xs both.1 i) | false ↦ λ k. ap (λ (ys : List Item). x ∷ ys) (rest_stays g (is_plus x) xs k) ] h
+
+pub all_edited : (p : Option (List ℕ) → Bool) (literal : Option (List ℕ)) (nodes : List Item) (after ps : List RowPart) (start at : ℕ) (old places : List Place) → (f : HasEditedFront p literal nodes after ps start at old places) → elements_left f.left ≡ []
+    → HasEditedValue p literal nodes after ps start at old places
+all_edited p literal nodes after ps start at old places f none =
+    let l : ListRest = f.left in
+    let both = nil_both l.elements (flat_map (λ ss. ss) (parts_from false l.items)) none in
+    let rest : List RowPart = map above l.end ++ closing l.one_comma ∷ items_parts (items_of l.items) in
+    let ends : rest_parts (record l { elements = [] }) after ≡ rest ++ segment_end ∷ after = sym (append_assoc (map above l.end) (closing l.one_comma ∷ items_parts (items_of l.items)) (segment_end ∷ after)) in
+    let stays : rest_parts (edited_rest (become_all p literal) l) after ≡ rest ++ segment_end ∷ after =
+    (λ i. rest_parts (record l { elements = become_all p literal (both.0 i); items = rest_stays (become p literal) false l.items both.1 i }) after) ∙ ends in
+    record {
+      rest = rest;
+      made = f.made;
+      read = f.read ∙ ap (λ (ss : List Segment). rest_parts (record l { elements = ss }) after) both.0 ∙ ends;
+      changed = sym (or-false (not (is_empty places))) ∙ ap (λ (ss : List Segment). not (is_empty places) || list_any (is_meant p) ss) (sym none) ∙ f.changed;
+      total = append_cancel_right (f.made ++ rest) _ (segment_end ∷ after) (append_assoc f.made rest (segment_end ∷ after) ∙ ap (λ (qs : List RowPart). f.made ++ qs) (sym stays) ∙ f.total);
+      written = f.written;
+    }
+
+-- a value without list part
+pub no_list_there : (p : Option (List ℕ) → Bool) (literal : Option (List ℕ)) (nodes : List Item) (after ps : List RowPart) (from : ℕ) (places : List Place) → drop from ps ≡ value_parts nodes after → HasNoList true nodes → HasEditedValue p literal nodes after ps from from places places
+no_list_there p literal nodes after ps from places read lack = record {
+  rest = items_parts (items_of nodes);
+  made = [];
+  read = read;
+  changed = sym (or-false (not (is_empty places))) ∙ ap (λ (zs : List (List Segment)). not (is_empty places) || list_any (list_any (is_meant p)) zs) (sym lack.none);
+  total = ap (λ (xs : List Item). items_parts (items_of xs)) (sym (lack.same (become_all p literal)));
+  written = λ target h. subst (λ (qs : List RowPart). IsWritten (literal_parts literal) ps places from qs) (sym (append-nil target)) h;
+}

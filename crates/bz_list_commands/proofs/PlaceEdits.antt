@@ -1,12 +1,11 @@
 -- The edit of the arguments in a place among the parts of a rule is the edit of the rule.
-use Rattle.std.proofs.Common.{◌≡◌, ℕ, ◌+◌, ◌-◌, ◌≤◌, List, [], ◌∷◌, ◌++◌, Bool, true, false, ◌&&◌, if◌then◌else◌, Option, Some, None, is_some, length, take, drop, refl, ap, sym, subst, ◌∙◌, arith, append-nil}
+use Rattle.std.proofs.Common.{◌≡◌, ℕ, ◌-◌, ◌≤◌, List, [], ◌∷◌, ◌++◌, Bool, true, not, ◌&&◌, if◌then◌else◌, Option, Some, None, is_some, length, take, drop, refl, ap, sym, ◌∙◌, arith, append_assoc, append-nil, length-take-le, take-append-drop}
 use Rattle.std.specs.Prelude.{option_to_list}
 use Rattle.std.specs.List.{flat_map, list_any}
-use Rattle.std.proofs.lemmas.Bool.{false≢true}
 use Rattle.bz_tree.specs.Tree.{Segment, Statement, segs_of}
 use Rattle.bz_tree.specs.Rows.{RowPart, segs_parts}
 use Rattle.bz_attribute.specs.Effects.{done, edit_first, filtered}
-use Rattle.bz_attribute.specs.RowEdits.{IsRowEdit}
+use Rattle.bz_attribute.specs.RowEdits.{IsRowEdit, replaced_at}
 use Rattle.bz_attribute.specs.RowPlaces.{alone, IsPlaceOf, IsPlaceOfAll, IsRuleRow}
 use Rattle.bz_attribute.specs.Rules.{Rule, first_named, is_named, is_text, name_of}
 use Rattle.bz_attribute.specs.declared.edit.Edit.{Edit}
@@ -16,29 +15,37 @@ use Rattle.bz_attribute.proofs.Locals.{edit_local, is_first_named}
 use Rattle.bz_list_commands.specs.private.ArgumentEdits.{HasEditedAll, edited, is_changed}
 use Rattle.bz_list_commands.specs.private.PlaceEdits.{AreThere, IsPlaceEdit, changes_first}
 use Rattle.bz_list_commands.specs.private.StringEdits.{become_all, changes}
-use Rattle.bz_list_commands.specs.private.WrittenParts.{IsWithin}
-use Rattle.bz_list_commands.specs.declared.rewriting.Written.{Written}
-use Rattle.bz_list_commands.proofs.WrittenParts.{placed}
+use Rattle.bz_list_commands.specs.private.WrittenParts.{written}
+use Rattle.std.proofs.lemmas.List.{drop-append-le, drop-take, take-append-le}
+use Rattle.bz_token.specs.Common.{is_empty}
 use Rattle.bz_attribute.proofs.Locals.{is_first_named}
 
--- nothing changes
-pub quiet_place : (f : Segment → List Segment) (t : Segment → Bool) (place : Place) (ps new : List RowPart) (e : Edit) → e ≡ record { done = done None false; place = record { from = 0; to = 0 } }
-    → ((args : List Segment) → AreThere place ps args → list_any t args ≡ false) → IsPlaceEdit f t place ps new e
-quiet_place f t place ps new e is none = subst (λ (v : Edit). IsPlaceEdit f t place ps new v) (sym is) (record {
-  within = (omega arith, omega arith);
-  parts = λ args there changed. absurd (false≢true changed);
-  done = λ args there. ap (done None) (sym (none args there));
-})
+regrouped : (a b c d : List RowPart) → a ++ (b ++ (c ++ d)) ≡ (a ++ (b ++ c)) ++ d
+regrouped a b c d = simp append_assoc
 
 -- what was written comes to stand in the place of what it changes
-pub written_place : (f : Segment → List Segment) (t : Segment → Bool) (place : Place) (ps new : List RowPart) (w : Written) (e : Edit) → place.from ≤ place.to → place.to ≤ length ps → IsWithin w (place.to - place.from) → w.at ≡ place.to - place.from → w.changed ≡ true
-    → e ≡ record { done = done None true; place = record { from = place.from + w.from; to = place.from + w.to } }
-    → ((args : List Segment) → AreThere place ps args → HasEditedAll f t args w (take (place.to - place.from) (drop place.from ps)) new) → IsPlaceEdit f t place ps new e
-written_place f t place ps new w e order long within all changed is made = subst (λ (v : Edit). IsPlaceEdit f t place ps new v) (sym is) (record {
-  within = (omega (arith, within.from), omega (arith, within.from, within.to, within.at, order, long));
-  parts = λ args there c. placed w ps new (segs_parts (segs_of (flat_map f args))) place.from place.to within order long all (made args there).written;
-  done = λ args there. ap (done None) (sym changed ∙ (made args there).changed);
-})
+pub written_place : (f : Segment → List Segment) (t : Segment → Bool) (new : List RowPart) (place : Place) (ps out : List RowPart) (places seen : List Place) (e : Edit) → place.from ≤ place.to → place.to ≤ length ps
+    → e.place.from ≤ e.place.to → e.place.to ≤ place.to → seen ≡ places → replaced_at e.place out (take place.to ps) ≡ written new (take place.to ps) 0 seen place.to → e.done ≡ done None (not (is_empty seen))
+    → ((args : List Segment) → drop place.from (take place.to ps) ≡ segs_parts (segs_of args) → HasEditedAll f t new args (take place.to ps) place.from places) → IsPlaceEdit f t place ps out e
+written_place f t new place ps out places seen e order long order2 long2 same is told edits =
+    let own : List RowPart = take place.to ps in
+    let after : List RowPart = drop place.to ps in
+    let size : length own ≡ place.to = length-take-le place.to ps long in
+    let whole : own ++ after ≡ ps = take-append-drop place.to ps in
+    let front : (k : ℕ) → k ≤ place.to → take k ps ≡ take k own = λ k h. ap (take k) (sym whole) ∙ take-append-le k own after (omega (arith, size, h)) in
+    let there : (args : List Segment) → AreThere place ps args → drop place.from own ≡ segs_parts (segs_of args) =
+    λ args h. ap (λ (k : ℕ). drop place.from (take k ps)) (omega (arith, order)) ∙ drop-take place.from (place.to - place.from) ps ∙ h in
+    record {
+      within = (order2, omega (arith, long, long2));
+      parts = λ args h c.
+          let all = edits args (there args h) in
+          (λ i. front e.place.from (omega (arith, order2, long2)) i ++ (out ++ (ap (drop e.place.to) (sym whole) ∙ drop-append-le e.place.to own after (omega (arith, size, long2))) i))
+          ∙ regrouped (take e.place.from own) out (drop e.place.to own) after
+          ∙ ap (λ (qs : List RowPart). qs ++ after) (is ∙ (λ i. written new own 0 (same i) (sym size i)) ∙ all.written.are)
+          ∙ append_assoc (take place.from own) (segs_parts (segs_of (flat_map f args))) after
+          ∙ ap (λ (qs : List RowPart). qs ++ (segs_parts (segs_of (flat_map f args)) ++ after)) (sym (front place.from order));
+      done = λ args h. told ∙ ap (done None) ((λ i. not (is_empty (same i))) ∙ (edits args (there args h)).changed);
+    }
 
 -- all arguments
 pub every_row : (f : Segment → List Segment) (t : Segment → Bool) (place : Place) (ps new : List RowPart) (e : Edit) → IsPlaceEdit f t place ps new e → ((s : Statement) (r : Rule) → IsRuleRow s r ps → IsPlaceOfAll s r ps place.from place.to)

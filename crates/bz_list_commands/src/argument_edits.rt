@@ -1,22 +1,21 @@
-//! Edits of the arguments of a rule, one by one, by their parts.
+//! Edits of the arguments of a rule: which places of its parts make way.
 
-ghost use Rattle.std.specs.Prelude.{◌≡◌, ◌<◌, ◌≤◌, ◌+◌, List, ℕ, map, length, drop, option_map, IfOk};
-ghost use Rattle.std.specs.List.{flat_map, list_any};
+ghost use Rattle.std.specs.Prelude.{◌≡◌, ◌≤◌, ◌+◌, List, map, length, drop, option_map, IfOk};
 ghost use Rattle.bz_tree.specs.Tree.{Segment, segs_of};
 ghost use Rattle.bz_tree.specs.Rows.{part_view, segs_parts};
-ghost use Rattle.bz_attribute.specs.FirstArguments.{IsFirstArgument, argument_parts};
+ghost use Rattle.bz_command.specs.Values.{quoted};
 ghost use Rattle.bz_list_commands.specs.private.StringEdits.{literal_of, means};
-ghost use Rattle.bz_list_commands.specs.private.WrittenParts.{IsWithin};
+ghost use Rattle.bz_list_commands.specs.private.WrittenParts.{AreOrdered, literal_parts};
 ghost use Rattle.bz_list_commands.specs.private.ArgumentEdits as spec;
 
-use crate::element_edits::edit_value;
+use crate::element_edits::add_places;
 use crate::emptied::loses_all;
-use crate::rewriting::{Written, put};
 use crate::string_edit::StringEdit;
-use bz_attribute::{FirstArgument, Parts, first_argument};
+use bz_attribute::{FirstArgument, Place, first_argument};
 use bz_command::Attributes;
-use bz_memory::NoMemory;
+use bz_memory::{NoMemory, push};
 use bz_tree::Part;
+use std::alloc::Global;
 
 /// What becomes of the arguments of a rule.
 #[derive(Clone, Copy)]
@@ -41,85 +40,98 @@ fn goes(attributes: &Attributes, name: Option<&str>) -> bool
     }
 }
 
-// The value of a keyword argument is edited.
-fn edit_keyword<'a>(
+impl<'h, 'c, 'w> ArgumentEdit<'h, 'c, 'w> {
+    /// What elements become.
+    pub fn new(self) -> Option<&'c str>
+        ensures { option_map (λ value. quoted value.now) result ≡ spec.literal_by self.entry }
+    {
+        match self {
+            ArgumentEdit::Gone(_) => None,
+            ArgumentEdit::Strings(edit) => edit.new(),
+        }
+    }
+}
+
+// Adds the places of the argument at a place that make way for an edit of its elements. Tells where the next begins.
+fn add_strings(
     edit: StringEdit<'_, '_, '_>,
     argument: FirstArgument<'_>,
-    parts: &[Part<'a>],
-    written: Written,
-    out: &mut Parts<'a>,
-) -> Result<Written, NoMemory>
-    requires within { IsWithin written (length parts.now) }
-    requires order { (argument.nodes ≤ argument.to) × (written.at + argument.to ≤ length parts.now) }
-    ensures edited { IfOk result (λ next. spec.HasEditedKeyword (means edit.entry) (literal_of edit.entry)
-        written next argument.entry.nodes argument.entry.to (option_map (λ text. text.now) argument.entry.name)
-        (map part_view parts.now) (map part_view out.old.items) (map part_view out.new.items)) }
-    ensures within { IfOk result (λ next. IsWithin next (length parts.now)) }
-    ensures progress { IfOk result (λ next. written.at + argument.entry.to ≤ next.at) }
+    parts: &[Part<'_>],
+    at: usize,
+    places: &mut Vec<Place>,
+) -> Result<usize, NoMemory>
+    requires order { (argument.nodes ≤ argument.to) × (at + argument.to ≤ length parts.now) }
+    requires ordered { AreOrdered 0 places.now.items at }
+    ensures within { IfOk result (λ next. (at + argument.entry.to ≤ next) × (next ≤ length parts.now)) }
+    ensures ordered { IfOk result (λ next. AreOrdered 0 places.new.items next) }
+    ensures edited { IfOk result (λ next. spec.HasEditedOne (spec.edited (means edit.entry) (literal_of edit.entry))
+        (spec.is_changed (means edit.entry)) (literal_parts (literal_of edit.entry))
+        argument.entry.nodes argument.entry.to (option_map (λ text. text.now) argument.entry.name)
+        (map part_view parts.now) at next places.old.items places.new.items) }
 {
-    let to = written.at + argument.to;
-    let value = to.min(written.at + argument.nodes + 2);
+    let to = at + argument.to;
+    if argument.name.is_none() {
+        return Ok(to);
+    }
+    let value = to.min(at + argument.nodes + 2);
     if loses_all(edit, parts, value) {
-        return put(parts, written, to, None, out);
+        push(places, Place { from: at, to })?;
+        return Ok(to);
     }
-    let start = Written {
-        at: value,
-        ..written
-    };
-    let next = edit_value(edit, parts, start, out)?;
-    let end = to.max(next.at);
-    Ok(Written { at: end, ..next })
+    let end = add_places(edit, parts, value, places)?;
+    Ok(to.max(end))
 }
 
-// An argument goes, or stays, or its value is edited.
-fn edit_argument<'a>(
+// The same of any edit.
+fn add_argument(
     edit: ArgumentEdit<'_, '_, '_>,
-    parts: &[Part<'a>],
-    written: Written,
     argument: FirstArgument<'_>,
-    out: &mut Parts<'a>,
-) -> Result<Written, NoMemory>
-    requires within { IsWithin written (length parts.now) }
-    requires order { (argument.nodes ≤ argument.to) × (written.at + argument.to ≤ length parts.now) }
-    ensures within { IfOk result (λ next. IsWithin next (length parts.now)) }
-    ensures progress { IfOk result (λ next. written.at + argument.entry.to ≤ next.at) }
+    parts: &[Part<'_>],
+    at: usize,
+    places: &mut Vec<Place>,
+) -> Result<usize, NoMemory>
+    requires order { (argument.nodes ≤ argument.to) × (at + argument.to ≤ length parts.now) }
+    requires ordered { AreOrdered 0 places.now.items at }
+    ensures within { IfOk result (λ next. (at + argument.entry.to ≤ next) × (next ≤ length parts.now)) }
+    ensures ordered { IfOk result (λ next. AreOrdered 0 places.new.items next) }
     ensures edited { IfOk result (λ next. spec.HasEditedOne (spec.edit_by edit.entry) (spec.changes_by edit.entry)
-        written next argument.entry.nodes argument.entry.to (option_map (λ text. text.now) argument.entry.name)
-        (map part_view parts.now) (map part_view out.old.items) (map part_view out.new.items)) }
+        (literal_parts (spec.literal_by edit.entry))
+        argument.entry.nodes argument.entry.to (option_map (λ text. text.now) argument.entry.name)
+        (map part_view parts.now) at next places.old.items places.new.items) }
 {
-    let to = written.at + argument.to;
     match edit {
+        ArgumentEdit::Strings(strings) => add_strings(strings, argument, parts, at, places),
         ArgumentEdit::Gone(attributes) => {
+            let to = at + argument.to;
             if !goes(attributes, argument.name) {
-                return Ok(Written { at: to, ..written });
+                return Ok(to);
             }
-            put(parts, written, to, None, out)
+            push(places, Place { from: at, to })?;
+            Ok(to)
         }
-        ArgumentEdit::Strings(strings) => match argument.name {
-            None => Ok(Written { at: to, ..written }),
-            Some(_) => edit_keyword(strings, argument, parts, written, out),
-        },
     }
 }
 
-/// The arguments that have these parts.
-pub fn edit_arguments<'a>(
+/// The places that make way for an edit of the arguments that begin at one.
+pub fn edited_places(
+    alloc: Global,
     edit: ArgumentEdit<'_, '_, '_>,
-    parts: &[Part<'a>],
-    out: &mut Parts<'a>,
-) -> Result<Written, NoMemory>
-    ensures within { IfOk result (λ next. IsWithin next (length parts.now)) }
-    ensures all { IfOk result (λ next. next.at ≡ length parts.now) }
-    ensures edited { IfOk result (λ next. (args : List Segment) → map part_view parts.now ≡ segs_parts (segs_of args)
-        → spec.HasEditedAll (spec.edit_by edit.entry) (spec.changes_by edit.entry) args next
-        (map part_view parts.now) (map part_view out.new.items)) }
+    parts: &[Part<'_>],
+    from: usize,
+) -> Result<Vec<Place>, NoMemory>
+    requires { from ≤ length parts.now }
+    ensures ordered { IfOk result (λ places. AreOrdered 0 places.items (length parts.now)) }
+    ensures edited { IfOk result (λ places. (args : List Segment)
+        → drop from (map part_view parts.now) ≡ segs_parts (segs_of args)
+        → spec.HasEditedAll (spec.edit_by edit.entry) (spec.changes_by edit.entry)
+        (literal_parts (spec.literal_by edit.entry)) args (map part_view parts.now) from places.items) }
 {
-    out.clear();
-    let mut next = Written::nothing();
-    while next.at < parts.len() {
-        let argument = first_argument(&parts[next.at..]);
-        let edited = edit_argument(edit, parts, next, argument, out)?;
-        next = edited;
+    let mut places = Vec::new(alloc);
+    let mut at = from;
+    while at < parts.len() {
+        let argument = first_argument(&parts[at..]);
+        let next = add_argument(edit, argument, parts, at, &mut places)?;
+        at = next;
     }
-    Ok(next)
+    Ok(places)
 }

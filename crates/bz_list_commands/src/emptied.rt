@@ -11,14 +11,17 @@ use crate::string_edit::StringEdit;
 use bz_attribute::{next_element, only_list};
 use bz_tree::Part;
 
-// The same where they go.
+/// The value of an argument is one list, and no element of it is left, where it has some.
 #[tactic(auto, using(crate::proofs::EmptiedLists::no_list))]
-fn all_go(edit: StringEdit<'_, '_, '_>, parts: &[Part<'_>], value: usize) -> bool
+pub fn loses_all(edit: StringEdit<'_, '_, '_>, parts: &[Part<'_>], value: usize) -> bool
     requires { value ≤ length parts.now }
     ensures { (nodes : List Item) (after : List RowPart)
         → drop value (map part_view parts.now) ≡ value_parts nodes after
-        → result ≡ loses_all (become_all (means edit.entry) Nothing) nodes }
+        → result ≡ loses_all (become_all (means edit.entry) (literal_of edit.entry)) nodes }
 {
+    let None = edit.new() else {
+        return false;
+    };
     let Some(first) = only_list(parts, value) else {
         return false;
     };
@@ -30,17 +33,4 @@ fn all_go(edit: StringEdit<'_, '_, '_>, parts: &[Part<'_>], value: usize) -> boo
         at = element.to;
     }
     first < at
-}
-
-/// The value of an argument is one list, and no element of it is left, where it has some.
-pub fn loses_all(edit: StringEdit<'_, '_, '_>, parts: &[Part<'_>], value: usize) -> bool
-    requires { value ≤ length parts.now }
-    ensures { (nodes : List Item) (after : List RowPart)
-        → drop value (map part_view parts.now) ≡ value_parts nodes after
-        → result ≡ loses_all (become_all (means edit.entry) (literal_of edit.entry)) nodes }
-{
-    match edit.new() {
-        None => all_go(edit, parts, value),
-        Some(_) => false,
-    }
 }

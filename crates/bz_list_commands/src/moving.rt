@@ -106,7 +106,8 @@ fn move_meant<'a>(
         (map part_view parts.now) (map part_view written.new.items) e) }
 {
     let old = place_of(parts, change.old);
-    let gone = edit_in(ArgumentEdit::Strings(edit), parts, old, written)?;
+    let strings = ArgumentEdit::Strings(edit);
+    let gone = edit_in(edit.env.alloc, strings, parts, old, written)?;
     if !gone.done.changed {
         return Ok(Edit::none(Done::quiet(false)));
     }
@@ -177,30 +178,7 @@ fn write_new<'a>(
     Ok(())
 }
 
-// Writes them with the elements at an end of others.
-#[tactic(auto, using(bz_attribute::proofs::Slices::three_written))]
-fn write_at<'a>(
-    end: usize,
-    parts: &[Part<'a>],
-    elements: &[Place],
-    left: &[Part<'a>],
-    written: &mut Parts<'a>,
-) -> Result<(), NoMemory>
-    requires within { AreWithin elements.now (length parts.now) }
-    requires end { end ≤ length left.now }
-    ensures { OnOk result (map part_view written.new.items
-        ≡ replaced_at (record { from = end; to = end }) (parts_at (map part_view parts.now) elements.now)
-        (map part_view left.now)) }
-{
-    written.clear();
-    extend_from_slice(written, &left[..end])?;
-    push_places(parts, elements, written)?;
-    extend_from_slice(written, &left[end..])?;
-    Ok(())
-}
-
 // Writes them with the elements at the end of the first list part of an attribute, or in a new one.
-#[tactic(auto, using(crate::proofs::MovedRules::put_nowhere))]
 fn write_with<'a>(
     attr: &str,
     parts: &[Part<'a>],
@@ -214,7 +192,16 @@ fn write_with<'a>(
 {
     match list_place(left, attr) {
         ListPlace::Absent => write_new(attr, left, parts, elements, written),
-        ListPlace::NoList => write_at(0, parts, &[], left, written),
-        ListPlace::At(list) => write_at(elements_end(left, list), parts, elements, left, written),
+        ListPlace::NoList => {
+            written.clear();
+            Ok(extend_from_slice(written, left)?)
+        }
+        ListPlace::At(list) => {
+            let end = elements_end(left, list);
+            written.clear();
+            extend_from_slice(written, &left[..end])?;
+            push_places(parts, elements, written)?;
+            Ok(extend_from_slice(written, &left[end..])?)
+        }
     }
 }

@@ -6,9 +6,10 @@ ghost use Rattle.bz_attribute.specs.RowEdits.{IsRowEdit};
 ghost use Rattle.bz_list_commands.specs.Remove as spec;
 ghost use Rattle.bz_attribute.specs.Effects as effects;
 
-use crate::place_edits::{drop_arguments, edit_strings};
+use crate::argument_edits::ArgumentEdit;
+use crate::place_edits::{edit_in, edit_strings};
 use crate::string_edit::{Meant, StringEdit};
-use bz_attribute::{Edit, Env, Parts, WordSet};
+use bz_attribute::{Edit, Env, Parts, WordSet, all_arguments};
 use bz_command::{Attributes, Text};
 use bz_memory::NoMemory;
 use bz_tree::Part;
@@ -27,7 +28,10 @@ pub fn remove<'a>(
         (map part_view parts.now) (map part_view new.new.items)) }
 {
     match values {
-        [] => drop_arguments(attributes, parts, new),
+        [] => {
+            let edit = ArgumentEdit::Gone(attributes);
+            edit_in(env.alloc, edit, parts, all_arguments(parts), new)
+        }
         [word] => {
             let meant = Meant::Word(word.as_str());
             edit_strings(StringEdit { env, meant }, attributes, parts, new)

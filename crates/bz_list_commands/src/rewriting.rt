@@ -1,87 +1,58 @@
-//! Parts that are written anew from the first change on: what was passed since the last one is not written yet.
+//! Parts that are written anew: some places of them make way for a string, or for nothing.
 
-ghost use Rattle.std.specs.Prelude.{◌≡◌, ◌≤◌, ◌++◌, List, false, map, length, option_map, IfOk, OnOk};
-ghost use Rattle.bz_tree.specs.Rows.{RowPart, part_view};
-ghost use Rattle.bz_list_commands.specs.private.WrittenParts.{HasCopied, HasPut, IsWithin, literal_parts};
+ghost use Rattle.std.specs.Prelude.{◌≡◌, ◌≤◌, ◌++◌, None as Nothing, not, map, length, option_map, IfOk, OnOk};
+ghost use Rattle.bz_tree.specs.Rows.{part_view};
+ghost use Rattle.bz_token.specs.Common.{is_empty};
+ghost use Rattle.bz_attribute.specs.Effects.{done};
+ghost use Rattle.bz_attribute.specs.RowEdits.{replaced_at};
+ghost use Rattle.bz_list_commands.specs.private.WrittenParts.{AreOrdered, literal_parts};
+ghost use Rattle.bz_list_commands.specs.private.WrittenParts as spec;
+ghost use Rattle.bz_command.specs.Values.{quoted};
 
-use bz_attribute::Parts;
-use bz_memory::{NoMemory, extend_from_slice, push};
-use bz_token::Kind;
+use bz_attribute::{Done, Edit, Parts, Place, push_string};
+use bz_memory::{NoMemory, extend_from_slice};
 use bz_tree::Part;
+use std::alloc::Global;
 
-/// What was written of some parts.
-#[derive(Clone, Copy)]
-pub struct Written {
-    /// Up to here they were passed.
-    pub at: usize,
-    /// Where the first change is.
-    pub from: usize,
-    /// After the last change: from here on nothing is written yet.
-    pub to: usize,
-    pub changed: bool,
-}
-
-impl Written {
-    /// Nothing was passed.
-    pub fn nothing() -> Written
-        ensures { result ≡ record { at = 0; from = 0; to = 0; changed = false } }
-    {
-        Written {
-            at: 0,
-            from: 0,
-            to: 0,
-            changed: false,
-        }
-    }
-}
-
-// Writes what waits, and says where the first change is, as the next parts change.
-fn copy_passed<'a>(
-    parts: &[Part<'a>],
-    written: Written,
-    out: &mut Parts<'a>,
-) -> Result<usize, NoMemory>
-    requires { IsWithin written (length parts.now) }
-    ensures { IfOk result (λ from. HasCopied written (map part_view parts.now)
-        (map part_view out.old.items) from (map part_view out.new.items)) }
+fn push_literal(alloc: Global, value: Option<&str>, out: &mut Parts<'_>) -> Result<(), NoMemory>
+    ensures { OnOk result (map part_view out.new.items ≡ map part_view out.old.items
+        ++ literal_parts (option_map (λ text. quoted text.now) value.entry)) }
 {
-    if !written.changed {
-        return Ok(written.at);
-    }
-    extend_from_slice(out, &parts[written.to..written.at])?;
-    Ok(written.from)
-}
-
-fn push_literal<'a>(literal: Option<&'a str>, out: &mut Parts<'a>) -> Result<(), NoMemory>
-    ensures { OnOk result (map part_view out.new.items
-        ≡ map part_view out.old.items ++ literal_parts (option_map (λ text. text.now) literal.entry)) }
-{
-    match literal {
+    match value {
         None => Ok(()),
-        Some(text) => Ok(push(out, Part::Token(Kind::String, text))?),
+        Some(value) => push_string(alloc, value, out),
     }
 }
 
-/// The parts up to a place make way for a string, or for nothing.
-pub fn put<'a>(
+/// Writes the parts from the first place to the end of the last, where each makes way for a string of this value, or for
+/// nothing.
+#[tactic(auto, using(crate::proofs::WrittenParts::none_there, crate::proofs::WrittenParts::nothing_written))]
+pub fn write_around<'a>(
+    alloc: Global,
     parts: &[Part<'a>],
-    written: Written,
-    to: usize,
-    literal: Option<&'a str>,
+    places: &[Place],
+    value: Option<&str>,
     out: &mut Parts<'a>,
-) -> Result<Written, NoMemory>
-    requires within { IsWithin written (length parts.now) }
-    requires order { (written.at ≤ to) × (to ≤ length parts.now) }
-    ensures within { IfOk result (λ w. IsWithin w (length parts.now)) }
-    ensures put { IfOk result (λ w. HasPut written w to (option_map (λ text. text.now) literal.entry)
-        (map part_view parts.now) (map part_view out.old.items) (map part_view out.new.items)) }
+) -> Result<Edit, NoMemory>
+    requires { AreOrdered 0 places.now (length parts.now) }
+    ensures within { IfOk result (λ e. (e.place.from ≤ e.place.to) × (e.place.to ≤ length parts.now)) }
+    ensures told { IfOk result (λ e. e.done ≡ done Nothing (not (is_empty places.now))) }
+    ensures written { IfOk result (λ e. replaced_at e.place (map part_view out.new.items) (map part_view parts.now)
+        ≡ spec.written (literal_parts (option_map (λ text. quoted text.now) value.entry))
+        (map part_view parts.now) 0 places.now (length parts.now)) }
 {
-    let from = copy_passed(parts, written, out)?;
-    push_literal(literal, out)?;
-    Ok(Written {
-        at: to,
-        from,
-        to,
-        changed: true,
-    })
+    out.clear();
+    let [first, ..] = places else {
+        return Ok(Edit::none(Done::quiet(false)));
+    };
+    let mut at = first.from;
+    for place in places {
+        extend_from_slice(out, &parts[at..place.from])?;
+        push_literal(alloc, value, out)?;
+        at = place.to;
+    }
+    Ok(Edit::at(Place {
+        from: first.from,
+        to: at,
+    }))
 }

@@ -1,12 +1,12 @@
 -- For private clauses alone: the items of a value, by their parts.
 use Rattle.std.specs.Prelude.{◌≡◌, ℕ, ◌+◌, List, [], ◌∷◌, ◌++◌, Bool, true, false, ◌||◌, if◌then◌else◌, Option, None, Some, length, drop, take}
-use Rattle.std.specs.List.{list_all, list_any}
+use Rattle.std.specs.List.{flat_map, list_all, list_any}
 use Rattle.bz_tree.specs.declared.tree.GroupKind.TheVariants.{List as ListKind}
 use Rattle.bz_token.specs.declared.token.Kind.TheVariants.{String}
 use Rattle.bz_tree.specs.Tree.{Item, leaf, Segment, items_of}
 use Rattle.bz_tree.specs.Rows.{RowPart, a_token, beside, closing, opening, segment_end, item_parts, items_parts}
 use Rattle.bz_command.specs.Labels.{Package}
-use Rattle.bz_attribute.specs.Elements.{IsElementOf, ListRest, elements_left, found_rest, rest_parts, value_parts}
+use Rattle.bz_attribute.specs.Elements.{IsElementOf, ListRest, edited_rest, elements_left, found_rest, rest_parts, value_parts}
 use Rattle.bz_attribute.specs.Lists as lists
 use Rattle.bz_attribute.specs.private.HeadParts.{is_end, text_of}
 
@@ -102,6 +102,7 @@ pub record IsEmptiedTo (l : ListRest) (after ps : List RowPart) (from at : ℕ) 
   pub same : elements_left l ≡ elements_left left
   pub read : drop at ps ≡ rest_parts left after
   pub found : (p : Segment → Bool) (f : Segment → Segment) → take from ps ++ rest_parts (found_rest p f l) after ≡ take at ps ++ rest_parts (found_rest p f left) after
+  pub edited : (f : Segment → List Segment) → take from ps ++ rest_parts (edited_rest (flat_map f) l) after ≡ take at ps ++ rest_parts (edited_rest (flat_map f) left) after
 
 abbrev pub HasEmptied : List RowPart → ℕ → ℕ → Type 0
 HasEmptied ps from at = (l : ListRest) (after : List RowPart) → drop from ps ≡ rest_parts l after → IsEmptiedTo l after ps from at

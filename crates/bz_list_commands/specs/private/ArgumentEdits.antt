@@ -1,5 +1,5 @@
 -- For private clauses alone: how far the arguments of a rule were edited.
-use Rattle.std.specs.Prelude.{◌≡◌, ℕ, List, [], ◌∷◌, ◌++◌, Bool, true, ◌||◌, ◌&&◌, not, if◌then◌else◌, Option, is_some, codes, drop}
+use Rattle.std.specs.Prelude.{◌≡◌, ℕ, List, [], ◌∷◌, ◌++◌, Bool, ◌||◌, ◌&&◌, not, if◌then◌else◌, Option, None, is_some, codes, length, take, drop}
 use Rattle.std.specs.List.{flat_map, list_any}
 use Rattle.bz_tree.specs.Tree.{Segment, segs_of}
 use Rattle.bz_tree.specs.Rows.{RowPart, segs_parts}
@@ -13,7 +13,8 @@ use Rattle.bz_list_commands.specs.private.StringEdits.{become_all, changes, lite
 use Rattle.bz_list_commands.specs.private.WrittenParts.{IsWritten}
 use Rattle.bz_list_commands.specs.declared.argument_edits.ArgumentEdit.{ArgumentEdit}
 use Rattle.bz_list_commands.specs.declared.argument_edits.ArgumentEdit.TheVariants.{Gone, Strings}
-use Rattle.bz_list_commands.specs.declared.rewriting.Written.{Written}
+use Rattle.bz_attribute.specs.declared.place.Place.{Place}
+use Rattle.bz_token.specs.Common.{is_empty}
 
 -- an argument of this name goes: each of a name, or each keyword argument but `name`
 abbrev pub goes : Attributes → Option (List ℕ) → Bool
@@ -42,32 +43,30 @@ abbrev pub changes_by : ArgumentEdit → Segment → Bool
 changes_by (Gone attributes) a = goes_by attributes.now a
 changes_by (Strings e) a = is_changed (means e) a
 
+abbrev pub literal_by : ArgumentEdit → Option (List ℕ)
+literal_by (Gone attributes) = None
+literal_by (Strings e) = literal_of e
+
 -- The argument that stands next was edited, whatever comes after it.
-pub record HasEdited (f : Segment → List Segment) (t : Segment → Bool) (a : Segment) (others : List Segment) (w next : Written) (ps before out : List RowPart) : Type 0 where
-  pub read : drop next.at ps ≡ segs_parts (segs_of others)
-  pub changed : next.changed ≡ (w.changed || t a)
-  pub written : (target : List RowPart) → IsWritten w ps before target → IsWritten next ps out (target ++ segs_parts (segs_of (f a)))
+pub record HasEdited (f : Segment → List Segment) (t : Segment → Bool) (new : List RowPart) (a : Segment) (others : List Segment) (ps : List RowPart) (from at : ℕ) (old places : List Place) : Type 0 where
+  pub read : drop at ps ≡ segs_parts (segs_of others)
+  pub changed : not (is_empty places) ≡ (not (is_empty old) || t a)
+  pub written : (target : List RowPart) → IsWritten new ps old from target → IsWritten new ps places at (target ++ segs_parts (segs_of (f a)))
 
-abbrev pub HasEditedOne : (Segment → List Segment) → (Segment → Bool) → Written → Written → ℕ → ℕ → Option (List ℕ) → List RowPart → List RowPart → List RowPart → Type 0
-HasEditedOne f t w next nodes to name ps before out =
-    (a : Segment) (others : List Segment) → drop w.at ps ≡ argument_parts a others → IsFirstArgument a nodes to name → HasEdited f t a others w next ps before out
+abbrev pub HasEditedOne : (Segment → List Segment) → (Segment → Bool) → List RowPart → ℕ → ℕ → Option (List ℕ) → List RowPart → ℕ → ℕ → List Place → List Place → Type 0
+HasEditedOne f t new nodes to name ps from at old places =
+    (a : Segment) (others : List Segment) → drop from ps ≡ argument_parts a others → IsFirstArgument a nodes to name → HasEdited f t new a others ps from at old places
 
--- where it is a keyword argument
-abbrev pub HasEditedKeyword : (Option (List ℕ) → Bool) → Option (List ℕ) → Written → Written → ℕ → ℕ → Option (List ℕ) → List RowPart → List RowPart → List RowPart → Type 0
-HasEditedKeyword p literal w next nodes to name ps before out =
-    (a : Segment) (others : List Segment) → drop w.at ps ≡ argument_parts a others → IsFirstArgument a nodes to name → is_attribute a ≡ true
-    → HasEdited (filtered (become_all p literal)) (changes p) a others w next ps before out
-
--- some of them were, and others are left
-pub record HasEditedSome (f : Segment → List Segment) (t : Segment → Bool) (args : List Segment) (next : Written) (ps out : List RowPart) : Type 0 where
+-- some of those from a place on were, and others are left
+pub record HasEditedSome (f : Segment → List Segment) (t : Segment → Bool) (new : List RowPart) (args : List Segment) (ps : List RowPart) (from at : ℕ) (places : List Place) : Type 0 where
   pub front : List Segment
   pub others : List Segment
   pub are : args ≡ front ++ others
-  pub read : drop next.at ps ≡ segs_parts (segs_of others)
-  pub changed : next.changed ≡ list_any t front
-  pub written : IsWritten next ps out (segs_parts (segs_of (flat_map f front)))
+  pub read : drop at ps ≡ segs_parts (segs_of others)
+  pub changed : not (is_empty places) ≡ list_any t front
+  pub written : IsWritten new ps places at (take from ps ++ segs_parts (segs_of (flat_map f front)))
 
 -- all
-pub record HasEditedAll (f : Segment → List Segment) (t : Segment → Bool) (args : List Segment) (next : Written) (ps out : List RowPart) : Type 0 where
-  pub changed : next.changed ≡ list_any t args
-  pub written : IsWritten next ps out (segs_parts (segs_of (flat_map f args)))
+pub record HasEditedAll (f : Segment → List Segment) (t : Segment → Bool) (new : List RowPart) (args : List Segment) (ps : List RowPart) (from : ℕ) (places : List Place) : Type 0 where
+  pub changed : not (is_empty places) ≡ list_any t args
+  pub written : IsWritten new ps places (length ps) (take from ps ++ segs_parts (segs_of (flat_map f args)))

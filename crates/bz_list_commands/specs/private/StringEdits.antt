@@ -1,5 +1,5 @@
 -- For private clauses alone: what becomes of the elements that are strings which a command means.
-use Rattle.std.specs.Prelude.{ℕ, List, [], ◌∷◌, Bool, true, false, ◌&&◌, not, if◌then◌else◌, Option, None, Some}
+use Rattle.std.specs.Prelude.{ℕ, ◌+◌, List, [], ◌∷◌, Bool, true, false, ◌&&◌, not, if◌then◌else◌, Option, None, Some}
 use Rattle.std.specs.List.{flat_map, list_any}
 use Rattle.bz_token.specs.declared.token.Kind.TheVariants.{String}
 use Rattle.bz_tree.specs.Tree.{leaf, Segment}
@@ -7,6 +7,7 @@ use Rattle.bz_command.specs.Labels.{Package}
 use Rattle.bz_command.specs.Values.{quoted, value_of}
 use Rattle.bz_attribute.specs.Rules.{is_text, only_text, value}
 use Rattle.bz_attribute.specs.Lists.{parts, same}
+use Rattle.bz_attribute.specs.declared.place.Place.{Place}
 use Rattle.bz_list_commands.specs.declared.string_edit.Meant.{Meant}
 use Rattle.bz_list_commands.specs.declared.string_edit.Meant.TheVariants.{Any, Word, Words, Unlike}
 use Rattle.bz_list_commands.specs.declared.string_edit.StringEdit.{StringEdit}
@@ -44,6 +45,11 @@ literal_in _ = None
 
 abbrev pub literal_of : StringEdit → Option (List ℕ)
 literal_of e = literal_in e.meant
+
+-- where an element stands that goes, or the string of one that becomes another
+abbrev pub place_in : Option (List ℕ) → ℕ → ℕ → ℕ → Place
+place_in None from token to = record { from = from; to = to }
+place_in (Some literal) from token to = record { from = token; to = token + 1 }
 
 abbrev pub is_meant : (Option (List ℕ) → Bool) → Segment → Bool
 is_meant p s = p (only_text s.nodes)

@@ -1,31 +1,24 @@
--- For private clauses alone: parts that were written anew up to a place, from the first change on.
-use Rattle.std.specs.Prelude.{◌≡◌, ℕ, ◌-◌, ◌≤◌, List, [], ◌∷◌, ◌++◌, true, false, Option, None, Some, take, drop}
+-- For private clauses alone: parts that are written anew, where some places of them make way for others.
+use Rattle.std.specs.Prelude.{◌≡◌, ℕ, ◌-◌, ◌≤◌, List, [], ◌∷◌, ◌++◌, Option, None, Some, take, drop}
 use Rattle.bz_token.specs.declared.token.Kind.TheVariants.{String}
 use Rattle.bz_tree.specs.Rows.{RowPart, a_token}
-use Rattle.bz_list_commands.specs.declared.rewriting.Written.{Written}
+use Rattle.bz_attribute.specs.declared.place.Place.{Place}
 
--- the places are in order
-pub record IsWithin (w : Written) (n : ℕ) : Type 0 where
-  pub from : w.from ≤ w.to
-  pub to : w.to ≤ w.at
-  pub at : w.at ≤ n
+-- the places come one after another, between two others
+abbrev pub AreOrdered : ℕ → List Place → ℕ → Type 0
+AreOrdered from [] to = from ≤ to
+AreOrdered from (place ∷ places) to = (from ≤ place.from) × ((place.from ≤ place.to) × AreOrdered place.to places to)
 
--- What stands before the first change, what was written since, and what waits are the target. Before the first change nothing is written.
-pub record IsWritten (w : Written) (ps out target : List RowPart) : Type 0 where
-  pub fresh : w.changed ≡ false → (out ≡ []) × (w.from ≡ w.to)
-  pub are : take w.from ps ++ (out ++ take (w.at - w.to) (drop w.to ps)) ≡ target
+-- what stands between the two, where each place makes way
+abbrev pub written : List RowPart → List RowPart → ℕ → List Place → ℕ → List RowPart
+written new ps from [] to = take (to - from) (drop from ps)
+written new ps from (place ∷ places) to = take (place.from - from) (drop from ps) ++ (new ++ written new ps place.to places to)
+
+-- up to a place that is the target
+pub record IsWritten (new ps : List RowPart) (places : List Place) (at : ℕ) (target : List RowPart) : Type 0 where
+  pub ordered : AreOrdered 0 places at
+  pub are : written new ps 0 places at ≡ target
 
 abbrev pub literal_parts : Option (List ℕ) → List RowPart
 literal_parts None = []
 literal_parts (Some literal) = a_token String literal ∷ []
-
--- nothing waits
-pub record HasCopied (w : Written) (ps before : List RowPart) (from : ℕ) (out : List RowPart) : Type 0 where
-  pub within : from ≤ w.at
-  pub are : (target : List RowPart) → IsWritten w ps before target → take from ps ++ out ≡ target
-
--- the parts up to a place made way
-pub record HasPut (w next : Written) (to : ℕ) (literal : Option (List ℕ)) (ps before out : List RowPart) : Type 0 where
-  pub at : next.at ≡ to
-  pub changed : next.changed ≡ true
-  pub are : (target : List RowPart) → IsWritten w ps before target → IsWritten next ps out (target ++ literal_parts literal)

@@ -15,4 +15,4 @@ loop-from-preserved c = record {
 
 pub returns-then-is_some-2-clause-some : goal.returns-then-is_some-2-clause-some
 returns-then-is_some-2-clause-some c = some_both _ _ _ c.next_element-element-in-Some.result (λ e begins there. λ rest after read.
-    next_later (map part_view c.args.parts.now) c.args.at c.loop-from.end c.in-Some.from e.from e.token e.to _ rest after begins c.loop-from.invariant.emptied c.in-Some.ensures.some there read) c.next_element-element-in-Some.ensures.from c.next_element-element-in-Some.ensures.some
+    next_later (map part_view c.args.parts.now) c.args.at c.loop-from.end c.in-Some.from e.from e.token e.to _ rest after c.loop-from.invariant.after begins c.loop-from.invariant.emptied c.in-Some.ensures.some there read) c.next_element-element-in-Some.ensures.from c.next_element-element-in-Some.ensures.some

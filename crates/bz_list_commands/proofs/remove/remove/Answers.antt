@@ -2,12 +2,15 @@ use Rattle.std.proofs.Common.{◌≡◌, ℕ, List, [], ◌∷◌, map, arith, a
 use Rattle.bz_tree.specs.Rows.{part_view}
 use Rattle.bz_list_commands.specs.private.StringEdits.{equals_one, equals_word, passes}
 use Rattle.bz_list_commands.proofs.Meanings.{no_words, one_alone, one_word, rows_dropped, rows_removed_some}
+use Rattle.bz_list_commands.specs.private.ArgumentEdits.{goes_by, kept}
+use Rattle.bz_list_commands.proofs.PlaceEdits.{every_row}
 use Rattle.bz_list_commands.proofs.WrittenParts.{ok_as}
 use Rattle.bz_list_commands.proofs.remove.remove.Goals as goal
 
 pub returns-in-empty : goal.returns-in-empty
 returns-in-empty c =
-    ok_as (λ e h. rows_dropped c.args.env.home.now c.args.attributes.now c.args.values.now (map part_view c.args.parts.now) (map part_view c.drop_arguments.new.new.items) e (no_words c.args.values.now (omega (arith, c.in-empty.len_below))) h) c.drop_arguments.result c.drop_arguments.ensures
+    ok_as (λ e h. rows_dropped c.args.env.home.now c.args.attributes.now c.args.values.now (map part_view c.args.parts.now) (map part_view c.edit_in.new.new.items) e (no_words c.args.values.now (omega (arith, c.in-empty.len_below)))
+    (every_row (kept c.args.attributes.now) (goes_by c.args.attributes.now) c.all_arguments.result (map part_view c.args.parts.now) (map part_view c.edit_in.new.new.items) e h c.all_arguments.ensures.place)) c.edit_in.result c.edit_in.ensures
 
 pub returns-in-len1 : goal.returns-in-len1
 returns-in-len1 c =
