@@ -3,6 +3,7 @@ pub mod ExchangeLaw
 pub mod Steps
 pub mod Slots
 pub mod Failures
+pub mod Buckets
 pub mod Positions
 pub mod Skips
 pub mod PassedBy

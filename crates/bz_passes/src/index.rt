@@ -1,11 +1,15 @@
 //! Where the passes of each name stand in a script.
 
-ghost use Rattle.std.specs.Prelude.{◌≡◌, ℕ, ◌++◌, [], ◌∷◌, List, Bool, if◌then◌else◌, Option, option_map, IfOk, OnOk, is_none, bytes_eq};
+ghost use Rattle.std.specs.Prelude.{◌≡◌, ℕ, ◌<◌, ◌++◌, [], ◌∷◌, List, Bool, length, if◌then◌else◌, Option, option_map, IfOk, OnOk, is_none, bytes_eq};
 ghost use Rattle.bz_passes.specs.private.Indexes as spec;
 
 use bz_memory::{NoMemory, entry, from_str, push};
 use std::alloc::Global;
 use std::collections::BTreeMap;
+use std::hash::{FoldHasher, Hasher};
+
+/// How many names are in a bucket on average, if each pass asks for another name. A bucket takes the memory of a dozen.
+const NAMES_IN_BUCKET: usize = 4;
 
 /// What is known of the name of what is in a slot.
 #[derive(Clone, Copy)]
@@ -19,23 +23,30 @@ pub enum Key<'s> {
 }
 
 /// The positions of a script's passes by the name that they ask for, each list in order.
+///
+/// A name is in the bucket that its hash says, so few names are compared with it. A bucket is a tree, so whatever the
+/// names are, they take no longer than in one tree of all.
 #[derive(Drop)]
 pub struct Index {
-    pub named: BTreeMap<String, Vec<usize>>,
+    pub buckets: Vec<BTreeMap<String, Vec<usize>>>,
     /// The passes that ask for no name.
     pub others: Vec<usize>,
 }
 
 impl Index {
-    /// Makes the index of no passes, without an allocation.
-    pub fn new(alloc: Global) -> Index
-        ensures names { (name : List ℕ) → spec.named result name ≡ [] }
-        ensures others { result.others.items ≡ [] }
+    /// Makes the index of no passes, with buckets for so many.
+    pub fn new(alloc: Global, passes: usize) -> Result<Index, NoMemory>
+        ensures names { IfOk result (λ index. (name : List ℕ) → spec.named index name ≡ []) }
+        ensures others { IfOk result (λ index. index.others.items ≡ []) }
     {
-        Index {
-            named: BTreeMap::new(alloc),
-            others: Vec::new(alloc),
+        let mut buckets = Vec::new(alloc);
+        for _bucket in 0..passes / NAMES_IN_BUCKET {
+            push(&mut buckets, BTreeMap::new(alloc))?;
         }
+        Ok(Index {
+            buckets,
+            others: Vec::new(alloc),
+        })
     }
 
     /// Adds the next pass, which asks for this name, or for none.
@@ -52,7 +63,10 @@ impl Index {
     {
         match asked {
             None => push(&mut self.others, position)?,
-            Some(name) => add_named(alloc, &mut self.named, name, position)?,
+            Some(name) => {
+                let place = self.place_for(alloc, name)?;
+                add_named(alloc, &mut self.buckets[place], name, position)?;
+            }
         }
         Ok(())
     }
@@ -61,11 +75,42 @@ impl Index {
     pub fn of_name(&self, name: &str) -> &[usize]
         ensures { result.now ≡ spec.named self.now name.now }
     {
-        match self.named.get(name) {
+        if self.buckets.is_empty() {
+            return &[];
+        }
+        match self.buckets[place_of(name, self.buckets.len())].get(name) {
             None => &[],
             Some(positions) => positions.as_slice(),
         }
     }
+
+    /// The place of the bucket for a name. Where there is none, the first is made.
+    fn place_for(&mut self, alloc: Global, name: &str) -> Result<usize, NoMemory>
+        ensures place { IfOk result (λ place. place ≡ spec.place_of name.now (length self.new.buckets.items)) }
+        ensures within { IfOk result (λ place. place < length self.new.buckets.items) }
+        ensures names { OnOk result ((name : List ℕ) → spec.named self.new name ≡ spec.named self.old name) }
+        ensures others { self.new.others ≡ self.old.others }
+    {
+        if self.buckets.is_empty() {
+            push(&mut self.buckets, BTreeMap::new(alloc))?;
+        }
+        Ok(place_of(name, self.buckets.len()))
+    }
+}
+
+/// The place of the bucket for a name among so many.
+fn place_of(name: &str, buckets: usize) -> usize
+    requires { 0 < buckets }
+    ensures place { result ≡ spec.place_of name.now buckets }
+    ensures within { result < buckets }
+{
+    // Where there is one bucket, as of few passes, the name has not to be hashed.
+    if buckets == 1 {
+        return 0;
+    }
+    let mut hasher = FoldHasher::default();
+    hasher.write(name.as_bytes());
+    (hasher.finish() % buckets as u64) as usize
 }
 
 /// Puts a position after those of its name.

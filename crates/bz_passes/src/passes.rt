@@ -70,7 +70,7 @@ impl<T: Keyed, C> Passes<T, C> {
 
     /// Whether a pass asks for a name.
     pub(crate) fn ask_for_names(&self) -> bool {
-        !self.index.named.is_empty()
+        self.index.others.len() < self.passes.len()
     }
 
     fn any_from(&self, from: usize) -> Option<usize>
@@ -119,7 +119,7 @@ fn earlier(a: Option<usize>, b: Option<usize>) -> Option<usize>
 fn index_of<T: Keyed, C>(alloc: Global, passes: &[Pass<T, C>]) -> Result<Index, NoMemory>
     ensures { IfOk result (spec.IsIndex (λ pass. T.asked pass.target) passes.now) }
 {
-    let mut index = Index::new(alloc);
+    let mut index = Index::new(alloc, passes.len())?;
     for i in 0..passes.len() {
         let pass = &passes[i];
         index.add(alloc, pass.target.asked(), i)?;

@@ -1,6 +1,6 @@
 //! A whole script on one slot.
 
-ghost use Rattle.std.specs.Prelude.{◌≡◌, ◌++◌, ◌||◌, not, [], ◌∷◌, List, length, IsTrue, OnOk};
+ghost use Rattle.std.specs.Prelude.{◌≡◌, ◌++◌, ◌||◌, not, [], ◌∷◌, List, length, true, IsTrue, OnOk};
 ghost use Rattle.bz_command.specs.Passes.{Slot, executed, entries, meets, with_mark, marked};
 ghost use Rattle.bz_passes.specs.Exchange.{Fits, IsLeftBy, IsPassedBy, slot_after_commands, slot_after_pass, slot_after, logs_alone, logs_and, pass_alone, pass_and, kept_alone, kept_and, some_of_commands_alone, some_alone};
 ghost use Rattle.bz_passes.specs.private.Indexes.{IsFirstFrom, IsKeyOf, some_may_mark};
@@ -13,59 +13,54 @@ use crate::passes::Passes;
 use bz_command::Pass;
 use bz_memory::NoMemory;
 
-/// One command on a slot that may be marked.
+/// One command on a slot that is marked.
 fn execute<L: Language>(
     language: &L,
     command: &L::Command,
-    mark: bool,
     slot: &mut Option<L::Statement>,
     log: &mut Log,
     facts: &mut Facts,
 ) -> Result<(), NoMemory>
-    ensures slot { OnOk result (with_mark mark (L.seen slot.new)
-        ≡ executed (L.meaning language.now) command.now (with_mark mark (L.seen slot.old))) }
+    ensures slot { OnOk result (with_mark true (L.seen slot.new)
+        ≡ executed (L.meaning language.now) command.now (with_mark true (L.seen slot.old))) }
     ensures log { OnOk result (log.new
-        ≡ log.old ++ entries (L.meaning language.now) command.now (with_mark mark (L.seen slot.old))) }
+        ≡ log.old ++ entries (L.meaning language.now) command.now (with_mark true (L.seen slot.old))) }
     ensures changed { OnOk result (facts.new.changed
-        ≡ (facts.old.changed || meets (L.changes language.now) command.now (with_mark mark (L.seen slot.old)))) }
+        ≡ (facts.old.changed || meets (L.changes language.now) command.now (with_mark true (L.seen slot.old)))) }
     ensures failed { OnOk result (facts.new.failed
-        ≡ (facts.old.failed || meets (L.fails language.now) command.now (with_mark mark (L.seen slot.old)))) }
+        ≡ (facts.old.failed || meets (L.fails language.now) command.now (with_mark true (L.seen slot.old)))) }
 {
-    if !mark {
-        return Ok(());
-    }
     let done = language.apply(command, slot, log)?;
     facts.changed = facts.changed || done.changed;
     facts.failed = facts.failed || done.failed;
     Ok(())
 }
 
-/// The commands of a pass on one slot.
+/// The commands of a pass on a slot that is marked.
 fn run_commands<L: Language>(
     language: &L,
     commands: &[L::Command],
-    mark: bool,
     slot: &mut Option<L::Statement>,
     logs: &mut [Log],
     facts: &mut Facts,
 ) -> Result<(), NoMemory>
     requires { length logs.old ≡ length commands.now }
     ensures slot { OnOk result (L.seen slot.new
-        ≡ (slot_after_commands (L.meaning language.now) commands.now (with_mark mark (L.seen slot.old))).slot) }
+        ≡ (slot_after_commands (L.meaning language.now) commands.now (with_mark true (L.seen slot.old))).slot) }
     ensures logs { OnOk result (logs.new
-        ≡ logs_and logs.old (logs_alone (L.meaning language.now) commands.now (with_mark mark (L.seen slot.old)))) }
+        ≡ logs_and logs.old (logs_alone (L.meaning language.now) commands.now (with_mark true (L.seen slot.old)))) }
     ensures changed { OnOk result (facts.new.changed ≡ (facts.old.changed || some_of_commands_alone
-        (L.meaning language.now) (L.changes language.now) commands.now (with_mark mark (L.seen slot.old)))) }
+        (L.meaning language.now) (L.changes language.now) commands.now (with_mark true (L.seen slot.old)))) }
     ensures failed { OnOk result (facts.new.failed ≡ (facts.old.failed || some_of_commands_alone
-        (L.meaning language.now) (L.fails language.now) commands.now (with_mark mark (L.seen slot.old)))) }
+        (L.meaning language.now) (L.fails language.now) commands.now (with_mark true (L.seen slot.old)))) }
 {
     for i in 0..commands.len() {
-        execute(language, &commands[i], mark, slot, &mut logs[i], facts)?;
+        execute(language, &commands[i], slot, &mut logs[i], facts)?;
     }
     Ok(())
 }
 
-/// One pass on a slot. The target is resolved once, before the first command.
+/// One pass on a slot that its target marks: this is not asked again, whatever the commands do.
 fn run_pass<L: Language>(
     language: &L,
     pass: &Pass<L::Target, L::Command>,
@@ -73,7 +68,8 @@ fn run_pass<L: Language>(
     kept: &mut Kept,
     facts: &mut Facts,
 ) -> Result<(), NoMemory>
-    requires { length kept.old.logs ≡ length pass.now.commands }
+    requires fits { length kept.old.logs ≡ length pass.now.commands }
+    requires marked { IsTrue ((L.meaning language.now).marks pass.now.target (L.seen slot.old)) }
     ensures slot { OnOk result (L.seen slot.new ≡ slot_after_pass (L.meaning language.now) pass.now (L.seen slot.old)) }
     ensures kept { OnOk result (kept.new
         ≡ pass_and kept.old (pass_alone (L.meaning language.now) pass.now (L.seen slot.old))) }
@@ -84,12 +80,10 @@ fn run_pass<L: Language>(
         (L.meaning language.now) (L.fails language.now) pass.now.commands
         (marked (L.meaning language.now) pass.now.target (L.seen slot.old)))) }
 {
-    let mark = language.marks(&pass.target, slot);
-    kept.found = kept.found || mark;
+    kept.found = true;
     run_commands(
         language,
         pass.commands.as_slice(),
-        mark,
         slot,
         kept.logs.as_mut_slice(),
         facts,

@@ -1,7 +1,8 @@
 -- Which passes may mark what is in a slot, and where they stand in a script.
-use Rattle.std.specs.Prelude.{◌≡◌, ℕ, ◌+◌, ◌<◌, ◌≤◌, min, Bool, true, false, if◌then◌else◌, List, [], ◌∷◌, length, get_or, Option, Some, None, is_none, bytes_eq, String, Vec}
+use Rattle.std.specs.Prelude.{◌≡◌, ℕ, ◌+◌, ◌<◌, ◌≤◌, ◌%◌, min, Bool, true, false, if◌then◌else◌, List, [], ◌∷◌, length, get_or, slice_get, Option, Some, None, is_none, bytes_eq, String, Vec}
 use Rattle.std.specs.Option.{option_map_or}
 use Rattle.std.specs.List.{list_any}
+use Rattle.std.specs.Hash.FoldHasher.{initial, write, finish}
 use Rattle.std.specs.BTreeMap.{BTreeMap, get_by_text}
 use Rattle.bz_passes.specs.declared.index.Key.{Key}
 use Rattle.bz_passes.specs.declared.index.Key.TheVariants.{NoName, Name, Unknown}
@@ -45,12 +46,27 @@ earlier None b = b
 earlier (Some i) None = Some i
 earlier (Some i) (Some j) = Some (min i j)
 
+-- names, with the positions that are kept of each
+abbrev pub Bucket : Type 0
+Bucket = BTreeMap (String Global) (Vec ℕ Global)
+
 -- the positions that are kept of a name
-abbrev pub found : BTreeMap (String Global) (Vec ℕ Global) → List ℕ → List ℕ
-found map name = option_map_or (λ g. g.items) (get_by_text map name) []
+abbrev pub found : Bucket → List ℕ → List ℕ
+found bucket name = option_map_or (λ g. g.items) (get_by_text bucket name) []
+
+-- the place of the bucket for a name among so many, by its hash
+unfoldable pub place_of : List ℕ → ℕ → ℕ
+place_of name buckets = finish (write initial name) % buckets
+
+-- the positions that are kept of a name in the bucket at a place
+abbrev pub found_at : List Bucket → ℕ → List ℕ → List ℕ
+found_at buckets place name = option_map_or (λ bucket. found bucket name) (slice_get buckets place) []
+
+abbrev pub named_in : List Bucket → List ℕ → List ℕ
+named_in buckets name = found_at buckets (place_of name (length buckets)) name
 
 abbrev pub named : Index → List ℕ → List ℕ
-named index name = found index.named name
+named index name = named_in index.buckets.items name
 
 -- What each element asks for is found: the names by name, and the others.
 pub record IsIndex {X : Type 0} (asked : X → Option (List ℕ)) (xs : List X) (index : Index) : Type 0 where

@@ -1,7 +1,9 @@
 //! The walk over the bytes of a file that finds where its logical lines end. The `Cutter` (`cutter.rt`) walks by it.
 
-ghost use Rattle.std.specs.Prelude.{◌≡◌, ◌+◌, ◌-◌, ◌≤◌, ◌<◌, ◌^◌, ◌==◌, not, length, take};
+ghost use Rattle.std.specs.Prelude.{◌≡◌, ◌+◌, ◌-◌, ◌≤◌, ◌<◌, ◌^◌, ◌==◌, ℕ, not, length, take};
 ghost use Rattle.std.specs.List.{prefix_len};
+ghost use Rattle.bz_token.specs.declared.cutter.scan.CutState.TheVariants.{Plain};
+ghost use Rattle.bz_token.specs.declared.cutter.scan.LineKind.TheVariants.{Statement};
 ghost use Rattle.bz_token.specs.private.CutSteps.{is_ended, is_quiet, byte_of, with_comment, at, outside, in_short, in_long, next, start, run};
 
 use crate::plain::plain_len;
@@ -224,6 +226,48 @@ fn quiet_prefix(bytes: &[u8]) -> usize
     bytes.iter().take_while(|b| is_quiet(**b)).count()
 }
 
+// How many such bytes are here.
+#[inline(always)]
+fn quiet_front(bytes: &[u8]) -> usize
+    ensures in_range { result ≤ length bytes.now }
+    ensures same { (depth : ℕ) → run (at Plain depth Statement) (take result bytes.now) ≡ at Plain depth Statement }
+{
+    quiet_prefix(bytes)
+}
+
+// The length of the string here, where it is a short one in double quotes, not empty and without a backslash, or 0: it
+// changes nothing in a statement.
+#[inline(always)]
+fn string_len(bytes: &[u8]) -> usize
+    ensures in_range { result ≤ length bytes.now }
+    ensures same { (depth : ℕ) → run (at Plain depth Statement) (take result bytes.now) ≡ at Plain depth Statement }
+{
+    if bytes.is_empty() || bytes[0] != b'"' {
+        return 0;
+    }
+    let inside = &bytes[1..];
+    let len = plain_len(b'"', inside);
+    if len == 0 || len >= inside.len() || inside[len] != b'"' {
+        return 0;
+    }
+    len + 2
+}
+
+// How many bytes here change nothing in a statement: quiet ones, and those around a string.
+#[inline(always)]
+fn statement_len(bytes: &[u8]) -> usize
+    ensures in_range { result ≤ length bytes.now }
+    ensures same { (depth : ℕ) → run (at Plain depth Statement) (take result bytes.now) ≡ at Plain depth Statement }
+{
+    let front = quiet_front(bytes);
+    let string = string_len(&bytes[front..]);
+    if string == 0 {
+        return front;
+    }
+    let end = front + string;
+    end + quiet_front(&bytes[end..])
+}
+
 // How many bytes here change nothing. Most do not, and these are passed at once.
 #[inline(always)]
 fn quiet_len(scan: Scan, bytes: &[u8]) -> usize
@@ -232,7 +276,7 @@ fn quiet_len(scan: Scan, bytes: &[u8]) -> usize
 {
     match scan.inside {
         CutState::Plain => match scan.kind {
-            LineKind::Statement => quiet_prefix(bytes),
+            LineKind::Statement => statement_len(bytes),
             _ => 0,
         },
         CutState::Short(quote) => plain_len(byte_of(quote), bytes),

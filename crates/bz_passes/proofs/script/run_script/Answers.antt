@@ -9,8 +9,8 @@ use Rattle.bz_passes.proofs.script.run_script.Goals as goal
 pub loop-i-init : goal.loop-i-init
 loop-i-init g c = record { within = omega arith; size = fits_length _ _ c.requires; fits = c.requires; slot = refl; kept = refl; changed = refl; failed = refl }
 
-pub run_pass-requires : goal.run_pass-requires
-run_pass-requires g c =
+pub run_pass-requires-clause-fits : goal.run_pass-requires-clause-fits
+run_pass-requires-clause-fits g c =
     let passes = c.args.passes.now in
     let i = c.in-Some.i in
     let at = c.loop-i.at in
