@@ -1,7 +1,5 @@
 -- For private clauses: where the arguments stand that a command looks at, and a row with its head.
 use Rattle.std.specs.Prelude.{◌≡◌, ℕ, List, Bool, true, false, Option, Some, map, drop, ◌≤◌, ◌+◌, length}
-use Rattle.bz_tree.specs.Statement.{class_of}
-use Rattle.bz_tree.specs.declared.tree.Class.TheVariants.{Rule as RuleClass}
 use Rattle.bz_tree.specs.Tree.{Statement}
 use Rattle.bz_tree.specs.Rows.{RowPart, part_view, parts_of}
 use Rattle.bz_command.specs.Labels.{Package}
@@ -37,15 +35,6 @@ pub record HasKindAndParts (rule : RuleParts) (s : Statement) : Type 0 where
   pub fits : rule.comments ≤ length s.before
   pub are : map part_view rule.parts.now ≡ parts_of s
   pub kind : (r : Rule) → rule_of s.nodes ≡ Some r → kind_text r.kind ≡ rule.kind.now
-
--- the parts are of this rule, which comes in the place of another
-pub record IsNextOf (old : Statement) (parts : List RowPart) (s : Statement) : Type 0 where
-  pub are : parts ≡ parts_of s
-  pub rule : class_of s.nodes ≡ RuleClass
-  pub before : length old.before ≤ length s.before
-  pub same : s.class ≡ old.class
-  pub start : s.start ≡ old.start
-  pub end : s.end ≡ old.end
 
 -- the one has each head that the other has
 abbrev pub KeepsHead : Statement → Statement → Type 0
