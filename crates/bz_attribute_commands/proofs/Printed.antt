@@ -1,15 +1,23 @@
 -- Words with a space between them, and the first field that is missing.
 use Rattle.std.proofs.Common.{◌≡◌, ℕ, suc, ◌+◌, ◌<◌, List, [], ◌∷◌, ◌++◌, true, false, Option, Some, None, map, option_map, length, get_or, drop, refl, ap, append-nil, append_assoc, add-one, drop-cons, is_some, if◌then◌else◌}
 use Rattle.std.specs.Option.{option_or}
-use Rattle.bz_tree.specs.Tree.{Statement}
+use Rattle.bz_tree.specs.Tree.{Segment, Statement}
 use Rattle.bz_command.specs.Labels.{Package}
 use Rattle.bz_command.specs.declared.arguments.Field.{Field}
-use Rattle.bz_attribute.specs.Rules.{Rule}
-use Rattle.bz_attribute_commands.specs.Print.{missing, field_text, field_name}
-use Rattle.bz_attribute_commands.specs.private.PrintSteps.{spaced_from}
+use Rattle.bz_attribute.specs.Rules.{Rule, string_value}
+use Rattle.bz_token.specs.Common.{map_or}
+use Rattle.bz_attribute_commands.specs.Print.{missing, field_text, field_name, word_form}
 use Rattle.bz_attribute.specs.declared.done.Note.{Note}
 use Rattle.bz_attribute.specs.declared.done.Note.TheVariants.{Missing}
 use Rattle.std.specs.List.{join_with_byte}
+
+abbrev pub element_word : Segment → List ℕ
+element_word s = map_or [] word_form (string_value s.nodes)
+
+-- words one after another, with this before the first and a space before each other
+abbrev pub spaced_from : List ℕ → List (List ℕ) → List ℕ
+spaced_from space [] = []
+spaced_from space (word ∷ words) = space ++ (word ++ spaced_from (32 ∷ []) words)
 
 pub spaced_all : (words : List (List ℕ)) → spaced_from [] words ≡ join_with_byte 32 words
 spaced_all [] = refl

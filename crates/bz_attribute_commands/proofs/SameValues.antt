@@ -7,13 +7,21 @@ use Rattle.bz_attribute.specs.Elements.{IsElementOf, IsOnlyList, ListRest, rest_
 use Rattle.bz_attribute.specs.Rules.{elements, is_text, string_value}
 use Rattle.bz_attribute_commands.specs.Set as spec
 use Rattle.bz_attribute.proofs.Views.{segments_of}
-use Rattle.bz_attribute_commands.specs.private.ValueParts.{HasMatched}
 use Rattle.bz_command.specs.Values.{value_of}
 
 pub in_list : (words : List (List ℕ)) (nodes : List Item) (after ps : List RowPart) (to : ℕ) (b : Bool) → IsOnlyList nodes after ps to
     → ((l : ListRest) (after : List RowPart) → drop to ps ≡ rest_parts l after → b ≡ spec.are_strings words l.elements) → b ≡ spec.is_value (spec.NewStrings words) nodes
 in_list words nodes after ps to b only told =
     told only.list after only.read ∙ ap (spec.are_strings words) (sym (segments_of only.list.elements)) ∙ sym (ap (spec.is_value (spec.NewStrings words)) only.are)
+
+-- the elements from `from` on are these strings, where those from `at` on are the ones from the i-th on
+pub record IsMatched (words : List (List ℕ)) (i : ℕ) (l : ListRest) (after ps : List RowPart) (at : ℕ) : Type 0 where
+  pub left : ListRest
+  pub read : drop at ps ≡ rest_parts left after
+  pub same : spec.are_strings words l.elements ≡ spec.are_strings (drop i words) left.elements
+
+abbrev pub HasMatched : List (List ℕ) → ℕ → List RowPart → ℕ → ℕ → Type 0
+HasMatched words i ps from at = (l : ListRest) (after : List RowPart) → drop from ps ≡ rest_parts l after → IsMatched words i l after ps at
 
 abbrev HasElement : List RowPart → ℕ → ℕ → ℕ → Option (List ℕ) → Type 0
 HasElement ps at token to string = (rest : ListRest) (after : List RowPart) → drop at ps ≡ rest_parts rest after → IsElementOf rest after ps at token to string

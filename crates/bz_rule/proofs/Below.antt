@@ -16,8 +16,12 @@ use Rattle.bz_attribute.specs.RowEdits.{replaced_at}
 use Rattle.bz_attribute.specs.declared.place.Place.{Place}
 use Rattle.bz_rule.specs.Commands.{Command, done_of}
 use Rattle.bz_rule.specs.declared.command.Action.TheVariants.{Comment, Delete, Print, Set}
-use Rattle.bz_rule.specs.private.RowEdits.{below, is_edit, rule_after}
+use Rattle.bz_rule.specs.private.RowEdits.{is_edit, rule_after}
 use Rattle.bz_token.specs.Common.{map_or}
+
+-- without the first of the comments above it
+abbrev pub below : ℕ → Statement → Statement
+below comments s = record s { before = drop comments s.before }
 
 -- what stands below the comments
 abbrev own_parts : Statement → List RowPart

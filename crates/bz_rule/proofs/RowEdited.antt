@@ -1,5 +1,5 @@
 -- What a command makes of the row of a rule.
-use Rattle.std.proofs.Common.{Result, Ok, Err, IfOk, ◌≡◌, ◌+◌, ◌∷◌, [], ℕ, List, length, length-append, arith, true, false, Option, None, Some, is_some, refl, ap, sym, ◌∙◌, if◌then◌else◌, not, ◌++◌}
+use Rattle.std.proofs.Common.{Result, Ok, Err, IfOk, ◌≡◌, ◌≤◌, ◌+◌, ◌∷◌, [], ℕ, List, length, length-append, arith, true, false, Option, None, Some, is_some, refl, ap, sym, ◌∙◌, if◌then◌else◌, not, ◌++◌}
 use Rattle.std.specs.Prelude.{bytes_eq}
 use Rattle.std.proofs.lemmas.Bool.{false≢true}
 use Rattle.bz_tree.specs.Tree.{Segment, Statement, segs_of}
@@ -20,13 +20,22 @@ use Rattle.bz_attribute.specs.RowEdits.{IsRowEdit, IsWithin, replaced_at}
 use Rattle.bz_attribute.specs.RowPlaces.{IsRuleRow}
 use Rattle.bz_memory.specs.declared.no_memory.NoMemory.{NoMemory}
 use Rattle.bz_attribute.specs.declared.edit.Edit.{Edit}
-use Rattle.bz_rule.specs.private.RowEdits.{HasMore, IsEditOf, IsNextOf, edits_arguments, is_edit, rule_after}
+use Rattle.bz_rule.specs.private.RowEdits.{HasMore, edits_arguments, is_edit, rule_after}
 use Rattle.bz_command.specs.declared.arguments.Field.{Field}
 use Rattle.bz_attribute_commands.specs.Print.{prints, fields_of, printed}
 use Rattle.bz_rule.proofs.Commands.{lawful}
 use Rattle.bz_rule.proofs.RuleClass.{class_after, kind_dotted}
 use Rattle.bz_token.specs.Common.{map_or}
 use Rattle.bz_attribute.proofs.Headed.{class_at, rule_class}
+
+-- the parts are of this rule, which comes in the place of another
+pub record IsNextOf (old : Statement) (parts : List RowPart) (s : Statement) : Type 0 where
+  pub are : parts ≡ parts_of s
+  pub rule : class_of s.nodes ≡ RuleClass
+  pub before : length old.before ≤ length s.before
+  pub same : s.class ≡ old.class
+  pub start : s.start ≡ old.start
+  pub end : s.end ≡ old.end
 
 next_args : (f : List Segment → List Segment) (s : Statement) (r : Rule) (ps : List RowPart) → rule_of s.nodes ≡ Some r → ps ≡ parts_of (with_args f s) → IsNextOf s ps (with_args f s)
 next_args f s r ps is are = record { are = are; rule = class_after f s r is; before = omega arith; same = refl; start = refl; end = refl }
@@ -85,6 +94,12 @@ args_told Delete home s r h is = absurd (false≢true h)
 args_told (Comment Above text) home s r h is = absurd (false≢true h)
 args_told (Print fields) home s r h is = absurd (false≢true h)
 args_told c home s r h is = sym (ap (λ (o : Option Rule). map_or (done None false) (λ r. (args_done c home) r.args) o) is)
+
+-- What a command makes of the parts of a rule of this kind: the new ones, in their place, make the rule after it.
+pub record IsEditOf (c : Command) (home : Package) (kind : List ℕ) (ps new : List RowPart) (e : Edit) : Type 0 where
+  pub within : IsWithin e.place ps
+  pub parts : (s : Statement) (r : Rule) → IsRuleRow s r ps → kind_text r.kind ≡ kind → e.done.changed ≡ true → replaced_at e.place new ps ≡ parts_of (rule_after c home s)
+  pub done : (s : Statement) (r : Rule) → IsRuleRow s r ps → kind_text r.kind ≡ kind → e.done ≡ done_of c home (Some s)
 
 -- an edit of arguments, of a command that is one
 pub arguments_edited : (c : Command) (home : Package) (kind : List ℕ) (ps new : List RowPart) (e : Edit) → edits_arguments c ≡ true → IsRowEdit (args_after c home) (args_done c home) ps new e → IsEditOf c home kind ps new e

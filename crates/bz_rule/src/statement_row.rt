@@ -16,7 +16,7 @@ ghost use Rattle.bz_attribute_commands.specs.Print.{prints};
 ghost use Rattle.bz_layout.specs.Layout.{layout_text};
 ghost use Rattle.bz_rule.specs.Commands as commands;
 ghost use Rattle.bz_attribute.specs.RowEdits.{IsWithin, replaced_at};
-ghost use Rattle.bz_rule.specs.private.RowEdits.{HasKindAndParts, HasMore, IsNextOf, KeepsHead, is_edit, rule_after};
+ghost use Rattle.bz_rule.specs.private.RowEdits.{HasKindAndParts, is_edit, rule_after};
 
 use crate::command::{Action, Command};
 use crate::row_edit::{RuleParts, edit_rule, keeps_head, new_comments};
@@ -194,38 +194,6 @@ impl<'a> StatementRow<'a> {
         }
     }
 
-    // Takes other parts. `Err`: memory was refused, and all is as it was.
-    fn take(&mut self, alloc: Global, new: Parts<'a>) -> Result<(), NoMemory>
-        requires { (s : Statement) × IsNextOf self.old (map part_view new.items) s }
-        ensures taken { OnOk result ((s : Statement) → IsNextOf self.old (map part_view new.entry.items) s → self.new ≡ s) }
-        ensures err { OnErr result (self.new ≡ self.old) }
-    {
-        let head = Head::of_parts(alloc, self.bump, &new, self.row.start, self.row.end)?;
-        self.row.parts = new;
-        self.head = head;
-        Ok(())
-    }
-
-    // Puts others in a place of its parts, among them so many comments above it. Its head stays. `Err`: memory was
-    // refused, and all is as it was.
-    fn put_beside(
-        &mut self,
-        place: Place,
-        new: &[Part<'a>],
-        comments: usize,
-    ) -> Result<(), NoMemory>
-        requires within { IsWithin place (parts_of self.old) }
-        requires next { (s : Statement) × (IsNextOf self.old (replaced_at place (map part_view new.now) (parts_of self.old)) s
-            × (KeepsHead self.old s × HasMore comments self.old s)) }
-        ensures taken { OnOk result ((s : Statement)
-            → IsNextOf self.old (replaced_at place (map part_view new.now) (parts_of self.old)) s → self.new ≡ s) }
-        ensures err { OnErr result (self.new ≡ self.old) }
-    {
-        put_in(&mut self.row.parts, place, new)?;
-        self.comments = self.comments.saturating_add(comments);
-        Ok(())
-    }
-
     // Puts what a command has written in its place. `Err`: memory was refused, and all is as it was.
     fn change(
         &mut self,
@@ -242,10 +210,15 @@ impl<'a> StatementRow<'a> {
         ensures err { OnErr result (self.new ≡ self.old) }
     {
         if keeps_head(command) {
-            return self.put_beside(place, new, new_comments(command));
+            put_in(&mut self.row.parts, place, new)?;
+            self.comments = self.comments.saturating_add(new_comments(command));
+            return Ok(());
         }
         let list = with_others(self.bump, self.row.parts.as_slice(), place, new)?;
-        self.take(env.alloc, list)
+        let head = Head::of_parts(env.alloc, self.bump, &list, self.row.start, self.row.end)?;
+        self.row.parts = list;
+        self.head = head;
+        Ok(())
     }
 
     // Applies a command that changes a rule.

@@ -3,8 +3,19 @@
 use crate::table::{cut_rows, plain};
 use bz_tree::{ParseFault, Stmt, parse};
 use std::alloc::Global;
+use std::fmt::Debug;
 use std::process::Abort;
 use std::test::Fail;
+
+/// Checks an answer; `row` names it. A test calls this, since an assertion in a test of many costs its proof much.
+pub fn check(rt: &impl Abort, row: &str, found: &str, wanted: &str) {
+    assert_eq!(rt; found, wanted, "{row}");
+}
+
+/// Checks a value that is no text.
+pub fn check_value<T: PartialEq + Debug>(rt: &impl Abort, row: &str, found: &T, wanted: &T) {
+    assert_eq!(rt; *found, *wanted, "{row}");
+}
 
 /// Checks that `shown` makes of each row its answer.
 pub fn check_table<F: Fn(Global, &str) -> Result<String, Fail>>(
@@ -17,12 +28,9 @@ pub fn check_table<F: Fn(Global, &str) -> Result<String, Fail>>(
 {
     for (asked, wanted) in cut_rows(alloc, table)? {
         let text = plain(alloc, asked)?;
+        let found = shown(alloc, text.as_str())?;
         let wanted = plain(alloc, wanted)?;
-        assert_eq!(rt;
-            shown(alloc, text.as_str())?.as_str(),
-            wanted.as_str(),
-            "{asked}"
-        );
+        check(rt, asked, found.as_str(), wanted.as_str());
     }
     Ok(())
 }

@@ -1,6 +1,6 @@
 //! Labels, targets, the values of strings, and how rules are shown. `commands.rt` calls `package`.
 
-use crate::checks::{check_table, statement};
+use crate::checks::{check, check_table, check_value, statement};
 use crate::table::{cut_rows, plain};
 use bumpalo::Bump;
 use bz_rule::{Package, StatementRow, Target, label, quote, read_label, same, value_is};
@@ -50,24 +50,28 @@ fn is_value(alloc: Global, literal: &str, value: &str) -> Result<bool, Fail> {
 
 fn check_values(rt: &impl Abort, alloc: Global, table: &str, wanted: bool) -> Result<(), Fail> {
     for (literal, value) in cut_rows(alloc, table)? {
-        assert_eq!(rt;
-            is_value(alloc, literal, value)?,
-            wanted,
-            "{literal} {value}"
-        );
+        check_value(rt, literal, &is_value(alloc, literal, value)?, &wanted);
     }
     Ok(())
 }
 
 #[test]
 fn values_of_strings(rt: HostRuntime) -> Result<(), Fail> {
-    let alloc = rt.alloc();
-    check_values(&rt, alloc, VALUES, true)?;
-    check_values(&rt, alloc, NO_VALUES, false)?;
+    check_values(&rt, rt.alloc(), VALUES, true)
+}
+
+#[test]
+fn what_is_no_value(rt: HostRuntime) -> Result<(), Fail> {
+    check_values(&rt, rt.alloc(), NO_VALUES, false)
+}
+
+#[test]
+fn values_of_tokens(rt: HostRuntime) {
     let bells = token(Kind::String, "'\\a\\b\\f\\v'");
-    assert!(rt; value_is(&bells, "\x07\x08\x0c\x0b"));
-    assert!(rt; !value_is(&token(Kind::Identifier, "'a'"), "a"));
-    Ok(())
+    let are_bells = value_is(&bells, "\x07\x08\x0c\x0b");
+    check_value(&rt, "bells", &are_bells, &true);
+    let is_value = value_is(&token(Kind::Identifier, "'a'"), "a");
+    check_value(&rt, "identifier", &is_value, &false);
 }
 
 /// Values, and their literals.
@@ -141,18 +145,48 @@ pub fn package(alloc: Global, label: &str) -> Result<Package, Fail> {
     Ok(package)
 }
 
+/// Labels, and the paths of their packages.
+const PATHS: &str = r##"
+a/b:c ! Some("a/b")
+-:c ! None"##;
+
+fn shown_path(alloc: Global, label: &str) -> Result<String, Fail> {
+    let package = package(alloc, label)?;
+    let path = package.path();
+    Ok(format!(in alloc; "{path:?}")?)
+}
+
 #[test]
-fn packages(rt: HostRuntime) -> Result<(), Fail> {
-    let alloc = rt.alloc();
-    assert_eq!(rt; package(alloc, "a/b:c")?.path(), Some("a/b"));
-    assert_eq!(rt; package(alloc, "-:c")?.path(), None);
-    let mut seen = HashMap::new(alloc);
-    seen.insert(package(alloc, "//a:b")?, 1)?;
-    seen.insert(package(alloc, "-:b")?, 2)?;
-    assert_eq!(rt; seen.get(&package(alloc, "a:c")?).copied(), Some(1));
-    assert_eq!(rt; seen.get(&package(alloc, "-:c")?).copied(), Some(2));
-    assert_eq!(rt; seen.get(&package(alloc, "//-:c")?).copied(), None);
-    Ok(())
+fn paths_of_packages(rt: HostRuntime) -> Result<(), Fail> {
+    check_table(&rt, rt.alloc(), PATHS, shown_path)
+}
+
+/// Labels, and the numbers of their packages.
+const NUMBERS: &str = r##"
+a:c ! Some(1)
+-:c ! Some(2)
+//-:c ! None"##;
+
+fn numbers(alloc: Global) -> Result<HashMap<Package, u8>, Fail> {
+    let mut numbers = HashMap::new(alloc);
+    numbers.insert(package(alloc, "//a:b")?, 1)?;
+    numbers.insert(package(alloc, "-:b")?, 2)?;
+    Ok(numbers)
+}
+
+fn number(alloc: Global, label: &str) -> Result<Option<u8>, Fail> {
+    let package = package(alloc, label)?;
+    Ok(numbers(alloc)?.get(&package).copied())
+}
+
+fn shown_number(alloc: Global, label: &str) -> Result<String, Fail> {
+    let number = number(alloc, label)?;
+    Ok(format!(in alloc; "{number:?}")?)
+}
+
+#[test]
+fn numbers_of_packages(rt: HostRuntime) -> Result<(), Fail> {
+    check_table(&rt, rt.alloc(), NUMBERS, shown_number)
 }
 
 /// A label of a package, and two labels there, of which the first may be empty.
@@ -244,13 +278,17 @@ fn shown_in(alloc: Global, home: &str, text: &str) -> Result<String, Fail> {
 
 #[test]
 fn shown_rules(rt: HostRuntime) -> Result<(), Fail> {
-    let alloc = rt.alloc();
     check_table(
         &rt,
-        alloc,
+        rt.alloc(),
         SHOWN,
         |alloc, text| shown_in(alloc, "//p:a", text),
-    )?;
-    assert_eq!(rt; shown_in(alloc, "-:a", "f(name = '')")?.as_str(), "-:");
+    )
+}
+
+#[test]
+fn shown_rule_of_input(rt: HostRuntime) -> Result<(), Fail> {
+    let shown = shown_in(rt.alloc(), "-:a", "f(name = '')")?;
+    check(&rt, "-:a", shown.as_str(), "-:");
     Ok(())
 }

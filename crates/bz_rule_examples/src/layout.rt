@@ -1,12 +1,13 @@
 //! Canonical texts, texts on one line, and empty lines.
 
-use crate::checks::{check_table, read, statement};
+use crate::checks::{check, check_table, check_value, read, statement};
 use crate::table::{BLOCK, cut_rows, plain};
 use crate::texts::TEXTS;
 use crate::trees;
 use bz_layout::{flat, put_gap, put_stmt};
-use bz_tree::{Class, Group, Node, ParseFault};
+use bz_tree::{Class, Group, Node, Stmt};
 use std::alloc::Global;
+use std::process::Abort;
 use std::test::Fail;
 
 /// Texts that are canonical as they stand.
@@ -80,12 +81,22 @@ x[
 }
 "##;
 
+fn put_copy(alloc: Global, stmt: &Stmt<'_>, out: &mut Vec<u8>) -> Result<(), Fail> {
+    put_stmt(alloc, &stmt.copy(alloc)?, out)?;
+    Ok(())
+}
+
+fn put_chunk(alloc: Global, text: &str, out: &mut Vec<u8>) -> Result<(), Fail> {
+    match read(alloc, text)? {
+        Some(stmt) => put_copy(alloc, &stmt, out),
+        None => Ok(()),
+    }
+}
+
 /// The canonical text of the copy of a chunk's statement, after a comment.
 fn written(alloc: Global, text: &str) -> Result<Vec<u8>, Fail> {
     let mut out = b"# above\n".to_vec(alloc)?;
-    if let Some(stmt) = read(alloc, text)? {
-        put_stmt(alloc, &stmt.copy(alloc)?, &mut out)?;
-    }
+    put_chunk(alloc, text, &mut out)?;
     Ok(out)
 }
 
@@ -123,13 +134,24 @@ fn fault_of_row(alloc: Global, text: &str, wanted: &str) -> Result<&'static str,
 fn canonical_texts(rt: HostRuntime) -> Result<(), Fail> {
     let alloc = rt.alloc();
     for (text, wanted) in cut_rows(alloc, TEXTS)? {
-        assert_eq!(rt; fault_of_row(alloc, text, wanted)?, "none", "{text}");
+        check(&rt, text, fault_of_row(alloc, text, wanted)?, "none");
     }
+    Ok(())
+}
+
+#[test]
+fn texts_that_stand(rt: HostRuntime) -> Result<(), Fail> {
     for text in CANONICAL.split("---\n").skip(1) {
-        assert_eq!(rt; fault_of(alloc, text, text)?, "none", "{text}");
+        check(&rt, text, fault_of(rt.alloc(), text, text)?, "none");
     }
+    Ok(())
+}
+
+#[test]
+fn text_of_block(rt: HostRuntime) -> Result<(), Fail> {
+    let alloc = rt.alloc();
     let block = format!(in alloc; "{BLOCK}\n")?;
-    assert_eq!(rt; fault_of(alloc, block.as_str(), BLOCK)?, "none");
+    check(&rt, BLOCK, fault_of(alloc, block.as_str(), BLOCK)?, "none");
     Ok(())
 }
 
@@ -235,6 +257,20 @@ fn texts_on_one_line(rt: HostRuntime) -> Result<(), Fail> {
     check_table(&rt, alloc, FLAT_SEGMENTS, flat_segment)
 }
 
+fn check_gap(
+    rt: &impl Abort,
+    alloc: Global,
+    before: Option<Class>,
+    after: Class,
+    wanted: &str,
+) -> Result<(), Fail> {
+    let mut text = Vec::new(alloc);
+    put_gap(before, after, &mut text)?;
+    let found = (before, after, text.as_slice());
+    check_value(rt, "gap", &found, &(before, after, wanted.as_bytes()));
+    Ok(())
+}
+
 #[test]
 fn empty_lines(rt: HostRuntime) -> Result<(), Fail> {
     for (before, after, wanted) in [
@@ -247,9 +283,7 @@ fn empty_lines(rt: HostRuntime) -> Result<(), Fail> {
         (Some(Class::Block), Class::Block, "\n"),
         (Some(Class::Assign), Class::Load, "\n"),
     ] {
-        let mut text = Vec::new(rt.alloc());
-        put_gap(before, after, &mut text)?;
-        assert_eq!(rt; text.as_slice(), wanted.as_bytes());
+        check_gap(&rt, rt.alloc(), before, after, wanted)?;
     }
     Ok(())
 }

@@ -1,6 +1,6 @@
 //! Rows: the parts of statements, and the statements whose trees are read first.
 
-use crate::checks::check_table;
+use crate::checks::{check_table, check_value};
 use crate::table::plain;
 use crate::trees::{class_name, kind_name};
 use bumpalo::Bump;
@@ -298,7 +298,7 @@ fn statements_of_chunks(rt: HostRuntime) -> Result<(), Fail> {
 fn chunks_left_to_trees(rt: HostRuntime) -> Result<(), Fail> {
     let alloc = rt.alloc();
     for text in TREES.split("---\n").skip(1) {
-        assert!(rt; !has_row(alloc, text)?, "{text}");
+        check_value(&rt, text, &has_row(alloc, text)?, &false);
     }
     Ok(())
 }

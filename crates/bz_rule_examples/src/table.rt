@@ -30,6 +30,11 @@ pub fn plain(alloc: Global, part: &str) -> Result<String, Fail> {
     Ok(text)
 }
 
+fn cut_row<'t>(row: &'t str, between: &str) -> Result<(&'t str, &'t str), Fail> {
+    let cut = row.split_once(between).ok_or("a row without an answer")?;
+    Ok(cut)
+}
+
 /// The rows of a table, each as what is asked and its answer. They begin below the table's first line, which is empty.
 pub fn cut_rows<'t>(alloc: Global, table: &'t str) -> Result<Vec<(&'t str, &'t str)>, Fail> {
     if !table.starts_with('\n') {
@@ -43,7 +48,7 @@ pub fn cut_rows<'t>(alloc: Global, table: &'t str) -> Result<Vec<(&'t str, &'t s
     };
     let mut rows = Vec::new(alloc);
     for row in table.split(before).skip(1) {
-        rows.push(row.split_once(between).ok_or("a row without an answer")?)?;
+        rows.push(cut_row(row, between)?)?;
     }
     Ok(rows)
 }

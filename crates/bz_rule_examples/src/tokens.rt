@@ -3,10 +3,11 @@
 ghost use Rattle.std.specs.Prelude.{IsTrue};
 ghost use Rattle.bz_token.specs.Cuts.{is_physical_line};
 
-use crate::checks::check_table;
+use crate::checks::{check_table, check_value};
 use bumpalo::Bump;
 use bz_token::{Cut, Cutter, Front, LexFault, Next, Token, check_utf8, first_chunk, tokens};
 use std::alloc::Global;
+use std::process::Abort;
 use std::test::Fail;
 
 /// A text, and its tokens or its first fault.
@@ -142,19 +143,25 @@ fn tokens_of_texts(rt: HostRuntime) -> Result<(), Fail> {
     check_table(&rt, rt.alloc(), TOKENS, shown)
 }
 
+/// A text whose brackets may be so deep in one another has this first fault.
+fn check_fault(rt: &impl Abort, alloc: Global, text: &str, max_depth: u8, fault: LexFault) {
+    let bump = Bump::new(alloc);
+    let found = tokens(&bump, text, 1, max_depth).err();
+    check_value(rt, text, &found, &Some(fault));
+}
+
 #[test]
-fn faults_and_utf8(rt: HostRuntime) -> Result<(), Fail> {
-    let bump = Bump::new(rt.alloc());
-    for (text, max_depth, fault) in [
-        (")", 0, LexFault::BadBracket { line: 1, col: 1 }),
-        ("((", 1, LexFault::TooDeep { line: 1, col: 2 }),
-        ("(", 0, LexFault::TooDeep { line: 1, col: 1 }),
-    ] {
-        assert_eq!(rt; tokens(&bump, text, 1, max_depth).err(), Some(fault));
-    }
-    assert_eq!(rt; check_utf8(&[97, 255]), Err(1));
-    assert_eq!(rt; check_utf8(b"\xc3\xa9"), Ok("é"));
-    Ok(())
+fn faults_of_brackets(rt: HostRuntime) {
+    let alloc = rt.alloc();
+    check_fault(&rt, alloc, ")", 0, LexFault::BadBracket { line: 1, col: 1 });
+    check_fault(&rt, alloc, "((", 1, LexFault::TooDeep { line: 1, col: 2 });
+    check_fault(&rt, alloc, "(", 0, LexFault::TooDeep { line: 1, col: 1 });
+}
+
+#[test]
+fn utf8(rt: HostRuntime) {
+    check_value(&rt, "[97, 255]", &check_utf8(&[97, 255]), &Err(1));
+    check_value(&rt, "é", &check_utf8(b"\xc3\xa9"), &Ok("é"));
 }
 
 /// What ends a block that begins with this line.
@@ -195,18 +202,25 @@ fn if_blocks_go_on(rt: HostRuntime) -> Result<(), Fail> {
     check_table(&rt, rt.alloc(), AFTER_IF, after_if)
 }
 
+/// This ends a block that begins with this line, or none begins with it.
+fn check_after(rt: &impl Abort, header: &[u8], ahead: &str, at_end: bool, wanted: Option<Next>)
+    requires { IsTrue (is_physical_line header.now) }
+{
+    check_value(rt, ahead, &after(header, ahead, at_end), &wanted);
+}
+
 #[test]
 fn blocks_go_on(rt: HostRuntime) {
     let def = b"def f():\n";
-    assert_eq!(rt; after(def, "else:", false), Some(Next::Ends));
-    assert_eq!(rt; after(def, " x", false), Some(Next::Goes));
-    assert_eq!(rt; after(def, "\n", false), Some(Next::Goes));
-    assert_eq!(rt; after(def, "", true), Some(Next::Ends));
-    assert_eq!(rt; after(def, "", false), Some(Next::Short));
-    assert_eq!(rt; after(b"for x in y:\n", "x", false), Some(Next::Ends));
-    assert_eq!(rt; after(b" if a:\n", " ", false), None);
-    assert_eq!(rt; after(b"iff = 1\n", " ", false), None);
-    assert_eq!(rt; after(b"def f('\n", " ", false), None);
+    check_after(&rt, def, "else:", false, Some(Next::Ends));
+    check_after(&rt, def, " x", false, Some(Next::Goes));
+    check_after(&rt, def, "\n", false, Some(Next::Goes));
+    check_after(&rt, def, "", true, Some(Next::Ends));
+    check_after(&rt, def, "", false, Some(Next::Short));
+    check_after(&rt, b"for x in y:\n", "x", false, Some(Next::Ends));
+    check_after(&rt, b" if a:\n", " ", false, None);
+    check_after(&rt, b"iff = 1\n", " ", false, None);
+    check_after(&rt, b"def f('\n", " ", false, None);
 }
 
 /// Texts, and the length of the chunk that they begin with, and the number of its tokens; or what else they begin with.
@@ -242,14 +256,15 @@ fn shown_chunk(alloc: Global, text: &str) -> Result<String, Fail> {
         return Ok(String::from_str(alloc, "none")?);
     }
     let bump = Bump::new(alloc);
-    match first_chunk(&bump, text, 1, 100)? {
+    let word = match first_chunk(&bump, text, 1, 100)? {
         Front::Chunk(chunk) => {
             let (length, tokens) = (chunk.text.len(), chunk.tokens.len());
-            Ok(format!(in alloc; "{length} {tokens}")?)
+            return Ok(format!(in alloc; "{length} {tokens}")?);
         }
-        Front::Short => Ok(String::from_str(alloc, "short")?),
-        Front::Other => Ok(String::from_str(alloc, "other")?),
-    }
+        Front::Short => "short",
+        Front::Other => "other",
+    };
+    Ok(String::from_str(alloc, word)?)
 }
 
 #[test]

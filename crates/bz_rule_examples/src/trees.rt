@@ -1,7 +1,7 @@
 //! Trees, owners of comments, the grammar, blocks and faults. `checks.rt` and `layout.rt` call `shown`, and `rows.rt`
 //! the names of kinds and classes.
 
-use crate::checks::{check_table, read, statement};
+use crate::checks::{check, check_table, read, statement};
 use crate::table::{BLOCK, cut_rows};
 use bz_tree::{Class, Group, GroupKind, Node, Seg, Stmt};
 use std::alloc::Global;
@@ -414,11 +414,15 @@ pub fn shown(alloc: Global, text: &str) -> Result<String, Fail> {
 
 #[test]
 fn trees_of_chunks(rt: HostRuntime) -> Result<(), Fail> {
+    check_table(&rt, rt.alloc(), TREES, shown)
+}
+
+#[test]
+fn tree_of_block(rt: HostRuntime) -> Result<(), Fail> {
     let alloc = rt.alloc();
-    let block = format!(in alloc; "{BLOCK}\n")?;
-    let wanted = format!(in alloc; "Block :{} :\n", BLOCK.trim_end())?;
-    assert_eq!(rt; shown(alloc, block.as_str())?.as_str(), wanted.as_str());
-    check_table(&rt, alloc, TREES, shown)
+    let block = BLOCK.trim_end();
+    let table = format!(in alloc; "\n---\n{BLOCK}\n->\nBlock :{block} :\n")?;
+    check_table(&rt, alloc, table.as_str(), shown)
 }
 
 /// What the grammar accepts, and what it refuses.
@@ -464,14 +468,20 @@ x = ( [ { } ] ) ! ( ]
 x = ( ) ! (
 x = [ ] ! x = ]"##;
 
+fn answer(alloc: Global, text: &str) -> &'static str {
+    match read(alloc, text) {
+        Ok(Some(_)) => "accepted",
+        Ok(None) => "blank",
+        Err(_) => "refused",
+    }
+}
+
 #[test]
 fn grammar(rt: HostRuntime) -> Result<(), Fail> {
-    for (accepted, refused) in cut_rows(rt.alloc(), GRAMMAR)? {
-        assert!(rt;
-            matches!(read(rt.alloc(), accepted), Ok(Some(_))),
-            "{accepted}"
-        );
-        assert!(rt; read(rt.alloc(), refused).is_err(), "{refused}");
+    let alloc = rt.alloc();
+    for (accepted, refused) in cut_rows(alloc, GRAMMAR)? {
+        check(&rt, accepted, answer(alloc, accepted), "accepted");
+        check(&rt, refused, answer(alloc, refused), "refused");
     }
     Ok(())
 }

@@ -1,7 +1,5 @@
 -- For private clauses: where the arguments stand that a command looks at, and a row with its head.
-use Rattle.std.specs.Prelude.{◌≡◌, ℕ, List, Bool, true, false, Option, Some, map, drop, ◌≤◌, ◌+◌, length}
-use Rattle.bz_tree.specs.Statement.{class_of}
-use Rattle.bz_tree.specs.declared.tree.Class.TheVariants.{Rule as RuleClass}
+use Rattle.std.specs.Prelude.{◌≡◌, ℕ, List, Bool, true, false, Option, Some, map, ◌≤◌, ◌+◌, length}
 use Rattle.bz_tree.specs.Tree.{Statement}
 use Rattle.bz_tree.specs.Rows.{RowPart, part_view, parts_of}
 use Rattle.bz_command.specs.Labels.{Package}
@@ -12,8 +10,7 @@ use Rattle.bz_rule.specs.declared.command.Action.TheVariants.{Comment, Delete, P
 use Rattle.bz_attribute_commands.specs.Comment.{comment_rule}
 use Rattle.bz_attribute.specs.Effects.{with_args}
 use Rattle.bz_attribute.specs.Heads.{HasHead}
-use Rattle.bz_attribute.specs.RowEdits.{IsWithin, replaced_at}
-use Rattle.bz_attribute.specs.RowPlaces.{IsRuleRow}
+use Rattle.bz_attribute.specs.RowEdits.{replaced_at}
 use Rattle.bz_attribute.specs.declared.edit.Edit.{Edit}
 use Rattle.bz_attribute.specs.Rules.{Rule, rule_of, kind_text}
 use Rattle.bz_rule.specs.declared.row_edit.RuleParts.{RuleParts}
@@ -28,24 +25,11 @@ pub record HasItsHead (row : RowValue) (head : Option Head) (comments : ℕ) : T
   -- at least so many comments stand above it
   pub below : comments ≤ length (row_statement row).before
 
--- without the first of the comments above it
-abbrev pub below : ℕ → Statement → Statement
-below comments s = record s { before = drop comments s.before }
-
 -- the parts of a rule, beside its kind, and how many comments they begin with at least
 pub record HasKindAndParts (rule : RuleParts) (s : Statement) : Type 0 where
   pub fits : rule.comments ≤ length s.before
   pub are : map part_view rule.parts.now ≡ parts_of s
   pub kind : (r : Rule) → rule_of s.nodes ≡ Some r → kind_text r.kind ≡ rule.kind.now
-
--- the parts are of this rule, which comes in the place of another
-pub record IsNextOf (old : Statement) (parts : List RowPart) (s : Statement) : Type 0 where
-  pub are : parts ≡ parts_of s
-  pub rule : class_of s.nodes ≡ RuleClass
-  pub before : length old.before ≤ length s.before
-  pub same : s.class ≡ old.class
-  pub start : s.start ≡ old.start
-  pub end : s.end ≡ old.end
 
 -- the one has each head that the other has
 abbrev pub KeepsHead : Statement → Statement → Type 0
@@ -73,13 +57,7 @@ rule_after c home s = with_args (args_after c home) s
 abbrev pub HasMore : ℕ → Statement → Statement → Type 0
 HasMore comments s after = length s.before + comments ≤ length after.before
 
--- What a command makes of the parts of a rule of this kind: the new ones, in their place, make the rule after it.
-pub record IsEditOf (c : Command) (home : Package) (kind : List ℕ) (ps new : List RowPart) (e : Edit) : Type 0 where
-  pub within : IsWithin e.place ps
-  pub parts : (s : Statement) (r : Rule) → IsRuleRow s r ps → kind_text r.kind ≡ kind → e.done.changed ≡ true → replaced_at e.place new ps ≡ parts_of (rule_after c home s)
-  pub done : (s : Statement) (r : Rule) → IsRuleRow s r ps → kind_text r.kind ≡ kind → e.done ≡ done_of c home (Some s)
-
--- what it makes of the parts of this rule
+-- What a command makes of the parts of a rule: the new ones, in their place, make the rule after it.
 pub record IsEditFor (c : Command) (home : Package) (s : Statement) (ps new : List RowPart) (e : Edit) : Type 0 where
   pub parts : e.done.changed ≡ true → replaced_at e.place new ps ≡ parts_of (rule_after c home s)
   pub done : e.done ≡ done_of c home (Some s)

@@ -5,7 +5,8 @@ use Rattle.bz_tree.specs.Rows.{part_view}
 use Rattle.bz_attribute.specs.Rules.{Rule}
 use Rattle.bz_attribute.specs.declared.done.Note.TheVariants.{Missing}
 use Rattle.bz_attribute_commands.specs.Print.{line_of, missing, field_text}
-use Rattle.bz_attribute_commands.specs.private.PrintSteps.{IsRuleOf, spaced_from}
+use Rattle.bz_attribute_commands.specs.private.PrintSteps.{IsRuleOf}
+use Rattle.bz_attribute_commands.proofs.Printed.{spaced_from}
 use Rattle.bz_attribute_commands.proofs.print.push_fields.Given as goal
 use Rattle.bz_token.specs.Common.{map_or}
 use Rattle.std.specs.Option.{option_or}

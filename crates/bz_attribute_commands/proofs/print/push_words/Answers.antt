@@ -4,8 +4,7 @@ use Rattle.bz_tree.specs.Tree.{Segment}
 use Rattle.bz_tree.specs.View.{nodes_view, seg_view, segs_view}
 use Rattle.bz_attribute.specs.Rules.{string_value}
 use Rattle.bz_tree.proofs.Trees.Views.{view-seg}
-use Rattle.bz_attribute_commands.specs.private.PrintSteps.{element_word, spaced_from}
-use Rattle.bz_attribute_commands.proofs.Printed.{spaced_all, next_viewed}
+use Rattle.bz_attribute_commands.proofs.Printed.{element_word, next_viewed, spaced_all, spaced_from}
 use Rattle.bz_attribute_commands.proofs.print.push_words.Goals as goal
 use Rattle.bz_attribute_commands.specs.Print.{word_form}
 use Rattle.bz_token.specs.Common.{map_or}

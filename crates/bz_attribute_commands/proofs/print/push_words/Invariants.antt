@@ -1,7 +1,7 @@
 use Rattle.std.proofs.Common.{◌≡◌, ◌++◌, ◌∷◌, [], drop, map, string_bytes}
 use Rattle.std.specs.Str.{IsUtf8}
 use Rattle.bz_tree.specs.View.{segs_view}
-use Rattle.bz_attribute_commands.specs.private.PrintSteps.{element_word, spaced_from}
+use Rattle.bz_attribute_commands.proofs.Printed.{element_word, spaced_from}
 use Rattle.bz_attribute_commands.proofs.print.push_words.Given as goal
 use Rattle.std.specs.List.{join_with_byte}
 

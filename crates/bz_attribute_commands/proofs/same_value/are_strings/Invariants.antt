@@ -1,6 +1,6 @@
 use Rattle.std.proofs.Common.{◌≤◌, length, map}
 use Rattle.bz_tree.specs.Rows.{part_view}
-use Rattle.bz_attribute_commands.specs.private.ValueParts.{HasMatched}
+use Rattle.bz_attribute_commands.proofs.SameValues.{HasMatched}
 use Rattle.bz_attribute_commands.proofs.same_value.are_strings.Given as goal
 
 abbrev pub invariant-loop-word : goal.invariant-loop-word

@@ -5,11 +5,11 @@ use Rattle.bz_tree.specs.Rows.{RowPart, above, part_view}
 use Rattle.bz_attribute.specs.RowEdits.{replaced_at}
 use Rattle.bz_attribute.specs.RowPlaces.{IsRuleRow}
 use Rattle.bz_attribute.proofs.Slices.{rest_seen}
-use Rattle.bz_rule.specs.private.RowEdits.{IsEditOf, below, edits_arguments}
+use Rattle.bz_rule.specs.private.RowEdits.{edits_arguments}
 use Rattle.bz_command.specs.declared.arguments.Commented.TheVariants.{Rule as Above}
 use Rattle.bz_rule.specs.declared.command.Action.TheVariants.{Comment}
-use Rattle.bz_rule.proofs.Below.{after_off, first_off, parts_below, replaced_behind, told_below}
-use Rattle.bz_rule.proofs.RowEdited.{arguments_edited, comment_edited}
+use Rattle.bz_rule.proofs.Below.{after_off, below, first_off, parts_below, replaced_behind, told_below}
+use Rattle.bz_rule.proofs.RowEdited.{IsEditOf, arguments_edited, comment_edited}
 use Rattle.bz_rule.proofs.row_edit.edit_rule.Goals as goal
 use Rattle.bz_rule.proofs.row_edit.edit_rule.Goals.{in-Set-ToKind, in-Comment-Rule-default, in_default, in_default-via-in-Set+in_default, in_default-via-in-Comment+in_default, in_default-via-in_default}
 

@@ -1,45 +1,72 @@
-use Rattle.std.proofs.Common.{◌≡◌, ◌∙◌, List, ap, map}
+use Rattle.std.proofs.Common.{◌≡◌, ◌∙◌, ℕ, List, true, is_some, ap, length, map, subst, sym, arith}
 use Rattle.std.specs.List.{splice}
-use Rattle.std.proofs.lemmas.Result.{on_ok_weaker}
+use Rattle.bz_tree.specs.Tree.{Statement}
 use Rattle.bz_tree.specs.declared.row.Part.{Part}
+use Rattle.bz_tree.specs.declared.tree.Class.{Class}
 use Rattle.bz_tree.specs.Rows.{part_view, parts_of}
+use Rattle.bz_command.specs.Labels.{Package}
+use Rattle.bz_attribute.specs.Heads.{HasHead}
 use Rattle.bz_attribute.specs.Rules.{rule_of}
 use Rattle.bz_attribute.specs.RowEdits.{replaced_at}
+use Rattle.bz_attribute.specs.declared.place.Place.{Place}
+use Rattle.bz_rule.specs.Commands.{Command}
+use Rattle.bz_rule.specs.RowViews.{row_statement, row_value}
 use Rattle.bz_rule.specs.private.RowEdits.{rule_after}
-use Rattle.bz_rule.proofs.RowEdited.{next_of, some_rule}
+use Rattle.bz_rule.proofs.RowEdited.{IsNextOf, next_of, some_rule}
+use Rattle.bz_rule.proofs.RowStatements.{IsOf, has_head, statement_of}
 use Rattle.bz_rule.proofs.Spliced.{of_next}
 use Rattle.bz_rule.proofs.statement_row.StatementRow.change.Goals as goal
 
-pub put_beside-requires-clause-next : goal.put_beside-requires-clause-next
-put_beside-requires-clause-next c =
-    let old = c.args.self.now in
-    let command = c.args.command.now in
-    let home = c.args.env.home.now in
-    let r = some_rule (rule_of old.nodes) c.requires.rule in
-    (rule_after command home old, (next_of command home old r.0 (replaced_at c.args.place (map part_view c.args.new.now) (parts_of old)) r.1 c.requires.next, (c.keeps_head.ensures c.if-keeps_head.true home old, c.new_comments.ensures home old r.0 r.1)))
+-- what comes in the place of a rule, and its row
+after_edit : (command : Command) (home : Package) (place : Place) (items new list : List Part) (class : Class) (start end : ℕ) (old : Statement) → is_some (rule_of old.nodes) ≡ true
+    → row_statement (row_value items class start end) ≡ old → map part_view items ≡ parts_of (row_statement (row_value items class start end)) → list ≡ splice items place.from place.to new
+    → replaced_at place (map part_view new) (parts_of old) ≡ parts_of (rule_after command home old)
+    → IsNextOf old (map part_view list) (rule_after command home old) × IsOf (rule_after command home old) list class start end
+after_edit command home place items new list class start end old rule view are put made =
+    let r = some_rule (rule_of old.nodes) rule in
+    let next = next_of command home old r.0 (map part_view list) r.1 (of_next place items new list old (rule_after command home old) put (are ∙ ap parts_of view) made) in (
+      next,
+      record {
+        are = next.are;
+        is = ap (λ (z : Statement). z.class) view ∙ sym next.same;
+        begins = ap (λ (z : Statement). z.start) view ∙ sym next.start;
+        ends = ap (λ (z : Statement). z.end) view ∙ sym next.end;
+      },
+    )
 
-pub returns-then-keeps_head-clause-changed : goal.returns-then-keeps_head-clause-changed
-returns-then-keeps_head-clause-changed c =
-    let old = c.args.self.now in
-    let command = c.args.command.now in
-    let home = c.args.env.home.now in
-    let r = some_rule (rule_of old.nodes) c.requires.rule in
-    let next = next_of command home old r.0 (replaced_at c.args.place (map part_view c.args.new.now) (parts_of old)) r.1 c.requires.next in
-    on_ok_weaker c.put_beside.result (λ taken. taken (rule_after command home old) next) c.put_beside.ensures.taken
-
-pub take-requires : goal.take-requires
-take-requires c =
+pub invariant_of-self-then-keeps_head : goal.invariant_of-self-then-keeps_head
+invariant_of-self-then-keeps_head c =
     let i = c.self.inside in
     let old = c.args.self.now in
     let command = c.args.command.now in
     let home = c.args.env.home.now in
     let r = some_rule (rule_of old.nodes) c.requires.rule in
-    let list : c.in_ok-list.list.items ≡ splice i.row.parts.items c.args.place.from c.args.place.to c.args.new.now =
-    c.in_ok-list.ensures ∙ ap (λ (ps : List Part). splice ps c.args.place.from c.args.place.to c.args.new.now) c.as_slice.ensures.value in (
-      rule_after command home old,
-      next_of command home old r.0 (map part_view c.in_ok-list.list.items) r.1
-          (of_next c.args.place i.row.parts.items c.args.new.now c.in_ok-list.list.items old (rule_after command home old) list (c.self.invariant.are ∙ ap parts_of c.self.view_is) c.requires.next),
-    )
+    let row = after_edit command home c.args.place i.row.parts.items c.args.new.now c.put_in.new.list.items _ _ _ old c.requires.rule c.self.view_is c.self.invariant.are c.in_ok-put_in.ensures.ok c.requires.next in
+    has_head (rule_after command home old) c.put_in.new.list.items _ _ _ i.head _ row.1 (c.keeps_head.ensures c.if-keeps_head.true home old i.head (subst (HasHead i.head) c.self.view_is c.self.invariant.has))
+    (grind (arith, c.saturating_add-self-inside.ensures, c.self.invariant.below, ap (λ (z : Statement). length z.before) c.self.view_is, c.new_comments.ensures home old r.0 r.1))
+
+pub returns-then-keeps_head-clause-changed : goal.returns-then-keeps_head-clause-changed
+returns-then-keeps_head-clause-changed c =
+    let i = c.self.inside in
+    let old = c.args.self.now in
+    let command = c.args.command.now in
+    let home = c.args.env.home.now in
+    let row = after_edit command home c.args.place i.row.parts.items c.args.new.now c.put_in.new.list.items _ _ _ old c.requires.rule c.self.view_is c.self.invariant.are c.in_ok-put_in.ensures.ok c.requires.next in
+    statement_of (rule_after command home old) c.put_in.new.list.items _ _ _ row.1
+
+pub invariant_of-self-2 : goal.invariant_of-self-2
+invariant_of-self-2 c =
+    let i = c.self.inside in
+    let old = c.args.self.now in
+    let command = c.args.command.now in
+    let home = c.args.env.home.now in
+    let list = c.in_ok-list.list.items in
+    let put : list ≡ splice i.row.parts.items c.args.place.from c.args.place.to c.args.new.now =
+    c.in_ok-list.ensures ∙ ap (λ (ps : List Part). splice ps c.args.place.from c.args.place.to c.args.new.now) c.as_slice.ensures.value in
+    let row = after_edit command home c.args.place i.row.parts.items c.args.new.now list _ _ _ old c.requires.rule c.self.view_is c.self.invariant.are put c.requires.next in
+    has_head (rule_after command home old) list _ _ _ c.in_ok-head.head i.comments row.1
+    (c.in_ok-head.ensures (rule_after command home old) row.0.rule (ap (map part_view) c.deref.ensures.value ∙ row.0.are) (sym row.1.begins) (sym row.1.ends))
+    (omega (arith, c.self.invariant.below, ap (λ (z : Statement). length z.before) c.self.view_is, row.0.before))
 
 pub returns-clause-changed : goal.returns-clause-changed
 returns-clause-changed c =
@@ -47,9 +74,8 @@ returns-clause-changed c =
     let old = c.args.self.now in
     let command = c.args.command.now in
     let home = c.args.env.home.now in
-    let r = some_rule (rule_of old.nodes) c.requires.rule in
-    let list : c.in_ok-list.list.items ≡ splice i.row.parts.items c.args.place.from c.args.place.to c.args.new.now =
+    let list = c.in_ok-list.list.items in
+    let put : list ≡ splice i.row.parts.items c.args.place.from c.args.place.to c.args.new.now =
     c.in_ok-list.ensures ∙ ap (λ (ps : List Part). splice ps c.args.place.from c.args.place.to c.args.new.now) c.as_slice.ensures.value in
-    let next = next_of command home old r.0 (map part_view c.in_ok-list.list.items) r.1
-    (of_next c.args.place i.row.parts.items c.args.new.now c.in_ok-list.list.items old (rule_after command home old) list (c.self.invariant.are ∙ ap parts_of c.self.view_is) c.requires.next) in
-    on_ok_weaker c.take.result (λ taken. taken (rule_after command home old) next) c.take.ensures.taken
+    let row = after_edit command home c.args.place i.row.parts.items c.args.new.now list _ _ _ old c.requires.rule c.self.view_is c.self.invariant.are put c.requires.next in
+    statement_of (rule_after command home old) list _ _ _ row.1
