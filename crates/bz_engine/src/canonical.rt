@@ -182,7 +182,7 @@ fn edit_unseen(
         put_canonical(script, found.chunk, progress, text)?;
         return Ok(true);
     }
-    edit_marked(script, found, progress, text)
+    edit_marked(script, &found, progress, text)
 }
 
 /// The script on the statement of such a chunk, by the first of these: the one command leaves it as it is, fails on it,
@@ -190,34 +190,34 @@ fn edit_unseen(
 #[inline(never)]
 fn edit_marked(
     script: ScriptRun<'_>,
-    found: Found<'_>,
+    found: &Found<'_>,
     progress: &mut Progress,
     text: &mut Vec<u8>,
 ) -> Result<bool, NoMemory>
     requires fits { Fits progress.old.kept script.passes.now }
-    ensures fits { OnOk result (Fits progress.new.kept script.entry.passes.now) }
     ensures line { OnOk result (progress.new.line ≡ progress.old.line) }
-    ensures edited { IfOk result (EditsFound (run_of script.entry) found.entry progress.old progress.new
+    ensures fits { OnOk result (Fits progress.new.kept script.entry.passes.now) }
+    ensures edited { IfOk result (EditsFound (run_of script.entry) found.now progress.old progress.new
         text.old.items text.new.items) }
 {
-    let Some(only) = marking(script, found) else {
+    let Some(only) = marking(script, *found) else {
         return Ok(false);
     };
     let env = Env {
         alloc: script.alloc,
         home: script.home,
     };
-    if let Some(unchanged) = unchanged_by_text(env, only.command, found)? {
+    if let Some(unchanged) = unchanged_by_text(env, only.command, *found)? {
         progress.keep_line(unchanged.line)?;
         put_canonical(script, found.chunk, progress, text)?;
         return Ok(true);
     }
-    if let Some(entry) = failure_by_text(script, only.command, found)? {
+    if let Some(entry) = failure_by_text(script, only.command, *found)? {
         progress.keep_failure(entry)?;
         put_canonical(script, found.chunk, progress, text)?;
         return Ok(true);
     }
-    edit_argument(script, only, found, progress, text)
+    edit_argument(script, only, *found, progress, text)
 }
 
 /// The one command of the script, with its target, where that marks the statement of the chunk.
