@@ -1,6 +1,7 @@
 //! The tests, each file on its own.
 
 mod buffers;
+mod checks;
 mod devices;
 mod faults;
 mod limits;

@@ -1,31 +1,40 @@
 //! Readers and writers of std, and sinks that take little.
 
 use crate::drip::Drip;
-use crate::script::{program, read_script};
-use bz_engine::{Failed, FromRead, RunFault, Sink, Source, ToWrite, run, write_all};
+use crate::tests::checks::{check, ran};
+use bz_engine::{Failed, FromRead, RunFault, Sink, Source, ToWrite, write_all};
 use std::alloc::Global;
 use std::io::{self, ErrorKind, Read, Write};
+use std::process::Abort;
 use std::test::Fail;
 
+/// A word is written to this sink: the answer, how many writes it took, how many failed, and what the sink has then.
+fn check_written(
+    rt: &impl Abort,
+    mut drip: Drip,
+    answer: Result<(), Failed>,
+    writes: (u64, u64),
+    taken: &[u8],
+) {
+    let found = write_all(&mut drip, b"cc_library");
+    let counts = (drip.writes, drip.failures());
+    let found = (found, counts, drip.taken.as_slice());
+    check(rt, "write_all", &found, &(answer, writes, taken));
+}
+
 #[test]
-fn writes_pieces(rt: HostRuntime) -> Result<(), Fail> {
-    let alloc = rt.alloc();
-    let text = b"cc_library";
+fn writes_pieces(rt: HostRuntime) {
+    let (alloc, all) = (rt.alloc(), b"cc_library".as_slice());
     for (most, writes) in [(1, 10), (3, 4), (10, 1), (99, 1)] {
-        let mut drip = Drip::new(alloc, most, None);
-        assert_eq!(rt; write_all(&mut drip, text), Ok(()));
-        assert_eq!(rt;
-            (drip.writes, drip.failures()),
-            (writes, 0),
-            "at most {most}"
-        );
-        assert_eq!(rt; drip.taken.as_slice(), text.as_slice(), "at most {most}");
+        check_written(&rt, Drip::new(alloc, most, None), Ok(()), (writes, 0), all);
     }
-    let mut drip = Drip::new(alloc, 1, Some(3));
-    assert_eq!(rt; write_all(&mut drip, text), Err(Failed));
-    assert_eq!(rt; drip.taken.as_slice(), b"cc".as_slice());
-    assert_eq!(rt; drip.failures(), 1);
-    Ok(())
+    check_written(
+        &rt,
+        Drip::new(alloc, 1, Some(3)),
+        Err(Failed),
+        (3, 1),
+        b"cc",
+    );
 }
 
 /// A reader whose first reads are interrupted.
@@ -104,78 +113,90 @@ impl Write for Stumbling {
     }
 }
 
-/// Sets an attribute over the devices, and answers the fault or the status.
-fn ran<S: Source, W: Sink>(
+/// A run writes this text into a list of bytes, and no call of its devices fails.
+fn check_run<S: Source>(
+    rt: &impl Abort,
     alloc: Global,
     source: &mut S,
-    sink: &mut W,
-) -> Result<Result<u8, RunFault>, Fail> {
-    let (home, passes) = read_script(alloc, "set n 7 ! -:*")?;
-    match run(home, passes, program(true), source, sink) {
-        Ok(report) => Ok(Ok(report.status())),
-        Err(fault) => Ok(Err(fault)),
-    }
+    status: u8,
+    wanted: &[u8],
+) -> Result<(), Fail> {
+    let mut text: Vec<u8> = Vec::new(alloc);
+    let mut sink = ToWrite::new(&mut text);
+    let answer = ran(alloc, source, &mut sink)?;
+    let failures = (source.failures(), sink.failures());
+    check(rt, "run", &(answer, failures), &(Ok(status), (0, 0)));
+    check(rt, "text", &text.as_slice(), &wanted);
+    Ok(())
 }
 
 #[test]
 fn stands_on_std(rt: HostRuntime) -> Result<(), Fail> {
-    let alloc = rt.alloc();
     let mut source = FromRead::new(b"f()\n".as_slice());
-    let mut text: Vec<u8> = Vec::new(alloc);
-    let mut sink = ToWrite::new(&mut text);
-    assert_eq!(rt; ran(alloc, &mut source, &mut sink)?, Ok(0));
-    assert_eq!(rt; (source.failures(), sink.failures()), (0, 0));
-    assert_eq!(rt; text.as_slice(), b"f(n = 7)\n".as_slice());
+    check_run(&rt, rt.alloc(), &mut source, 0, b"f(n = 7)\n")
+}
 
-    // A read that was interrupted is made again and is no failure.
+// A read that was interrupted is made again and is no failure.
+#[test]
+fn reads_again_if_interrupted(rt: HostRuntime) -> Result<(), Fail> {
     let mut shaken = FromRead::new(Shaken {
         interruptions: 100,
         ends: false,
     });
-    let mut text: Vec<u8> = Vec::new(alloc);
-    let mut sink = ToWrite::new(&mut text);
-    assert_eq!(rt; ran(alloc, &mut shaken, &mut sink)?, Ok(3));
-    assert_eq!(rt; shaken.failures(), 0);
-    assert_eq!(rt; text.as_slice(), b"x\n".as_slice());
+    check_run(&rt, rt.alloc(), &mut shaken, 3, b"x\n")
+}
 
+#[test]
+fn ends_at_a_full_writer(rt: HostRuntime) -> Result<(), Fail> {
     let mut source = FromRead::new(b"f()\n".as_slice());
     let mut full = ToWrite::new(Full);
-    assert_eq!(rt;
-        ran(alloc, &mut source, &mut full)?,
-        Err(RunFault::WriteFailed)
-    );
-    assert_eq!(rt; full.failures(), 1);
+    let answer = ran(rt.alloc(), &mut source, &mut full)?;
+    let found = (answer, full.failures());
+    check(&rt, "run", &found, &(Err(RunFault::WriteFailed), 1));
+    Ok(())
+}
+
+const KINDS: [ErrorKind; 3] = [
+    ErrorKind::Other,
+    ErrorKind::IsADirectory,
+    ErrorKind::WouldBlock,
+];
+
+fn check_failed_read(rt: &impl Abort, alloc: Global, kind: ErrorKind) -> Result<(), Fail> {
+    let mut reader = Stumbling::new(kind);
+    let mut source = FromRead::new(&mut reader);
+    let mut drip = Drip::new(alloc, 99, None);
+    let answer = ran(alloc, &mut source, &mut drip)?;
+    let found = (answer, Source::failures(&source), drip.writes);
+    check(rt, "run", &found, &(Err(RunFault::ReadFailed), 1, 0));
+    check(rt, "calls", &reader.calls, &1);
+    Ok(())
+}
+
+fn check_failed_write(rt: &impl Abort, alloc: Global, kind: ErrorKind) -> Result<(), Fail> {
+    let mut writer = Stumbling::new(kind);
+    let mut source = FromRead::new(b"f()\n".as_slice());
+    let mut sink = ToWrite::new(&mut writer);
+    let answer = ran(alloc, &mut source, &mut sink)?;
+    let found = (answer, Source::failures(&source), Sink::failures(&sink));
+    check(rt, "run", &found, &(Err(RunFault::WriteFailed), 0, 1));
+    check(rt, "calls", &writer.calls, &1);
     Ok(())
 }
 
 // A read or a write that failed is not made again, though it would succeed, but told.
 #[test]
-fn ends_at_a_failure(rt: HostRuntime) -> Result<(), Fail> {
-    let alloc = rt.alloc();
-    for kind in [
-        ErrorKind::Other,
-        ErrorKind::IsADirectory,
-        ErrorKind::WouldBlock,
-    ] {
-        let mut reader = Stumbling::new(kind);
-        let mut source = FromRead::new(&mut reader);
-        let mut drip = Drip::new(alloc, 99, None);
-        assert_eq!(rt;
-            ran(alloc, &mut source, &mut drip)?,
-            Err(RunFault::ReadFailed)
-        );
-        assert_eq!(rt; (Source::failures(&source), drip.writes), (1, 0));
-        assert_eq!(rt; reader.calls, 1);
+fn ends_at_a_failed_read(rt: HostRuntime) -> Result<(), Fail> {
+    for kind in KINDS {
+        check_failed_read(&rt, rt.alloc(), kind)?;
+    }
+    Ok(())
+}
 
-        let mut writer = Stumbling::new(kind);
-        let mut source = FromRead::new(b"f()\n".as_slice());
-        let mut sink = ToWrite::new(&mut writer);
-        assert_eq!(rt;
-            ran(alloc, &mut source, &mut sink)?,
-            Err(RunFault::WriteFailed)
-        );
-        assert_eq!(rt; (Source::failures(&source), Sink::failures(&sink)), (0, 1));
-        assert_eq!(rt; writer.calls, 1);
+#[test]
+fn ends_at_a_failed_write(rt: HostRuntime) -> Result<(), Fail> {
+    for kind in KINDS {
+        check_failed_write(&rt, rt.alloc(), kind)?;
     }
     Ok(())
 }

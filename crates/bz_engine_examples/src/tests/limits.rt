@@ -1,9 +1,12 @@
 //! How much is read, and which limit is met first.
 
+ghost use Rattle.std.specs.Prelude.{◌≤◌, ◌^◌};
+
 use crate::drip::Drip;
 use crate::feed::{Feed, Input, Piece};
 use crate::script::{limited, read_script};
-use bz_engine::{RunFault, Session, run};
+use crate::tests::checks::check;
+use bz_engine::{Options, RunFault, Session, Step, run};
 use bz_rule_examples::table::plain;
 use std::alloc::Global;
 use std::process::Abort;
@@ -39,48 +42,76 @@ fn first_step(
     alloc: Global,
     input: Input<'_>,
     piece: Piece,
-    max_statement: u64,
-    max_reads: u32,
-) -> Result<String, Fail> {
+    options: Options,
+) -> Result<(Result<Step, RunFault>, u64), Fail>
+    requires { options.max_reads ≤ 2 ^ 50 }
+{
     let mut feed = Feed::new(input, piece, None);
     let mut drip = Drip::new(alloc, 99, None);
     let (home, passes) = read_script(alloc, "set a 1 ! -:*")?;
-    let options = limited(max_statement, 100, max_reads);
     let mut session = Session::new(alloc, home, passes, options)?;
     let step = session.step(&mut feed, &mut drip);
-    let reads = feed.reads;
-    let answer = match step {
-        Ok(step) => format!(in alloc; "{step:?} {reads}")?,
-        Err(RunFault::StatementTooLong { line: 1 }) => format!(in alloc;
-            "StatementTooLong {reads}"
-        )?,
-        Err(fault) => format!(in alloc; "{fault:?} {reads}")?,
-    };
-    Ok(answer)
+    Ok((step, feed.reads))
 }
 
-fn check(rt: &impl Abort, alloc: Global, table: &str, piece: Piece) -> Result<(), Fail> {
-    for row in table.lines() {
-        let (input, rest) = row.split_once(' ').ok_or("a row without limits")?;
-        let (bytes, rest) = rest.split_once(' ').ok_or("a row without limits")?;
-        let (reads, wanted) = rest.split_once(' ').ok_or("a row without an answer")?;
-        let max_statement = bytes.parse::<u64>()?;
-        let max_reads = reads.parse::<u32>()?;
-        let text = plain(alloc, input.trim_start_matches('∞'))?;
-        let input = match (input.starts_with('∞'), text.as_bytes().first()) {
-            (true, Some(byte)) => Input::Endless(*byte),
-            _ => Input::Bytes(text.as_bytes()),
-        };
-        let found = first_step(alloc, input, piece, max_statement, max_reads)?;
-        assert_eq!(rt; found.as_str(), wanted, "{row}");
+fn shown_step(alloc: Global, step: Result<Step, RunFault>, reads: u64) -> Result<String, Fail> {
+    let shown = match step {
+        Ok(step) => format!(in alloc; "{step:?} {reads}"),
+        Err(RunFault::StatementTooLong { line: 1 }) => format!(in alloc;
+            "StatementTooLong {reads}"
+        ),
+        Err(fault) => format!(in alloc; "{fault:?} {reads}"),
+    }?;
+    Ok(shown)
+}
+
+/// What the first step over the input of a row answers.
+fn first_answer(
+    alloc: Global,
+    input: &str,
+    piece: Piece,
+    max_statement: u64,
+    max_reads: u32,
+) -> Result<String, Fail> {
+    let text = plain(alloc, input.trim_start_matches('∞'))?;
+    let input = match (input.starts_with('∞'), text.as_bytes().first()) {
+        (true, Some(byte)) => Input::Endless(*byte),
+        _ => Input::Bytes(text.as_bytes()),
+    };
+    let options = limited(max_statement, 100, max_reads);
+    let (step, reads) = first_step(alloc, input, piece, options)?;
+    shown_step(alloc, step, reads)
+}
+
+/// A row's input, its limits, and its answer.
+fn cut_row(row: &str) -> Result<(&str, u64, u32, &str), Fail> {
+    let (input, rest) = row.split_once(' ').ok_or("a row without limits")?;
+    let (bytes, rest) = rest.split_once(' ').ok_or("a row without limits")?;
+    let (reads, wanted) = rest.split_once(' ').ok_or("a row without an answer")?;
+    Ok((input, bytes.parse::<u64>()?, reads.parse::<u32>()?, wanted))
+}
+
+fn check_row(rt: &impl Abort, alloc: Global, row: &str, piece: Piece) -> Result<(), Fail> {
+    let (input, max_statement, max_reads, wanted) = cut_row(row)?;
+    let found = first_answer(alloc, input, piece, max_statement, max_reads)?;
+    check(rt, row, &found.as_str(), &wanted);
+    Ok(())
+}
+
+#[test]
+fn reads_lines_that_are_needed(rt: HostRuntime) -> Result<(), Fail> {
+    for row in BY_LINES.lines() {
+        check_row(&rt, rt.alloc(), row, Piece::Line)?;
     }
     Ok(())
 }
 
 #[test]
-fn reads_what_is_needed(rt: HostRuntime) -> Result<(), Fail> {
-    check(&rt, rt.alloc(), BY_LINES, Piece::Line)?;
-    check(&rt, rt.alloc(), BY_BYTES, Piece::AtMost(1))
+fn reads_bytes_that_are_needed(rt: HostRuntime) -> Result<(), Fail> {
+    for row in BY_BYTES.lines() {
+        check_row(&rt, rt.alloc(), row, Piece::AtMost(1))?;
+    }
+    Ok(())
 }
 
 /// So many brackets in one another.
@@ -105,13 +136,23 @@ fn messages(alloc: Global, input: &[u8], max_depth: u8) -> Result<usize, Fail> {
     Ok(report.messages.len())
 }
 
+/// A run over so many brackets in one another tells so many messages.
+fn check_depth(rt: &impl Abort, alloc: Global, depth: usize, told: usize) -> Result<(), Fail> {
+    let text = nested(alloc, depth)?;
+    let found = messages(alloc, text.as_bytes(), 100)?;
+    check(rt, text.as_str(), &found, &told);
+    Ok(())
+}
+
 #[test]
 fn keeps_to_the_depth(rt: HostRuntime) -> Result<(), Fail> {
-    let alloc = rt.alloc();
-    let most = nested(alloc, 100)?;
-    let more = nested(alloc, 101)?;
-    assert_eq!(rt; messages(alloc, most.as_bytes(), 100)?, 0);
-    assert_eq!(rt; messages(alloc, more.as_bytes(), 100)?, 1);
-    assert_eq!(rt; messages(alloc, b"f()\n", 0)?, 1);
+    check_depth(&rt, rt.alloc(), 100, 0)?;
+    check_depth(&rt, rt.alloc(), 101, 1)
+}
+
+#[test]
+fn keeps_to_no_depth(rt: HostRuntime) -> Result<(), Fail> {
+    let found = messages(rt.alloc(), b"f()\n", 0)?;
+    check(&rt, "f()", &found, &1);
     Ok(())
 }

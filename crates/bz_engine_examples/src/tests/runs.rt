@@ -4,7 +4,8 @@
 use crate::drip::Drip;
 use crate::feed::{Feed, Input, Piece};
 use crate::script::{program, read_script};
-use bz_engine::{End, Report, run};
+use crate::tests::checks::check;
+use bz_engine::{End, Report, Texts, run};
 use bz_rule_examples::table::{BLOCK, cut_rows, plain};
 use bz_rule_examples::texts::TEXTS;
 use std::alloc::Global;
@@ -215,52 +216,74 @@ fn run_all(alloc: Global, script: &str, input: &[u8], most: usize) -> Result<Out
     })
 }
 
-/// What a report tells.
-fn told(alloc: Global, report: &Report) -> Result<String, Fail> {
-    let mut out = String::new(alloc);
-    let mut lines = report.lines.iter();
-    while let Some(line) = lines.next() {
-        out.push_str("line: ")?;
-        out.push_str(line)?;
+/// Each of these texts on a line of its own, after a word.
+fn put_texts(word: &str, texts: &Texts, out: &mut String) -> Result<(), Fail> {
+    let mut left = texts.iter();
+    while let Some(text) = left.next() {
+        out.push_str(word)?;
+        out.push_str(text)?;
         out.push('\n')?;
     }
-    let mut messages = report.messages.iter();
-    while let Some(message) = messages.next() {
-        out.push_str("message: ")?;
-        out.push_str(message)?;
-        out.push('\n')?;
-    }
+    Ok(())
+}
+
+/// What was written, and what is told.
+fn shown(alloc: Global, outcome: &Outcome) -> Result<String, Fail> {
+    let Outcome { text, report } = outcome;
+    let mut out = String::from_str(alloc, str::from_utf8(text)?)?;
+    out.push_str("=>\n")?;
+    put_texts("line: ", &report.lines, &mut out)?;
+    put_texts("message: ", &report.messages, &mut out)?;
     let status = report.status();
     let last = format!(in alloc; "status {status}\n")?;
     out.push_str(last.as_str())?;
     Ok(out)
 }
 
+/// What a run wrote and told.
+fn ran(alloc: Global, script: &str, input: &[u8], most: usize) -> Result<String, Fail> {
+    shown(alloc, &run_all(alloc, script, input, most)?)
+}
+
 /// A run writes and tells this, and so it does all at once and byte by byte.
-fn check(
+fn check_run(
     rt: &impl Abort,
     alloc: Global,
     script: &str,
     input: &[u8],
-    text: &str,
-    wanted: &str,
+    answer: &str,
 ) -> Result<(), Fail> {
     for most in [1, 9000] {
-        let outcome = run_all(alloc, script, input, most)?;
-        assert!(rt; outcome.text.as_slice() == text.as_bytes(), "{script}");
-        let told = told(alloc, &outcome.report)?;
-        assert_eq!(rt; told.as_str(), wanted, "{script}");
+        let found = ran(alloc, script, input, most)?;
+        check(rt, script, &found.as_str(), &answer);
     }
     Ok(())
+}
+
+/// A run writes this text and has nothing to tell.
+fn check_quiet(
+    rt: &impl Abort,
+    alloc: Global,
+    script: &str,
+    input: &str,
+    text: &str,
+) -> Result<(), Fail> {
+    let answer = format!(in alloc; "{text}=>\nstatus 3\n")?;
+    check_run(rt, alloc, script, input.as_bytes(), answer.as_str())
+}
+
+/// What is written for an input can be read again.
+fn is_read_again(alloc: Global, script: &str, input: &[u8]) -> Result<bool, Fail> {
+    let first = run_all(alloc, script, input, 9000)?;
+    let again = run_all(alloc, script, first.text.as_slice(), 9000)?;
+    Ok(!matches!(again.report.end, End::Syntax(_)))
 }
 
 /// Each front of an input has an outcome, and what was written for it can be read again.
 fn check_fronts(rt: &impl Abort, alloc: Global, script: &str, input: &[u8]) -> Result<(), Fail> {
     for len in 0..input.len() {
-        let first = run_all(alloc, script, &input[..len], 9000)?;
-        let again = run_all(alloc, script, first.text.as_slice(), 9000)?;
-        let is_read = !matches!(again.report.end, End::Syntax(_));
-        assert!(rt; is_read, "{script}, {len} bytes");
+        let is_read = is_read_again(alloc, script, &input[..len])?;
+        check(rt, script, &(len, is_read), &(len, true));
     }
     Ok(())
 }
@@ -279,76 +302,100 @@ const SAME: &str = "set_if_absent name z ! -:*";
 /// What marks no statement.
 const NONE: &str = "set a 1 ! -:%none";
 
-// The text of a run is written again as it stands, and nothing is told of it.
-#[test]
-fn runs_byte_by_byte(rt: HostRuntime) -> Result<(), Fail> {
-    let alloc = rt.alloc();
-    for (asked, answer) in cut_rows(alloc, RUNS)? {
-        let (script, input) = cut_asked(alloc, asked)?;
-        let (text, wanted) = answer.split_once("=>\n").ok_or("a row without a status")?;
-        check(&rt, alloc, script, input.as_bytes(), text, wanted)?;
-        check(&rt, alloc, SAME, text.as_bytes(), text, "status 3\n")?;
-    }
-    let input = format!(in alloc; "{BLOCK}\n# c\nz=1\n")?;
-    let text = format!(in alloc; "{BLOCK}\n# c\nz = 1\n")?;
-    for (script, input) in [(SET, input.as_str()), (SAME, text.as_str())] {
-        check(
-            &rt,
-            alloc,
-            script,
-            input.as_bytes(),
-            text.as_str(),
-            "status 3\n",
-        )?;
-    }
-    check_fronts(&rt, alloc, SET, input.as_bytes())
+fn check_row(rt: &impl Abort, alloc: Global, asked: &str, answer: &str) -> Result<(), Fail> {
+    let (script, input) = cut_asked(alloc, asked)?;
+    check_run(rt, alloc, script, input.as_bytes(), answer)
 }
 
-// What no pass marks is laid out too, and its text is copied.
 #[test]
-fn layouts_byte_by_byte(rt: HostRuntime) -> Result<(), Fail> {
-    let alloc = rt.alloc();
-    for (input, text) in cut_rows(alloc, TEXTS)? {
-        let input = plain(alloc, input)?;
-        check(&rt, alloc, NONE, input.as_bytes(), text, "status 3\n")?;
-        check(&rt, alloc, NONE, text.as_bytes(), text, "status 3\n")?;
+fn runs_byte_by_byte(rt: HostRuntime) -> Result<(), Fail> {
+    for (asked, answer) in cut_rows(rt.alloc(), RUNS)? {
+        check_row(&rt, rt.alloc(), asked, answer)?;
+    }
+    Ok(())
+}
+
+// The text of a run is written again as it stands, and nothing is told of it.
+#[test]
+fn runs_again(rt: HostRuntime) -> Result<(), Fail> {
+    for (_, answer) in cut_rows(rt.alloc(), RUNS)? {
+        let (text, _) = answer.split_once("=>\n").ok_or("a row without a status")?;
+        check_quiet(&rt, rt.alloc(), SAME, text, text)?;
     }
     Ok(())
 }
 
 #[test]
-fn fronts_of_inputs(rt: HostRuntime) -> Result<(), Fail> {
+fn blocks_byte_by_byte(rt: HostRuntime) -> Result<(), Fail> {
     let alloc = rt.alloc();
-    for (asked, _) in cut_rows(alloc, RUNS)? {
-        let (script, input) = cut_asked(alloc, asked)?;
-        check_fronts(&rt, alloc, script, input.as_bytes())?;
+    let input = format!(in alloc; "{BLOCK}\n# c\nz=1\n")?;
+    let text = format!(in alloc; "{BLOCK}\n# c\nz = 1\n")?;
+    check_quiet(&rt, alloc, SET, input.as_str(), text.as_str())?;
+    check_quiet(&rt, alloc, SAME, text.as_str(), text.as_str())?;
+    check_fronts(&rt, alloc, SET, input.as_bytes())
+}
+
+fn check_text(rt: &impl Abort, alloc: Global, input: &str, text: &str) -> Result<(), Fail> {
+    let input = plain(alloc, input)?;
+    check_quiet(rt, alloc, NONE, input.as_str(), text)
+}
+
+// What no pass marks is laid out too, and its text is copied.
+#[test]
+fn layouts_byte_by_byte(rt: HostRuntime) -> Result<(), Fail> {
+    for (input, text) in cut_rows(rt.alloc(), TEXTS)? {
+        check_text(&rt, rt.alloc(), input, text)?;
+        check_quiet(&rt, rt.alloc(), NONE, text, text)?;
     }
+    Ok(())
+}
+
+fn check_row_fronts(rt: &impl Abort, alloc: Global, asked: &str) -> Result<(), Fail> {
+    let (script, input) = cut_asked(alloc, asked)?;
+    check_fronts(rt, alloc, script, input.as_bytes())
+}
+
+#[test]
+fn fronts_of_inputs(rt: HostRuntime) -> Result<(), Fail> {
+    for (asked, _) in cut_rows(rt.alloc(), RUNS)? {
+        check_row_fronts(&rt, rt.alloc(), asked)?;
+    }
+    Ok(())
+}
+
+#[test]
+fn not_utf8(rt: HostRuntime) -> Result<(), Fail> {
     let bad = b"x = \"\xff\"\n";
-    let told = "message: 1:6: not UTF-8\nstatus 2\n";
-    check(&rt, alloc, SET, bad, "", told)?;
-    check_fronts(&rt, alloc, SET, bad)
+    let answer = "=>\nmessage: 1:6: not UTF-8\nstatus 2\n";
+    check_run(&rt, rt.alloc(), SET, bad, answer)?;
+    check_fronts(&rt, rt.alloc(), SET, bad)
+}
+
+/// What a run without passes writes and tells.
+fn ran_without(alloc: Global, input: &str) -> Result<String, Fail> {
+    let mut feed = Feed::new(Input::Bytes(input.as_bytes()), Piece::Line, None);
+    let mut drip = Drip::new(alloc, 9000, None);
+    let (home, _) = read_script(alloc, "print name ! -:*")?;
+    let report = run(home, Vec::new(alloc), program(true), &mut feed, &mut drip)?;
+    let outcome = Outcome {
+        text: drip.taken,
+        report,
+    };
+    shown(alloc, &outcome)
 }
 
 // A run without passes asks for nothing: it writes no text, and tells the fault of a file alone.
 #[test]
 fn without_passes(rt: HostRuntime) -> Result<(), Fail> {
-    let alloc = rt.alloc();
-    let rows = [
-        ("x=1\n", "status 3\n"),
+    for (input, wanted) in [
+        ("x=1\n", "=>\nstatus 3\n"),
         (
             "x=1\ny=(\n",
-            "message: 2:3: bracket is not closed\nstatus 2\n",
+            "=>\nmessage: 2:3: bracket is not closed\nstatus 2\n",
         ),
-    ];
-    for (input, wanted) in rows {
-        let mut feed = Feed::new(Input::Bytes(input.as_bytes()), Piece::Line, None);
-        let mut drip = Drip::new(alloc, 9000, None);
-        let (home, _) = read_script(alloc, "print name ! -:*")?;
-        let passes = Vec::new(alloc);
-        let report = run(home, passes, program(true), &mut feed, &mut drip)?;
-        assert!(rt; drip.taken.is_empty(), "{input}");
-        let told = told(alloc, &report)?;
-        assert_eq!(rt; told.as_str(), wanted, "{input}");
+    ] {
+        let found = ran_without(rt.alloc(), input)?;
+        check(&rt, input, &found.as_str(), &wanted);
     }
     Ok(())
 }

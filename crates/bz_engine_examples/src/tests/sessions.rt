@@ -5,7 +5,8 @@ ghost use Rattle.std.specs.Prelude.{◌≤◌, ◌^◌};
 use crate::drip::Drip;
 use crate::feed::{Feed, Input, Piece};
 use crate::script::{limited, program, read_script};
-use bz_engine::{End, Options, RunFault, Session, Step, SyntaxFault};
+use crate::tests::checks::check;
+use bz_engine::{End, Options, Report, RunFault, Session, Step, SyntaxFault};
 use bz_rule_examples::table::{cut_rows, plain};
 use bz_token::{LexFault, check_utf8};
 use bz_tree::ParseFault;
@@ -49,36 +50,52 @@ impl<'a> Bench<'a> {
         self.session.step(&mut self.feed, &mut self.drip)
     }
 
-    /// A step answers this; after it the source has given so many bytes, in one read each, and the sink holds this text.
-    fn check_step(&mut self, rt: &impl Abort, answer: Step, reads: u64, text: &str) {
-        assert_eq!(rt; self.step(), Ok(answer), "{reads} reads");
-        assert_eq!(rt; self.feed.reads, reads);
-        let taken = check_utf8(self.drip.taken.as_slice());
-        assert_eq!(rt; taken, Ok(text), "{reads} reads");
+    fn text(&self) -> Result<&str, usize> {
+        check_utf8(self.drip.taken.as_slice())
     }
 
-    /// So many steps answer `More`, and the next `End`; then the run has ended in this way, and the sink holds this text.
-    fn check_end(mut self, rt: &impl Abort, steps: u64, end: End, text: &str) -> Result<(), Fail> {
+    /// A step answers this; after it the source has given so many bytes, in one read each, and the sink holds this text.
+    fn check_step(&mut self, rt: &impl Abort, answer: Step, reads: u64, text: &str) {
+        let found = (self.step(), self.feed.reads, self.text());
+        check(rt, text, &found, &(Ok(answer), reads, Ok(text)));
+    }
+
+    /// So many steps answer `More`.
+    fn check_steps(&mut self, rt: &impl Abort, steps: u64) {
         for _ in 0..steps {
-            assert_eq!(rt; self.step(), Ok(Step::More));
+            check(rt, "a step", &self.step(), &Ok(Step::More));
         }
-        assert_eq!(rt; self.step(), Ok(Step::End));
+    }
+
+    /// The next step ends the run; then it has ended in this way, and the sink holds this text.
+    fn check_end(mut self, rt: &impl Abort, end: End, text: &str) -> Result<(), Fail> {
+        check(rt, text, &self.step(), &Ok(Step::End));
         let reads = self.feed.reads;
         self.check_step(rt, Step::End, reads, text);
         let report = self.session.finish()?;
-        assert_eq!(rt; report.end, end);
+        check(rt, text, &report.end, &end);
         Ok(())
+    }
+
+    /// What a step answers, and the reads and writes until then.
+    fn counted_step(&mut self) -> (Result<Step, RunFault>, u64, u64) {
+        (self.step(), self.feed.reads, self.drip.writes)
     }
 
     /// The fault that the next step meets. From then on the session answers `Stopped`, reads and writes nothing, and has no
     /// report. The devices, as it left them.
     fn check_stop(mut self, rt: &impl Abort, fault: RunFault, text: &str) -> (Feed<'a>, Drip) {
-        assert_eq!(rt; self.step(), Err(fault));
-        let (reads, writes) = (self.feed.reads, self.drip.writes);
-        assert_eq!(rt; self.step(), Err(RunFault::Stopped));
-        assert_eq!(rt; (self.feed.reads, self.drip.writes), (reads, writes));
-        assert_eq!(rt; check_utf8(self.drip.taken.as_slice()), Ok(text));
-        assert_eq!(rt; self.session.finish().err(), Some(RunFault::Stopped));
+        let (met, reads, writes) = self.counted_step();
+        check(rt, text, &met, &Err(fault));
+        let again = self.counted_step();
+        check(rt, text, &again, &(Err(RunFault::Stopped), reads, writes));
+        check(rt, text, &self.text(), &Ok(text));
+        check(
+            rt,
+            text,
+            &self.session.finish().err(),
+            &Some(RunFault::Stopped),
+        );
         (self.feed, self.drip)
     }
 }
@@ -93,43 +110,59 @@ fn past_two_rules(rt: &impl Abort, alloc: Global, max_reads: u32) -> Result<Benc
     Ok(bench)
 }
 
+/// What a whole run reported: how it ended, its status, and whether it told nothing.
+fn reported(report: &Report) -> (End, u8, bool) {
+    let is_quiet = report.lines.is_empty() && report.messages.is_empty();
+    (report.end, report.status(), is_quiet)
+}
+
 #[test]
 fn takes_a_chunk_each(rt: HostRuntime) -> Result<(), Fail> {
     let mut bench = past_two_rules(&rt, rt.alloc(), 29)?;
     bench.check_step(&rt, Step::End, 29, SECOND_RULE);
     bench.check_step(&rt, Step::End, 29, SECOND_RULE);
     let report = bench.session.finish()?;
-    assert_eq!(rt; report.end, End::Whole);
-    assert_eq!(rt; report.status(), 0);
-    assert!(rt; report.lines.is_empty());
-    assert!(rt; report.messages.is_empty());
+    check(&rt, "report", &reported(&report), &(End::Whole, 0, true));
     Ok(())
 }
 
-// A fault, and without `-k` a failure, ends a session; nothing of its statement is written.
+// A fault ends a session; nothing of its statement is written.
 #[test]
-fn ends_early(rt: HostRuntime) -> Result<(), Fail> {
-    let alloc = rt.alloc();
-    let mut bench = Bench::new(alloc, SET_ALL, program(true))?;
+fn ends_at_a_fault(rt: HostRuntime) -> Result<(), Fail> {
+    let mut bench = Bench::new(rt.alloc(), SET_ALL, program(true))?;
     bench.feed = Feed::new(Input::Bytes(TO_BRACKET), Piece::Line, None);
+    bench.check_steps(&rt, 2);
     let bracket = ParseFault::Lex(LexFault::BadBracket { line: 3, col: 5 });
     let end = End::Syntax(SyntaxFault::Parse(bracket));
     let text = "x = 1\n\nf(\n    name = \"a\",\n    a = 1,\n)\n";
-    bench.check_end(&rt, 2, end, text)?;
-    let mut bench = Bench::new(alloc, "rename n name ! -:*", program(false))?;
+    bench.check_end(&rt, end, text)
+}
+
+// Without `-k` a failure does so, too.
+#[test]
+fn ends_at_a_failure(rt: HostRuntime) -> Result<(), Fail> {
+    let mut bench = Bench::new(rt.alloc(), "rename n name ! -:*", program(false))?;
     bench.feed = Feed::new(Input::Bytes(TO_BRACKET), Piece::Line, None);
-    bench.check_end(&rt, 1, End::FirstFailure, "x = 1\n")
+    bench.check_steps(&rt, 1);
+    bench.check_end(&rt, End::FirstFailure, "x = 1\n")
 }
 
 // A session that has not ended has no report.
 #[test]
 fn finishes_early(rt: HostRuntime) -> Result<(), Fail> {
     let bench = Bench::new(rt.alloc(), DELETE, program(true))?;
-    assert_eq!(rt; bench.session.finish().err(), Some(RunFault::Stopped));
+    let fault = bench.session.finish().err();
+    check(&rt, "no step", &fault, &Some(RunFault::Stopped));
+    Ok(())
+}
+
+#[test]
+fn finishes_after_a_step(rt: HostRuntime) -> Result<(), Fail> {
     let mut bench = Bench::new(rt.alloc(), DELETE, program(true))?;
     bench.feed = Feed::new(Input::Bytes(TWO_RULES), Piece::AtMost(99), None);
-    assert_eq!(rt; bench.step(), Ok(Step::More));
-    assert_eq!(rt; bench.session.finish().err(), Some(RunFault::Stopped));
+    bench.check_steps(&rt, 1);
+    let fault = bench.session.finish().err();
+    check(&rt, "a step", &fault, &Some(RunFault::Stopped));
     Ok(())
 }
 
@@ -140,7 +173,7 @@ fn stops_at_a_failed_write(rt: HostRuntime) -> Result<(), Fail> {
     bench.feed = Feed::new(Input::Bytes(input), Piece::AtMost(99), None);
     bench.drip = Drip::new(rt.alloc(), 1, Some(3));
     let (_, drip) = bench.check_stop(&rt, RunFault::WriteFailed, "cc");
-    assert_eq!(rt; (drip.writes, drip.failures), (3, 1));
+    check(&rt, "writes", &(drip.writes, drip.failures), &(3, 1));
     Ok(())
 }
 
@@ -148,11 +181,10 @@ fn stops_at_a_failed_write(rt: HostRuntime) -> Result<(), Fail> {
 fn stops_at_a_failed_read(rt: HostRuntime) -> Result<(), Fail> {
     let mut bench = Bench::new(rt.alloc(), "add deps q ! print kind ! -:a", program(true))?;
     bench.feed = Feed::new(Input::Bytes(TO_BRACKET), Piece::Line, Some(3));
-    assert_eq!(rt; bench.step(), Ok(Step::More));
-    assert_eq!(rt; bench.step(), Ok(Step::More));
+    bench.check_steps(&rt, 2);
     let text = "x = 1\n\nf(\n    name = \"a\",\n    deps = [\"q\"],\n)\n";
     let (feed, _) = bench.check_stop(&rt, RunFault::ReadFailed, text);
-    assert_eq!(rt; (feed.reads, feed.failures), (3, 1));
+    check(&rt, "reads", &(feed.reads, feed.failures), &(3, 1));
     Ok(())
 }
 
@@ -161,7 +193,7 @@ fn stops_at_a_failed_read(rt: HostRuntime) -> Result<(), Fail> {
 fn stops_at_the_last_read(rt: HostRuntime) -> Result<(), Fail> {
     let bench = past_two_rules(&rt, rt.alloc(), 28)?;
     let (feed, _) = bench.check_stop(&rt, RunFault::InputTooLong, SECOND_RULE);
-    assert_eq!(rt; feed.reads, 28);
+    check(&rt, "reads", &feed.reads, &28);
     Ok(())
 }
 
@@ -173,7 +205,7 @@ fn stops_in_an_endless_input(rt: HostRuntime) -> Result<(), Fail> {
         bench.check_step(&rt, Step::More, reads, "");
     }
     let (feed, _) = bench.check_stop(&rt, RunFault::InputTooLong, "");
-    assert_eq!(rt; feed.reads, 3);
+    check(&rt, "reads", &feed.reads, &3);
     Ok(())
 }
 
@@ -183,8 +215,7 @@ fn stops_at_a_long_statement(rt: HostRuntime) -> Result<(), Fail> {
     let input = b"x = 123\n\ny = 1234\n";
     let mut bench = Bench::new(rt.alloc(), SET_ALL, limited(8, 100, 99))?;
     bench.feed = Feed::new(Input::Bytes(input), Piece::AtMost(99), None);
-    assert_eq!(rt; bench.step(), Ok(Step::More));
-    assert_eq!(rt; bench.step(), Ok(Step::More));
+    bench.check_steps(&rt, 2);
     let fault = RunFault::StatementTooLong { line: 3 };
     let _ = bench.check_stop(&rt, fault, "x = 123\n");
     Ok(())
@@ -351,21 +382,25 @@ fn steps(alloc: Global, input: &[u8], piece: Piece) -> Result<Vec<u8>, Fail> {
     Err(Fail::from("no end"))
 }
 
-// However the source cuts the input.
+/// However the source cuts the input.
+fn check_chunks(rt: &impl Abort, alloc: Global, text: &str, wanted: &str) -> Result<(), Fail> {
+    let input = plain(alloc, text)?;
+    for piece in [
+        Piece::AtMost(1),
+        Piece::AtMost(3),
+        Piece::AtMost(9000),
+        Piece::Line,
+    ] {
+        let found = steps(alloc, input.as_bytes(), piece)?;
+        check(rt, text, &check_utf8(found.as_slice()), &Ok(wanted));
+    }
+    Ok(())
+}
+
 #[test]
 fn takes_chunks(rt: HostRuntime) -> Result<(), Fail> {
-    let alloc = rt.alloc();
-    for (text, wanted) in cut_rows(alloc, CHUNKS)? {
-        let text = plain(alloc, text)?;
-        for piece in [
-            Piece::AtMost(1),
-            Piece::AtMost(3),
-            Piece::AtMost(9000),
-            Piece::Line,
-        ] {
-            let found = steps(alloc, text.as_bytes(), piece)?;
-            assert_eq!(rt; check_utf8(found.as_slice()), Ok(wanted), "in {text}");
-        }
+    for (text, wanted) in cut_rows(rt.alloc(), CHUNKS)? {
+        check_chunks(&rt, rt.alloc(), text, wanted)?;
     }
     Ok(())
 }

@@ -3,6 +3,7 @@
 use crate::drip::Drip;
 use crate::feed::{Feed, Input, Piece};
 use crate::script::{program, read_script};
+use crate::tests::checks;
 use bz_engine::run;
 use std::alloc::Global;
 use std::process::Abort;
@@ -38,28 +39,36 @@ fn check(
     let (home, passes) = read_script(alloc, script)?;
     let report = run(home, passes, program(true), &mut feed, &mut drip)?;
     let status = if input == wanted { 3 } else { 0 };
-    assert_eq!(rt; report.status(), status);
-    assert!(rt; drip.taken.as_slice() == wanted.as_bytes());
+    let found = (report.status(), drip.taken.as_slice() == wanted.as_bytes());
+    checks::check(rt, "status and text", &found, &(status, true));
     Ok(())
+}
+
+/// A run that has nothing to do writes this again, which is longer than so many bytes.
+fn check_same(rt: &impl Abort, alloc: Global, text: &str, bytes: usize) -> Result<(), Fail> {
+    checks::check(rt, "is long", &(text.len() > bytes), &true);
+    check(rt, alloc, "set_if_absent name z ! -:*", text, text)
 }
 
 // A statement of 200 KiB with 20,000 tokens, and a token of 70 KiB.
 #[test]
-fn long_statements(rt: HostRuntime) -> Result<(), Fail> {
+fn long_statement(rt: HostRuntime) -> Result<(), Fail> {
     let alloc = rt.alloc();
-    let same = "set_if_absent name z ! -:*";
     let many = rule(alloc, "deps", 10_000)?;
-    assert!(rt; many.len() > 200 * 1024);
-    check(&rt, alloc, same, many.as_str(), many.as_str())?;
+    check_same(&rt, alloc, many.as_str(), 200 * 1024)
+}
+
+#[test]
+fn long_token(rt: HostRuntime) -> Result<(), Fail> {
+    let alloc = rt.alloc();
     let digits = numbered(alloc, "", 14_400, "")?;
     let token = format!(in alloc; "x = \"{digits}\"\n")?;
-    assert!(rt; token.len() > 70 * 1024);
-    check(&rt, alloc, same, token.as_str(), token.as_str())
+    check_same(&rt, alloc, token.as_str(), 70 * 1024)
 }
 
 // Commands of 2,000 values, some 40 KiB, and of 10 KiB in one word; 1,000 elements that move.
 #[test]
-fn long_commands(rt: HostRuntime) -> Result<(), Fail> {
+fn many_values(rt: HostRuntime) -> Result<(), Fail> {
     let alloc = rt.alloc();
     let values = numbered(alloc, " //some/package:", 2_000, "")?;
     let add = format!(in alloc; "add deps{values} ! -:a")?;
@@ -70,19 +79,25 @@ fn long_commands(rt: HostRuntime) -> Result<(), Fail> {
         add.as_str(),
         "f(name = \"a\")\n",
         added.as_str(),
-    )?;
+    )
+}
+
+#[test]
+fn long_word(rt: HostRuntime) -> Result<(), Fail> {
+    let alloc = rt.alloc();
     let digits = numbered(alloc, "", 2_100, "")?;
     let set = format!(in alloc; "set n {digits} ! -:*")?;
     let long = format!(in alloc; "f(n = {digits})\n")?;
-    check(&rt, alloc, set.as_str(), "f()\n", long.as_str())?;
-    let (deps, data) = (rule(alloc, "deps", 1_000)?, rule(alloc, "data", 1_000)?);
-    check(
-        &rt,
-        alloc,
-        "move deps data * ! -:a",
-        deps.as_str(),
-        data.as_str(),
-    )
+    check(&rt, alloc, set.as_str(), "f()\n", long.as_str())
+}
+
+#[test]
+fn many_elements(rt: HostRuntime) -> Result<(), Fail> {
+    let alloc = rt.alloc();
+    let deps = rule(alloc, "deps", 1_000)?;
+    let data = rule(alloc, "data", 1_000)?;
+    let script = "move deps data * ! -:a";
+    check(&rt, alloc, script, deps.as_str(), data.as_str())
 }
 
 // 500 passes, each over what the one before it left.
