@@ -64,7 +64,7 @@ pub(crate) fn edit_canonical(
             Ok(None)
         }
         Some(found) => {
-            let next = edit_known(script, found, progress, text)?;
+            let next = edit_known(script, &found, progress, text)?;
             progress.give_back_written(written);
             Ok(next)
         }
@@ -90,7 +90,7 @@ pub(crate) fn edit_whole(
     let mut written = progress.take_written(script.alloc);
     match find_canonical(script, chunk, u64::MAX, &mut written)? {
         Some(found) if found.chunk.chunk.len() == chunk.len() => {
-            let next = edit_known(script, found, progress, text)?;
+            let next = edit_known(script, &found, progress, text)?;
             progress.give_back_written(written);
             Ok(next.is_some())
         }
@@ -106,19 +106,19 @@ pub(crate) fn edit_whole(
 #[inline(always)]
 fn edit_known(
     script: ScriptRun<'_>,
-    found: Found<'_>,
+    found: &Found<'_>,
     progress: &mut Progress,
     text: &mut Vec<u8>,
 ) -> Result<Option<NextChunk>, NoMemory>
     requires fits { Fits progress.old.kept script.passes.now }
-    requires lines { progress.old.line + length found.chunk.chunk.now < 2 ^ 64 }
+    requires lines { progress.old.line + length found.now.chunk.chunk.now < 2 ^ 64 }
     ensures fits { OnOk result (Fits progress.new.kept script.entry.passes.now) }
-    ensures chunk { IfOk result (λ next. IfSome next (IsKnownEdited (run_of script.entry) found.entry
+    ensures chunk { IfOk result (λ next. IfSome next (IsKnownEdited (run_of script.entry) found.now
         progress.old progress.new text.old.items text.new.items)) }
     ensures none { IfOk result (λ next. IfNone next
         (DoesNothing progress.old progress.new text.old.items text.new.items)) }
 {
-    if !edit_unseen(script, found, progress, text)? {
+    if !edit_unseen(script, *found, progress, text)? {
         progress.looked_in_vain();
         return Ok(None);
     }
