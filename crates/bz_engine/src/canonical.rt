@@ -179,18 +179,18 @@ fn edit_unseen(
         text.old.items text.new.items) }
 {
     if is_passed_by(script, found) {
-        put_canonical(script, found.chunk, progress, text)?;
+        put_canonical(script, found.chunk, text, progress)?;
         return Ok(true);
     }
-    edit_marked(script, &found, progress, text)
+    edit_marked(&found, script, progress, text)
 }
 
 /// The script on the statement of such a chunk, by the first of these: the one command leaves it as it is, fails on it,
 /// or edits one argument. False, with nothing done: the statement is to be seen.
 #[inline(never)]
 fn edit_marked(
-    script: ScriptRun<'_>,
     found: &Found<'_>,
+    script: ScriptRun<'_>,
     progress: &mut Progress,
     text: &mut Vec<u8>,
 ) -> Result<bool, NoMemory>
@@ -209,12 +209,12 @@ fn edit_marked(
     };
     if let Some(unchanged) = unchanged_by_text(env, only.command, *found)? {
         progress.keep_line(unchanged.line)?;
-        put_canonical(script, found.chunk, progress, text)?;
+        put_canonical(script, found.chunk, text, progress)?;
         return Ok(true);
     }
     if let Some(entry) = failure_by_text(script, only.command, *found)? {
         progress.keep_failure(entry)?;
-        put_canonical(script, found.chunk, progress, text)?;
+        put_canonical(script, found.chunk, text, progress)?;
         return Ok(true);
     }
     edit_argument(script, only, *found, progress, text)
@@ -260,7 +260,7 @@ fn edit_argument(
         }
         Some(EditedArgument::Unchanged) => {
             progress.keep_line(None)?;
-            put_canonical(script, found.chunk, progress, text)?;
+            put_canonical(script, found.chunk, text, progress)?;
             progress.give_back(spare);
             Ok(true)
         }
@@ -333,8 +333,8 @@ fn name_key(name: Option<&str>) -> Key<'_>
 fn put_canonical(
     script: ScriptRun<'_>,
     found: CanonicalChunk<'_>,
-    progress: &mut Progress,
     text: &mut Vec<u8>,
+    progress: &mut Progress,
 ) -> Result<(), NoMemory>
     ensures last { OnOk result (progress.new ≡ record progress.old { last = Some found.entry.class }) }
     ensures text { OnOk result ((s : Statement) → s.class ≡ found.entry.class → layout_text s ≡ found.entry.written.now

@@ -3,14 +3,14 @@
 ghost use Rattle.std.specs.Prelude.{◌≡◌, ℕ, ◌+◌, ◌<◌, ◌≤◌, ◌^◌, ◌++◌, if◌then◌else◌, List, [], ◌∷◌, Option, None, Some, length, IfOk, OnOk, option_map, option_to_list, codes, take};
 ghost use Rattle.std.specs.List.{flat_map};
 ghost use Rattle.bz_tree.specs.Rows.{IsRowOf};
-ghost use Rattle.bz_tree.specs.Statement.{class_of};
-ghost use Rattle.bz_tree.specs.Tree.{Statement};
 ghost use Rattle.bz_layout.specs.Gaps.{lines_before, gap_text};
-ghost use Rattle.bz_layout.specs.Layout.{layout_text};
+ghost use Rattle.bz_tree.specs.Statement.{class_of};
 ghost use Rattle.bz_passes.specs.Exchange.{Fits, log_alone};
+ghost use Rattle.bz_tree.specs.Tree.{Statement};
+ghost use Rattle.bz_engine.specs.Progress.{last_class, text_following};
+ghost use Rattle.bz_layout.specs.Layout.{layout_text};
 ghost use Rattle.bz_engine.specs.Outcome.{is_query};
 ghost use Rattle.bz_passes.specs.Entries.{failure_text};
-ghost use Rattle.bz_engine.specs.Progress.{last_class, text_following};
 ghost use Rattle.bz_engine.specs.private.ChunkRead.{IsReadAs};
 ghost use Rattle.bz_engine.specs.private.Edits.{EditsChunk, IsScripted, edited_of, run_of};
 

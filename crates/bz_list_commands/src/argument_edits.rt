@@ -85,15 +85,15 @@ fn add_strings(
 // The same of any edit.
 fn add_argument(
     edit: ArgumentEdit<'_, '_, '_>,
-    argument: FirstArgument<'_>,
     parts: &[Part<'_>],
+    argument: FirstArgument<'_>,
     at: usize,
     places: &mut Vec<Place>,
 ) -> Result<usize, NoMemory>
-    requires order { (argument.nodes ≤ argument.to) × (at + argument.to ≤ length parts.now) }
     requires ordered { AreOrdered 0 places.now.items at }
-    ensures within { IfOk result (λ next. (at + argument.entry.to ≤ next) × (next ≤ length parts.now)) }
+    requires order { (argument.nodes ≤ argument.to) × (at + argument.to ≤ length parts.now) }
     ensures ordered { IfOk result (λ next. AreOrdered 0 places.new.items next) }
+    ensures within { IfOk result (λ next. (at + argument.entry.to ≤ next) × (next ≤ length parts.now)) }
     ensures edited { IfOk result (λ next. spec.HasEditedOne (spec.edit_by edit.entry) (spec.changes_by edit.entry)
         (literal_parts (spec.literal_by edit.entry))
         argument.entry.nodes argument.entry.to (option_map (λ text. text.now) argument.entry.name)
@@ -130,7 +130,7 @@ pub fn edited_places(
     let mut at = from;
     while at < parts.len() {
         let argument = first_argument(&parts[at..]);
-        let next = add_argument(edit, argument, parts, at, &mut places)?;
+        let next = add_argument(edit, parts, argument, at, &mut places)?;
         at = next;
     }
     Ok(places)

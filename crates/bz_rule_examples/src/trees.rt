@@ -413,16 +413,16 @@ pub fn shown(alloc: Global, text: &str) -> Result<String, Fail> {
 }
 
 #[test]
-fn trees_of_chunks(rt: HostRuntime) -> Result<(), Fail> {
-    check_table(&rt, rt.alloc(), TREES, shown)
-}
-
-#[test]
 fn tree_of_block(rt: HostRuntime) -> Result<(), Fail> {
     let alloc = rt.alloc();
     let block = BLOCK.trim_end();
     let table = format!(in alloc; "\n---\n{BLOCK}\n->\nBlock :{block} :\n")?;
     check_table(&rt, alloc, table.as_str(), shown)
+}
+
+#[test]
+fn trees_of_chunks(rt: HostRuntime) -> Result<(), Fail> {
+    check_table(&rt, rt.alloc(), TREES, shown)
 }
 
 /// What the grammar accepts, and what it refuses.

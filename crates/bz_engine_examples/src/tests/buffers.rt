@@ -87,8 +87,12 @@ fn writes_much_at_once(rt: HostRuntime) -> Result<(), Fail> {
     let mut basin = Basin::new(0);
     let mut source = FromRead::new(b"f()\n".as_slice());
     let answer = ran(rt.alloc(), &mut source, &mut ToWrite::new(&mut basin))?;
-    let found = (answer, basin.writes, basin.bytes);
-    check(&rt, "writes", &found, &(Ok(0), 1, 9));
+    check(
+        &rt,
+        "writes",
+        &(answer, basin.writes, basin.bytes),
+        &(Ok(0), 1, 9),
+    );
     Ok(())
 }
 

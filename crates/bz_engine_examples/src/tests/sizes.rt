@@ -55,12 +55,7 @@ fn check_same(rt: &impl Abort, alloc: Global, text: &str, bytes: usize) -> Resul
 fn long_statement(rt: HostRuntime) -> Result<(), Fail> {
     let alloc = rt.alloc();
     let many = rule(alloc, "deps", 10_000)?;
-    check_same(&rt, alloc, many.as_str(), 200 * 1024)
-}
-
-#[test]
-fn long_token(rt: HostRuntime) -> Result<(), Fail> {
-    let alloc = rt.alloc();
+    check_same(&rt, alloc, many.as_str(), 200 * 1024)?;
     let digits = numbered(alloc, "", 14_400, "")?;
     let token = format!(in alloc; "x = \"{digits}\"\n")?;
     check_same(&rt, alloc, token.as_str(), 70 * 1024)

@@ -219,13 +219,6 @@ fn is_quiet(b: u8) -> bool
     is_quiet_class(class_at(b))
 }
 
-#[inline(always)]
-fn quiet_prefix(bytes: &[u8]) -> usize
-    ensures { result ≡ prefix_len is_quiet bytes.now }
-{
-    bytes.iter().take_while(|b| is_quiet(**b)).count()
-}
-
 // How many such bytes are here.
 #[inline(always)]
 fn quiet_front(bytes: &[u8]) -> usize
@@ -266,6 +259,13 @@ fn statement_len(bytes: &[u8]) -> usize
     }
     let end = front + string;
     end + quiet_front(&bytes[end..])
+}
+
+#[inline(always)]
+fn quiet_prefix(bytes: &[u8]) -> usize
+    ensures { result ≡ prefix_len is_quiet bytes.now }
+{
+    bytes.iter().take_while(|b| is_quiet(**b)).count()
 }
 
 // How many bytes here change nothing. Most do not, and these are passed at once.
