@@ -27,5 +27,5 @@ mod unnamed;
 mod value;
 
 pub use added::{Added, ListValue, lacks, put_added};
-pub use chunk::{ArgumentPlace, Lookup, CanonicalChunk, canonical};
+pub use chunk::{ArgumentPlace, CanonicalChunk, Lookup, canonical};
 pub use commented::{NewComment, put_commented};

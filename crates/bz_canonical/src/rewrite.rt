@@ -4,7 +4,7 @@ ghost use Rattle.std.specs.Prelude.{◌≡◌, ◌-◌, ◌<◌, ℕ, List, leng
 ghost use Rattle.bz_canonical.specs.Canonical.{IsCanonical, between};
 ghost use Rattle.bz_canonical.specs.private.Rewritten.{IsPutPlaceIn, IsRuleHead, IsRuleRead, put_ends};
 
-use crate::chunk::{ArgumentPlace, Lookup, CanonicalChunk, without};
+use crate::chunk::{ArgumentPlace, CanonicalChunk, Lookup, without};
 use crate::put_arguments::PutPlace;
 use crate::put_rule::{PutRule, RuleHead, put_rule};
 use bz_memory::NoMemory;

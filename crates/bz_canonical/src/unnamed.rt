@@ -7,7 +7,7 @@ ghost use Rattle.bz_canonical.specs.Canonical.{IsCanonical, between};
 ghost use Rattle.bz_canonical.specs.private.Segments.{AreLinesFront, IsSegmentFront};
 ghost use Rattle.bz_canonical.specs.private.Unnamed.{IsStatementEnd, IsUnnamedRule};
 
-use crate::chunk::{ArgumentPlace, Lookup, CanonicalChunk, without};
+use crate::chunk::{ArgumentPlace, CanonicalChunk, Lookup, without};
 use crate::front::{after, before, identifier};
 use crate::notes::beside;
 use crate::rule::has_argument_name;
