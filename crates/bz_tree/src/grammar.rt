@@ -5,16 +5,17 @@ pub mod stage;
 
 ghost use Rattle.std.specs.Prelude.{◌≡◌};
 ghost use Rattle.bz_tree.specs.Tree.{items_of, segs_of};
-ghost use Rattle.bz_tree.specs.View.{node_view, group_view, nodes_view, segs_view};
-ghost use Rattle.bz_tree.specs.private.Machine.{accepts, role_of, each, is_whole, is_single, is_statement};
+ghost use Rattle.bz_tree.specs.View.{node_view, nodes_view, segs_view};
+ghost use Rattle.bz_tree.specs.private.Machine.{accepts, role_of, each, is_whole};
 
 use crate::grammar::role::{Role, token_role};
 use crate::grammar::stage::{Stage, begin, group_role, later, may_end, next};
 use crate::tree::kinds::is_one;
-use crate::tree::{Group, GroupKind, Node, Seg};
+use crate::tree::{GroupKind, Node, Seg};
 
+/// Whether the nodes lead from the stage to an end.
 #[cycle(grammar)]
-fn accepts(stage: Stage, nodes: &[Node<'_>]) -> bool
+pub(crate) fn accepts(stage: Stage, nodes: &[Node<'_>]) -> bool
     ensures { result ≡ accepts stage (items_of (nodes_view nodes.now)) }
 {
     let mut stage = stage;
@@ -31,18 +32,11 @@ fn role_of(node: &Node<'_>) -> Role
 {
     match node {
         Node::Token(leaf) => token_role(leaf.kind, leaf.text),
-        Node::Group(group) => role_of_group(group),
-    }
-}
-
-#[cycle(grammar)]
-fn role_of_group(group: &Group<'_>) -> Role
-    ensures { result ≡ role_of (group_view group.now) }
-{
-    if is_whole(group.kind, &group.segs) && each(begin(group.kind), &group.segs) {
-        group_role(group.kind)
-    } else {
-        Role::Stray
+        Node::Group(group)
+            if is_whole(group.kind, &group.segs) && each(begin(group.kind), &group.segs) => {
+            group_role(group.kind)
+        }
+        Node::Group(_) => Role::Stray,
     }
 }
 
@@ -66,19 +60,6 @@ fn is_whole(kind: GroupKind, segs: &[Seg<'_>]) -> bool
 {
     match kind {
         GroupKind::Load => !segs.is_empty(),
-        _ => !is_one(kind) || is_single(segs),
+        _ => !is_one(kind) || segs.len() == 1,
     }
-}
-
-fn is_single(segs: &[Seg<'_>]) -> bool
-    ensures { result ≡ is_single (segs_of (segs_view segs.now)) }
-{
-    segs.len() == 1
-}
-
-/// Whether the nodes are those of a statement.
-pub(crate) fn is_statement(nodes: &[Node<'_>]) -> bool
-    ensures { result ≡ is_statement (items_of (nodes_view nodes.now)) }
-{
-    accepts(Stage::Statement, nodes)
 }

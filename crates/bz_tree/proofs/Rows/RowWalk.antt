@@ -22,9 +22,9 @@ use Rattle.bz_tree.specs.Kinds.{kind_mark, mark_of, kind_after, is_for_at, group
 use Rattle.bz_tree.specs.Owners.{node, comma, comment, no_token, end_of_node, end_of_comma, Inside}
 use Rattle.bz_tree.specs.Brackets.{leaf_of, is_for_item, is_paren, group_with, end_line}
 use Rattle.bz_tree.specs.Rows.{RowPart, opening, closing, segment_end, above, beside, beside_part, item_parts}
-use Rattle.bz_tree.specs.private.Machine.{next, may_end, begin, is_whole, each, role_of, group_role}
-use Rattle.bz_tree.specs.private.Steps.{Walked, after_own, commented, to_last, done, has_one, kind_with, shape_of, Level, Levels, with_own, next_at}
-use Rattle.bz_tree.specs.private.RowSteps.{is_ended, called, shown_kind, start, later_start, read_group, is_text, Stand, with_node, with_here, RowState, step_to, is_refused, comment_part, after_comment_next, last_end, is_single, is_one_comma, close_on, close_below, row_next_at}
+use Rattle.bz_tree.specs.private.Machine.{next, may_end, begin, later, is_whole, each, role_of, group_role}
+use Rattle.bz_tree.specs.private.Steps.{Walked, after_own, commented, to_last, done, has_one, is_in_first, as_comprehension, shape_of, Level, Levels, with_own, next_at}
+use Rattle.bz_tree.specs.private.RowSteps.{is_ended, called, shown_kind, start, read_group, is_text, Stand, with_node, with_here, RowState, step_to, is_refused, comment_part, after_comment_next, last_end, is_single, is_one_comma, close_below, row_next_at}
 use Rattle.bz_tree.proofs.Trees.Complete.{same_itself}
 use Rattle.bz_tree.proofs.Trees.InPlace.{filled_push, filled_last}
 use Rattle.bz_tree.proofs.Trees.Sound.{none_is_some, some_injective, same_shape_is}
@@ -149,7 +149,7 @@ good_added (Some kind) segs x line (over before y ys suffix after) h good = absu
 node_level : (kind : Option GroupKind) (segs : List Segment) (place : Place) (x : Item) (line : ℕ) → is_for_item x ≡ false → is_ended (at_place place) ≡ false
     → with_own (level_of (bracket kind segs place)) (node line x) ≡ level_of (bracket kind segs (add_node x line place))
 node_level kind segs place x line no_for h =
-    level_is _ kind _ _ _ _ (ap (λ b. kind_with b (Some (walked_of segs place)) kind) no_for) (node_walked (has_one kind) x line segs place h)
+    level_is _ kind _ _ _ _ (ap (λ b. cond (b && is_in_first (Some (walked_of segs place))) (as_comprehension kind) kind) no_for) (node_walked (has_one kind) x line segs place h)
     (sym (ap (λ (r : Read). r.at) (read_added (begun kind segs) x line place h) ∙ item_at x (read_items (begun kind segs) (nodes_of place))))
 
 node_leads : (g : Bracket) (gs : List Bracket) (x : Item) (line : ℕ) (read : Read) (ps : List RowPart) (step : Option Levels) (new : RowState) → is_for_item x ≡ false → is_ended (at_place g.place) ≡ false
@@ -192,7 +192,7 @@ top_comma_leads t is segs place gs new same good goods =
     let r = or_parts (is_for_at t.kind t.text) _ (or_parts _ _ p.0).1 in
     let operator = comma_operator t.kind t.text is in
     node_leads (bracket None segs place) gs (leaf_of t) (end_line t) _ _ _ new operator.0 r.1 refl refl p.1
-    (ap (λ l. Some (l, map level_of gs)) (level_is None _ _ _ Other _ (sym (ap (λ b. kind_with b (Some (walked_of segs place)) None) operator.0)) refl (sym operator.1))
+    (ap (λ l. Some (l, map level_of gs)) (level_is None _ _ _ Other _ (sym (ap (λ b. cond (b && is_in_first (Some (walked_of segs place))) (as_comprehension None) None) operator.0)) refl (sym operator.1))
     ∙ ap (λ n. Some (with_own (level_of (bracket None segs place)) (node n (leaf_of t)), map level_of gs)) line) good goods
 
 -- a comma in a bracket
@@ -219,7 +219,7 @@ segment_leads t kind segs (some before x xs end) gs new same good goods =
     ∙ (ap (λ bs. Some (record { segs = with_last segs bs (x ∷ xs) None; before = []; nodes = []; suffix = None; after = []; last = end_of_comma t.line; trailing = true })) (append-nil before)
     ∙ ap (λ b. Some (record { segs = rr; before = []; nodes = []; suffix = None; after = []; last = end_of_comma t.line; trailing = b })) (sym (filled_push segs _))) in
     stays (Some kind) segs rr (some before x xs end) (fresh t.line) gs (segment_end ∷ []) _ _ new p.1
-    (ap (λ d. record { kind = Some kind; done = d; here = at_place (fresh t.line); read = later_start (Some kind) }) (sym (done_push segs _))
+    (ap (λ d. record { kind = Some kind; done = d; here = at_place (fresh t.line); read = record (start (Some kind)) { stage = later (start (Some kind)).stage } }) (sym (done_push segs _))
     ∙ ap (λ s. record { kind = Some kind; done = done_of rr; here = at_place (fresh t.line); read = record (start (Some kind)) { stage = s } }) (sym (after_push segs _ (begin kind))))
     (append-nil (all_segs_parts rr) ∙ segment_parts kind segs before x xs end)
     (ap (λ v. Some (leveled (Some kind) v Other, map level_of gs)) own)
@@ -389,7 +389,7 @@ read_group_is kind segs place r is = ap (λ role. record { stage = next r.stage 
 
 close_leads_at : (shape : Shape) (t : Placed) (kind : GroupKind) (segs : List Segment) (place : Place) (h : Bracket) (hs : List Bracket) (ends : List RowPart) (new : RowState) → shape_of kind ≡ shape
     → last_end (at_place place) (read_items (begun (Some kind) segs) (nodes_of place)).stage ≡ Some ends
-    → close_on kind t.line ends (stand_of h) (map stand_of hs) (image (bracket (Some kind) segs place) (h ∷ hs)) ≡ Some new
+    → close_below kind t.line ends (stand_of h ∷ map stand_of hs) (image (bracket (Some kind) segs place) (h ∷ hs)) ≡ Some new
     → IsGoodAt (Some kind) segs place → IsGood h → AreGood hs → Leads (next_at (Close shape) t (level_of (bracket (Some kind) segs place)) (map level_of (h ∷ hs))) new
 close_leads_at shape t kind segs place h hs ends new fits ends_are same good good_h goods =
     let p = passed (is_ended (stand_of h).here) _ new same in

@@ -1,7 +1,7 @@
 -- For private clauses: what the walk from parts to nodes holds.
 use Rattle.std.specs.Prelude.{ℕ, List, [], ◌∷◌, Option, None, Some, map, reverse}
 use Rattle.bz_tree.specs.declared.row.from_parts.Inside.{Inside}
-use Rattle.bz_tree.specs.declared.row.from_parts.OpenGroup.{OpenGroup}
+use Rattle.bz_tree.specs.declared.tree.GroupKind.{GroupKind}
 use Rattle.bz_tree.specs.declared.row.from_parts.Nesting.{Nesting}
 use Rattle.bz_tree.specs.View.{texts, nodes_view, segs_view}
 use Rattle.bz_tree.specs.FromParts.{Content, Outer, Nest, nothing, steps}
@@ -10,11 +10,11 @@ use Rattle.bz_tree.specs.Rows.{RowPart, beside}
 abbrev pub content : Inside → Content
 content i = record { segs = segs_view i.segs.items; comments = texts i.comments.items; nodes = nodes_view i.nodes.items }
 
-abbrev pub outer_view : OpenGroup → Outer
-outer_view a = record { kind = a.kind; content = content a.inside }
+abbrev pub outer_view : (GroupKind × Inside) → Outer
+outer_view a = record { kind = a.0; content = content a.1 }
 
 -- the innermost first
-abbrev pub outers : List OpenGroup → List Outer
+abbrev pub outers : List (GroupKind × Inside) → List Outer
 outers os = reverse (map outer_view os)
 
 abbrev pub nest : Nesting → Nest

@@ -1,5 +1,5 @@
 -- For private clauses: the walk over the tokens of a statement that pushes the parts of its row.
-use Rattle.std.specs.Prelude.{ℕ, ◌+◌, ◌==◌, count_by, List, [], ◌∷◌, ◌++◌, map, reverse, Bool, true, false, not, ◌||◌, ◌&&◌, if◌then◌else◌, Option, Some, None, option_map, option_and_then, codes}
+use Rattle.std.specs.Prelude.{ℕ, ◌+◌, ◌==◌, count_by, List, [], ◌∷◌, ◌++◌, map, reverse, Bool, true, false, not, ◌||◌, ◌&&◌, if◌then◌else◌, Option, Some, None, is_some, option_map, option_and_then, codes}
 use Rattle.std.specs.Bool.{then_some}
 use Rattle.bz_token.specs.declared.token.Kind.{Kind}
 use Rattle.bz_token.specs.Places.{Placed}
@@ -110,12 +110,9 @@ new_stand kind = record { kind = kind; done = Zero; here = nothing; read = start
 abbrev pub with_node : ℕ → Read → Stand → Stand
 with_node line read s = record { kind = s.kind; done = s.done; here = a_node line; read = read }
 
-abbrev pub later_start : Option GroupKind → Read
-later_start kind = record (start kind) { stage = later (start kind).stage }
-
 -- after a comma on this line
 abbrev pub with_comma : ℕ → Stand → Stand
-with_comma line s = record { kind = s.kind; done = one_more s.done; here = a_comma line; read = later_start s.kind }
+with_comma line s = record { kind = s.kind; done = one_more s.done; here = a_comma line; read = record (start s.kind) { stage = later (start s.kind).stage } }
 
 abbrev pub with_here : At → Stand → Stand
 with_here here s = record { kind = s.kind; done = s.done; here = here; read = s.read }
@@ -163,15 +160,11 @@ after_comment_next None true text s = Some (step_to (with_here an_end s.top) (be
 after_comment_next None false text s = None
 after_comment_next (Some kind) on text s = Some (step_to (with_here an_end s.top) (segment_end ∷ comment_part on text ∷ []) s)
 
-abbrev pub end_comment_next : Option GroupKind → List ℕ → RowState → Option RowState
-end_comment_next None text s = None
-end_comment_next (Some kind) text s = Some (step_to s.top (above text ∷ []) s)
-
 abbrev pub comment_next : At → ℕ → List ℕ → RowState → Option RowState
 comment_next nothing line text s = Some (step_to s.top (above text ∷ []) s)
 comment_next (a_comma end) line text s = Some (step_to (with_here nothing s.top) (comment_part (end == line) text ∷ []) s)
 comment_next (a_node end) line text s = after_comment_next s.top.kind (end == line) text s
-comment_next an_end line text s = end_comment_next s.top.kind text s
+comment_next an_end line text s = then_some (is_some s.top.kind) (step_to s.top (above text ∷ []) s)
 
 abbrev pub open_next : GroupKind → RowState → Option RowState
 open_next kind s =
@@ -203,14 +196,11 @@ has_node _ = true
 abbrev pub is_one_comma : GroupKind → Stand → Bool
 is_one_comma kind s = if has_node s.here then false else (is_paren kind && is_single s.done)
 
-abbrev pub close_on : GroupKind → ℕ → List RowPart → Stand → List Stand → RowState → Option RowState
-close_on kind line parts below outer s =
-    if is_ended below.here then None
-    else Some (record { top = with_node line (read_group kind below.read) below; outer = outer; parts = (s.parts ++ parts) ++ closing (is_one_comma kind s.top) ∷ [] })
-
 abbrev pub close_below : GroupKind → ℕ → List RowPart → List Stand → RowState → Option RowState
 close_below kind line parts [] s = None
-close_below kind line parts (below ∷ outer) s = close_on kind line parts below outer s
+close_below kind line parts (below ∷ outer) s =
+    if is_ended below.here then None
+    else Some (record { top = with_node line (read_group kind below.read) below; outer = outer; parts = (s.parts ++ parts) ++ closing (is_one_comma kind s.top) ∷ [] })
 
 abbrev pub close_next : Option GroupKind → Shape → ℕ → RowState → Option RowState
 close_next None shape line s = None

@@ -15,8 +15,7 @@ use Rattle.bz_tree.specs.declared.tree.owners.Content.{Content}
 use Rattle.bz_tree.specs.declared.tree.build.Frame.{Frame}
 use Rattle.bz_tree.specs.declared.tree.build.State.{State}
 use Rattle.bz_token.specs.Places.{Placed}
-use Rattle.bz_tree.specs.declared.tree.Leaf.{Leaf}
-use Rattle.bz_tree.specs.Tree.{Item, leaf, Segment}
+use Rattle.bz_tree.specs.Tree.{Item, Segment}
 use Rattle.bz_tree.specs.View.{text_of, texts, node_view, seg_view}
 use Rattle.bz_tree.specs.Kinds.{mark_of, is_one, group_kind, same_shape}
 use Rattle.bz_tree.specs.Owners.{Own, node, comma, comment, Last, no_token, end_of_node, end_of_comma, is_on, Inside}
@@ -37,10 +36,6 @@ pub record Walked : Type 0 where
 abbrev pub texts_of : Option (List ℕ) → List (List ℕ)
 texts_of None = []
 texts_of (Some text) = text ∷ []
-
--- the value of a leaf
-abbrev pub leaf_view : Leaf → Item
-leaf_view t = leaf t.kind (text_of t.text)
 
 abbrev pub last_view : Before → Last
 last_view Nothing = no_token
@@ -134,10 +129,6 @@ abbrev pub has_one : Option GroupKind → Bool
 has_one None = true
 has_one (Some kind) = is_one kind
 
--- what a bracket is after one more thing, which may be `for`
-abbrev pub kind_with : Bool → Option Walked → Option GroupKind → Option GroupKind
-kind_with is_for w kind = if is_for && is_in_first w then as_comprehension kind else kind
-
 abbrev pub is_for : Own → Bool
 is_for (node line x) = is_for_item x
 is_for (comma t) = false
@@ -168,7 +159,7 @@ Levels = Level × List Level
 
 abbrev pub with_own : Level → Own → Level
 with_own l own = record {
-  kind = kind_with (is_for own) l.walked l.kind;
+  kind = if is_for own && is_in_first l.walked then as_comprehension l.kind else l.kind;
   walked = after_own (has_one l.kind) own l.walked;
   at = preceding l.at own;
 }
@@ -195,9 +186,6 @@ next t ls = next_at (mark_of t) t ls.0 ls.1
 abbrev pub finish : Option GroupKind → Option Walked → List Level → Option Segment
 finish None w [] = option_map segment_with (option_map done w)
 finish _ w outer = None
-
-abbrev pub finished : Levels → Option Segment
-finished ls = finish ls.0.kind ls.0.walked ls.1
 
 abbrev pub run : Level → List Level → List Placed → Option Segment
 run top outer [] = finish top.kind top.walked outer

@@ -26,18 +26,11 @@ pub(crate) struct Inside<'a> {
     pub(crate) nodes: Vec<Node<'a>>,
 }
 
-// A bracket that is open, and what stands before it in the one around it.
-#[derive(Drop)]
-pub(crate) struct OpenGroup<'a> {
-    pub(crate) kind: GroupKind,
-    pub(crate) inside: Inside<'a>,
-}
-
 #[derive(Drop)]
 pub(crate) struct Nesting<'a> {
     pub(crate) here: Inside<'a>,
-    // The innermost is the last.
-    pub(crate) outer: Vec<OpenGroup<'a>>,
+    // Of each open bracket, the innermost last, its kind and what stands before it in the one around it.
+    pub(crate) outer: Vec<(GroupKind, Inside<'a>)>,
 }
 
 impl<'a> Inside<'a> {
@@ -86,14 +79,14 @@ impl<'a> Nesting<'a> {
         ensures { OnOk result (nest self.new ≡ opened kind (nest self.old)) }
     {
         let inside = mem::replace(&mut self.here, Inside::new(alloc));
-        push(&mut self.outer, OpenGroup { kind, inside })
+        push(&mut self.outer, (kind, inside))
     }
 
     fn close(&mut self, one_comma: bool) -> Result<(), NoMemory>
         ensures { OnOk result (nest self.new
             ≡ closed one_comma (content self.old.here) (outers self.old.outer.items)) }
     {
-        let Some(OpenGroup { kind, inside }) = self.outer.pop() else {
+        let Some((kind, inside)) = self.outer.pop() else {
             return Ok(());
         };
         let Inside { segs, comments, .. } = mem::replace(&mut self.here, inside);

@@ -1,12 +1,12 @@
 //! The parts of a statement that has a tree, in the order in which they are written.
 
 ghost use Rattle.std.specs.Prelude.{◌≡◌, ◌++◌, OnOk, map, option_map};
-ghost use Rattle.bz_tree.specs.Tree.{items_of, segs_of};
-ghost use Rattle.bz_tree.specs.View.{text_of, texts, view, node_view, nodes_view, group_view, segs_view};
-ghost use Rattle.bz_tree.specs.Rows.{above, beside_part, item_parts, items_parts, segs_parts, parts_of, part_view};
+ghost use Rattle.bz_tree.specs.Tree.{items_of};
+ghost use Rattle.bz_tree.specs.View.{text_of, texts, view, nodes_view, group_view};
+ghost use Rattle.bz_tree.specs.Rows.{above, beside_part, item_parts, items_parts, parts_of, part_view};
 
 use crate::row::Part;
-use crate::tree::{Group, Node, Seg, Stmt};
+use crate::tree::{Group, Node, Stmt};
 use bz_memory::{NoMemory, push};
 use std::alloc::Allocator;
 
@@ -51,20 +51,6 @@ pub fn push_beside<'a, A: Allocator>(
 }
 
 #[cycle(parts)]
-fn push_node<'a, A: Allocator>(
-    node: &Node<'a>,
-    parts: &mut Vec<Part<'a>, A>,
-) -> Result<(), NoMemory>
-    ensures { OnOk result
-        (map part_view parts.new.items ≡ map part_view parts.old.items ++ item_parts (node_view node.now)) }
-{
-    match node {
-        Node::Token(leaf) => Ok(push(parts, Part::Token(leaf.kind, leaf.text))?),
-        Node::Group(group) => push_group(group, parts),
-    }
-}
-
-#[cycle(parts)]
 fn push_group<'a, A: Allocator>(
     group: &Group<'a>,
     parts: &mut Vec<Part<'a>, A>,
@@ -73,7 +59,12 @@ fn push_group<'a, A: Allocator>(
         (map part_view parts.new.items ≡ map part_view parts.old.items ++ item_parts (group_view group.now)) }
 {
     push(parts, Part::Open(group.kind))?;
-    push_segs(&group.segs, parts)?;
+    for seg in &group.segs {
+        push_above(&seg.before, parts)?;
+        push_nodes(&seg.nodes, parts)?;
+        push(parts, Part::End)?;
+        push_beside(seg.suffix, parts)?;
+    }
     push_above(&group.end, parts)?;
     push(parts, Part::Close(group.one_comma))?;
     Ok(())
@@ -90,25 +81,10 @@ pub fn push_nodes<'a, A: Allocator>(
         ≡ map part_view parts.old.items ++ items_parts (items_of (nodes_view nodes.now))) }
 {
     for node in nodes {
-        push_node(node, parts)?;
-    }
-    Ok(())
-}
-
-#[cycle(parts)]
-fn push_segs<'a, A: Allocator>(
-    segs: &[Seg<'a>],
-    parts: &mut Vec<Part<'a>, A>,
-) -> Result<(), NoMemory>
-    ensures { OnOk result
-        (map part_view parts.new.items
-        ≡ map part_view parts.old.items ++ segs_parts (segs_of (segs_view segs.now))) }
-{
-    for seg in segs {
-        push_above(&seg.before, parts)?;
-        push_nodes(&seg.nodes, parts)?;
-        push(parts, Part::End)?;
-        push_beside(seg.suffix, parts)?;
+        match node {
+            Node::Token(leaf) => push(parts, Part::Token(leaf.kind, leaf.text))?,
+            Node::Group(group) => push_group(group, parts)?,
+        }
     }
     Ok(())
 }

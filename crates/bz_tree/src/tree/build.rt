@@ -1,22 +1,22 @@
 //! The walk over the tokens of a statement, with a stack of open brackets. `chunk.rt` runs it to make a tree.
 
-ghost use Rattle.std.specs.Prelude.{◌≡◌, ◌+◌, true, false, map, IfOk, OnOk, Some, None, [], ◌∷◌, option_map, option_and_then, ◌≤◌, IfSome};
+ghost use Rattle.std.specs.Prelude.{◌≡◌, true, false, map, IfOk, OnOk, Some, None, [], option_map};
 ghost use Rattle.std.specs.Bool.{then_some};
 ghost use Rattle.bz_token.specs.Places.{placed};
-ghost use Rattle.bz_tree.specs.View.{group_view, seg_view};
+ghost use Rattle.bz_tree.specs.View.{node_view, group_view, seg_view};
 ghost use Rattle.bz_tree.specs.Kinds.{group_kind, is_for_at};
 ghost use Rattle.bz_tree.specs.Owners.{node};
 ghost use Rattle.bz_tree.specs.Brackets.{leaf_of, own_of};
 ghost use Rattle.bz_tree.specs.declared.tree.kinds.Mark.TheVariants.{Close, Comma, Comment, Plain};
-ghost use Rattle.bz_tree.specs.Statement.{one_segment, segment_with};
-ghost use Rattle.bz_tree.specs.private.Steps.{leaf_view, content_view, so_far, done, has_one, kind_with, level, levels, with_own, new_level, closed, next, next_at, finished, run, state};
+ghost use Rattle.bz_tree.specs.Statement.{one_segment};
+ghost use Rattle.bz_tree.specs.private.Steps.{content_view, so_far, level, levels, with_own, new_level, closed, next, next_at, run, state};
 
 use crate::tree::classes::with_rule_call;
 use crate::tree::kinds::{
-    Mark, Preceding, Shape, as_comprehension, group_kind, is_for_at, is_one, kind_after, mark_of,
-    same_shape, shape_of,
+    Mark, Preceding, Shape, as_comprehension, closes, group_kind, is_for_at, is_one, kind_after,
+    mark_of,
 };
-use crate::tree::owners::{Content, Walk};
+use crate::tree::owners::{Content, Walk, empty_segment};
 use crate::tree::{Group, GroupKind, Leaf, Node, Seg};
 use bz_memory::{NoMemory, append, push};
 use bz_token::Token;
@@ -39,13 +39,13 @@ pub(crate) struct State<'a> {
 }
 
 #[inline(always)]
-fn leaf_of<'a>(token: &Token<'a>) -> Leaf<'a>
-    ensures value { leaf_view result ≡ leaf_of (placed token.now) }
+fn leaf_of<'a>(token: &Token<'a>) -> Node<'a>
+    ensures value { node_view result ≡ leaf_of (placed token.now) }
 {
-    Leaf {
+    Node::Token(Leaf {
         kind: token.kind,
         text: token.text,
-    }
+    })
 }
 
 // None: a segment is empty.
@@ -77,38 +77,15 @@ impl<'a> Frame<'a> {
         }
     }
 
-    // The commas in it are nodes.
-    #[inline(always)]
-    fn is_one(&self) -> bool
-        ensures { result ≡ has_one self.now.kind }
-    {
-        match self.kind {
-            None => true,
-            Some(kind) => is_one(kind),
-        }
-    }
-
-    // What the bracket is where this stands next in it.
-    #[inline(always)]
-    fn kind_with(&self, token: &Token<'_>) -> Option<GroupKind>
-        ensures { result ≡ kind_with (is_for_at token.now.kind token.now.text.now) (so_far self.now.walk)
-            self.now.kind }
-    {
-        if is_for_at(token.kind, token.text) && self.walk.is_in_first() {
-            as_comprehension(self.kind)
-        } else {
-            self.kind
-        }
-    }
-
     #[inline(always)]
     fn add_leaf(&mut self, token: &Token<'a>) -> Result<(), NoMemory>
         ensures value { OnOk result (level self.new ≡ with_own (level self.old) (own_of Plain (placed token.now))) }
     {
-        self.kind = self.kind_with(token);
+        if is_for_at(token.kind, token.text) && self.walk.is_in_first() {
+            self.kind = as_comprehension(self.kind);
+        }
         self.at = kind_after(token.kind, token.text);
-        self.walk
-            .add_node(Node::Token(leaf_of(token)), token.line, token.text)
+        self.walk.add_node(leaf_of(token), token.line, token.text)
     }
 
     #[inline(always)]
@@ -116,19 +93,11 @@ impl<'a> Frame<'a> {
         ensures value { OnOk result (level self.new ≡ with_own (level self.old) (own_of Comma (placed token.now))) }
     {
         self.at = Preceding::Other;
-        if self.is_one() {
-            self.walk
-                .add_node(Node::Token(leaf_of(token)), token.line, "")
-        } else {
-            self.walk.add_comma(alloc, token.line)
+        match self.kind {
+            Some(kind) if !is_one(kind) => self.walk.add_comma(alloc, token.line),
+            // It is a node.
+            _ => self.walk.add_node(leaf_of(token), token.line, ""),
         }
-    }
-
-    #[inline(always)]
-    fn add_comment(&mut self, token: &Token<'a>) -> Result<(), NoMemory>
-        ensures value { OnOk result (level self.new ≡ with_own (level self.old) (own_of Comment (placed token.now))) }
-    {
-        self.walk.add_comment(token.line, token.text)
     }
 
     #[inline(always)]
@@ -141,18 +110,6 @@ impl<'a> Frame<'a> {
 }
 
 impl<'a> State<'a> {
-    #[inline(always)]
-    fn open(&mut self, alloc: Global, shape: Shape) -> Result<(), NoMemory>
-        ensures value { OnOk result (state self.new ≡ (
-          new_level (Some (group_kind shape self.old.top.at false)),
-          level self.old.top ∷ levels self.old.outer.items,
-        )) }
-    {
-        let frame = Frame::new(alloc, Some(group_kind(shape, self.top.at, false)));
-        push(&mut self.outer, mem::replace(&mut self.top, frame))?;
-        Ok(())
-    }
-
     // False: no bracket of this shape is open, or a segment is empty.
     fn close(&mut self, shape: Shape, token: &Token<'a>) -> Result<bool, NoMemory>
         ensures value { IfOk result (λ some. then_some some (state self.new)
@@ -161,7 +118,7 @@ impl<'a> State<'a> {
         let Some(kind) = self.top.kind else {
             return Ok(false);
         };
-        if !same_shape(shape_of(kind), shape) {
+        if !closes(shape, kind) {
             return Ok(false);
         }
         let Some(below) = self.outer.pop() else {
@@ -185,34 +142,14 @@ impl<'a> State<'a> {
             Mark::Newline => {}
             Mark::Plain => self.top.add_leaf(token)?,
             Mark::Comma => self.top.add_comma(alloc, token)?,
-            Mark::Comment => self.top.add_comment(token)?,
-            Mark::Open(shape) => self.open(alloc, shape)?,
+            Mark::Comment => self.top.walk.add_comment(token.line, token.text)?,
+            Mark::Open(shape) => {
+                let frame = Frame::new(alloc, Some(group_kind(shape, self.top.at, false)));
+                push(&mut self.outer, mem::replace(&mut self.top, frame))?;
+            }
             Mark::Close(shape) => return self.close(shape, token),
         }
         Ok(true)
-    }
-
-    // The steps over all tokens. False: there is no tree.
-    fn walk(&mut self, alloc: Global, tokens: &[Token<'a>]) -> Result<bool, NoMemory>
-        ensures value { IfOk result (λ some. option_and_then finished (then_some some (state self.new))
-            ≡ run (level self.old.top) (levels self.old.outer.items) (map placed tokens.now)) }
-    {
-        for token in tokens {
-            if !self.step(alloc, token)? {
-                return Ok(false);
-            }
-        }
-        Ok(true)
-    }
-
-    // None: a bracket is open, or a segment is empty.
-    fn finish(self, alloc: Global) -> Result<Option<Seg<'a>>, NoMemory>
-        ensures value { IfOk result (λ o. option_map seg_view o ≡ finished (state self.entry)) }
-    {
-        if self.top.kind.is_some() || !self.outer.is_empty() {
-            return Ok(None);
-        }
-        statement(alloc, self.top.walk)
     }
 }
 
@@ -223,33 +160,19 @@ fn one_segment<'a>(alloc: Global, content: Content<'a>) -> Result<Seg<'a>, NoMem
 {
     let Content {
         mut segs,
-        trailing: _,
         mut end,
+        ..
     } = content;
-    if segs.is_empty() {
-        return Ok(Seg {
-            before: end,
-            nodes: Vec::new(alloc),
-            suffix: None,
-        });
-    }
-    let mut seg = segs.remove(0);
+    let mut seg = if segs.is_empty() {
+        empty_segment(alloc)
+    } else {
+        segs.remove(0)
+    };
     append(&mut seg.before, &mut end)?;
     Ok(seg)
 }
 
-fn statement<'a>(alloc: Global, walk: Walk<'a>) -> Result<Option<Seg<'a>>, NoMemory>
-    ensures value { IfOk result
-        (λ o. option_map seg_view o ≡ option_map segment_with (option_map done (so_far walk.entry))) }
-{
-    let Some(content) = walk.finish()? else {
-        return Ok(None);
-    };
-    let seg = one_segment(alloc, content)?;
-    Ok(Some(with_rule_call(seg)))
-}
-
-/// The statement's segment. None: there is no tree.
+/// The statement's segment. None: there is no tree: brackets do not match, or a segment is empty.
 pub(crate) fn run<'a>(alloc: Global, tokens: &[Token<'a>]) -> Result<Option<Seg<'a>>, NoMemory>
     ensures value { IfOk result (λ o. option_map seg_view o ≡ run (new_level None) [] (map placed tokens.now)) }
 {
@@ -257,8 +180,17 @@ pub(crate) fn run<'a>(alloc: Global, tokens: &[Token<'a>]) -> Result<Option<Seg<
         outer: Vec::new(alloc),
         top: Frame::new(alloc, None),
     };
-    if !state.walk(alloc, tokens)? {
+    for token in tokens {
+        if !state.step(alloc, token)? {
+            return Ok(None);
+        }
+    }
+    if state.top.kind.is_some() || !state.outer.is_empty() {
         return Ok(None);
     }
-    state.finish(alloc)
+    let Some(content) = state.top.walk.finish()? else {
+        return Ok(None);
+    };
+    let seg = one_segment(alloc, content)?;
+    Ok(Some(with_rule_call(seg)))
 }

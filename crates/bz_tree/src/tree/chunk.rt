@@ -1,17 +1,17 @@
 //! The statement of a chunk.
 
-ghost use Rattle.std.specs.Prelude.{ℕ, ◌≡◌, ◌+◌, ◌<◌, ◌^◌, ◌==◌, false, IfOk, IfErr, IfSome, IfNone, map, count_by};
+ghost use Rattle.std.specs.Prelude.{ℕ, ◌≡◌, ◌+◌, ◌<◌, ◌^◌, ◌==◌, IfOk, IfErr, IfSome, IfNone, map, count_by};
 ghost use Rattle.bz_token.specs.Places.{placed};
 ghost use Rattle.bz_token.specs.Reading.{AreTokensOf};
 ghost use Rattle.bz_tree.specs.Tree.{Statement};
-ghost use Rattle.bz_tree.specs.View.{texts, view, seg_view};
-ghost use Rattle.bz_tree.specs.Statement.{EndsFit, statement_with, first_seen, last_seen};
-ghost use Rattle.bz_tree.specs.Blocks.{kept_statement};
+ghost use Rattle.bz_tree.specs.View.{view};
+ghost use Rattle.bz_tree.specs.Statement.{EndsFit, first_seen, last_seen};
 ghost use Rattle.bz_tree.specs.Chunk.{IsPlain, indent_fault, IsChunkOf, IsStatementIn, IsBlank, IsFaultIn};
 ghost use Rattle.bz_tree.specs.private.BlockSteps.{AreStanding};
 
 use crate::fault::ParseFault;
-use crate::grammar::is_statement;
+use crate::grammar::accepts;
+use crate::grammar::stage::Stage;
 use crate::tree::block::{block_indent, comments_above, is_block, is_block_word};
 use crate::tree::build::run;
 use crate::tree::classes::class_of;
@@ -22,27 +22,6 @@ use bumpalo::Bump;
 use bz_memory::{NoMemory, with_capacity};
 use bz_token::{Kind, LexFault, Token, tokens};
 use std::alloc::Global;
-
-// The statement of these nodes and comments.
-fn with_class<'a>(seg: Seg<'a>, tokens: &[Token<'a>]) -> Stmt<'a>
-    requires { EndsFit (map placed tokens.now) }
-    ensures value { view result ≡ statement_with (map placed tokens.now) (seg_view seg.entry) }
-{
-    let class = class_of(&seg.nodes);
-    let Seg {
-        before,
-        nodes,
-        suffix,
-    } = seg;
-    Stmt {
-        before,
-        nodes,
-        suffix,
-        class,
-        start: start_of(tokens),
-        end: end_of(tokens),
-    }
-}
 
 /// A chunk whose tokens are there.
 #[derive(Clone, Copy)]
@@ -62,36 +41,23 @@ fn plain_statement<'a>(alloc: Global, tokens: &[Token<'a>]) -> Result<Option<Stm
     let Some(seg) = run(alloc, tokens)? else {
         return Ok(None);
     };
-    if !is_statement(&seg.nodes) {
+    if !accepts(Stage::Statement, &seg.nodes) {
         return Ok(None);
     }
-    Ok(Some(with_class(seg, tokens)))
-}
-
-// The statement that a block is.
-fn kept_statement<'a>(
-    alloc: Global,
-    before: Vec<&'a str>,
-    kept: &'a str,
-    header: &Token<'a>,
-    end: u64,
-) -> Result<Stmt<'a>, NoMemory>
-    ensures value { IfOk result
-        (λ s. view s ≡ kept_statement (texts before.entry.items) kept.now (placed header.now) end) }
-{
-    let mut nodes = with_capacity(alloc, 1)?;
-    nodes.push_reserved(Node::Token(Leaf {
-        kind: Kind::Kept,
-        text: kept,
-    }));
-    Ok(Stmt {
+    let class = class_of(&seg.nodes);
+    let Seg {
         before,
         nodes,
-        suffix: None,
-        class: Class::Block,
-        start: header.line,
-        end,
-    })
+        suffix,
+    } = seg;
+    Ok(Some(Stmt {
+        before,
+        nodes,
+        suffix,
+        class,
+        start: start_of(tokens),
+        end: end_of(tokens),
+    }))
 }
 
 // The statement of a chunk's tokens, a block or not. None: they have none.
@@ -104,24 +70,31 @@ fn chunk_statement<'a>(alloc: Global, chunk: &Chunk<'a, '_>) -> Result<Option<St
     ensures none { IfOk result (λ o. IfNone o ((t : Statement)
         → IsChunkOf chunk.now.first_line chunk.now.text.now (map placed chunk.now.tokens.now) t → ⊥)) }
 {
-    let Chunk {
-        text,
-        first_line,
-        tokens,
-    } = *chunk;
-    let header = match first_token(tokens) {
+    let header = match first_token(chunk.tokens) {
         Some(token) if is_block_word(&token) => token,
-        _ => return plain_statement(alloc, tokens),
+        _ => return plain_statement(alloc, chunk.tokens),
     };
-    if !is_block(tokens) {
+    if !is_block(chunk.tokens) {
         return Ok(None);
     }
-    let Some(last) = last_seen(tokens) else {
+    let Some(last) = last_seen(chunk.tokens) else {
         return Ok(None);
     };
-    let kept = kept_text(text, first_line, &header, &last);
-    let before = comments_above(alloc, tokens)?;
-    Ok(Some(kept_statement(alloc, before, kept, &header, end_line(&last))?))
+    let before = comments_above(alloc, chunk.tokens)?;
+    let text = kept_text(chunk.text, chunk.first_line, &header, &last);
+    let mut nodes = with_capacity(alloc, 1)?;
+    nodes.push_reserved(Node::Token(Leaf {
+        kind: Kind::Kept,
+        text,
+    }));
+    Ok(Some(Stmt {
+        before,
+        nodes,
+        suffix: None,
+        class: Class::Block,
+        start: header.line,
+        end: end_line(&last),
+    }))
 }
 
 // The line at which a chunk is indented wrongly.

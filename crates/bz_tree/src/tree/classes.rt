@@ -1,8 +1,8 @@
 //! What a statement is to the layout and to the commands.
 
-ghost use Rattle.std.specs.Prelude.{◌≡◌, ◌≤◌, codes};
+ghost use Rattle.std.specs.Prelude.{◌≡◌, codes};
 ghost use Rattle.bz_tree.specs.View.{node_view, nodes_view, seg_view};
-ghost use Rattle.bz_tree.specs.Statement.{is_rule, is_call, as_rule_call, rule_call, with_rule_call, is_assign, is_kept, is_load_word, class_of};
+ghost use Rattle.bz_tree.specs.Statement.{is_rule, is_call, rule_call, with_rule_call, is_assign, class_of};
 ghost use Rattle.bz_tree.specs.Kinds.{is_operator_at};
 ghost use Rattle.std.specs.List.{list_any};
 ghost use Rattle.bz_tree.specs.private.RowSteps.{named, called};
@@ -130,32 +130,14 @@ fn has_assign(nodes: &[Node<'_>]) -> bool
     false
 }
 
-fn is_load_word(node: &Node<'_>) -> bool
-    ensures { result ≡ is_load_word (node_view node.now) }
-{
-    match node {
-        Node::Token(leaf) => leaf.kind == Kind::Keyword && leaf.text == "load",
-        Node::Group(_) => false,
-    }
-}
-
-fn is_kept(node: &Node<'_>) -> bool
-    ensures { result ≡ is_kept (node_view node.now) }
-{
-    match node {
-        Node::Token(leaf) => leaf.kind == Kind::Kept,
-        Node::Group(_) => false,
-    }
-}
-
 /// The class of a statement with these nodes.
 pub(crate) fn class_of(nodes: &[Node<'_>]) -> Class
     ensures { result ≡ class_of (nodes_view nodes.now) }
 {
     match nodes.first() {
         None => Class::Comment,
-        Some(node) if is_kept(node) => Class::Block,
-        Some(node) if is_load_word(node) => Class::Load,
+        Some(Node::Token(leaf)) if leaf.kind == Kind::Kept => Class::Block,
+        Some(Node::Token(leaf)) if leaf.kind == Kind::Keyword && leaf.text == "load" => Class::Load,
         Some(_) if has_assign(nodes) => Class::Assign,
         Some(_) if is_rule(nodes) => Class::Rule,
         Some(_) => Class::Other,

@@ -1,8 +1,8 @@
 //! The segments of one bracket, and the owners of the comments that stand in it.
 
-ghost use Rattle.std.specs.Prelude.{◌≡◌, ◌+◌, ◌++◌, ◌==◌, true, false, map, count_by, IfOk, OnOk, Some, None, [], option_map, option_and_then, ◌≤◌, IfSome};
-ghost use Rattle.bz_tree.specs.View.{text_of, texts, node_view, seg_view};
-ghost use Rattle.bz_tree.specs.private.Steps.{walked, so_far, is_in_first, texts_of, content_view, at_start, after_node, after_comma, after_comment, done, add_beside, to_last};
+ghost use Rattle.std.specs.Prelude.{◌≡◌, ◌+◌, ◌==◌, true, false, map, count_by, IfOk, OnOk, Some, None, [], option_map, option_and_then};
+ghost use Rattle.bz_tree.specs.View.{node_view, seg_view};
+ghost use Rattle.bz_tree.specs.private.Steps.{walked, so_far, is_in_first, content_view, at_start, after_node, after_comma, after_comment, done, to_last};
 
 use crate::tree::span::newlines;
 use crate::tree::{Node, Seg};
@@ -40,58 +40,19 @@ pub(crate) struct Content<'a> {
 }
 
 // One more comment after a segment's comma.
-fn add_beside<'a>(seg: &mut Seg<'a>, text: &'a str) -> Result<(), NoMemory>
-    ensures value { OnOk result (seg_view seg.new ≡ add_beside (text.now) (seg_view seg.old)) }
-{
-    if seg.suffix.is_some() {
-        push(&mut seg.before, text)?;
-    } else {
-        seg.suffix = Some(text);
-    }
-    Ok(())
-}
-
 fn add_to_last<'a>(segs: &mut Vec<Seg<'a>>, text: &'a str) -> Result<(), NoMemory>
     ensures value { OnOk result (map seg_view segs.new.items
         ≡ to_last (text.now) (map seg_view segs.old.items)) }
 {
     if let Some(mut seg) = segs.pop() {
-        add_beside(&mut seg, text)?;
+        if seg.suffix.is_some() {
+            push(&mut seg.before, text)?;
+        } else {
+            seg.suffix = Some(text);
+        }
         segs.push_reserved(seg);
     }
     Ok(())
-}
-
-// A suffix so far is none once a node stands after it.
-#[inline(always)]
-fn put_before(seg: &mut Seg<'_>) -> Result<(), NoMemory>
-    ensures nodes { seg.new.nodes ≡ seg.old.nodes }
-    ensures taken { seg.new.suffix ≡ None }
-    ensures value { OnOk result (texts seg.new.before.items
-        ≡ texts seg.old.before.items ++ texts_of (option_map text_of seg.old.suffix)) }
-{
-    if seg.suffix.is_some() {
-        if let Some(text) = seg.suffix.take() {
-            push(&mut seg.before, text)?;
-        }
-    }
-    Ok(())
-}
-
-// The comments after the last node stand above it once another node, or the comma, comes.
-#[inline(always)]
-fn put_above<'a>(before: &mut Vec<&'a str>, after: &mut Vec<&'a str>) -> Result<(), NoMemory>
-    ensures before { OnOk result (before.new.items ≡ before.old.items ++ after.old.items) }
-    ensures after { OnOk result (after.new.items ≡ []) }
-{
-    if after.is_empty() {
-        return Ok(());
-    }
-    if before.is_empty() {
-        mem::swap(before, after);
-        return Ok(());
-    }
-    append(before, after)
 }
 
 // Whether what begins on a line and ends some lines later ends on that other line.
@@ -103,7 +64,7 @@ pub(crate) fn ends_on(line: u64, newlines: u64, at: u64) -> bool
 }
 
 #[inline(always)]
-fn empty_segment<'a>(alloc: Global) -> Seg<'a>
+pub(crate) fn empty_segment<'a>(alloc: Global) -> Seg<'a>
     ensures before { result.before.items ≡ [] }
     ensures nodes { result.nodes.items ≡ [] }
     ensures suffix { result.suffix ≡ None }
@@ -138,6 +99,8 @@ impl<'a> Walk<'a> {
         self.whole && self.segs.is_empty()
     }
 
+    // A suffix so far is none once a node stands after it. The comments after the last node stand above it once another
+    // node, or the comma, comes.
     #[inline(always)]
     pub(crate) fn add_node(
         &mut self,
@@ -152,8 +115,10 @@ impl<'a> Walk<'a> {
         self.last = Before::Node(line, text);
         self.trailing = false;
         push(&mut self.here.nodes, node)?;
-        put_before(&mut self.here)?;
-        put_above(&mut self.here.before, &mut self.after)
+        if let Some(text) = self.here.suffix.take() {
+            push(&mut self.here.before, text)?;
+        }
+        append(&mut self.here.before, &mut self.after)
     }
 
     pub(crate) fn add_comma(&mut self, alloc: Global, line: u64) -> Result<(), NoMemory>
@@ -163,7 +128,7 @@ impl<'a> Walk<'a> {
             self.whole = false;
             return Ok(());
         }
-        put_above(&mut self.here.before, &mut self.after)?;
+        append(&mut self.here.before, &mut self.after)?;
         push(
             &mut self.segs,
             mem::replace(&mut self.here, empty_segment(alloc)),

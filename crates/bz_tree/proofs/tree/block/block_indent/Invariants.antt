@@ -1,7 +1,7 @@
 use Rattle.std.proofs.Common.{◌≡◌, drop, map, reverse}
 use Rattle.bz_token.specs.Places.{placed}
 use Rattle.bz_tree.specs.Blocks.{block_indent}
-use Rattle.bz_tree.specs.private.BlockSteps.{indent_run}
+use Rattle.bz_tree.proofs.Trees.BlockLines.{indent_run}
 use Rattle.bz_tree.proofs.tree.block.block_indent.Given as goal
 
 abbrev pub invariant-loop-token : goal.invariant-loop-token

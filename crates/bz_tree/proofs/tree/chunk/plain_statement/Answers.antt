@@ -1,5 +1,7 @@
-use Rattle.std.proofs.Common.{map, option_map, sym, ap, ◌∙◌}
+use Rattle.std.proofs.Common.{arith, map, option_map, sym, ap, ◌∙◌}
+use Rattle.std.proofs.lemmas.Grind.{common_steps}
 use Rattle.bz_token.specs.Places.{placed}
+use Rattle.bz_tree.specs.declared.tree.Node.{the_lemmas}
 use Rattle.bz_tree.specs.Tree.{Segment, items_of}
 use Rattle.bz_tree.specs.View.{seg_view, nodes_view}
 use Rattle.bz_tree.specs.private.Machine.{is_statement}
@@ -10,13 +12,13 @@ use Rattle.bz_tree.proofs.tree.chunk.plain_statement.Goals as goal
 pub returns-in_default-clause-none : goal.returns-in_default-clause-none
 returns-in_default-clause-none c = no_plain_tree (map placed c.args.tokens.now) (sym c.in_ok-seg.ensures.value ∙ ap (option_map seg_view) c.in_default.is)
 
-pub returns-then-not-is_statement-clause-none : goal.returns-then-not-is_statement-clause-none
-returns-then-not-is_statement-clause-none c =
+pub returns-then-not-accepts-clause-none : goal.returns-then-not-accepts-clause-none
+returns-then-not-accepts-clause-none c =
     no_plain_grammar (map placed c.args.tokens.now) (seg_view c.in-Some.seg) (sym c.in_ok-seg.ensures.value ∙ ap (option_map seg_view) c.in-Some.is)
-    (ap (λ (s : Segment). is_statement (items_of s.nodes)) (view-seg c.in-Some.seg) ∙ ap (λ ns. is_statement (items_of (nodes_view ns))) (sym c.deref.ensures.value) ∙ sym c.is_statement.ensures ∙ c.if-not-is_statement.true)
+    (ap (λ (s : Segment). is_statement (items_of s.nodes)) (view-seg c.in-Some.seg) ∙ ap (λ ns. is_statement (items_of (nodes_view ns))) (sym c.deref.ensures.value) ∙ sym c.accepts.ensures ∙ c.if-not-accepts.true)
 
 pub returns-clause-statement : goal.returns-clause-statement
 returns-clause-statement c =
     plain_is (map placed c.args.tokens.now) (seg_view c.in-Some.seg) _ (sym c.in_ok-seg.ensures.value ∙ ap (option_map seg_view) c.in-Some.is)
-    (ap (λ (s : Segment). is_statement (items_of s.nodes)) (view-seg c.in-Some.seg) ∙ ap (λ ns. is_statement (items_of (nodes_view ns))) (sym c.deref.ensures.value) ∙ sym c.is_statement.ensures ∙ c.if-not-is_statement.false)
-    c.with_class.ensures.value
+    (ap (λ (s : Segment). is_statement (items_of s.nodes)) (view-seg c.in-Some.seg) ∙ ap (λ ns. is_statement (items_of (nodes_view ns))) (sym c.deref.ensures.value) ∙ sym c.accepts.ensures ∙ c.if-not-accepts.false)
+    (grind (arith, common_steps, the_lemmas))
