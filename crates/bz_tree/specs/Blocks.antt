@@ -40,20 +40,14 @@ abbrev pub logical_lines : List Placed → List (List Placed)
 logical_lines [] = [] ∷ []
 logical_lines (t ∷ ts) = with_token (mark_of t) t (logical_lines ts)
 
--- The columns of the lines that are still open are a stack, the innermost first. It is popped down to this column, if it holds it.
-abbrev pub popped : ℕ → List ℕ → Option (List ℕ)
-popped column [] = None
-popped column (c ∷ columns) = if c == column then Some (c ∷ columns) else popped column columns
-
-abbrev pub pushed : ℕ → List ℕ → Option (List ℕ)
-pushed column [] = Some (column ∷ [])
-pushed column (c ∷ columns) = if nat_lt c column then Some (column ∷ c ∷ columns) else None
-
--- The stack after the first token of a line: after a line that ends with `:` it stands deeper than the innermost line, else on a
--- column of the stack. None: it is indented wrongly.
+-- The columns of the lines that are still open are a stack, the innermost first. After the first token of a line: after a line that
+-- ends with `:` it stands deeper than the innermost line, else on a column of the stack, which is popped down to it. None: it is
+-- indented wrongly.
 abbrev pub indented : Bool → ℕ → List ℕ → Option (List ℕ)
-indented true column columns = pushed column columns
-indented false column columns = popped column columns
+indented true column [] = Some (column ∷ [])
+indented true column (c ∷ columns) = if nat_lt c column then Some (column ∷ c ∷ columns) else None
+indented false column [] = None
+indented false column (c ∷ columns) = if c == column then Some (c ∷ columns) else indented false column columns
 
 -- the line ends with `:`; an empty one changes nothing
 abbrev pub ends_open : Bool → List Placed → Bool

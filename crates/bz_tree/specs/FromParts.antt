@@ -26,9 +26,6 @@ nothing = record { segs = []; comments = []; nodes = [] }
 abbrev pub with_node : Item → Content → Content
 with_node x c = record { segs = c.segs; comments = c.comments; nodes = c.nodes ++ x ∷ [] }
 
-abbrev pub with_comment : List ℕ → Content → Content
-with_comment text c = record { segs = c.segs; comments = c.comments ++ text ∷ []; nodes = c.nodes }
-
 -- the nodes end as a segment, with the comments above it
 abbrev pub with_segment : Content → Content
 with_segment c = record { segs = c.segs ++ record { before = c.comments; nodes = c.nodes; suffix = None } ∷ []; comments = []; nodes = [] }
@@ -41,9 +38,6 @@ beside_last text (s ∷ r ∷ ss) = s ∷ beside_last text (r ∷ ss)
 abbrev pub with_beside : List ℕ → Content → Content
 with_beside text c = record { segs = beside_last text c.segs; comments = c.comments; nodes = c.nodes }
 
-abbrev pub here_as : Content → Nest → Nest
-here_as c n = record { here = c; outer = n.outer }
-
 abbrev pub opened : GroupKind → Nest → Nest
 opened kind n = record { here = nothing; outer = record { kind = kind; content = n.here } ∷ n.outer }
 
@@ -53,12 +47,12 @@ closed one_comma c [] = record { here = c; outer = [] }
 closed one_comma c (o ∷ os) = record { here = with_node (group o.kind (segs_of c.segs) one_comma c.comments) o.content; outer = os }
 
 abbrev pub step : RowPart → Nest → Nest
-step (a_token kind text) n = here_as (with_node (leaf kind text) n.here) n
+step (a_token kind text) n = record n { here = with_node (leaf kind text) n.here }
 step (opening kind) n = opened kind n
 step (closing one_comma) n = closed one_comma n.here n.outer
-step segment_end n = here_as (with_segment n.here) n
-step (above text) n = here_as (with_comment text n.here) n
-step (beside text) n = here_as (with_beside text n.here) n
+step segment_end n = record n { here = with_segment n.here }
+step (above text) n = record n { here = record (n.here) { comments = n.here.comments ++ text ∷ [] } }
+step (beside text) n = record n { here = with_beside text n.here }
 
 abbrev pub steps : List RowPart → Nest → Nest
 steps [] n = n

@@ -13,7 +13,7 @@ use Rattle.bz_tree.specs.Kinds.{mark_of, group_kind, is_one}
 use Rattle.bz_tree.specs.Owners.{Own, node, comma, comment, Last, no_token, end_of_node, end_of_comma, is_on, Inside, inside, no_empty}
 use Rattle.bz_tree.specs.Brackets.{own_item, own_items, has_for, group_of, Elem, single, bracket, Elems, no_elems, elem, elem_tokens, elems_tokens, elem_own, elems_own, preceding, own_of, is_single, IsWell, AreWell, is_line, without_lines}
 use Rattle.bz_tree.specs.Statement.{one_segment, as_rule_call, rule_call, is_rule, segment_of, statement_with, IsStatementOf}
-use Rattle.bz_tree.specs.private.Steps.{Walked, texts_of, at_start, after_node, add_beside, to_last, commented, after_comment, done}
+use Rattle.bz_tree.specs.private.Steps.{Walked, at_start, after_node, add_beside, to_last, commented, after_comment, done}
 use Rattle.bz_tree.proofs.Trees.ByOwns.{walk}
 use Rattle.bz_tree.specs.Comments.{Lists, beside, item_owners, items_owners, segs_owners, owners_of, comments_of, comment_of, comments_among, AreDealt, times}
 use Rattle.bz_tree_laws.proofs.Dealt.{Mixed, mixed_swap, mixed_left, mixed_right, mixed_after, mixed_more, left_more, right_more, AreMixed, one_mixed, one_alone, both_mixed, mixed_following, to_end, list_more, lists_more, dealt_of, times_all}
@@ -52,7 +52,7 @@ AreSpelled (o ∷ os) texts = (here : List (List ℕ)) × (more : List (List ℕ
 
 -- what the walk holds of the segment here, its nodes aside
 abbrev here : Walked → List (List ℕ)
-here w = w.before ++ (texts_of w.suffix ++ w.after)
+here w = w.before ++ (beside w.suffix ++ w.after)
 
 -- What the walk holds: the comments of the finished segments, those of the segment here, and those in its nodes.
 record Holds (w : Walked) (texts : List (List ℕ)) : Type 0 where
@@ -121,15 +121,15 @@ node_holds line x w texts more h mixed =
     }
 
 -- the comments of a segment are those before it and its suffix
-segment_split : (before : List (List ℕ)) (suffix : Option (List ℕ)) (after : List (List ℕ)) → Mixed (before ++ after) (beside suffix) (before ++ (texts_of suffix ++ after))
+segment_split : (before : List (List ℕ)) (suffix : Option (List ℕ)) (after : List (List ℕ)) → Mixed (before ++ after) (beside suffix) (before ++ (beside suffix ++ after))
 segment_split before None after = mixed_left (before ++ after)
 segment_split before (Some text) after = mixed_more before before [] after (text ∷ []) (text ∷ after) (mixed_left before) (mixed_swap (text ∷ after) (text ∷ []) after (mixed_after (text ∷ []) after))
 
 closed_mixed : (segs : List Segment) (before : List (List ℕ)) (nodes : List Item) (suffix : Option (List ℕ)) (after : List (List ℕ)) (last : Last) (trailing : Bool) (texts : List (List ℕ))
     → Holds (walked_of segs before nodes suffix after last trailing) texts → AreMixed texts (segments_owners segs ++ ((before ++ after) ∷ beside suffix ∷ nodes_owners nodes))
 closed_mixed segs before nodes suffix after last trailing texts h =
-    let own : AreMixed (before ++ (texts_of suffix ++ after)) ((before ++ after) ∷ beside suffix ∷ []) = (beside suffix, segment_split before suffix after, one_mixed (beside suffix)) in
-    let rest = both_mixed ((before ++ after) ∷ beside suffix ∷ []) (nodes_owners nodes) (before ++ (texts_of suffix ++ after)) h.inner h.rest h.those own h.nodes in
+    let own : AreMixed (before ++ (beside suffix ++ after)) ((before ++ after) ∷ beside suffix ∷ []) = (beside suffix, segment_split before suffix after, one_mixed (beside suffix)) in
+    let rest = both_mixed ((before ++ after) ∷ beside suffix ∷ []) (nodes_owners nodes) (before ++ (beside suffix ++ after)) h.inner h.rest h.those own h.nodes in
     both_mixed (segments_owners segs) ((before ++ after) ∷ beside suffix ∷ nodes_owners nodes) h.finished h.rest texts h.all h.segs rest
 
 -- a comma
@@ -185,10 +185,10 @@ here_more w v text texts segs nodes grown h = record {
   nodes = subst (λ xs. AreMixed h.inner (nodes_owners xs)) (sym nodes) h.nodes;
 }
 
-alone_grown : (text : List ℕ) (before : List (List ℕ)) (suffix : Option (List ℕ)) (after : List (List ℕ)) → before ++ (texts_of suffix ++ (after ++ text ∷ [])) ≡ (before ++ (texts_of suffix ++ after)) ++ text ∷ []
+alone_grown : (text : List ℕ) (before : List (List ℕ)) (suffix : Option (List ℕ)) (after : List (List ℕ)) → before ++ (beside suffix ++ (after ++ text ∷ [])) ≡ (before ++ (beside suffix ++ after)) ++ text ∷ []
 alone_grown text before suffix after = simp append_assoc
 
-suffix_grown : (text : List ℕ) (before : List (List ℕ)) (suffix : Option (List ℕ)) (after : List (List ℕ)) → suffix ≡ None → after ≡ [] → before ++ (text ∷ after) ≡ (before ++ (texts_of suffix ++ after)) ++ text ∷ []
+suffix_grown : (text : List ℕ) (before : List (List ℕ)) (suffix : Option (List ℕ)) (after : List (List ℕ)) → suffix ≡ None → after ≡ [] → before ++ (text ∷ after) ≡ (before ++ (beside suffix ++ after)) ++ text ∷ []
 suffix_grown text before suffix after none empty = rw (none, empty) (sym (append_assoc before [] (text ∷ [])))
 
 commented_holds : (last : Last) (on : Bool) (text : List ℕ) (segs : List Segment) (before : List (List ℕ)) (nodes : List Item) (suffix : Option (List ℕ)) (after : List (List ℕ)) (trailing : Bool) (texts : List (List ℕ))
@@ -246,7 +246,7 @@ walk_ends [] w i texts more all all_is fits h spelled is = record {
   alone = λ one none. none;
 }
 walk_ends (node line x ∷ os) w i texts more all all_is fits h spelled is =
-    let now : Fits (after_node line x w) = record { nodes = nodes_push w.nodes x (w.before ++ (texts_of w.suffix ++ w.after)) None; last = (refl, refl, node_push w.nodes x) } in
+    let now : Fits (after_node line x w) = record { nodes = nodes_push w.nodes x (w.before ++ (beside w.suffix ++ w.after)) None; last = (refl, refl, node_push w.nodes x) } in
     let split : all ≡ (texts ++ spelled.0) ++ spelled.1 = all_is ∙ ap (λ l. texts ++ l) spelled.2 ∙ sym (append_assoc texts spelled.0 spelled.1) in
     let e = walk_ends os (after_node line x w) i (texts ++ spelled.0) spelled.1 all split now (node_holds line x w texts spelled.0 h spelled.3) spelled.4 is in
     record { last = e.last; holds = e.holds; fits = e.fits; is = e.is; alone = e.alone }
@@ -277,15 +277,15 @@ done_mixed : (segs : List Segment) (before : List (List ℕ)) (nodes : List Item
     → NoNodes nodes before suffix → Holds (walked_of segs before nodes suffix after last trailing) texts
     → AreMixed texts (inside_owners (done (walked_of segs before nodes suffix after last trailing)))
 done_mixed segs before [] suffix after last trailing texts none h =
-    let own : before ++ (texts_of suffix ++ after) ≡ after = rw (none.0, none.1) refl in
+    let own : before ++ (beside suffix ++ after) ≡ after = rw (none.0, none.1) refl in
     let those : Mixed after h.inner h.rest = subst (λ l. Mixed l h.inner h.rest) own h.those in
     let rest : AreMixed h.rest (after ∷ []) = both_mixed (after ∷ []) [] after h.inner h.rest those (one_mixed after) h.nodes in
     both_mixed (segments_owners segs) (after ∷ []) h.finished h.rest texts h.all h.segs rest
 done_mixed segs before (x ∷ xs) suffix after last trailing texts none h =
     let nodes : List Item = x ∷ xs in
     let s : Segment = record { before = before; nodes = nodes; suffix = suffix } in
-    let own : AreMixed (before ++ (texts_of suffix ++ after)) (before ∷ beside suffix ∷ after ∷ []) = (texts_of suffix ++ after, mixed_after before (texts_of suffix ++ after), (after, at_suffix suffix, one_mixed after)) in
-    let rest = both_mixed (before ∷ beside suffix ∷ after ∷ []) (nodes_owners nodes) (before ++ (texts_of suffix ++ after)) h.inner h.rest h.those own h.nodes in
+    let own : AreMixed (before ++ (beside suffix ++ after)) (before ∷ beside suffix ∷ after ∷ []) = (beside suffix ++ after, mixed_after before (beside suffix ++ after), (after, at_suffix suffix, one_mixed after)) in
+    let rest = both_mixed (before ∷ beside suffix ∷ after ∷ []) (nodes_owners nodes) (before ++ (beside suffix ++ after)) h.inner h.rest h.those own h.nodes in
     let all = both_mixed (segments_owners segs) (before ∷ beside suffix ∷ after ∷ nodes_owners nodes) h.finished h.rest texts h.all h.segs rest in
     let front : Lists = segments_owners segs ++ (before ∷ beside suffix ∷ []) in
     let split : segments_owners segs ++ (before ∷ beside suffix ∷ after ∷ nodes_owners nodes) ≡ front ++ after ∷ nodes_owners nodes = sym (append_assoc (segments_owners segs) (before ∷ beside suffix ∷ []) (after ∷ nodes_owners nodes)) in
@@ -293,7 +293,7 @@ done_mixed segs before (x ∷ xs) suffix after last trailing texts none h =
     let owners : front ++ (nodes_owners nodes ++ after ∷ []) ≡ segments_owners (segs ++ s ∷ []) ++ after ∷ [] = rw (segments_append segs (s ∷ [])) (simp append_assoc) in
     subst (AreMixed texts) owners turned
   where
-    at_suffix : (o : Option (List ℕ)) → Mixed (beside o) after (texts_of o ++ after)
+    at_suffix : (o : Option (List ℕ)) → Mixed (beside o) after (beside o ++ after)
     at_suffix None = mixed_right after
     at_suffix (Some text) = mixed_after (text ∷ []) after
 

@@ -17,7 +17,7 @@ use Rattle.bz_tree.specs.Chunk.{indent_at, IsOneOf, IsStatementIn}
 use Rattle.bz_tree.specs.Rows.{RowPart, above, beside_part, IsRowOf}
 use Rattle.bz_tree.specs.private.Machine.{accepts, may_end, is_statement}
 use Rattle.bz_tree.specs.private.Steps.{new_level, run}
-use Rattle.bz_tree.specs.private.RowSteps.{start, RowState, row_next, RowView, row_view, read_class, is_lost, row_end, row_run, row_start, is_upright}
+use Rattle.bz_tree.specs.private.RowSteps.{start, RowState, row_next_at, RowView, row_view, read_class, is_lost, row_end, row_run, row_start, is_upright}
 use Rattle.bz_tree.proofs.Trees.Plain.{plain_is}
 use Rattle.bz_tree.proofs.Trees.Sound.{none_is_some, some_injective}
 use Rattle.bz_tree.proofs.Rows.RowParts.{Place, none, some, over, Bracket, bracket, read_items, shown, nodes_parts, accepts_read}
@@ -90,7 +90,7 @@ end_found _ segs place gs r good same = absurd (none_is_some r same)
 abbrev RunFound : List Placed → Type 0
 RunFound ts = (g : Bracket) (gs : List Bracket) (r : RowView) → row_run (image g gs) ts ≡ Some r → IsGood g → AreGood gs → Found (run (level_of g) (map level_of gs) ts) r
 
-after_step : (t : Placed) (ts : List Placed) → RunFound ts → (g : Bracket) (gs : List Bracket) (r : RowView) (o : Option RowState) → row_next t (image g gs) ≡ o → option_and_then (λ s. row_run s ts) o ≡ Some r → IsGood g → AreGood gs
+after_step : (t : Placed) (ts : List Placed) → RunFound ts → (g : Bracket) (gs : List Bracket) (r : RowView) (o : Option RowState) → row_next_at (mark_of t) t (image g gs) ≡ o → option_and_then (λ s. row_run s ts) o ≡ Some r → IsGood g → AreGood gs
     → Found (run (level_of g) (map level_of gs) (t ∷ ts)) r
 after_step t ts more g gs r None is same good goods = absurd (none_is_some r same)
 after_step t ts more g gs r (Some new) is same good goods =
@@ -100,7 +100,7 @@ after_step t ts more g gs r (Some new) is same good goods =
 
 run_found : (ts : List Placed) → RunFound ts
 run_found [] = λ g gs r same good goods. end_found g.kind g.segs g.place gs r good same
-run_found (t ∷ ts) = λ g gs r same good goods. after_step t ts (run_found ts) g gs r (row_next t (image g gs)) refl same good goods
+run_found (t ∷ ts) = λ g gs r same good goods. after_step t ts (run_found ts) g gs r (row_next_at (mark_of t) t (image g gs)) refl same good goods
 
 -- what the walk finds
 pub row_found : (ts : List Placed) (r : RowView) → row_run row_start ts ≡ Some r → Found (run (new_level None) [] ts) r

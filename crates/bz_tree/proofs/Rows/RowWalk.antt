@@ -24,7 +24,7 @@ use Rattle.bz_tree.specs.Brackets.{leaf_of, is_for_item, is_paren, group_with, e
 use Rattle.bz_tree.specs.Rows.{RowPart, opening, closing, segment_end, above, beside, beside_part, item_parts}
 use Rattle.bz_tree.specs.private.Machine.{next, may_end, begin, later, is_whole, each, role_of, group_role}
 use Rattle.bz_tree.specs.private.Steps.{Walked, after_own, commented, to_last, done, has_one, is_in_first, as_comprehension, shape_of, Level, Levels, with_own, next_at}
-use Rattle.bz_tree.specs.private.RowSteps.{is_ended, called, shown_kind, start, read_group, is_text, Stand, with_node, with_here, RowState, step_to, is_refused, comment_part, after_comment_next, last_end, is_single, is_one_comma, close_below, row_next_at}
+use Rattle.bz_tree.specs.private.RowSteps.{is_ended, called, shown_kind, start, read_group, is_text, Stand, with_node, RowState, step_to, is_refused, comment_part, after_comment_next, last_end, is_single, is_one_comma, close_below, row_next_at}
 use Rattle.bz_tree.proofs.Trees.Complete.{same_itself}
 use Rattle.bz_tree.proofs.Trees.InPlace.{filled_push, filled_last}
 use Rattle.bz_tree.proofs.Trees.Sound.{none_is_some, some_injective, same_shape_is}
@@ -234,7 +234,7 @@ above_leads t kind segs after gs new same good goods =
     (ap (λ ps. all_segs_parts segs ++ ps) (map-append above after (t.text ∷ [])) ∙ simp append_assoc) refl good goods
 
 comma_comment_leads : (t : Placed) (kind : GroupKind) (segs : List Segment) (end : ℕ) (on : Bool) → (end == t.line) ≡ on → (gs : List Bracket) (new : RowState)
-    → step_to (with_here (at_place (none [])) (stand_of (bracket (Some kind) segs (fresh end)))) (comment_part on t.text ∷ []) (image (bracket (Some kind) segs (fresh end)) gs) ≡ new
+    → step_to (record (stand_of (bracket (Some kind) segs (fresh end))) { here = at_place (none []) }) (comment_part on t.text ∷ []) (image (bracket (Some kind) segs (fresh end)) gs) ≡ new
     → IsGoodAt (Some kind) segs (fresh end) → AreGood gs → Leads (next_at Comment t (level_of (bracket (Some kind) segs (fresh end))) (map level_of gs)) new
 comma_comment_leads t kind segs end false e gs new is good goods =
     stays (Some kind) segs segs (fresh end) (none (t.text ∷ [])) gs (above t.text ∷ []) _ _ new is refl (ap (λ ps. ps ++ above t.text ∷ []) (sym (append-nil (all_segs_parts segs))))

@@ -6,8 +6,9 @@ use Rattle.bz_token.specs.Places.{Placed}
 use Rattle.bz_tree.specs.Tree.{Item, Segment}
 use Rattle.bz_tree.specs.Owners.{Own, node, comma, comment, Last, no_token, end_of_node, end_of_comma, no_empty, Inside, inside, Entry, a_node, a_comma, a_comment, first_cell, other_cells, same_line, later_lines, nodes_in, has_node, comments_in, above_last, beside_last, below_last, segments_from, end_from, has_trailing_comma, entries_of}
 use Rattle.bz_tree.specs.Brackets.{own_items}
+use Rattle.bz_tree.specs.Comments.{beside as texts_of}
 use Rattle.bz_tree.specs.Statement.{as_rule_call, rule_call}
-use Rattle.bz_tree.specs.private.Steps.{Walked, texts_of, at_start, after_node, add_beside, to_last, on_node, alone, commented, done}
+use Rattle.bz_tree.specs.private.Steps.{Walked, at_start, after_node, add_beside, to_last, commented, done}
 use Rattle.bz_tree.proofs.Trees.ByOwns.{walk}
 use Rattle.bz_token.specs.Common.{first_of, is_filled}
 
@@ -205,7 +206,7 @@ node_on line x os segs b cell last more =
     ap (λ w. walk w os) (node_step line x segs b cell last)
     ∙ (more ∙ λ i. cond (no_empty (has_more cell x i) os) (Some (found segs b (append_assoc cell (a_node x ∷ []) (first_cell es) i) (other_cells es))) None)
 
-off_step : (text : List ℕ) (segs : List Segment) (b : Bool) (cell : List Entry) (last : Last) → alone text (state segs b cell last) ≡ state segs b (cell ++ a_comment false text ∷ []) no_token
+off_step : (text : List ℕ) (segs : List Segment) (b : Bool) (cell : List Entry) (last : Last) → commented no_token false text (state segs b cell last) ≡ state segs b (cell ++ a_comment false text ∷ []) no_token
 off_step text segs b cell last = λ i. record {
   segs = segs;
   before = sym (above_same cell false text) i;
@@ -217,7 +218,7 @@ off_step text segs b cell last = λ i. record {
 }
 
 on_step : (x : Item) (text : List ℕ) (segs : List Segment) (b : Bool) (cell : List Entry) (last : Last)
-    → on_node text (state segs b (cell ++ a_node x ∷ []) last) ≡ state segs b ((cell ++ a_node x ∷ []) ++ a_comment true text ∷ []) no_token
+    → commented (end_of_node 0) true text (state segs b (cell ++ a_node x ∷ []) last) ≡ state segs b ((cell ++ a_node x ∷ []) ++ a_comment true text ∷ []) no_token
 on_step x text segs b cell last = λ i. record {
   segs = segs;
   before = sym (above_same (cell ++ a_node x ∷ []) true text) i;

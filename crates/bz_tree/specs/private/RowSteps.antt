@@ -114,9 +114,6 @@ with_node line read s = record { kind = s.kind; done = s.done; here = a_node lin
 abbrev pub with_comma : ℕ → Stand → Stand
 with_comma line s = record { kind = s.kind; done = one_more s.done; here = a_comma line; read = record (start s.kind) { stage = later (start s.kind).stage } }
 
-abbrev pub with_here : At → Stand → Stand
-with_here here s = record { kind = s.kind; done = s.done; here = here; read = s.read }
-
 -- the bracket that is open here, those around it, the innermost first, and the parts so far
 pub record RowState : Type 0 where
   pub top : Stand
@@ -142,13 +139,10 @@ leaf_next t s =
     if is_refused t s.top.here then None
     else Some (step_to (with_node (end_line t) (read_leaf t.kind t.text s.top.read) s.top) (a_token t.kind t.text ∷ []) s)
 
-abbrev pub segment_next : ℕ → At → RowState → Option RowState
-segment_next line (a_node end) s = if may_end s.top.read.stage then Some (step_to (with_comma line s.top) (segment_end ∷ []) s) else None
-segment_next line _ s = None
-
-abbrev pub comma_next : Option GroupKind → Placed → RowState → Option RowState
-comma_next None t s = leaf_next t s
-comma_next (Some kind) t s = segment_next t.line s.top.here s
+abbrev pub comma_next : Option GroupKind → At → Placed → RowState → Option RowState
+comma_next None here t s = leaf_next t s
+comma_next (Some kind) (a_node end) t s = if may_end s.top.read.stage then Some (step_to (with_comma t.line s.top) (segment_end ∷ []) s) else None
+comma_next (Some kind) _ t s = None
 
 -- a comment that is on the line of what stands before it, or not
 abbrev pub comment_part : Bool → List ℕ → RowPart
@@ -156,13 +150,13 @@ comment_part true text = beside text
 comment_part false text = above text
 
 abbrev pub after_comment_next : Option GroupKind → Bool → List ℕ → RowState → Option RowState
-after_comment_next None true text s = Some (step_to (with_here an_end s.top) (beside text ∷ []) s)
+after_comment_next None true text s = Some (step_to (record (s.top) { here = an_end }) (beside text ∷ []) s)
 after_comment_next None false text s = None
-after_comment_next (Some kind) on text s = Some (step_to (with_here an_end s.top) (segment_end ∷ comment_part on text ∷ []) s)
+after_comment_next (Some kind) on text s = Some (step_to (record (s.top) { here = an_end }) (segment_end ∷ comment_part on text ∷ []) s)
 
 abbrev pub comment_next : At → ℕ → List ℕ → RowState → Option RowState
 comment_next nothing line text s = Some (step_to s.top (above text ∷ []) s)
-comment_next (a_comma end) line text s = Some (step_to (with_here nothing s.top) (comment_part (end == line) text ∷ []) s)
+comment_next (a_comma end) line text s = Some (step_to (record (s.top) { here = nothing }) (comment_part (end == line) text ∷ []) s)
 comment_next (a_node end) line text s = after_comment_next s.top.kind (end == line) text s
 comment_next an_end line text s = then_some (is_some s.top.kind) (step_to s.top (above text ∷ []) s)
 
@@ -212,13 +206,10 @@ close_next (Some kind) shape line s =
 abbrev pub row_next_at : Mark → Placed → RowState → Option RowState
 row_next_at Newline t s = Some s
 row_next_at Plain t s = leaf_next t s
-row_next_at Comma t s = comma_next s.top.kind t s
+row_next_at Comma t s = comma_next s.top.kind s.top.here t s
 row_next_at Comment t s = comment_next s.top.here t.line t.text s
 row_next_at (Open shape) t s = open_next (group_kind shape s.top.read.at false) s
 row_next_at (Close shape) t s = close_next s.top.kind shape t.line s
-
-abbrev pub row_next : Placed → RowState → Option RowState
-row_next t s = row_next_at (mark_of t) t s
 
 -- its parts and its class
 pub record RowView : Type 0 where
@@ -254,7 +245,7 @@ row_end _ outer s = None
 
 abbrev pub row_run : RowState → List Placed → Option RowView
 row_run s [] = row_end s.top.kind s.outer s
-row_run s (t ∷ ts) = option_and_then (λ r. row_run r ts) (row_next t s)
+row_run s (t ∷ ts) = option_and_then (λ r. row_run r ts) (row_next_at (mark_of t) t s)
 
 abbrev pub row_start : RowState
 row_start = record { top = new_stand None; outer = []; parts = [] }

@@ -16,6 +16,7 @@ use Rattle.bz_tree.specs.declared.tree.build.Frame.{Frame}
 use Rattle.bz_tree.specs.declared.tree.build.State.{State}
 use Rattle.bz_token.specs.Places.{Placed}
 use Rattle.bz_tree.specs.Tree.{Item, Segment}
+use Rattle.bz_tree.specs.Comments.{beside as texts_of}
 use Rattle.bz_tree.specs.View.{text_of, texts, node_view, seg_view}
 use Rattle.bz_tree.specs.Kinds.{mark_of, is_one, group_kind, same_shape}
 use Rattle.bz_tree.specs.Owners.{Own, node, comma, comment, Last, no_token, end_of_node, end_of_comma, is_on, Inside}
@@ -32,10 +33,6 @@ pub record Walked : Type 0 where
   pub after : List (List ℕ)
   pub last : Last
   pub trailing : Bool
-
-abbrev pub texts_of : Option (List ℕ) → List (List ℕ)
-texts_of None = []
-texts_of (Some text) = text ∷ []
 
 abbrev pub last_view : Before → Last
 last_view Nothing = no_token
@@ -74,19 +71,10 @@ to_last text [] = []
 to_last text (s ∷ []) = add_beside text s ∷ []
 to_last text (s ∷ r ∷ ss) = s ∷ to_last text (r ∷ ss)
 
-abbrev pub on_comma : List ℕ → Walked → Walked
-on_comma text w = record { segs = to_last text w.segs; before = w.before; nodes = w.nodes; suffix = w.suffix; after = w.after; last = no_token; trailing = w.trailing }
-
-abbrev pub on_node : List ℕ → Walked → Walked
-on_node text w = record { segs = w.segs; before = w.before; nodes = w.nodes; suffix = Some text; after = w.after; last = no_token; trailing = w.trailing }
-
-abbrev pub alone : List ℕ → Walked → Walked
-alone text w = record { segs = w.segs; before = w.before; nodes = w.nodes; suffix = w.suffix; after = w.after ++ text ∷ []; last = no_token; trailing = w.trailing }
-
 abbrev pub commented : Last → Bool → List ℕ → Walked → Walked
-commented (end_of_node end) true text w = on_node text w
-commented (end_of_comma end) true text w = on_comma text w
-commented last on text w = alone text w
+commented (end_of_node end) true text w = record w { suffix = Some text; last = no_token }
+commented (end_of_comma end) true text w = record w { segs = to_last text w.segs; last = no_token }
+commented last on text w = record w { after = w.after ++ text ∷ []; last = no_token }
 
 abbrev pub after_comment : ℕ → List ℕ → Walked → Walked
 after_comment line text w = commented w.last (is_on w.last line) text w

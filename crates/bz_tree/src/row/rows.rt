@@ -9,11 +9,11 @@ ghost use Rattle.bz_token.specs.declared.token.Kind.TheVariants.{Operator};
 ghost use Rattle.bz_tree.specs.Tree.{Statement};
 ghost use Rattle.bz_tree.specs.Statement.{end_of};
 ghost use Rattle.bz_tree.specs.Chunk.{IsStatementIn};
-ghost use Rattle.bz_tree.specs.Kinds.{group_kind, operator_mark};
+ghost use Rattle.bz_tree.specs.Kinds.{mark_of, group_kind, operator_mark};
 ghost use Rattle.bz_tree.specs.RowReads.{has_row};
 ghost use Rattle.bz_tree.specs.Rows.{IsRowOf, part_view};
 ghost use Rattle.bz_tree.specs.private.Machine.{kind_role};
-ghost use Rattle.bz_tree.specs.private.RowSteps.{here_view, row_state, leaf_next, comma_next, comment_part, after_comment_next, comment_next, open_next, last_end, close_next, row_next, row_next_at, row_view, row_run, row_start, is_upright};
+ghost use Rattle.bz_tree.specs.private.RowSteps.{here_view, row_state, leaf_next, comma_next, comment_part, after_comment_next, comment_next, open_next, last_end, close_next, row_next_at, row_view, row_run, row_start, is_upright};
 
 use crate::grammar::role::{Role, operator_role, token_role};
 use crate::grammar::stage::{Stage, may_end};
@@ -83,7 +83,7 @@ impl<'a> RowWalk<'a> {
 
     fn add_comma(&mut self, token: &Token<'a>) -> Result<bool, NoMemory>
         ensures { IfOk result (λ some. then_some some (row_state self.new)
-            ≡ comma_next self.old.top.kind (placed token.now) (row_state self.old)) }
+            ≡ comma_next self.old.top.kind (here_view self.old.top.here) (placed token.now) (row_state self.old)) }
     {
         if self.top.kind.is_none() {
             return self.push_other(token);
@@ -229,8 +229,8 @@ impl<'a> RowWalk<'a> {
     // The kinds are told apart once. What is rare is a call, so that the loop over the tokens stays small.
     #[inline(always)]
     fn step(&mut self, token: &Token<'a>) -> Result<bool, NoMemory>
-        ensures { IfOk result
-            (λ some. then_some some (row_state self.new) ≡ row_next (placed token.now) (row_state self.old)) }
+        ensures { IfOk result (λ some. then_some some (row_state self.new)
+            ≡ row_next_at (mark_of (placed token.now)) (placed token.now) (row_state self.old)) }
     {
         match token.kind {
             Kind::Identifier => self.push_leaf(token, Kind::Identifier, Role::Name),

@@ -1,11 +1,11 @@
 //! Blocks: statements that begin with `def`, `for` or `if`, kept as they were written.
 
-ghost use Rattle.std.specs.Prelude.{◌≡◌, ◌<◌, ◌^◌, IfOk, map, reverse};
+ghost use Rattle.std.specs.Prelude.{◌≡◌, ◌<◌, IfOk, map, reverse};
 ghost use Rattle.std.specs.Bool.{then_some};
 ghost use Rattle.bz_token.specs.Places.{placed};
 ghost use Rattle.bz_tree.specs.View.{texts};
 ghost use Rattle.bz_tree.specs.Kinds.{mark_of};
-ghost use Rattle.bz_tree.specs.Blocks.{is_block_word, is_colon, indented, block_indent, depth_after, has_colon, header_line, logical_lines, is_block, above};
+ghost use Rattle.bz_tree.specs.Blocks.{is_block_word, is_colon, indented, block_indent, has_colon, header_line, logical_lines, is_block, above};
 ghost use Rattle.bz_tree.specs.Statement.{last_token};
 
 use crate::tree::kinds::{Mark, mark_of};
@@ -77,17 +77,6 @@ pub(crate) fn block_indent(alloc: Global, tokens: &[Token<'_>]) -> Result<Option
     Ok(None)
 }
 
-fn depth_after(mark: Mark, depth: usize) -> usize
-    requires { depth < 2 ^ 63 }
-    ensures { result ≡ depth_after mark depth }
-{
-    match mark {
-        Mark::Open(_) => depth + 1,
-        Mark::Close(_) => usize::saturating_sub(depth, 1),
-        _ => depth,
-    }
-}
-
 // Whether `:` stands outside brackets in the header line.
 fn has_header_colon(tokens: &[Token<'_>]) -> bool
     ensures { result ≡ has_colon 0 (header_line (logical_lines (map placed tokens.now))) }
@@ -102,7 +91,11 @@ fn has_header_colon(tokens: &[Token<'_>]) -> bool
                 if depth == 0 && is_colon(token) {
                     return true;
                 }
-                depth = depth_after(mark, depth);
+                depth = match mark {
+                    Mark::Open(_) => depth + 1,
+                    Mark::Close(_) => usize::saturating_sub(depth, 1),
+                    _ => depth,
+                };
                 inside = true;
             }
         }

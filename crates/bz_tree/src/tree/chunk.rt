@@ -16,7 +16,7 @@ use crate::tree::block::{block_indent, comments_above, is_block, is_block_word};
 use crate::tree::build::run;
 use crate::tree::classes::class_of;
 use crate::tree::kept::kept_text;
-use crate::tree::span::{end_line, end_of, first_seen, first_token, last_seen, start_of};
+use crate::tree::span::{counted_end_of, end_line, first_seen, first_token, last_seen, start_of};
 use crate::tree::{Class, Leaf, Node, Seg, Stmt};
 use bumpalo::Bump;
 use bz_memory::{NoMemory, with_capacity};
@@ -44,6 +44,10 @@ fn plain_statement<'a>(alloc: Global, tokens: &[Token<'a>]) -> Result<Option<Stm
     if !accepts(Stage::Statement, &seg.nodes) {
         return Ok(None);
     }
+    let Some(end) = counted_end_of(tokens) else {
+        // The condition rules it out.
+        return Ok(None);
+    };
     let class = class_of(&seg.nodes);
     let Seg {
         before,
@@ -56,7 +60,7 @@ fn plain_statement<'a>(alloc: Global, tokens: &[Token<'a>]) -> Result<Option<Stm
         suffix,
         class,
         start: start_of(tokens),
-        end: end_of(tokens),
+        end,
     }))
 }
 

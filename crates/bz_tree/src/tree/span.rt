@@ -4,7 +4,7 @@ ghost use Rattle.std.specs.Prelude.{◌≡◌, ◌+◌, ◌<◌, ◌≤◌, ◌^
 ghost use Rattle.bz_token.specs.Places.{placed};
 ghost use Rattle.bz_tree.specs.Kinds.{mark_of};
 ghost use Rattle.bz_tree.specs.Brackets.{end_line, is_line};
-ghost use Rattle.bz_tree.specs.Statement.{is_aside, first_token, first_seen, last_token, last_seen, start_of, end_of, EndsFit};
+ghost use Rattle.bz_tree.specs.Statement.{is_aside, first_token, first_seen, last_token, last_seen, start_of, end_of};
 
 use crate::tree::kinds::{Mark, mark_of};
 use bz_token::{Kind, Token};
@@ -121,17 +121,5 @@ pub(crate) fn counted_end_of(tokens: &[Token<'_>]) -> Option<u64>
             Some(token) => counted_end_line(&token),
             None => Some(0),
         },
-    }
-}
-
-/// The line on which the last token ends, comments not counted where something else is there.
-pub(crate) fn end_of(tokens: &[Token<'_>]) -> u64
-    requires { EndsFit (map placed tokens.now) }
-    ensures { result ≡ end_of (map placed tokens.now) }
-{
-    match counted_end_of(tokens) {
-        Some(end) => end,
-        // The condition rules it out.
-        None => 0,
     }
 }
