@@ -137,14 +137,10 @@ here_added : (x : Item) (line : ℕ) (place : Place) → is_ended (at_place plac
 here_added va vb vc vd = grind arith
 
 good_added : (kind : Option GroupKind) (segs : List Segment) (x : Item) (line : ℕ) (place : Place) → is_ended (at_place place) ≡ false → IsGoodAt kind segs place → IsGoodAt kind segs (add_node x line place)
-good_added None segs x line (none after) h good = (good.0, refl)
-good_added None segs x line (fresh end) h good = (good.0, refl)
-good_added None segs x line (some before y ys end) h good = (good.0, refl)
 good_added None segs x line (over before y ys suffix after) h good = absurd (false≢true (sym h))
-good_added (Some kind) segs x line (none after) h good = (good.0, good.1, tt)
-good_added (Some kind) segs x line (fresh end) h good = (good.0, good.1, tt)
-good_added (Some kind) segs x line (some before y ys end) h good = (good.0, good.1, tt)
+good_added None segs x line _ h good = (good.0, refl)
 good_added (Some kind) segs x line (over before y ys suffix after) h good = absurd (false≢true (sym h))
+good_added (Some kind) segs x line _ h good = (good.0, good.1, tt)
 
 node_level : (kind : Option GroupKind) (segs : List Segment) (place : Place) (x : Item) (line : ℕ) → is_for_item x ≡ false → is_ended (at_place place) ≡ false
     → with_own (level_of (bracket kind segs place)) (node line x) ≡ level_of (bracket kind segs (add_node x line place))

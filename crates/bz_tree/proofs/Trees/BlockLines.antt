@@ -2,7 +2,7 @@
 use Rattle.std.proofs.Common.{◌≡◌, ℕ, ◌==◌, List, [], ◌∷◌, Bool, true, false, ◌&&◌, ◌||◌, if◌then◌else◌, cond, Option, Some, None, option_map, refl, sym, ap, ◌∙◌}
 use Rattle.bz_token.specs.Places.{Placed}
 use Rattle.bz_tree.specs.declared.tree.kinds.Mark.{Mark}
-use Rattle.bz_tree.specs.declared.tree.kinds.Mark.TheVariants.{Open, Close, Comma, Comment, Newline, Plain}
+use Rattle.bz_tree.specs.declared.tree.kinds.Mark.TheVariants.{Comment, Newline}
 use Rattle.bz_tree.specs.Kinds.{mark_of}
 use Rattle.bz_tree.specs.Blocks.{is_colon, in_front, with_token, logical_lines, indented, ends_open, bad_line, block_indent, header_line, depth_after, has_colon}
 
@@ -81,10 +81,7 @@ mark_found : (m : Mark) (t : Placed) (ts : List Placed) → Found ts → (column
     → line_after t ts (next_indent m t (record { columns = columns; opens = opens; inside = inside })) ≡ found_in inside (record { columns = columns; opens = opens; inside = inside }) (with_token m t (logical_lines ts))
 mark_found Newline t ts more columns opens inside = line_found ts more columns opens inside
 mark_found Comment t ts more columns opens inside = more columns opens inside
-mark_found Comma t ts more columns opens inside = counted_found t ts more columns opens inside (logical_lines ts) refl
-mark_found Plain t ts more columns opens inside = counted_found t ts more columns opens inside (logical_lines ts) refl
-mark_found (Open s) t ts more columns opens inside = counted_found t ts more columns opens inside (logical_lines ts) refl
-mark_found (Close s) t ts more columns opens inside = counted_found t ts more columns opens inside (logical_lines ts) refl
+mark_found m t ts more columns opens inside = counted_found t ts more columns opens inside (logical_lines ts) refl
 
 run_found : (ts : List Placed) → Found ts
 run_found [] = λ columns opens inside. at_inside columns opens inside
@@ -123,10 +120,7 @@ line_colon ts more depth false = more depth false
 mark_colon : (m : Mark) (t : Placed) (ts : List Placed) → mark_of t ≡ m → Colon ts → (depth : ℕ) (inside : Bool) → colon_step m t ts depth inside ≡ has_colon depth (header_of inside (with_token m t (logical_lines ts)))
 mark_colon Newline t ts is more depth inside = line_colon ts more depth inside
 mark_colon Comment t ts is more depth inside = more depth inside
-mark_colon Comma t ts is more depth inside = ap (λ m. (depth == 0 && is_colon t) || colon_run (depth_after m depth) true ts) (sym is) ∙ front_colon Comma t ts more depth inside (logical_lines ts) refl
-mark_colon Plain t ts is more depth inside = ap (λ m. (depth == 0 && is_colon t) || colon_run (depth_after m depth) true ts) (sym is) ∙ front_colon Plain t ts more depth inside (logical_lines ts) refl
-mark_colon (Open s) t ts is more depth inside = ap (λ m. (depth == 0 && is_colon t) || colon_run (depth_after m depth) true ts) (sym is) ∙ front_colon (Open s) t ts more depth inside (logical_lines ts) refl
-mark_colon (Close s) t ts is more depth inside = ap (λ m. (depth == 0 && is_colon t) || colon_run (depth_after m depth) true ts) (sym is) ∙ front_colon (Close s) t ts more depth inside (logical_lines ts) refl
+mark_colon m t ts is more depth inside = ap (λ m. (depth == 0 && is_colon t) || colon_run (depth_after m depth) true ts) (sym is) ∙ front_colon m t ts more depth inside (logical_lines ts) refl
 
 colon_is : (ts : List Placed) → Colon ts
 colon_is [] = λ depth inside. at_inside depth inside

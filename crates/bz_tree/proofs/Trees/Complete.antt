@@ -2,7 +2,7 @@
 use Rattle.std.proofs.Common.{arith, ◌≡◌, List, [], ◌∷◌, ◌++◌, true, false, cond, Option, Some, None, option_map, option_and_then, refl, sym, ap, ◌∙◌, append_assoc, append-nil}
 use Rattle.bz_tree.specs.declared.tree.kinds.Shape.{Shape}
 use Rattle.bz_tree.specs.declared.tree.kinds.Mark.{Mark}
-use Rattle.bz_tree.specs.declared.tree.kinds.Mark.TheVariants.{Open, Close, Comma, Comment, Newline, Plain}
+use Rattle.bz_tree.specs.declared.tree.kinds.Mark.TheVariants.{Close, Newline}
 use Rattle.bz_tree.specs.declared.tree.kinds.Preceding.{Preceding}
 use Rattle.bz_tree.specs.declared.tree.kinds.Preceding.TheVariants.{Other}
 use Rattle.bz_token.specs.Places.{Placed}
@@ -73,11 +73,7 @@ token_same m t is ts rest same top outer = rest_same ts rest same (next_at m t t
 
 mark_same : (m : Mark) (t : Placed) → mark_of t ≡ m → (ts rest : List Placed) → Same ts rest → (top : Level) (outer : List Level) → rest_run ts (next_at m t top outer) ≡ run top outer (cond (is_line m) rest (t ∷ rest))
 mark_same Newline t is ts rest same top outer = same top outer
-mark_same Comma t is ts rest same top outer = token_same Comma t is ts rest same top outer
-mark_same Comment t is ts rest same top outer = token_same Comment t is ts rest same top outer
-mark_same Plain t is ts rest same top outer = token_same Plain t is ts rest same top outer
-mark_same (Open s) t is ts rest same top outer = token_same (Open s) t is ts rest same top outer
-mark_same (Close s) t is ts rest same top outer = token_same (Close s) t is ts rest same top outer
+mark_same m t is ts rest same top outer = token_same m t is ts rest same top outer
 
 without : (ts : List Placed) → Same ts (without_lines ts)
 without [] = λ top outer. refl

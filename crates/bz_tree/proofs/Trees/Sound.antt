@@ -2,7 +2,7 @@
 use Rattle.std.proofs.Common.{arith, ◌≡◌, List, [], ◌∷◌, ◌++◌, map, Bool, true, false, cond, Option, Some, None, option_map, option_and_then, refl, sym, ap, subst, ◌∙◌, append_assoc, append-nil}
 use Rattle.bz_tree.specs.declared.tree.kinds.Shape.{Shape}
 use Rattle.bz_tree.specs.declared.tree.kinds.Mark.{Mark}
-use Rattle.bz_tree.specs.declared.tree.kinds.Mark.TheVariants.{Open, Close, Comma, Comment, Newline, Plain}
+use Rattle.bz_tree.specs.declared.tree.kinds.Mark.TheVariants.{Open, Close, Newline}
 use Rattle.bz_tree.specs.declared.tree.kinds.Preceding.{Preceding}
 use Rattle.bz_tree.specs.declared.tree.kinds.Preceding.TheVariants.{Other}
 use Rattle.bz_token.specs.Places.{Placed}
@@ -161,9 +161,6 @@ next_leads Newline t is top outer new same well wells = record {
   well = well;
   wells = wells;
 }
-next_leads Comma t is top outer new same well wells = single_leads Comma t is refl top outer new same well wells
-next_leads Comment t is top outer new same well wells = single_leads Comment t is refl top outer new same well wells
-next_leads Plain t is top outer new same well wells = single_leads Plain t is refl top outer new same well wells
 next_leads (Open s) t is top outer new same well wells = record {
   raw = in_bracket s t [];
   raws = top ∷ outer;
@@ -193,6 +190,7 @@ next_leads (Close s) t is top (below ∷ outer) new same well wells = at_opening
         → Leads (record { opening = o; elems = top.elems }) (below ∷ outer) (t ∷ []) new
     at_opening None well same = absurd (none_is_some new same)
     at_opening (Some o) well same = at_shape o.0 o.1 (same_shape (Some o.0) s) refl well same
+next_leads m t is top outer new same well wells = single_leads m t is refl top outer new same well wells
 
 -- a tree of brackets with these tokens
 record Found (tokens : List Placed) (s : Segment) : Type 0 where

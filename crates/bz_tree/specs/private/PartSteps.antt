@@ -10,12 +10,9 @@ use Rattle.bz_tree.specs.Rows.{RowPart, beside}
 abbrev pub content : Inside → Content
 content i = record { segs = segs_view i.segs.items; comments = texts i.comments.items; nodes = nodes_view i.nodes.items }
 
-abbrev pub outer_view : (GroupKind × Inside) → Outer
-outer_view a = record { kind = a.0; content = content a.1 }
-
 -- the innermost first
 abbrev pub outers : List (GroupKind × Inside) → List Outer
-outers os = reverse (map outer_view os)
+outers os = reverse (map (λ o. record { kind = o.0; content = content o.1 }) os)
 
 abbrev pub nest : Nesting → Nest
 nest n = record { here = content n.here; outer = outers n.outer.items }

@@ -9,7 +9,7 @@ ghost use Rattle.bz_tree.specs.Owners.{node};
 ghost use Rattle.bz_tree.specs.Brackets.{leaf_of, own_of};
 ghost use Rattle.bz_tree.specs.declared.tree.kinds.Mark.TheVariants.{Close, Comma, Comment, Plain};
 ghost use Rattle.bz_tree.specs.Statement.{one_segment};
-ghost use Rattle.bz_tree.specs.private.Steps.{content_view, so_far, level, levels, with_own, new_level, closed, next, next_at, run, state};
+ghost use Rattle.bz_tree.specs.private.Steps.{content_view, level, levels, with_own, new_level, next, next_at, run, state};
 
 use crate::tree::classes::with_rule_call;
 use crate::tree::kinds::{
@@ -46,23 +46,6 @@ fn leaf_of<'a>(token: &Token<'a>) -> Node<'a>
         kind: token.kind,
         text: token.text,
     })
-}
-
-// None: a segment is empty.
-#[inline(always)]
-fn closed<'a>(kind: GroupKind, walk: Walk<'a>) -> Result<Option<Group<'a>>, NoMemory>
-    ensures value { IfOk result (λ o. option_map group_view o ≡ closed (Some kind) (so_far walk.entry)) }
-{
-    let Some(content) = walk.finish()? else {
-        return Ok(None);
-    };
-    let one_comma = kind == GroupKind::Paren && content.segs.len() == 1 && content.trailing;
-    Ok(Some(Group {
-        kind,
-        segs: content.segs,
-        one_comma,
-        end: content.end,
-    }))
 }
 
 impl<'a> Frame<'a> {
@@ -125,8 +108,15 @@ impl<'a> State<'a> {
             return Ok(false);
         };
         let Frame { walk, .. } = mem::replace(&mut self.top, below);
-        let Some(group) = closed(kind, walk)? else {
+        let Some(content) = walk.finish()? else {
             return Ok(false);
+        };
+        let one_comma = kind == GroupKind::Paren && content.segs.len() == 1 && content.trailing;
+        let group = Group {
+            kind,
+            segs: content.segs,
+            one_comma,
+            end: content.end,
         };
         self.top.add_group(group, token.line)?;
         Ok(true)
