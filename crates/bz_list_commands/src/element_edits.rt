@@ -8,6 +8,7 @@ ghost use Rattle.bz_list_commands.specs.private.StringEdits.{literal_of, means, 
 ghost use Rattle.bz_list_commands.specs.private.WrittenParts.{AreOrdered};
 ghost use Rattle.bz_list_commands.specs.private.ElementEdits as spec;
 
+use crate::rewriting::Places;
 use crate::string_edit::StringEdit;
 use bz_attribute::{Element, Place, first_list, next_of_value};
 use bz_memory::{NoMemory, push};
@@ -36,7 +37,7 @@ pub fn add_places(
     edit: StringEdit<'_, '_, '_>,
     parts: &[Part<'_>],
     value: usize,
-    places: &mut Vec<Place>,
+    places: &mut Places<'_>,
 ) -> Result<usize, NoMemory>
     requires within { value ≤ length parts.now }
     requires ordered { AreOrdered 0 places.now.items value }
