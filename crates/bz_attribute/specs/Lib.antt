@@ -1,6 +1,5 @@
 pub mod Effects
 pub mod Elements
-pub mod Finder
 pub mod FirstArguments
 pub mod Heads
 pub mod KindPlaces

@@ -32,7 +32,6 @@ pub struct Element<'a> {
 }
 
 /// Where the value of the first argument of a name begins.
-#[tactic(auto, using(crate::proofs::ListElements::value_there, crate::proofs::PlaceFound::has_none))]
 pub fn value_place(parts: &[Part<'_>], name: &str) -> Option<usize>
     ensures some { IfSome result (λ at. (s : Statement) (r : Rule) → IsRuleRow s r (map part_view parts.now)
         → IsValueAt name.now s r (map part_view parts.now) at) }
@@ -181,7 +180,7 @@ pub fn next_list(parts: &[Part<'_>], at: usize) -> Option<usize>
 
 // The elements of a list end there.
 #[inline(always)]
-fn ends_list(parts: &[Part<'_>]) -> bool
+pub(crate) fn ends_list(parts: &[Part<'_>]) -> bool
     ensures { result ≡ spec.ends_list (map part_view parts.now) }
 {
     matches!(parts, [] | [Part::Close(_), ..])

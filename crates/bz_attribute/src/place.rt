@@ -169,7 +169,7 @@ pub fn place_of(parts: &[Part<'_>], name: &str) -> Place
 }
 
 // How many parts there are up to the first bracket that opens, with it.
-fn arguments_begin(parts: &[Part<'_>]) -> usize
+pub(crate) fn arguments_begin(parts: &[Part<'_>]) -> usize
     ensures begin { result ≡ spec.arguments_begin (map part_view parts.now) }
     ensures within { result ≤ length parts.now }
 {

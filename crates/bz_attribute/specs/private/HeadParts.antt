@@ -1,5 +1,5 @@
 -- For private clauses: the kind and the arguments of a rule, as they stand in its parts.
-use Rattle.std.specs.Prelude.{ℕ, List, [], ◌∷◌, ◌++◌, drop, Bool, true, false, Option, None}
+use Rattle.std.specs.Prelude.{ℕ, List, [], ◌∷◌, ◌++◌, drop, Bool, true, false, if◌then◌else◌, Option, None, codes}
 use Rattle.bz_tree.specs.declared.tree.GroupKind.TheVariants.{RuleCall}
 use Rattle.bz_tree.specs.Tree.{leaf}
 use Rattle.bz_tree.specs.Rows.{RowPart, a_token, opening, segment_end}
@@ -32,6 +32,11 @@ ident_of _ = None
 abbrev pub is_operator_item : List ℕ → RowPart → Bool
 is_operator_item operator (a_token kind text) = rules.is_operator_item operator (leaf kind text)
 is_operator_item operator _ = false
+
+-- the name of the argument that parts begin with
+abbrev pub flat_name : List RowPart → Option (List ℕ)
+flat_name (p ∷ q ∷ ps) = if is_operator_item (codes "=") q then ident_of p else None
+flat_name _ = None
 
 abbrev pub text_of : RowPart → Option (List ℕ)
 text_of (a_token kind text) = rules.only_text (leaf kind text ∷ [])
