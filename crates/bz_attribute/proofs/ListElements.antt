@@ -14,8 +14,7 @@ use Rattle.bz_attribute.specs.Lists.{with_value}
 use Rattle.bz_attribute.specs.RowPlaces.{IsArgumentAt, IsRuleRow}
 use Rattle.bz_attribute.specs.Rules.{Rule, first_named, is_named, is_text, name_in, name_of, only_text, string_value, value}
 use Rattle.bz_attribute.specs.private.Ends.{above_len, end_len, parts_len, plain_len, segment_len}
-use Rattle.bz_attribute.specs.private.HeadParts.{is_end}
-use Rattle.bz_attribute.specs.private.ListParts.{HasElement, bare_string, ends_list, string_in}
+use Rattle.bz_attribute.specs.private.ListParts.{bare_string, ends_list, string_in}
 use Rattle.bz_command.specs.Values.{value_of}
 use Rattle.bz_attribute.proofs.EditedAt.{edited_at, first_at, none_first, segs_join}
 use Rattle.bz_attribute.proofs.EndsBack.{argument_long, plain_elements, no_beside_argument, no_beside_end, segment_long}
@@ -77,20 +76,13 @@ beside_none (s ∷ ss) end one_comma qs =
     ap (λ (ps : List RowPart). end_len (segment_end ∷ ps)) (split s ss last) ∙ no_beside_argument s.before (items_of s.nodes) (beside_part s.suffix ++ (segs_parts (segs_of ss) ++ last))
 
 -- its text
-no_text : (kind : GroupKind) (qs : List RowPart) → string_in (opening kind ∷ qs) ≡ None
-no_text kind [] = refl
-no_text kind (q ∷ qs) = elim (is_end q) as (λ b. (if◌then◌else◌ {A = Option (List ℕ)} b None None) ≡ None) [ true ↦ refl | false ↦ refl ]
-
 text_told : (xs : List Item) (qs : List RowPart) → string_in (items_parts (items_of xs) ++ segment_end ∷ qs) ≡ only_text xs
-text_told [] [] = refl
-text_told [] (q ∷ qs) = elim (is_end q) as (λ b. (if◌then◌else◌ {A = Option (List ℕ)} b None None) ≡ None) [ true ↦ refl | false ↦ refl ]
-text_told (leaf kind text ∷ []) qs = refl
+text_told [] qs = refl
+text_told (leaf String text ∷ []) qs = refl
 text_told (leaf String text ∷ leaf k t ∷ xs) qs = refl
-text_told (leaf _ text ∷ leaf k t ∷ xs) qs = refl
 text_told (leaf String text ∷ group k segs one_comma end ∷ xs) qs = refl
-text_told (leaf _ text ∷ group k segs one_comma end ∷ xs) qs = refl
-text_told (group kind segs one_comma end ∷ []) qs = no_text kind _
-text_told (group kind segs one_comma end ∷ y ∷ xs) qs = no_text kind _
+text_told (leaf _ text ∷ xs) qs = refl
+text_told (group kind segs one_comma end ∷ xs) qs = refl
 
 element_of : (s : Segment) (ss : List Segment) (end : List (List ℕ)) (one_comma : Bool) (items : List Item) (after ps : List RowPart) (at token to : ℕ) (string : Option (List ℕ))
     → drop at ps ≡ segs_parts (segs_of (s ∷ ss)) ++ tail end one_comma items after → token ≡ at + above_len (drop at ps) → to ≡ token + segment_len (drop token ps) → string ≡ string_in (drop token ps)
@@ -126,6 +118,10 @@ element_in (s ∷ ss) end one_comma items after ps at token to string read is mo
 pub element_there : (rest : ListRest) (after ps : List RowPart) (at token to : ℕ) (string : Option (List ℕ)) → drop at ps ≡ rest_parts rest after → token ≡ at + above_len (drop at ps) → ends_list (drop token ps) ≡ false
     → to ≡ token + segment_len (drop token ps) → string ≡ string_in (drop token ps) → IsElementOf rest after ps at token to string
 element_there rest after ps at token to string read is more to_is string_is = element_in rest.elements rest.end rest.one_comma rest.items after ps at token to string read is more to_is string_is
+
+-- the element that begins at a place in a list part ends there
+abbrev pub HasElement : List RowPart → ℕ → ℕ → ℕ → Option (List ℕ) → Type 0
+HasElement ps at token to string = (rest : ListRest) (after : List RowPart) → drop at ps ≡ rest_parts rest after → IsElementOf rest after ps at token to string
 
 -- one that is one string token, without comments
 record IsBare (qs : List RowPart) (text : List ℕ) : Type 0 where

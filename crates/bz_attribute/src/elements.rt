@@ -13,7 +13,6 @@ ghost use Rattle.bz_attribute.specs.private.ListParts as spec;
 ghost use Rattle.bz_attribute.specs.Lists as lists;
 
 use crate::finder::find_argument;
-use crate::head_parts::{is_end, text_of};
 use crate::place::{comments_begin, comments_len, parts_len, segment_len};
 use bz_token::Kind;
 use bz_tree::{GroupKind, Part};
@@ -90,6 +89,13 @@ fn opens_list(part: &Part<'_>) -> bool
     ensures { result ≡ spec.opens_list (part_view part.now) }
 {
     matches!(part, Part::Open(GroupKind::List))
+}
+
+#[inline(always)]
+fn is_end(part: &Part<'_>) -> bool
+    ensures { result ≡ spec.is_end (part_view part.now) }
+{
+    matches!(part, Part::End)
 }
 
 // A piece of a value ends there.
@@ -192,7 +198,7 @@ pub(crate) fn string_in<'a>(parts: &[Part<'a>]) -> Option<&'a str>
     ensures { option_map (λ text. text.now) result ≡ spec.string_in (map part_view parts.now) }
 {
     match parts {
-        [string, end, ..] if is_end(end) => text_of(string),
+        [Part::Token(Kind::String, text), Part::End, ..] => Some(*text),
         _ => None,
     }
 }

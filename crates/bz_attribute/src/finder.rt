@@ -1,23 +1,27 @@
-//! The first argument of a name, looked for in the parts of a rule.
+//! The arguments of a rule by their parts: the first one of a name, and the one with which some begin.
 
-ghost use Rattle.std.specs.Prelude.{◌≡◌, ◌<◌, map, option_map, IfSome, length};
-ghost use Rattle.bz_tree.specs.Tree.{Statement};
+ghost use Rattle.std.specs.Prelude.{◌≡◌, ◌<◌, ◌≤◌, List, map, option_map, IfSome, length};
+ghost use Rattle.bz_tree.specs.Tree.{Segment, Statement};
 ghost use Rattle.bz_tree.specs.Rows.{part_view};
-ghost use Rattle.bz_attribute.specs.RowPlaces.{HasArgument, IsRuleRow};
+ghost use Rattle.bz_attribute.specs.RowPlaces.{HasArgument, IsFirstArgument, IsRuleRow, argument_parts};
 ghost use Rattle.bz_attribute.specs.Rules.{Rule, is_text};
 ghost use Rattle.bz_attribute.specs.private.HeadParts as spec;
 
 use crate::elements::ends_list;
-use crate::head_parts::{ident_of, is_equals};
 use crate::place::{arguments_begin, comments_len, segment_len};
+use bz_token::Kind;
 use bz_tree::Part;
 
 // The name of the argument that the parts begin with.
-pub(crate) fn name_in<'a>(parts: &[Part<'a>]) -> Option<&'a str>
+fn name_in<'a>(parts: &[Part<'a>]) -> Option<&'a str>
     ensures { option_map (λ text. text.now) result ≡ spec.flat_name (map part_view parts.now) }
 {
     match parts {
-        [name, equals, ..] if is_equals(equals) => ident_of(name),
+        [Part::Token(Kind::Identifier, name), Part::Token(Kind::Operator, operator), ..]
+            if *operator == "=" =>
+        {
+            Some(*name)
+        }
         _ => None,
     }
 }
@@ -47,4 +51,32 @@ pub fn find_argument(parts: &[Part<'_>], name: &str) -> Option<usize>
         at = nodes + segment_len(argument);
     }
     None
+}
+
+/// An argument. It begins with the comments above it.
+#[derive(Clone, Copy)]
+pub struct FirstArgument<'a> {
+    /// Where its nodes begin, after the comments above it.
+    pub nodes: usize,
+    /// After its last part.
+    pub to: usize,
+    /// Its name, where it is a keyword argument.
+    pub name: Option<&'a str>,
+}
+
+/// The first of the arguments that have these parts.
+pub fn first_argument<'a>(parts: &[Part<'a>]) -> FirstArgument<'a>
+    requires { 0 < length parts.now }
+    ensures within { (result.nodes ≤ result.to) × (result.to ≤ length parts.now) }
+    ensures progress { 0 < result.to }
+    ensures argument { (a : Segment) (others : List Segment) → map part_view parts.now ≡ argument_parts a others
+        → IsFirstArgument a result.nodes result.to (option_map (λ name. name.now) result.name) }
+{
+    let nodes = comments_len(parts);
+    let own = &parts[nodes..];
+    FirstArgument {
+        nodes,
+        to: nodes + segment_len(own),
+        name: name_in(own),
+    }
 }
