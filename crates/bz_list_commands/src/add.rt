@@ -8,7 +8,7 @@ ghost use Rattle.bz_attribute.specs.Elements.{AreLists, ListRest, elements_left,
 ghost use Rattle.bz_attribute.specs.Lists.{equals, same};
 ghost use Rattle.bz_attribute.specs.RowEdits.{IsRowEdit};
 ghost use Rattle.bz_attribute.specs.Rules.{first_named};
-ghost use Rattle.bz_list_commands.specs.private.AddSteps.{HaveWritten};
+ghost use Rattle.bz_list_commands.specs.private.ListPlaces.{HaveWritten};
 ghost use Rattle.bz_list_commands.specs.Add as spec;
 ghost use Rattle.bz_attribute.specs.Effects as effects;
 ghost use Rattle.bz_command.specs.Values.{value_of};

@@ -3,7 +3,7 @@
 ghost use Rattle.std.specs.Prelude.{◌≡◌, ◌≤◌, ◌||◌, ◌&&◌, ℕ, List, not, map, length, option_map, IfOk, IfSome, OnOk, false, option_and_then};
 ghost use Rattle.bz_tree.specs.Rows.{part_view};
 ghost use Rattle.bz_command.specs.LabelSetViews.{has};
-ghost use Rattle.bz_list_commands.specs.private.MoveSteps.{AreWithin, HaveArrivals, has_value};
+ghost use Rattle.bz_list_commands.specs.private.MoveSteps.{AreWithin, HaveArrivals};
 ghost use Rattle.bz_list_commands.specs.private.StringEdits.{means};
 ghost use Rattle.bz_attribute.specs.Lists.{same};
 ghost use Rattle.bz_command.specs.Values.{value_of};
@@ -33,7 +33,7 @@ fn arrives<'s>(
 ) -> Result<bool, NoMemory>
     ensures arrives { IfOk result (λ arrives. arrives
         ≡ (means edit.entry (option_map (λ text. text.now) string.entry)
-        && not (has_value (has there.old) (option_and_then value_of (option_map (λ text. text.now) string.entry))))) }
+        && not (map_or false (has there.old) (option_and_then value_of (option_map (λ text. text.now) string.entry))))) }
     ensures there { OnOk result ((text : List ℕ) → has there.new text
         ≡ ((means edit.entry (option_map (λ text. text.now) string.entry)
         && map_or false (λ value. same there.old.home.now value text) (option_and_then value_of (option_map (λ text. text.now) string.entry)))
