@@ -38,11 +38,8 @@ pub fn value_place(parts: &[Part<'_>], name: &str) -> Option<usize>
         → has name.now r.args ≡ false) }
     ensures within { IfSome result (λ at. at ≤ length parts.now) }
 {
-    match find_argument(parts, name) {
-        None => None,
-        Some(at) if parts.len() - at < 2 => None,
-        Some(at) => Some(at + 2),
-    }
+    let at = find_argument(parts, name)?;
+    Some(parts.len().min(at + 2))
 }
 
 fn opens(part: &Part<'_>) -> bool

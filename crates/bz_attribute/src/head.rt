@@ -54,7 +54,6 @@ impl<'a> Head<'a> {
     }
 
     /// The head of the rule of these parts, on these lines. `Err`: memory was refused.
-    #[tactic(auto, using(crate::proofs::Headed::no_head))]
     pub fn of_parts(
         alloc: Global,
         bump: &'a Bump,
@@ -65,8 +64,8 @@ impl<'a> Head<'a> {
         ensures { IfOk result (λ found. (s : Statement) → class_of s.nodes ≡ RuleClass
             → map part_view parts.now ≡ parts_of s → s.start ≡ start → s.end ≡ end → HasHead found s) }
     {
-        let first = after_comments(parts);
-        if !is_called(first) {
+        let first = &parts[comments_len(parts)..];
+        if !is_called(&first[tokens_len(first)..]) {
             return Ok(None);
         }
         let kind = kind_of(alloc, bump, first)?;
@@ -110,27 +109,11 @@ impl<'a> Head<'a> {
     }
 }
 
-// The parts after the comments above them.
-#[tactic(auto, using(crate::proofs::Slices::rest_seen))]
-fn after_comments<'p, 'a>(parts: &'p [Part<'a>]) -> &'p [Part<'a>]
-    ensures { map part_view result.now ≡ spec.after_comments (map part_view parts.now) }
-{
-    &parts[comments_len(parts)..]
-}
-
-// The parts after the tokens with which they begin.
-#[tactic(auto, using(crate::proofs::Slices::rest_seen))]
-fn after_tokens<'p, 'a>(parts: &'p [Part<'a>]) -> &'p [Part<'a>]
-    ensures { map part_view result.now ≡ spec.after_tokens (map part_view parts.now) }
-{
-    &parts[tokens_len(parts)..]
-}
-
-// The call of a rule opens after the tokens with which these begin.
+// The call of a rule opens there.
 fn is_called(parts: &[Part<'_>]) -> bool
-    ensures { result ≡ spec.opens_call (spec.after_tokens (map part_view parts.now)) }
+    ensures { result ≡ spec.opens_call (map part_view parts.now) }
 {
-    matches!(after_tokens(parts), [Part::Open(GroupKind::RuleCall), ..])
+    matches!(parts, [Part::Open(GroupKind::RuleCall), ..])
 }
 
 // The texts of the tokens with which parts begin: a slice where it is one, and else a new text in the arena.

@@ -37,4 +37,4 @@ pub use rule::{is_rule, only_text};
 pub use texts::{label, push_home};
 pub use value::{only_list, value_end};
 pub use word_set::WordSet;
-pub use written::{begin_argument, literal_in, push_element, push_string, push_token};
+pub use written::{begin_argument, push_element, push_string, push_token};

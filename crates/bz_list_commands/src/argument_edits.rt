@@ -8,8 +8,7 @@ ghost use Rattle.bz_list_commands.specs.private.StringEdits.{literal_of, means};
 ghost use Rattle.bz_list_commands.specs.private.WrittenParts.{AreOrdered, literal_parts};
 ghost use Rattle.bz_list_commands.specs.private.ArgumentEdits as spec;
 
-use crate::element_edits::add_places;
-use crate::emptied::loses_all;
+use crate::element_edits::{add_places, loses_all};
 use crate::rewriting::Places;
 use crate::string_edit::StringEdit;
 use bumpalo::Bump;
