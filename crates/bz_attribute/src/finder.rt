@@ -17,11 +17,11 @@ fn name_in<'a>(parts: &[Part<'a>]) -> Option<&'a str>
     ensures { option_map (λ text. text.now) result ≡ spec.flat_name (map part_view parts.now) }
 {
     match parts {
-        [Part::Token(Kind::Identifier, name), Part::Token(Kind::Operator, operator), ..]
-            if *operator == "=" =>
-        {
-            Some(*name)
-        }
+        [
+            Part::Token(Kind::Identifier, name),
+            Part::Token(Kind::Operator, operator),
+            ..
+        ] if *operator == "=" => { Some(*name) }
         _ => None,
     }
 }

@@ -117,11 +117,7 @@ fn is_called(parts: &[Part<'_>]) -> bool
 }
 
 // The texts of the tokens with which parts begin: a slice where it is one, and else a new text in the arena.
-fn kind_of<'a>(
-    alloc: Global,
-    bump: &'a Bump,
-    parts: &[Part<'a>],
-) -> Result<&'a str, NoMemory>
+fn kind_of<'a>(alloc: Global, bump: &'a Bump, parts: &[Part<'a>]) -> Result<&'a str, NoMemory>
     ensures { IfOk result (λ kind. kind.now ≡ spec.token_texts (map part_view parts.now)) }
 {
     match parts {
