@@ -9,7 +9,8 @@ use Rattle.bz_tree.specs.Rows.{RowPart, part_view, opening, closing, segment_end
 use Rattle.bz_attribute.specs.Rules.{Rule}
 use Rattle.bz_attribute.specs.private.Ends.{arguments_end, besides, end_len, is_above, is_stop, parts_len, plain_len, segment_len}
 use Rattle.bz_attribute.proofs.Lengths.{nodes_ended}
-use Rattle.bz_attribute.proofs.RuleParts.{after_args, before_args}
+use Rattle.bz_attribute.specs.RowPlaces.{before_args}
+use Rattle.bz_attribute.proofs.RuleParts.{after_args}
 
 -- comments at the end
 all_above : (texts : List (List ℕ)) → list_all is_above (map above texts) ≡ true

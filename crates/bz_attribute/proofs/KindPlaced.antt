@@ -5,10 +5,9 @@ use Rattle.std.proofs.Math.Seq.{drop-append_seam, take-append_seam}
 use Rattle.bz_tree.specs.declared.tree.GroupKind.TheVariants.{RuleCall}
 use Rattle.bz_tree.specs.Tree.{Statement, items_of, segs_of}
 use Rattle.bz_tree.specs.Rows.{RowPart, opening, above, items_parts, segs_parts, parts_of}
-use Rattle.bz_attribute.specs.KindPlaces.{IsKindPlace}
+use Rattle.bz_attribute.specs.RowPlaces.{IsKindPlace, IsRuleRow}
 use Rattle.bz_attribute.specs.Rules.{Rule}
 use Rattle.bz_attribute.specs.Effects.{nodes_of}
-use Rattle.bz_attribute.specs.RowPlaces.{IsRuleRow}
 use Rattle.bz_attribute.specs.private.Ends.{above_len, tokens_len}
 use Rattle.bz_attribute.proofs.Lengths.{above_passed, none_above}
 use Rattle.bz_attribute.proofs.RuleNodes.{rule_nodes}

@@ -12,7 +12,7 @@ use Rattle.bz_attribute.specs.Effects.{is_chosen}
 use Rattle.bz_attribute.specs.Elements.{AreListsAt, IsNextElement, ListRest, elements_left, rest_parts}
 use Rattle.bz_attribute.specs.Lists.{same}
 use Rattle.bz_attribute.specs.Rules.{string_value}
-use Rattle.bz_attribute.specs.private.ElementSets.{HaveLabels, chooses, is_among, is_in, kept}
+use Rattle.bz_attribute.specs.private.ElementSets.{chooses, is_among, is_in, kept}
 use Rattle.bz_attribute.proofs.LabelSets.{any_joined, or_swap, same_back}
 use Rattle.std.proofs.Math.Bool.{and-false, or-false}
 use Rattle.bz_command.specs.Values.{value_of}
@@ -43,6 +43,15 @@ is_by_value home (Values words) s = refl
 
 element_told : (home : Package) (choice : Moved) (text : List ℕ) (s : Segment) → (is_chosen home choice s && is_chosen home (Values (text ∷ [])) s) ≡ is_kept home text (kept home choice (string_value s.nodes))
 element_told home choice text s = ap (λ (b : Bool). b && is_chosen home (Values (text ∷ [])) s) (is_by_value home choice s) ∙ value_told home choice text (string_value s.nodes)
+
+-- of the elements that are left from `from` on, the set has the labels of those before `at`
+pub record AreLabelled (home : Package) (choice : Moved) (l : ListRest) (after ps : List RowPart) (at : ℕ) (set : LabelSet) : Type 0 where
+  pub left : ListRest
+  pub read : drop at ps ≡ rest_parts left after
+  pub same : (text : List ℕ) → (is_among home choice (elements_left left) text || has set text) ≡ is_among home choice (elements_left l) text
+
+abbrev pub HaveLabels : Package → Moved → List RowPart → ℕ → ℕ → LabelSet → Type 0
+HaveLabels home choice ps from at set = (l : ListRest) (after : List RowPart) → drop from ps ≡ rest_parts l after → AreLabelled home choice l after ps at set
 
 pub none_labelled : (home : Package) (choice : Moved) (ps : List RowPart) (from : ℕ) (set : LabelSet) → ((text : List ℕ) → has set text ≡ false) → HaveLabels home choice ps from from set
 none_labelled home choice ps from set empty = λ l after read. record {

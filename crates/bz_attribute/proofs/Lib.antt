@@ -1,9 +1,9 @@
+pub mod ArgumentWalk
 pub mod Calls
 pub mod EditedAt
 pub mod EditedRules
 pub mod ElementSearch
 pub mod EndsBack
-pub mod FinderSteps
 pub mod First
 pub mod FirstArguments
 pub mod FoundArgs
@@ -21,7 +21,6 @@ pub mod LiteralEnds
 pub mod Locals
 pub mod Mapped
 pub mod OnlyLists
-pub mod Passed
 pub mod PlaceFound
 pub mod RowEdits
 pub mod RuleNodes

@@ -10,20 +10,17 @@ use Rattle.bz_tree.specs.Rows.{RowPart, a_token, opening, closing, segment_end, 
 use Rattle.bz_token.specs.declared.token.Kind.TheVariants.{String}
 use Rattle.bz_attribute.specs.Elements.{AreElementsTo, IsElementOf, IsValueAt, ListRest, rest_parts, value_parts}
 use Rattle.bz_attribute.specs.Effects.{edit_first, has, with_args, nodes_after, nodes_of}
-use Rattle.bz_attribute.specs.Finder.{find_from}
 use Rattle.bz_attribute.specs.Lists.{with_value}
-use Rattle.bz_attribute.specs.RowPlaces.{IsRuleRow}
+use Rattle.bz_attribute.specs.RowPlaces.{IsArgumentAt, IsRuleRow}
 use Rattle.bz_attribute.specs.Rules.{Rule, first_named, is_named, is_text, name_in, name_of, only_text, string_value, value}
 use Rattle.bz_attribute.specs.private.Ends.{above_len, end_len, parts_len, plain_len, segment_len}
-use Rattle.bz_attribute.specs.private.HeadParts.{is_end}
-use Rattle.bz_attribute.specs.private.ListParts.{HasElement, bare_string, ends_list, string_in}
+use Rattle.bz_attribute.specs.private.ListParts.{bare_string, ends_list, string_in}
 use Rattle.bz_command.specs.Values.{value_of}
 use Rattle.bz_attribute.proofs.EditedAt.{edited_at, first_at, none_first, segs_join}
 use Rattle.bz_attribute.proofs.EndsBack.{argument_long, plain_elements, no_beside_argument, no_beside_end, segment_long}
 use Rattle.bz_attribute.proofs.Lengths.{above_passed, no_more_above, segs_ended}
 use Rattle.bz_attribute.proofs.RuleNodes.{rule_nodes}
-use Rattle.bz_attribute.proofs.RuleParts.{before_args}
-use Rattle.bz_attribute.proofs.PlaceFound.{answered, args_found, in_three, nodes_split, placed, post, pre, told}
+use Rattle.bz_attribute.proofs.PlaceFound.{in_three, nodes_split, post, pre}
 use Rattle.bz_attribute.proofs.FoundArgs.{group_name, split}
 
 -- what comes after the elements of a list
@@ -34,19 +31,19 @@ tail end one_comma items after = map above end ++ closing one_comma ∷ value_pa
 no_above_close : (end : List (List ℕ)) (one_comma : Bool) (qs : List RowPart) → above_len (map above end ++ closing one_comma ∷ qs) ≡ length end
 no_above_close end one_comma qs = above_passed end (closing one_comma ∷ qs) ∙ omega arith
 
-at_close : (end : List (List ℕ)) (one_comma : Bool) (items : List Item) (after ps : List RowPart) (at token : ℕ) → drop at ps ≡ tail end one_comma items after → token ≡ at + above_len (drop at ps)
-    → drop token ps ≡ closing one_comma ∷ value_parts items after
-at_close end one_comma items after ps at token read is =
-    let rest : List RowPart = closing one_comma ∷ value_parts items after in
-    let long : token ≡ at + length (map above end) = omega (arith, is, ap above_len read, no_above_close end one_comma (value_parts items after), length-map end above) in
+pub at_close : (end : List (List ℕ)) (one_comma : Bool) (qs ps : List RowPart) (at token : ℕ) → drop at ps ≡ map above end ++ closing one_comma ∷ qs → token ≡ at + above_len (drop at ps)
+    → drop token ps ≡ closing one_comma ∷ qs
+at_close end one_comma qs ps at token read is =
+    let rest : List RowPart = closing one_comma ∷ qs in
+    let long : token ≡ at + length (map above end) = omega (arith, is, ap above_len read, no_above_close end one_comma qs, length-map end above) in
     ap (λ (n : ℕ). drop n ps) long ∙ sym (drop-drop (length (map above end)) at ps) ∙ ap (drop (length (map above end))) read ∙ drop-append_seam (map above end) rest
 
 -- an element is left: its nodes, and what comes after it
-record AreNodes (s : Segment) (ps rest : List RowPart) (at token : ℕ) : Type 0 where
-  begins : token ≡ at + length s.before
-  read : drop token ps ≡ items_parts (items_of s.nodes) ++ segment_end ∷ (beside_part s.suffix ++ rest)
+pub record AreNodes (s : Segment) (ps rest : List RowPart) (at token : ℕ) : Type 0 where
+  pub begins : token ≡ at + length s.before
+  pub read : drop token ps ≡ items_parts (items_of s.nodes) ++ segment_end ∷ (beside_part s.suffix ++ rest)
 
-at_nodes : (s : Segment) (ss : List Segment) (last ps : List RowPart) (at token : ℕ) → drop at ps ≡ segs_parts (segs_of (s ∷ ss)) ++ last → token ≡ at + above_len (drop at ps) → AreNodes s ps (segs_parts (segs_of ss) ++ last) at token
+pub at_nodes : (s : Segment) (ss : List Segment) (last ps : List RowPart) (at token : ℕ) → drop at ps ≡ segs_parts (segs_of (s ∷ ss)) ++ last → token ≡ at + above_len (drop at ps) → AreNodes s ps (segs_parts (segs_of ss) ++ last) at token
 at_nodes s ss last ps at token read is =
     let nodes : List RowPart = items_parts (items_of s.nodes) ++ segment_end ∷ (beside_part s.suffix ++ (segs_parts (segs_of ss) ++ last)) in
     let cut : drop at ps ≡ map above s.before ++ nodes = read ∙ split s ss last in
@@ -62,7 +59,7 @@ goes_on [] qs = refl
 goes_on (leaf kind text ∷ xs) qs = refl
 goes_on (group kind segs one_comma end ∷ xs) qs = refl
 
-none_of : (ss : List Segment) (last ps : List RowPart) (at token : ℕ) → drop at ps ≡ segs_parts (segs_of ss) ++ last → token ≡ at + above_len (drop at ps) → ends_list (drop token ps) ≡ true → ss ≡ []
+pub none_of : (ss : List Segment) (last ps : List RowPart) (at token : ℕ) → drop at ps ≡ segs_parts (segs_of ss) ++ last → token ≡ at + above_len (drop at ps) → ends_list (drop token ps) ≡ true → ss ≡ []
 none_of [] last ps at token read is ends = refl
 none_of (s ∷ ss) last ps at token read is ends =
     let n = at_nodes s ss last ps at token read is in
@@ -79,20 +76,13 @@ beside_none (s ∷ ss) end one_comma qs =
     ap (λ (ps : List RowPart). end_len (segment_end ∷ ps)) (split s ss last) ∙ no_beside_argument s.before (items_of s.nodes) (beside_part s.suffix ++ (segs_parts (segs_of ss) ++ last))
 
 -- its text
-no_text : (kind : GroupKind) (qs : List RowPart) → string_in (opening kind ∷ qs) ≡ None
-no_text kind [] = refl
-no_text kind (q ∷ qs) = elim (is_end q) as (λ b. (if◌then◌else◌ {A = Option (List ℕ)} b None None) ≡ None) [ true ↦ refl | false ↦ refl ]
-
 text_told : (xs : List Item) (qs : List RowPart) → string_in (items_parts (items_of xs) ++ segment_end ∷ qs) ≡ only_text xs
-text_told [] [] = refl
-text_told [] (q ∷ qs) = elim (is_end q) as (λ b. (if◌then◌else◌ {A = Option (List ℕ)} b None None) ≡ None) [ true ↦ refl | false ↦ refl ]
-text_told (leaf kind text ∷ []) qs = refl
+text_told [] qs = refl
+text_told (leaf String text ∷ []) qs = refl
 text_told (leaf String text ∷ leaf k t ∷ xs) qs = refl
-text_told (leaf _ text ∷ leaf k t ∷ xs) qs = refl
 text_told (leaf String text ∷ group k segs one_comma end ∷ xs) qs = refl
-text_told (leaf _ text ∷ group k segs one_comma end ∷ xs) qs = refl
-text_told (group kind segs one_comma end ∷ []) qs = no_text kind _
-text_told (group kind segs one_comma end ∷ y ∷ xs) qs = no_text kind _
+text_told (leaf _ text ∷ xs) qs = refl
+text_told (group kind segs one_comma end ∷ xs) qs = refl
 
 element_of : (s : Segment) (ss : List Segment) (end : List (List ℕ)) (one_comma : Bool) (items : List Item) (after ps : List RowPart) (at token to : ℕ) (string : Option (List ℕ))
     → drop at ps ≡ segs_parts (segs_of (s ∷ ss)) ++ tail end one_comma items after → token ≡ at + above_len (drop at ps) → to ≡ token + segment_len (drop token ps) → string ≡ string_in (drop token ps)
@@ -122,12 +112,16 @@ element_in : (ss : List Segment) (end : List (List ℕ)) (one_comma : Bool) (ite
     → drop at ps ≡ segs_parts (segs_of ss) ++ tail end one_comma items after → token ≡ at + above_len (drop at ps) → ends_list (drop token ps) ≡ false → to ≡ token + segment_len (drop token ps) → string ≡ string_in (drop token ps)
     → IsElementOf (record { elements = ss; end = end; one_comma = one_comma; items = items }) after ps at token to string
 element_in [] end one_comma items after ps at token to string read is more to_is string_is =
-    absurd (false≢true (sym more ∙ ap ends_list (at_close end one_comma items after ps at token read is)))
+    absurd (false≢true (sym more ∙ ap ends_list (at_close end one_comma (value_parts items after) ps at token read is)))
 element_in (s ∷ ss) end one_comma items after ps at token to string read is more to_is string_is = element_of s ss end one_comma items after ps at token to string read is to_is string_is
 
 pub element_there : (rest : ListRest) (after ps : List RowPart) (at token to : ℕ) (string : Option (List ℕ)) → drop at ps ≡ rest_parts rest after → token ≡ at + above_len (drop at ps) → ends_list (drop token ps) ≡ false
     → to ≡ token + segment_len (drop token ps) → string ≡ string_in (drop token ps) → IsElementOf rest after ps at token to string
 element_there rest after ps at token to string read is more to_is string_is = element_in rest.elements rest.end rest.one_comma rest.items after ps at token to string read is more to_is string_is
+
+-- the element that begins at a place in a list part ends there
+abbrev pub HasElement : List RowPart → ℕ → ℕ → ℕ → Option (List ℕ) → Type 0
+HasElement ps at token to string = (rest : ListRest) (after : List RowPart) → drop at ps ≡ rest_parts rest after → IsElementOf rest after ps at token to string
 
 -- one that is one string token, without comments
 record IsBare (qs : List RowPart) (text : List ℕ) : Type 0 where
@@ -168,7 +162,7 @@ pub record HasClosed (rest : ListRest) (after ps : List RowPart) (at token : ℕ
 pub closed_there : (rest : ListRest) (after ps : List RowPart) (at token : ℕ) → rest.elements ≡ [] → drop at ps ≡ rest_parts rest after → token ≡ at + above_len (drop at ps) → token ≤ length ps → HasClosed rest after ps at token
 closed_there rest after ps at token none read is within =
     let tail_read : drop at ps ≡ tail rest.end rest.one_comma rest.items after = read ∙ ap (λ (ss : List Segment). segs_parts (segs_of ss) ++ tail rest.end rest.one_comma rest.items after) none in
-    let close = at_close rest.end rest.one_comma rest.items after ps at token tail_read is in
+    let close = at_close rest.end rest.one_comma (value_parts rest.items after) ps at token tail_read is in
     record {
       place = omega (arith, is, ap above_len tail_read, no_above_close rest.end rest.one_comma (value_parts rest.items after));
       more = omega (arith, ap length close, length-drop token ps, within);
@@ -196,45 +190,44 @@ named_some name None h = h
 named_some name (Some text) h = refl
 
 -- the value of the first argument of a name
-pub value_there : (name : List ℕ) (s : Statement) (r : Rule) (ps : List RowPart) (at to : ℕ) → IsRuleRow s r ps → find_from name 0 false ps ≡ Some at → to ≡ at + 2 → IsValueAt name s r ps to
-value_there name s r ps at to h is to_is =
-    let f = placed name s r at (args_found name s r) (answered name s r) (sym (told name s r ps h) ∙ is) in
-    let a : Segment = f.arg.arg in
-    let n = is_keyword a.nodes (named_some name (name_of a.nodes) f.arg.is) in
+pub value_there : (name : List ℕ) (s : Statement) (r : Rule) (ps : List RowPart) (at to : ℕ) → IsRuleRow s r ps → IsArgumentAt name s r at → to ≡ at + 2 → IsValueAt name s r ps to
+value_there name s r ps at to h f to_is =
+    let a : Segment = f.arg in
+    let n = is_keyword a.nodes (named_some name (name_of a.nodes) f.is) in
     let two : List RowPart = n.first ∷ n.second ∷ [] in
-    let first : List RowPart = pre s r f.arg.front ++ map above a.before in
+    let first : List RowPart = pre s r f.front ++ map above a.before in
     let front : List RowPart = first ++ two in
-    let after : List RowPart = beside_part a.suffix ++ post s r f.arg.back in
+    let after : List RowPart = beside_part a.suffix ++ post s r f.back in
     let nodes : (v : List Item) → items_parts (items_of (n.name ∷ n.operator ∷ v)) ++ segment_end ∷ after ≡ two ++ value_parts v after = λ v. ap (λ (qs : List RowPart). qs ++ segment_end ∷ after) (n.parts v) in
     let own : items_parts (items_of a.nodes) ++ segment_end ∷ after ≡ two ++ value_parts (value a) after = ap (λ (xs : List Item). items_parts (items_of xs) ++ segment_end ∷ after) n.are ∙ nodes (value a) in
     let all : ps ≡ front ++ value_parts (value a) after =
-    h.are ∙ in_three s r f.arg.front (a ∷ []) f.arg.back (rule_nodes [] s.nodes r h.rule) f.arg.are ∙ nodes_split s r f.arg.front f.arg.back a
+    h.are ∙ in_three s r f.front (a ∷ []) f.back (rule_nodes [] s.nodes r h.rule) f.are ∙ nodes_split s r f.front f.back a
     ∙ ap (λ (qs : List RowPart). first ++ qs) own ∙ sym (append_assoc first two (value_parts (value a) after)) in
     let begins : at + 2 ≡ length front =
-    omega (arith, f.is, f.arg.at, length-append first two, length-append (pre s r f.arg.front) (map above a.before), length-append (before_args s r) (segs_parts (segs_of f.arg.front))) in
+    omega (arith, f.begins, length-append first two, length-append (pre s r f.front) (map above a.before)) in
     let place : to ≡ length front = to_is ∙ begins in
     record {
       arg = a;
       after = after;
-      first = ap (first_named name) f.arg.are ∙ first_at name f.arg.front a f.arg.back f.arg.none f.arg.is;
+      first = ap (first_named name) f.are ∙ first_at name f.front a f.back f.none f.is;
       read = (λ i. drop (place i) (all i)) ∙ drop-append_seam front (value_parts (value a) after);
       put = λ edit v made.
           let b : Segment = with_value v a in
           let b_is : b ≡ record a { nodes = n.name ∷ n.operator ∷ v } = ap (λ (xs : List Item). record a { nodes = take 2 xs ++ v }) n.are in
           let r2 : Rule = record r { args = edit_first (is_named name) edit r.args } in
-          let args : r2.args ≡ f.arg.front ++ (b ∷ f.arg.back) =
-          ap (edit_first (is_named name) edit) f.arg.are ∙ edited_at (is_named name) edit f.arg.front a f.arg.back f.arg.none f.arg.is ∙ ap (λ (zs : List Segment). f.arg.front ++ (zs ++ f.arg.back)) made in
+          let args : r2.args ≡ f.front ++ (b ∷ f.back) =
+          ap (edit_first (is_named name) edit) f.are ∙ edited_at (is_named name) edit f.front a f.back f.none f.is ∙ ap (λ (zs : List Segment). f.front ++ (zs ++ f.back)) made in
           let written : nodes_of r2 ≡ (with_args (edit_first (is_named name) edit) s).nodes = sym (ap (nodes_after (edit_first (is_named name) edit) s.nodes) h.rule) in
           let taken : take to ps ≡ front = (λ i. take (place i) (all i)) ∙ take-append_seam front (value_parts (value a) after) in
           let own_now : items_parts (items_of b.nodes) ++ segment_end ∷ after ≡ two ++ value_parts v after = ap (λ (x : Segment). items_parts (items_of x.nodes) ++ segment_end ∷ after) b_is ∙ nodes v in
           ap (λ (qs : List RowPart). qs ++ value_parts v after) taken ∙ append_assoc first two (value_parts v after) ∙ ap (λ (qs : List RowPart). first ++ qs) (sym own_now)
-          ∙ sym (in_three (with_args (edit_first (is_named name) edit) s) r2 f.arg.front (b ∷ []) f.arg.back written args ∙ nodes_split s r f.arg.front f.arg.back b);
+          ∙ sym (in_three (with_args (edit_first (is_named name) edit) s) r2 f.front (b ∷ []) f.back written args ∙ nodes_split s r f.front f.back b);
     }
 
 -- its name and the operator stand before it
-pub value_within : (name : List ℕ) (s : Statement) (r : Rule) (ps : List RowPart) (at : ℕ) → IsRuleRow s r ps → find_from name 0 false ps ≡ Some at → at + 2 ≤ length ps
-value_within name s r ps at h is =
-    let v = value_there name s r ps at (at + 2) h is refl in
+pub value_within : (name : List ℕ) (s : Statement) (r : Rule) (ps : List RowPart) (at : ℕ) → IsRuleRow s r ps → IsArgumentAt name s r at → at + 2 ≤ length ps
+value_within name s r ps at h f =
+    let v = value_there name s r ps at (at + 2) h f refl in
     omega (arith, ap length v.read, length-drop (at + 2) ps, length-append (items_parts (items_of (value v.arg))) (segment_end ∷ v.after))
 
 -- the string that it is

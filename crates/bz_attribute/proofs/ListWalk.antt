@@ -10,10 +10,35 @@ use Rattle.bz_attribute.specs.Effects.{edit_first, edit_element_from}
 use Rattle.bz_attribute.specs.Elements.{HasNoList, IsListIn, ListRest, edit_element_in, edit_in, edit_one_in, found_rest, list_item, lists_in, value_parts}
 use Rattle.bz_attribute.specs.Lists.{edit_from, edit_list, edit_one_from, is_list, parts_from}
 use Rattle.bz_attribute.specs.Lists as lists
-use Rattle.bz_attribute.specs.private.HeadParts.{is_end}
-use Rattle.bz_attribute.specs.private.ListParts.{HasJoints, HasWalked, IsWalked, ItemEnds, KeepsOthers, ends_piece, is_joint, is_plus, opens_list}
+use Rattle.bz_attribute.specs.private.ListParts.{is_end, ItemEnds, ends_piece, is_joint, is_plus, opens_list}
 use Rattle.bz_attribute.proofs.ItemParts.{item_at, none_after, none_at, opened, piece_told, rest_of}
 use Rattle.bz_tree.proofs.Rows.FromParts.{segs_back}
+
+-- an edit of items, of which `start` says whether a piece begins with the first: where that is no list part, it stays
+abbrev pub KeepsOthers : (Bool → List Item → List Item) → Type 0
+KeepsOthers e = (start : Bool) (x : Item) (xs : List Item) → lists.is_part start x xs ≡ false → e start (x ∷ xs) ≡ x ∷ e (lists.is_plus x) xs
+
+-- Of nodes that begin at `from`, those before `at` are no list parts. A piece begins there where `start`.
+pub record IsWalked (whole start : Bool) (nodes : List Item) (after ps : List RowPart) (from at : ℕ) : Type 0 where
+  pub front : List Item
+  pub back : List Item
+  pub are : nodes ≡ front ++ back
+  pub place : at ≡ from + length (items_parts (items_of front))
+  pub read : drop at ps ≡ value_parts back after
+  pub lists : lists.parts_from whole nodes ≡ lists.parts_from start back
+  pub others : (e : Bool → List Item → List Item) → KeepsOthers e → e whole nodes ≡ front ++ e start back
+
+abbrev pub HasWalked : Bool → Bool → List RowPart → ℕ → ℕ → Type 0
+HasWalked whole start ps from at = (nodes : List Item) (after : List RowPart) → drop from ps ≡ value_parts nodes after → IsWalked whole start nodes after ps from at
+
+-- Of nodes that begin at `from`, those before `at` are joints.
+pub record AreJoints (nodes : List Item) (after ps : List RowPart) (at : ℕ) : Type 0 where
+  pub back : List Item
+  pub read : drop at ps ≡ value_parts back after
+  pub joints : list_all lists.is_joint nodes ≡ list_all lists.is_joint back
+
+abbrev pub HasJoints : List RowPart → ℕ → ℕ → Type 0
+HasJoints ps from at = (nodes : List Item) (after : List RowPart) → drop from ps ≡ value_parts nodes after → AreJoints nodes after ps at
 
 pub joints_pass : (ps : List Part) (from at end : ℕ) (d : Part) → HasJoints (map part_view ps) from at → at < length ps → is_end (part_view (get_or ps at d)) ≡ false → is_joint (part_view (get_or ps at d)) ≡ true
     → ItemEnds (map part_view ps) at end → HasJoints (map part_view ps) from end

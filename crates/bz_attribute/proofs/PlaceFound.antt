@@ -1,5 +1,5 @@
 -- The place of an argument among the parts of its rule.
-use Rattle.std.proofs.Common.{◌≡◌, ℕ, suc, ◌+◌, ◌-◌, ◌≤◌, Bool, List, [], ◌∷◌, ◌++◌, true, false, Option, Some, None, length, map, take, drop, option_map, refl, ap, sym, ◌∙◌, subst, arith, append_assoc, append-nil, length-append}
+use Rattle.std.proofs.Common.{◌≡◌, ℕ, suc, ◌+◌, ◌-◌, ◌≤◌, Bool, List, [], ◌∷◌, ◌++◌, true, false, Option, Some, None, length, map, take, drop, refl, ap, sym, ◌∙◌, subst, arith, append_assoc, append-nil, length-append}
 use Rattle.std.specs.Prelude.{option_to_list}
 use Rattle.std.proofs.Math.Seq.{drop-append_seam, take-append_seam}
 use Rattle.std.proofs.lemmas.Bool.{false≢true, and_parts}
@@ -9,14 +9,12 @@ use Rattle.bz_tree.specs.Tree.{Item, leaf, group, Segment, Statement, items_of, 
 use Rattle.bz_tree.specs.Rows.{RowPart, opening, segment_end, above, beside_part, items_parts, segs_parts, parts_of}
 use Rattle.bz_attribute.specs.Rules.{Rule, rule_of, is_named, first_named, dotted}
 use Rattle.bz_attribute.specs.Effects.{edit_first, has, with_args, nodes_after, nodes_of}
-use Rattle.bz_attribute.specs.Finder.{find_from}
-use Rattle.bz_attribute.specs.RowPlaces.{alone, IsLocal, IsPlaceOf, IsPlaceOfAll, IsRuleRow}
+use Rattle.bz_attribute.specs.RowPlaces.{alone, before_args, IsArgumentAt, IsLocal, IsPlaceOf, IsPlaceOfAll, IsRuleRow}
 use Rattle.bz_attribute.specs.private.Ends.{arguments_begin, arguments_end, plain_len, segment_len}
 use Rattle.bz_attribute.proofs.RuleNodes.{rule_nodes}
 use Rattle.bz_attribute.proofs.EditedAt.{edited_at, first_at, none_first, segs_join}
 use Rattle.bz_attribute.proofs.EndsBack.{argument_long, args_end, comments_at, end_alone, segment_long}
-use Rattle.bz_attribute.proofs.FoundArgs.{Answer, found, absent, answer, IsArgAt}
-use Rattle.bz_attribute.proofs.RuleParts.{after_args, before_args, head_passed, is_after, parts_cut, rule_dotted}
+use Rattle.bz_attribute.proofs.RuleParts.{after_args, parts_cut, rule_dotted}
 
 -- all parts: those before some arguments, these and those after them
 abbrev pub pre : Statement → Rule → List Segment → List RowPart
@@ -79,7 +77,7 @@ middle name s r front mid back from to is m from_is to_is =
       put = λ f local. ap (λ (zs : List Segment). take from (parts_of s) ++ (segs_parts (segs_of (f zs)) ++ drop to (parts_of s))) m.is ∙ w.put f (m.edited f local);
     }
 
-there : (name : List ℕ) (s : Statement) (r : Rule) (n : ℕ) → (at : IsArgAt name r.args n) → IsMiddle name s r at.front (at.arg ∷ []) at.back
+there : (name : List ℕ) (s : Statement) (r : Rule) (n : ℕ) → (at : IsArgumentAt name s r n) → IsMiddle name s r at.front (at.arg ∷ []) at.back
 there name s r n at =
     let first : first_named name r.args ≡ Some at.arg = ap (first_named name) at.are ∙ first_at name at.front at.arg at.back at.none at.is in
     record {
@@ -102,66 +100,36 @@ pub nodes_split : (s : Statement) (r : Rule) (front back : List Segment) (a : Se
 nodes_split s r front back a = simp append_assoc
 
 -- by what the finder told
-found_place : (name : List ℕ) (s : Statement) (r : Rule) (n at from to : ℕ) → rule_of s.nodes ≡ Some r → IsArgAt name r.args n → at ≡ length (before_args s r) + n
+found_place : (name : List ℕ) (s : Statement) (r : Rule) (at from to : ℕ) → rule_of s.nodes ≡ Some r → IsArgumentAt name s r at
     → from ≡ plain_len (take at (parts_of s)) → to ≡ at + segment_len (drop at (parts_of s)) → IsPlaceOf name s r (parts_of s) from to
-found_place name s r n at from to is arg at_is from_is to_is =
+found_place name s r at from to is arg from_is to_is =
     let a : Segment = arg.arg in
     let first : List RowPart = pre s r arg.front in
     let front : List RowPart = first ++ map above a.before in
     let own : List RowPart = segs_parts (segs_of (a ∷ [])) in
     let rest : List RowPart = items_parts (items_of a.nodes) ++ (segment_end ∷ (beside_part a.suffix ++ post s r arg.back)) in
     let all : parts_of s ≡ front ++ rest = in_three s r arg.front (a ∷ []) arg.back (rule_nodes [] s.nodes r is) arg.are ∙ nodes_split s r arg.front arg.back a in
-    let begins : at ≡ length front = omega (arith, at_is, arg.at, length-append first (map above a.before), length-append (before_args s r) (segs_parts (segs_of arg.front))) in
+    let begins : at ≡ length front = omega (arith, arg.begins, length-append first (map above a.before)) in
     let starts : from ≡ length first = from_is ∙ ap plain_len ((λ i. take (begins i) (all i)) ∙ take-append_seam front rest) ∙ comments_at s r arg.front a.before in
     let long : segment_len (drop at (parts_of s)) ≡ length (items_parts (items_of a.nodes)) + (1 + length (beside_part a.suffix)) =
     ap segment_len ((λ i. drop (begins i) (all i)) ∙ drop-append_seam front rest) ∙ segment_long a (post s r arg.back) (end_alone s r arg.back) in
-    middle name s r arg.front (a ∷ []) arg.back from to is (there name s r n arg) starts
+    middle name s r arg.front (a ∷ []) arg.back from to is (there name s r at arg) starts
     (omega (arith, to_is, long, begins, argument_long a, length-append first (map above a.before), length-append first own))
-
-abbrev pub args_found : List ℕ → Statement → Rule → Option ℕ
-args_found name s r = find_from name 1 true (segs_parts (segs_of r.args) ++ after_args s r)
-
-pub told : (name : List ℕ) (s : Statement) (r : Rule) (ps : List RowPart) → IsRuleRow s r ps → find_from name 0 false ps ≡ option_map (λ (k : ℕ). length (before_args s r) + k) (args_found name s r)
-told name s r ps h = ap (find_from name 0 false) h.are ∙ head_passed name s r h.rule
-
--- where the argument begins
-pub record IsFound (name : List ℕ) (s : Statement) (r : Rule) (at : ℕ) : Type 0 where
-  pub n : ℕ
-  pub is : at ≡ length (before_args s r) + n
-  pub arg : IsArgAt name r.args n
-
-pub placed : (name : List ℕ) (s : Statement) (r : Rule) (at : ℕ) (o : Option ℕ) → Answer name r.args o → option_map (λ (k : ℕ). length (before_args s r) + k) o ≡ Some at → IsFound name s r at
-placed name s r at o (found n on arg) h =
-    let same : length (before_args s r) + n ≡ at = let both : Some (length (before_args s r) + n) ≡ Some at = sym (ap (option_map (λ (k : ℕ). length (before_args s r) + k)) on) ∙ h in cc in
-    record { n = n; is = sym same; arg = arg }
-placed name s r at o (absent on none) h = let clash : None ≡ Some at = sym (ap (option_map (λ (k : ℕ). length (before_args s r) + k)) on) ∙ h in absurd cc
-
-nowhere : (name : List ℕ) (s : Statement) (r : Rule) (o : Option ℕ) → Answer name r.args o → option_map (λ (k : ℕ). length (before_args s r) + k) o ≡ None → has name r.args ≡ false
-nowhere name s r o (found n on arg) h = let clash : Some (length (before_args s r) + n) ≡ None = sym (ap (option_map (λ (k : ℕ). length (before_args s r) + k)) on) ∙ h in absurd cc
-nowhere name s r o (absent on none) h = none
-
-pub answered : (name : List ℕ) (s : Statement) (r : Rule) → Answer name r.args (args_found name s r)
-answered name s r = answer name r.args (after_args s r) (is_after s r)
 
 over : (name : List ℕ) (s : Statement) (r : Rule) (ps : List RowPart) (from to : ℕ) → IsRuleRow s r ps → IsPlaceOf name s r (parts_of s) from to → IsPlaceOf name s r ps from to
 over name s r ps from to h p = subst (λ (qs : List RowPart). IsPlaceOf name s r qs from to) (sym h.are) p
 
-pub place_there : (name : List ℕ) (s : Statement) (r : Rule) (ps : List RowPart) (at from to : ℕ) → IsRuleRow s r ps → find_from name 0 false ps ≡ Some at
+pub place_there : (name : List ℕ) (s : Statement) (r : Rule) (ps : List RowPart) (at from to : ℕ) → IsRuleRow s r ps → IsArgumentAt name s r at
     → from ≡ plain_len (take at ps) → to ≡ at + segment_len (drop at ps) → IsPlaceOf name s r ps from to
-place_there name s r ps at from to h is from_is to_is =
-    let f = placed name s r at (args_found name s r) (answered name s r) (sym (told name s r ps h) ∙ is) in
+place_there name s r ps at from to h found from_is to_is =
     over name s r ps from to h
-    (found_place name s r f.n at from to h.rule f.arg f.is (from_is ∙ ap (λ (qs : List RowPart). plain_len (take at qs)) h.are) (to_is ∙ ap (λ (qs : List RowPart). at + segment_len (drop at qs)) h.are))
+    (found_place name s r at from to h.rule found (from_is ∙ ap (λ (qs : List RowPart). plain_len (take at qs)) h.are) (to_is ∙ ap (λ (qs : List RowPart). at + segment_len (drop at qs)) h.are))
 
 pub place_new : (name : List ℕ) (s : Statement) (r : Rule) (ps : List RowPart) (end : ℕ) → IsRuleRow s r ps → has name r.args ≡ false → end ≡ arguments_end ps → IsPlaceOf name s r ps end end
 place_new name s r ps end h none end_is =
     let long : end ≡ length (pre s r r.args) = end_is ∙ ap arguments_end (h.are ∙ parts_cut s r (rule_nodes [] s.nodes r h.rule)) ∙ args_end s r r.args in
     over name s r ps end end h
     (middle name s r r.args [] [] end end h.rule (missing name s r none) long (long ∙ ap length (sym (append-nil (pre s r r.args)))))
-
--- whether there is such an argument
-pub has_none : (name : List ℕ) (s : Statement) (r : Rule) (ps : List RowPart) → IsRuleRow s r ps → find_from name 0 false ps ≡ None → has name r.args ≡ false
-has_none name s r ps h is = nowhere name s r (args_found name s r) (answered name s r) (sym (told name s r ps h) ∙ is)
 
 -- all arguments
 begin_kind : (b : Bool) (kind : List Item) (rest : List RowPart) → dotted b kind ≡ true → arguments_begin (items_parts (items_of kind) ++ opening RuleCall ∷ rest) ≡ length (items_parts (items_of kind)) + 1
@@ -183,7 +151,7 @@ begins_at s r rest dots =
     ap arguments_begin moved ∙ begin_above s.before (kind ++ opening RuleCall ∷ rest)
     ∙ omega (arith, begin_kind true r.kind rest dots, length-append (map above s.before) (kind ++ opening RuleCall ∷ []), length-append kind (opening RuleCall ∷ []))
 
-all_begin : (s : Statement) (r : Rule) (ps : List RowPart) → IsRuleRow s r ps → arguments_begin ps ≡ length (pre s r [])
+pub all_begin : (s : Statement) (r : Rule) (ps : List RowPart) → IsRuleRow s r ps → arguments_begin ps ≡ length (pre s r [])
 all_begin s r ps h =
     ap arguments_begin (h.are ∙ parts_cut s r (rule_nodes [] s.nodes r h.rule)) ∙ begins_at s r _ (rule_dotted [] s.nodes r h.rule) ∙ ap length (sym (append-nil (before_args s r)))
 

@@ -8,14 +8,8 @@ use Rattle.bz_tree.specs.Tree.{Item, leaf, group, Statement, items_of, segs_of, 
 use Rattle.bz_tree.specs.Rows.{RowPart, a_token, opening, closing, above, beside_part, item_parts, items_parts, segs_parts, parts_of}
 use Rattle.bz_attribute.specs.Rules.{Rule, rule_of, rule_from, call_at, dotted}
 use Rattle.bz_attribute.specs.Effects.{nodes_of}
+use Rattle.bz_attribute.specs.RowPlaces.{before_args}
 use Rattle.bz_attribute.specs.private.Ends.{tokens_len}
-use Rattle.bz_attribute.proofs.RuleNodes.{rule_nodes}
-use Rattle.bz_attribute.specs.Finder.{find_from}
-use Rattle.bz_attribute.proofs.Passed.{IsPassed, join, first, nothing, pass_above, alone}
-use Rattle.bz_attribute.proofs.FoundArgs.{IsAfter}
-
-abbrev pub before_args : Statement → Rule → List RowPart
-before_args s r = map above s.before ++ (items_parts (items_of r.kind) ++ opening RuleCall ∷ [])
 
 abbrev pub after_args : Statement → Rule → List RowPart
 after_args s r = (map above r.end ++ closing r.one_comma ∷ []) ++ beside_part s.suffix
@@ -33,9 +27,6 @@ parts_cut s r are =
     ap (λ (nodes : List Item). map above s.before ++ (items_parts (items_of nodes) ++ beside_part s.suffix)) (sym are)
     ∙ ap (λ (ps : List RowPart). map above s.before ++ (ps ++ beside_part s.suffix)) (with_last r.kind (group RuleCall (segs_of r.args) r.one_comma r.end))
     ∙ moved
-
-pub is_after : (s : Statement) (r : Rule) → IsAfter (after_args s r)
-is_after s r = record { end = r.end; one_comma = r.one_comma; suffix = s.suffix; are = append_assoc (map above r.end) (closing r.one_comma ∷ []) (beside_part s.suffix) }
 
 -- a kind is tokens
 call_dotted : (kind : List Item) (x : Item) (r : Rule) → call_at kind x ≡ Some r → dotted true r.kind ≡ true
@@ -71,20 +62,3 @@ pub tokens_long : (kind : List Item) (k : GroupKind) (rest : List RowPart) → A
 tokens_long [] k rest h = refl
 tokens_long (leaf kind text ∷ xs) k rest h = omega (arith, tokens_long xs k rest h)
 tokens_long (group l segs one_comma end ∷ xs) k rest h = absurd h
-
-kind_passed : (name : List ℕ) (kind : List Item) (rest : List RowPart) → AreTokens kind → IsPassed name 0 false (items_parts (items_of kind)) 0 false rest
-kind_passed name [] rest h = nothing _
-kind_passed name (leaf k text ∷ xs) rest h = first name 0 0 false (a_token k text) (items_parts (items_of xs)) rest (kind_passed name xs rest h)
-kind_passed name (group k segs one_comma end ∷ xs) rest h = absurd h
-
-call_opens : (name : List ℕ) (rest : List RowPart) → IsPassed name 0 false (opening RuleCall ∷ []) 1 true rest
-call_opens name rest = alone name 0 (opening RuleCall) rest
-
-pub head_passed : (name : List ℕ) (s : Statement) (r : Rule) → rule_of s.nodes ≡ Some r
-    → find_from name 0 false (parts_of s) ≡ option_map (λ (k : ℕ). length (before_args s r) + k) (find_from name 1 true (segs_parts (segs_of r.args) ++ after_args s r))
-head_passed name s r is =
-    let rest : List RowPart = segs_parts (segs_of r.args) ++ after_args s r in
-    let kind : List RowPart = items_parts (items_of r.kind) in
-    ap (find_from name 0 false) (parts_cut s r (rule_nodes [] s.nodes r is))
-    ∙ join name 0 0 1 false false true (map above s.before) (kind ++ opening RuleCall ∷ []) rest (pass_above name 0 s.before ((kind ++ opening RuleCall ∷ []) ++ rest))
-    (join name 0 0 1 false false true kind (opening RuleCall ∷ []) rest (kind_passed name r.kind ((opening RuleCall ∷ []) ++ rest) (tokens true r.kind (rule_dotted [] s.nodes r is))) (call_opens name rest))

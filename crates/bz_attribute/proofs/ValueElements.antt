@@ -9,9 +9,21 @@ use Rattle.bz_tree.specs.Rows.{RowPart, above, beside_part, closing, items_parts
 use Rattle.bz_attribute.specs.Effects.{edit_first, edit_element_from, with_comment}
 use Rattle.bz_attribute.specs.Elements.{IsElementOf, IsListIn, IsNextElement, ListRest, edited_rest, elements_left, found_rest, rest_parts, value_parts}
 use Rattle.bz_attribute.specs.Lists.{parts_from}
-use Rattle.bz_attribute.specs.private.ListParts.{HasElement, HasEmptied}
+use Rattle.bz_attribute.proofs.ListElements.{HasElement}
 use Rattle.bz_attribute.proofs.EditedAt.{segs_join}
 use Rattle.bz_attribute.proofs.ListEdits.{ended, long_opened, opened}
+
+-- no element is left of the list part that `at` is in, and of the value what was left before
+pub record IsEmptiedTo (l : ListRest) (after ps : List RowPart) (from at : ℕ) : Type 0 where
+  pub left : ListRest
+  pub none : left.elements ≡ []
+  pub same : elements_left l ≡ elements_left left
+  pub read : drop at ps ≡ rest_parts left after
+  pub found : (p : Segment → Bool) (f : Segment → Segment) → take from ps ++ rest_parts (found_rest p f l) after ≡ take at ps ++ rest_parts (found_rest p f left) after
+  pub edited : (f : Segment → List Segment) → take from ps ++ rest_parts (edited_rest (flat_map f) l) after ≡ take at ps ++ rest_parts (edited_rest (flat_map f) left) after
+
+abbrev pub HasEmptied : List RowPart → ℕ → ℕ → Type 0
+HasEmptied ps from at = (l : ListRest) (after : List RowPart) → drop from ps ≡ rest_parts l after → IsEmptiedTo l after ps from at
 
 -- the next list part
 abbrev last : ListRest → List RowPart → List RowPart

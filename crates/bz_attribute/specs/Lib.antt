@@ -1,9 +1,6 @@
 pub mod Effects
 pub mod Elements
-pub mod Finder
-pub mod FirstArguments
 pub mod Heads
-pub mod KindPlaces
 pub mod Lists
 pub mod Marks
 pub mod Rules

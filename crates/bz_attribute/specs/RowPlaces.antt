@@ -1,14 +1,34 @@
--- Where the argument of a name stands among the parts of a rule, and what becomes of the rule where others are written there.
-use Rattle.std.specs.Prelude.{◌≡◌, ℕ, ◌-◌, List, [], ◌∷◌, ◌++◌, Some, false, map, take, drop, option_to_list}
-use Rattle.bz_tree.specs.Tree.{Segment, Statement, items_of, segs_of}
-use Rattle.bz_tree.specs.Rows.{RowPart, above, beside_part, items_parts, parts_of, segment_end, segs_parts}
-use Rattle.bz_attribute.specs.Rules.{Rule, rule_of, first_named, is_named}
-use Rattle.bz_attribute.specs.Effects.{edit_first, has, with_args}
+-- Where the kind and the arguments of a rule stand among its parts, and what becomes of the rule where others are written there.
+use Rattle.std.specs.Prelude.{◌≡◌, ℕ, ◌+◌, ◌-◌, ◌≤◌, List, [], ◌∷◌, ◌++◌, Option, None, Some, true, false, length, map, take, drop, option_to_list}
+use Rattle.bz_tree.specs.declared.tree.GroupKind.TheVariants.{RuleCall}
+use Rattle.bz_tree.specs.Tree.{Item, Segment, Statement, items_of, segs_of}
+use Rattle.bz_tree.specs.Rows.{RowPart, above, beside_part, items_parts, opening, parts_of, segment_end, segs_parts}
+use Rattle.bz_attribute.specs.Rules.{Rule, rule_of, first_named, is_named, name_of}
+use Rattle.bz_attribute.specs.Effects.{edit_first, has, nodes_of, with_args}
 
 -- the parts of a rule
 pub record IsRuleRow (s : Statement) (r : Rule) (ps : List RowPart) : Type 0 where
   pub are : ps ≡ parts_of s
   pub rule : rule_of s.nodes ≡ Some r
+
+-- the parts before the arguments
+abbrev pub before_args : Statement → Rule → List RowPart
+before_args s r = map above s.before ++ (items_parts (items_of r.kind) ++ opening RuleCall ∷ [])
+
+-- the nodes of the first argument of a name begin there
+pub record IsArgumentAt (name : List ℕ) (s : Statement) (r : Rule) (at : ℕ) : Type 0 where
+  pub front : List Segment
+  pub arg : Segment
+  pub back : List Segment
+  pub are : r.args ≡ front ++ arg ∷ back
+  pub none : has name front ≡ false
+  pub is : is_named name arg ≡ true
+  pub begins : at ≡ length (before_args s r ++ segs_parts (segs_of front)) + length (map above arg.before)
+
+-- there may be none
+abbrev pub HasArgument : List ℕ → Statement → Rule → Option ℕ → Type 0
+HasArgument name s r None = has name r.args ≡ false
+HasArgument name s r (Some at) = IsArgumentAt name s r at
 
 -- An edit of arguments that looks at the first one of a name alone: others stay, and what is new where none has the name comes after all.
 pub record IsLocal (name : List ℕ) (f : List Segment → List Segment) : Type 0 where
@@ -36,3 +56,20 @@ pub record IsPlaceOf (name : List ℕ) (s : Statement) (r : Rule) (ps : List Row
 pub record IsPlaceOfAll (s : Statement) (r : Rule) (ps : List RowPart) (from to : ℕ) : Type 0 where
   pub read : take (to - from) (drop from ps) ≡ segs_parts (segs_of r.args)
   pub put : (f : List Segment → List Segment) → take from ps ++ (segs_parts (segs_of (f r.args)) ++ drop to ps) ≡ parts_of (with_args f s)
+
+-- the parts of an argument and of others after it
+abbrev pub argument_parts : Segment → List Segment → List RowPart
+argument_parts a others = segs_parts (segs_of (a ∷ others))
+
+-- its nodes begin after its comments, it ends after its last part, and its name
+pub record IsFirstArgument (a : Segment) (nodes to : ℕ) (name : Option (List ℕ)) : Type 0 where
+  pub begins : nodes ≡ length a.before
+  pub ends : to ≡ length (segs_parts (segs_of (a ∷ [])))
+  pub named : name ≡ name_of a.nodes
+
+-- The tokens of the kind stand there, right after the comments above the rule, and then its call opens.
+pub record IsKindPlace (s : Statement) (r : Rule) (ps : List RowPart) (from to : ℕ) : Type 0 where
+  pub kind : (kind : List Item) → take from ps ++ (items_parts (items_of kind) ++ drop to ps) ≡ parts_of (record s { nodes = nodes_of (record r { kind = kind }) })
+  pub line : (line : List ℕ) → take from ps ++ above line ∷ drop from ps ≡ parts_of (record s { before = s.before ++ line ∷ [] })
+  pub call : take (to + 1) ps ≡ map above s.before ++ (items_parts (items_of r.kind) ++ opening RuleCall ∷ [])
+  pub before_call : to + 1 ≤ length ps

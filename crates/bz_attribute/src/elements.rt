@@ -13,7 +13,6 @@ ghost use Rattle.bz_attribute.specs.private.ListParts as spec;
 ghost use Rattle.bz_attribute.specs.Lists as lists;
 
 use crate::finder::find_argument;
-use crate::head_parts::{is_end, text_of};
 use crate::place::{comments_begin, comments_len, parts_len, segment_len};
 use bz_token::Kind;
 use bz_tree::{GroupKind, Part};
@@ -32,7 +31,6 @@ pub struct Element<'a> {
 }
 
 /// Where the value of the first argument of a name begins.
-#[tactic(auto, using(crate::proofs::ListElements::value_there, crate::proofs::PlaceFound::has_none))]
 pub fn value_place(parts: &[Part<'_>], name: &str) -> Option<usize>
     ensures some { IfSome result (λ at. (s : Statement) (r : Rule) → IsRuleRow s r (map part_view parts.now)
         → IsValueAt name.now s r (map part_view parts.now) at) }
@@ -40,11 +38,8 @@ pub fn value_place(parts: &[Part<'_>], name: &str) -> Option<usize>
         → has name.now r.args ≡ false) }
     ensures within { IfSome result (λ at. at ≤ length parts.now) }
 {
-    match find_argument(parts, name) {
-        None => None,
-        Some(at) if parts.len() - at < 2 => None,
-        Some(at) => Some(at + 2),
-    }
+    let at = find_argument(parts, name)?;
+    Some(parts.len().min(at + 2))
 }
 
 fn opens(part: &Part<'_>) -> bool
@@ -91,6 +86,13 @@ fn opens_list(part: &Part<'_>) -> bool
     ensures { result ≡ spec.opens_list (part_view part.now) }
 {
     matches!(part, Part::Open(GroupKind::List))
+}
+
+#[inline(always)]
+fn is_end(part: &Part<'_>) -> bool
+    ensures { result ≡ spec.is_end (part_view part.now) }
+{
+    matches!(part, Part::End)
 }
 
 // A piece of a value ends there.
@@ -181,7 +183,7 @@ pub fn next_list(parts: &[Part<'_>], at: usize) -> Option<usize>
 
 // The elements of a list end there.
 #[inline(always)]
-fn ends_list(parts: &[Part<'_>]) -> bool
+pub(crate) fn ends_list(parts: &[Part<'_>]) -> bool
     ensures { result ≡ spec.ends_list (map part_view parts.now) }
 {
     matches!(parts, [] | [Part::Close(_), ..])
@@ -193,7 +195,7 @@ pub(crate) fn string_in<'a>(parts: &[Part<'a>]) -> Option<&'a str>
     ensures { option_map (λ text. text.now) result ≡ spec.string_in (map part_view parts.now) }
 {
     match parts {
-        [string, end, ..] if is_end(end) => text_of(string),
+        [Part::Token(Kind::String, text), Part::End, ..] => Some(*text),
         _ => None,
     }
 }

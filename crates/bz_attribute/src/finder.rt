@@ -1,19 +1,27 @@
-//! The first argument of a name, looked for in the parts of a rule.
+//! The arguments of a rule by their parts: the first one of a name, and the one with which some begin.
 
-ghost use Rattle.std.specs.Prelude.{◌≡◌, ◌<◌, ◌+◌, ◌^◌, false, map, option_map, IfSome, length};
+ghost use Rattle.std.specs.Prelude.{◌≡◌, ◌<◌, ◌≤◌, List, map, option_map, IfSome, length};
+ghost use Rattle.bz_tree.specs.Tree.{Segment, Statement};
 ghost use Rattle.bz_tree.specs.Rows.{part_view};
-ghost use Rattle.bz_attribute.specs.Rules.{is_text};
-ghost use Rattle.bz_attribute.specs.Finder as spec;
+ghost use Rattle.bz_attribute.specs.RowPlaces.{HasArgument, IsFirstArgument, IsRuleRow, argument_parts};
+ghost use Rattle.bz_attribute.specs.Rules.{Rule, is_text};
+ghost use Rattle.bz_attribute.specs.private.HeadParts as spec;
 
-use crate::head_parts::{ident_of, is_equals};
+use crate::elements::ends_list;
+use crate::place::{arguments_begin, comments_len, segment_len};
+use bz_token::Kind;
 use bz_tree::Part;
 
 // The name of the argument that the parts begin with.
-pub(crate) fn name_in<'a>(parts: &[Part<'a>]) -> Option<&'a str>
+fn name_in<'a>(parts: &[Part<'a>]) -> Option<&'a str>
     ensures { option_map (λ text. text.now) result ≡ spec.flat_name (map part_view parts.now) }
 {
     match parts {
-        [name, equals, ..] if is_equals(equals) => ident_of(name),
+        [
+            Part::Token(Kind::Identifier, name),
+            Part::Token(Kind::Operator, operator),
+            ..
+        ] if *operator == "=" => { Some(*name) }
         _ => None,
     }
 }
@@ -24,46 +32,51 @@ fn begins_with(parts: &[Part<'_>], name: &str) -> bool
     name_in(parts).is_some_and(|other| other == name)
 }
 
-// How many brackets are open after a part.
-#[inline(always)]
-fn depth_after(part: &Part<'_>, depth: usize) -> usize
-    requires { depth + 1 < 2 ^ 64 }
-    ensures { result ≡ spec.depth_after (part_view part.now) depth }
-{
-    match part {
-        Part::Open(_) => depth + 1,
-        Part::Close(_) => depth.saturating_sub(1),
-        _ => depth,
-    }
-}
-
-// Whether an argument may begin after a part.
-#[inline(always)]
-fn begins_after(part: &Part<'_>, depth: usize, begins: bool) -> bool
-    ensures { result ≡ spec.begins_after (part_view part.now) depth begins }
-{
-    match part {
-        Part::Open(_) => depth == 0,
-        Part::End => depth == 1,
-        Part::Above(_) | Part::Beside(_) => begins,
-        Part::Close(_) | Part::Token(_, _) => false,
-    }
-}
-
 /// Where the first argument of a name begins among the parts of a rule, after the comments above it.
 pub fn find_argument(parts: &[Part<'_>], name: &str) -> Option<usize>
-    ensures found { result ≡ spec.find_from name.now 0 false (map part_view parts.now) }
+    ensures found { (s : Statement) (r : Rule) → IsRuleRow s r (map part_view parts.now)
+        → HasArgument name.now s r result }
     ensures within { IfSome result (λ at. at < length parts.now) }
 {
-    let mut depth = 0;
-    let mut begins = false;
-    for i in 0..parts.len() {
-        if begins && begins_with(&parts[i..], name) {
-            return Some(i);
+    let mut at = arguments_begin(parts);
+    while at < parts.len() {
+        let nodes = at + comments_len(&parts[at..]);
+        let argument = &parts[nodes..];
+        if ends_list(argument) {
+            return None;
         }
-        let part = &parts[i];
-        begins = begins_after(part, depth, begins);
-        depth = depth_after(part, depth);
+        if begins_with(argument, name) {
+            return Some(nodes);
+        }
+        at = nodes + segment_len(argument);
     }
     None
+}
+
+/// An argument. It begins with the comments above it.
+#[derive(Clone, Copy)]
+pub struct FirstArgument<'a> {
+    /// Where its nodes begin, after the comments above it.
+    pub nodes: usize,
+    /// After its last part.
+    pub to: usize,
+    /// Its name, where it is a keyword argument.
+    pub name: Option<&'a str>,
+}
+
+/// The first of the arguments that have these parts.
+pub fn first_argument<'a>(parts: &[Part<'a>]) -> FirstArgument<'a>
+    requires { 0 < length parts.now }
+    ensures within { (result.nodes ≤ result.to) × (result.to ≤ length parts.now) }
+    ensures progress { 0 < result.to }
+    ensures argument { (a : Segment) (others : List Segment) → map part_view parts.now ≡ argument_parts a others
+        → IsFirstArgument a result.nodes result.to (option_map (λ name. name.now) result.name) }
+{
+    let nodes = comments_len(parts);
+    let own = &parts[nodes..];
+    FirstArgument {
+        nodes,
+        to: nodes + segment_len(own),
+        name: name_in(own),
+    }
 }

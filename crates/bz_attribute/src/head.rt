@@ -1,20 +1,25 @@
 //! The head of a rule, by its row: no tree is needed for it.
 
-ghost use Rattle.std.specs.Prelude.{◌≡◌, IfOk, map, string_bytes};
+ghost use Rattle.std.specs.Prelude.{◌≡◌, IfOk, map, option_and_then, option_map, string_bytes};
 ghost use Rattle.bz_tree.specs.Tree.{Statement};
 ghost use Rattle.bz_tree.specs.Statement.{class_of};
 ghost use Rattle.bz_tree.specs.Rows.{IsRowOf, part_view, parts_of};
 ghost use Rattle.bz_tree.specs.declared.tree.Class.TheVariants.{Rule as RuleClass};
 ghost use Rattle.bz_attribute.specs.Heads.{HasHead, IsHeadOf};
 ghost use Rattle.bz_attribute.specs.Marks as marks;
+ghost use Rattle.bz_attribute.specs.RowPlaces.{IsRuleRow};
+ghost use Rattle.bz_attribute.specs.Rules.{Rule, name_in};
 ghost use Rattle.bz_attribute.specs.Texts.{shown_text};
+ghost use Rattle.bz_attribute.specs.private.HeadParts as spec;
+ghost use Rattle.bz_command.specs.Values.{value_of};
 
-use crate::head_parts::{after_comments, is_called, kind_of, name_text, value_in};
+use crate::elements::{string_in, value_place};
+use crate::place::{comments_len, tokens_len};
 use crate::texts::push_home;
 use bumpalo::Bump;
-use bz_command::{Marked, Package, Target};
-use bz_memory::{NoMemory, push_str};
-use bz_tree::{Class, Part, Row};
+use bz_command::{Marked, Package, Target, plain_text, read_value};
+use bz_memory::{NoMemory, alloc_str, push_str};
+use bz_tree::{Class, GroupKind, Part, Row};
 use std::alloc::Global;
 
 /// The head of a rule: what its kind, its name and its lines are.
@@ -49,7 +54,6 @@ impl<'a> Head<'a> {
     }
 
     /// The head of the rule of these parts, on these lines. `Err`: memory was refused.
-    #[tactic(auto, using(crate::proofs::Headed::no_head))]
     pub fn of_parts(
         alloc: Global,
         bump: &'a Bump,
@@ -60,8 +64,8 @@ impl<'a> Head<'a> {
         ensures { IfOk result (λ found. (s : Statement) → class_of s.nodes ≡ RuleClass
             → map part_view parts.now ≡ parts_of s → s.start ≡ start → s.end ≡ end → HasHead found s) }
     {
-        let first = after_comments(parts);
-        if !is_called(first) {
+        let first = &parts[comments_len(parts)..];
+        if !is_called(&first[tokens_len(first)..]) {
             return Ok(None);
         }
         let kind = kind_of(alloc, bump, first)?;
@@ -102,5 +106,65 @@ impl<'a> Head<'a> {
             }
         }
         Ok(text)
+    }
+}
+
+// The call of a rule opens there.
+fn is_called(parts: &[Part<'_>]) -> bool
+    ensures { result ≡ spec.opens_call (map part_view parts.now) }
+{
+    matches!(parts, [Part::Open(GroupKind::RuleCall), ..])
+}
+
+// The texts of the tokens with which parts begin: a slice where it is one, and else a new text in the arena.
+fn kind_of<'a>(alloc: Global, bump: &'a Bump, parts: &[Part<'a>]) -> Result<&'a str, NoMemory>
+    ensures { IfOk result (λ kind. kind.now ≡ spec.token_texts (map part_view parts.now)) }
+{
+    match parts {
+        [Part::Token(_, text), Part::Open(_), ..] => Ok(*text),
+        _ => joined_tokens(alloc, bump, parts),
+    }
+}
+
+fn joined_tokens<'a>(alloc: Global, bump: &'a Bump, parts: &[Part<'a>]) -> Result<&'a str, NoMemory>
+    ensures { IfOk result (λ kind. kind.now ≡ spec.token_texts (map part_view parts.now)) }
+{
+    let mut kind = String::new(alloc);
+    let mut rest = parts;
+    while let [Part::Token(_, text), after @ ..] = rest {
+        push_str(&mut kind, text)?;
+        rest = after;
+    }
+    alloc_str(bump, kind.as_str())
+}
+
+// The string that the first argument `name` of a rule is, where it is one.
+#[tactic(auto, using(crate::proofs::ListElements::none_told))]
+fn name_text<'a>(parts: &[Part<'a>]) -> Option<&'a str>
+    ensures { (s : Statement) (r : Rule) → IsRuleRow s r (map part_view parts.now)
+        → option_and_then value_of (option_map (λ text. text.now) result) ≡ name_in r.args }
+{
+    let value = value_place(parts, "name")?;
+    string_in(&parts[value..])
+}
+
+// The value of a text: a slice where it has no escapes, and else a new text in the arena.
+fn value_in<'a>(
+    alloc: Global,
+    bump: &'a Bump,
+    text: Option<&'a str>,
+) -> Result<Option<&'a str>, NoMemory>
+    ensures { IfOk result (λ value. option_map (λ v. v.now) value
+        ≡ option_and_then value_of (option_map (λ t. t.now) text.entry)) }
+{
+    let Some(text) = text else {
+        return Ok(None);
+    };
+    if let Some(value) = plain_text(text) {
+        return Ok(Some(value));
+    }
+    match read_value(alloc, text)? {
+        None => Ok(None),
+        Some(value) => Ok(Some(alloc_str(bump, value.as_str())?)),
     }
 }

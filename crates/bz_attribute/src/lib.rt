@@ -2,7 +2,6 @@
 #![tactic(auto)]
 
 mod apart;
-mod arguments;
 mod done;
 mod edit;
 mod element_labels;
@@ -12,10 +11,8 @@ mod env;
 pub mod equals;
 mod finder;
 mod head;
-mod head_parts;
 mod lists;
 mod place;
-mod row_kind;
 mod rule;
 mod texts;
 mod value;
@@ -23,7 +20,6 @@ mod word_set;
 mod written;
 
 pub use apart::literal_apart;
-pub use arguments::{FirstArgument, first_argument};
 pub use bz_tree::Parts;
 pub use done::{Done, Executed, Note};
 pub use edit::Edit;
@@ -33,13 +29,12 @@ pub use elements::{
     Element, elements_end, first_list, next_element, next_list, next_of_value, value_place,
 };
 pub use env::Env;
-pub use finder::find_argument;
+pub use finder::{FirstArgument, find_argument, first_argument};
 pub use head::Head;
 pub use lists::{elements_at, is_list};
-pub use place::{Place, all_arguments, new_place, place_of};
-pub use row_kind::kind_place;
+pub use place::{Place, all_arguments, kind_place, new_place, place_of};
 pub use rule::{is_rule, only_text};
 pub use texts::{label, push_home};
 pub use value::{only_list, value_end};
 pub use word_set::WordSet;
-pub use written::{begin_argument, literal_in, push_element, push_string, push_token};
+pub use written::{begin_argument, push_element, push_string, push_token};

@@ -1,11 +1,11 @@
-//! Where the argument of a name stands among the parts of a rule, and where a new one goes.
+//! Where the kind of a rule, the argument of a name and all arguments stand among its parts, and where a new one goes.
 
 ghost use Rattle.std.specs.Prelude.{◌≡◌, ◌≤◌, ℕ, List, false, map, length};
 ghost use Rattle.bz_tree.specs.Tree.{Statement};
 ghost use Rattle.bz_tree.specs.Rows.{part_view};
 ghost use Rattle.bz_attribute.specs.Effects.{has};
 ghost use Rattle.bz_attribute.specs.Rules.{Rule};
-ghost use Rattle.bz_attribute.specs.RowPlaces.{IsPlaceOf, IsPlaceOfAll, IsRuleRow};
+ghost use Rattle.bz_attribute.specs.RowPlaces.{IsKindPlace, IsPlaceOf, IsPlaceOfAll, IsRuleRow};
 ghost use Rattle.bz_attribute.specs.private.Ends as spec;
 
 use crate::finder::find_argument;
@@ -169,7 +169,7 @@ pub fn place_of(parts: &[Part<'_>], name: &str) -> Place
 }
 
 // How many parts there are up to the first bracket that opens, with it.
-fn arguments_begin(parts: &[Part<'_>]) -> usize
+pub(crate) fn arguments_begin(parts: &[Part<'_>]) -> usize
     ensures begin { result ≡ spec.arguments_begin (map part_view parts.now) }
     ensures within { result ≤ length parts.now }
 {
@@ -194,4 +194,29 @@ pub fn all_arguments(parts: &[Part<'_>]) -> Place
         return Place { from, to: from };
     }
     Place { from, to }
+}
+
+// How many tokens they begin with.
+pub(crate) fn tokens_len(parts: &[Part<'_>]) -> usize
+    ensures len { result ≡ spec.tokens_len (map part_view parts.now) }
+    ensures within { result ≤ length parts.now }
+{
+    let mut rest = parts;
+    while let [Part::Token(_, _), after @ ..] = rest {
+        rest = after;
+    }
+    parts.len() - rest.len()
+}
+
+/// Where the tokens of the kind stand among the parts of a rule: after the comments above it.
+pub fn kind_place(parts: &[Part<'_>]) -> Place
+    ensures within { (result.from ≤ result.to) × (result.to ≤ length parts.now) }
+    ensures place { (s : Statement) (r : Rule) → IsRuleRow s r (map part_view parts.now)
+        → IsKindPlace s r (map part_view parts.now) result.from result.to }
+{
+    let from = comments_len(parts);
+    Place {
+        from,
+        to: from + tokens_len(&parts[from..]),
+    }
 }

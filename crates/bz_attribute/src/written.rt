@@ -1,25 +1,17 @@
 //! Parts that commands write. Their texts are copied into the arena of the list.
 
-ghost use Rattle.std.specs.Prelude.{◌≡◌, ◌++◌, ◌∷◌, [], IfOk, OnOk, codes, map};
+ghost use Rattle.std.specs.Prelude.{◌≡◌, ◌++◌, ◌∷◌, [], OnOk, codes, map};
 ghost use Rattle.bz_token.specs.declared.token.Kind.TheVariants.{Identifier, Operator, String as StringKind};
 ghost use Rattle.bz_tree.specs.Tree.{segs_of};
 ghost use Rattle.bz_tree.specs.Rows.{a_token, part_view, segs_parts};
 ghost use Rattle.bz_command.specs.Values.{quoted};
 ghost use Rattle.bz_attribute.specs.Effects.{string};
 
-use bumpalo::Bump;
 use bz_command::quote;
 use bz_memory::{NoMemory, alloc_str, push};
 use bz_token::Kind;
 use bz_tree::{Part, Parts};
 use std::alloc::Global;
-
-/// The literal of a string, in an arena. `Err`: memory was refused.
-pub fn literal_in<'a>(alloc: Global, bump: &'a Bump, value: &str) -> Result<&'a str, NoMemory>
-    ensures { IfOk result (λ text. text.now ≡ quoted value.now) }
-{
-    alloc_str(bump, quote(alloc, value)?.as_str())
-}
 
 /// Appends a token. `Err`: memory was refused.
 pub fn push_token(kind: Kind, text: &str, written: &mut Parts<'_>) -> Result<(), NoMemory>
@@ -28,8 +20,7 @@ pub fn push_token(kind: Kind, text: &str, written: &mut Parts<'_>) -> Result<(),
 {
     let bump = *written.allocator();
     let text = alloc_str(bump, text)?;
-    push(written, Part::Token(kind, text))?;
-    Ok(())
+    push(written, Part::Token(kind, text))
 }
 
 /// Appends the literal of a string. `Err`: memory was refused.
@@ -38,9 +29,8 @@ pub fn push_string(alloc: Global, value: &str, written: &mut Parts<'_>) -> Resul
         ≡ map part_view written.old.items ++ a_token StringKind (quoted value.now) ∷ []) }
 {
     let bump = *written.allocator();
-    let literal = literal_in(alloc, bump, value)?;
-    push(written, Part::Token(Kind::String, literal))?;
-    Ok(())
+    let literal = alloc_str(bump, quote(alloc, value)?.as_str())?;
+    push(written, Part::Token(Kind::String, literal))
 }
 
 /// Appends an element that is a string. `Err`: memory was refused, and its literal may have been appended.
@@ -49,8 +39,7 @@ pub fn push_element(alloc: Global, value: &str, written: &mut Parts<'_>) -> Resu
         ≡ map part_view written.old.items ++ segs_parts (segs_of (string value.now ∷ []))) }
 {
     push_string(alloc, value, written)?;
-    push(written, Part::End)?;
-    Ok(())
+    push(written, Part::End)
 }
 
 /// Appends the name of an argument and its equals sign. `Err`: memory was refused, and the name may have been appended.
@@ -59,6 +48,5 @@ pub fn begin_argument(name: &str, written: &mut Parts<'_>) -> Result<(), NoMemor
         ≡ map part_view written.old.items ++ (a_token Identifier name.now ∷ a_token Operator (codes "=") ∷ [])) }
 {
     push_token(Kind::Identifier, name, written)?;
-    push(written, Part::Token(Kind::Operator, "="))?;
-    Ok(())
+    push(written, Part::Token(Kind::Operator, "="))
 }

@@ -7,13 +7,11 @@ use Rattle.bz_tree.specs.Rows.{RowPart, segment_end, above, beside_part, items_p
 use Rattle.bz_attribute.specs.Rules.{Rule, first_named, is_named}
 use Rattle.bz_attribute.specs.Effects.{edit_first, has, nodes_after, with_args, with_comment}
 use Rattle.bz_attribute_commands.specs.Comment.{comment_attribute, comment_line}
-use Rattle.bz_attribute.specs.Finder.{find_from}
-use Rattle.bz_attribute.specs.RowPlaces.{IsRuleRow}
+use Rattle.bz_attribute.specs.RowPlaces.{HasArgument, IsArgumentAt, IsRuleRow}
 use Rattle.bz_attribute.proofs.RuleNodes.{rule_nodes}
 use Rattle.bz_attribute.proofs.EditedAt.{edited_at, first_at, with_args_at}
 use Rattle.bz_attribute.proofs.Locals.{is_there}
-use Rattle.bz_attribute.proofs.RuleParts.{before_args}
-use Rattle.bz_attribute.proofs.PlaceFound.{answered, args_found, has_none, in_three, nodes_split, placed, post, pre, told}
+use Rattle.bz_attribute.proofs.PlaceFound.{in_three, nodes_split, post, pre}
 
 -- an argument between other parts
 abbrev pub with_argument : List RowPart → Segment → List RowPart → List RowPart
@@ -31,15 +29,13 @@ pub record IsAt (name : List ℕ) (s : Statement) (r : Rule) (ps : List RowPart)
   pub edited : (f : Segment → Segment) → parts_of (with_args (edit_first (is_named name) (λ a. f a ∷ [])) s) ≡ with_argument front (f arg) back
 
 -- by what the finder told
-pub argument_at : (name : List ℕ) (s : Statement) (r : Rule) (ps : List RowPart) (at : ℕ) → IsRuleRow s r ps → find_from name 0 false ps ≡ Some at → IsAt name s r ps at
-argument_at name s r ps at h is =
-    let f = placed name s r at (args_found name s r) (answered name s r) (sym (told name s r ps h) ∙ is) in
-    let arg = f.arg in
+pub argument_at : (name : List ℕ) (s : Statement) (r : Rule) (ps : List RowPart) (at : ℕ) → IsRuleRow s r ps → IsArgumentAt name s r at → IsAt name s r ps at
+argument_at name s r ps at h arg =
     let a : Segment = arg.arg in
     let first : List RowPart = pre s r arg.front ++ map above a.before in
     let rest : List RowPart = items_parts (items_of a.nodes) ++ (segment_end ∷ (beside_part a.suffix ++ post s r arg.back)) in
     let all : ps ≡ first ++ rest = h.are ∙ in_three s r arg.front (a ∷ []) arg.back (rule_nodes [] s.nodes r h.rule) arg.are ∙ nodes_split s r arg.front arg.back a in
-    let begins : at ≡ length first = omega (arith, f.is, arg.at, length-append (pre s r arg.front) (map above a.before), length-append (before_args s r) (segs_parts (segs_of arg.front))) in
+    let begins : at ≡ length first = omega (arith, arg.begins, length-append (pre s r arg.front) (map above a.before)) in
     record {
       front = pre s r arg.front;
       arg = a;
@@ -55,12 +51,12 @@ argument_at name s r ps at h is =
     }
 
 -- whether there is one
-pub has_found : (name : List ℕ) (s : Statement) (r : Rule) (ps : List RowPart) (o : Option ℕ) → IsRuleRow s r ps → o ≡ find_from name 0 false ps → has name r.args ≡ is_some o
-has_found name s r ps None h is = has_none name s r ps h (sym is)
-has_found name s r ps (Some at) h is = (argument_at name s r ps at h (sym is)).there
+pub has_found : (name : List ℕ) (s : Statement) (r : Rule) (ps : List RowPart) (o : Option ℕ) → IsRuleRow s r ps → HasArgument name s r o → has name r.args ≡ is_some o
+has_found name s r ps None h none = none
+has_found name s r ps (Some at) h is = (argument_at name s r ps at h is).there
 
 -- a line more above it
-pub argument_commented : (text name : List ℕ) (s : Statement) (r : Rule) (ps : List RowPart) (at : ℕ) → IsRuleRow s r ps → find_from name 0 false ps ≡ Some at
+pub argument_commented : (text name : List ℕ) (s : Statement) (r : Rule) (ps : List RowPart) (at : ℕ) → IsRuleRow s r ps → IsArgumentAt name s r at
     → take at ps ++ above (comment_line text) ∷ drop at ps ≡ parts_of (with_args (comment_attribute name text) s)
 argument_commented text name s r ps at h is =
     let p = argument_at name s r ps at h is in

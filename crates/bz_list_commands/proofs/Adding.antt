@@ -21,10 +21,16 @@ use Rattle.bz_attribute.specs.declared.done.Note.TheVariants.{NotAList}
 use Rattle.bz_attribute.specs.declared.place.Place.{Place}
 use Rattle.bz_attribute.proofs.EditedAt.{none_first, segs_join, with_args_at}
 use Rattle.bz_attribute.proofs.ListEdits.{appended}
-use Rattle.bz_list_commands.specs.private.AddSteps.{IsAdding, Knows}
-use Rattle.bz_list_commands.proofs.Known.{knows_fresh, knows_more}
+use Rattle.bz_list_commands.proofs.Known.{Knows, knows_fresh, knows_more}
 use Rattle.bz_attribute.proofs.Locals.{edit_same, edits_one, is_there}
 use Rattle.bz_token.specs.Common.{is_empty}
+
+-- the elements for those of the first i values that are missing were written
+pub record IsAdding (home : Package) (lists : List (List Segment)) (values : List (List ℕ)) (i : ℕ) (set : LabelSet) (before now : List RowPart) : Type 0 where
+  pub made : List Segment
+  pub parts : now ≡ before ++ segs_parts (segs_of made)
+  pub knows : Knows home lists values i set
+  pub added : made ++ map string (fresh home lists (take i values) (drop i values)) ≡ new_elements home lists values
 
 -- value by value
 fresh_step : (home : Package) (lists : List (List Segment)) (values : List (List ℕ)) (i : ℕ) (w d : List ℕ) (new added : List Segment) → i < length values → w ≡ get_or values i d

@@ -11,7 +11,7 @@ use Rattle.bz_tree.specs.Tree.{Item, leaf, group, Segment, items_of, segments, s
 use Rattle.bz_tree.specs.Rows.{RowPart, above, beside_part, segment_end, items_parts, segs_parts}
 use Rattle.bz_attribute.specs.Elements.{value_parts}
 use Rattle.bz_attribute.specs.Effects.{filtered, loses_all}
-use Rattle.bz_attribute.specs.FirstArguments.{IsFirstArgument, argument_parts}
+use Rattle.bz_attribute.specs.RowPlaces.{IsFirstArgument, argument_parts}
 use Rattle.bz_attribute.specs.Lists.{edit_parts, is_attribute, is_list, parts, with_value}
 use Rattle.bz_attribute.specs.Rules.{elements, value}
 use Rattle.bz_attribute.proofs.EditedAt.{segs_join}

@@ -17,7 +17,7 @@ use Rattle.bz_list_commands.specs.Move.{arrivals}
 use Rattle.bz_attribute.specs.Rules.{string_value}
 use Rattle.bz_attribute.proofs.LabelSets.{any_joined}
 use Rattle.std.proofs.Math.Bool.{or-false}
-use Rattle.bz_list_commands.specs.private.MoveSteps.{AreArriving, HaveArrivals, arrivals_by, has_value, parts_at}
+use Rattle.bz_list_commands.specs.private.MoveSteps.{HaveArrivals, parts_at}
 use Rattle.bz_token.specs.Common.{map_or}
 use Rattle.bz_command.specs.LabelSetViews.{has}
 use Rattle.bz_command.specs.Same.{completed}
@@ -35,7 +35,7 @@ use Rattle.bz_list_commands.specs.private.StringEdits.{is_meant}
 abbrev Knows : Package → (List ℕ → Bool) → List Segment → Type 0
 Knows home known there = (text : List ℕ) → known text ≡ list_any (equals home text) there
 
-told_value : (home : Package) (known : List ℕ → Bool) (there : List Segment) (o : Option (List ℕ)) → Knows home known there → has_value known o ≡ map_or false (λ word. list_any (equals home word) there) o
+told_value : (home : Package) (known : List ℕ → Bool) (there : List Segment) (o : Option (List ℕ)) → Knows home known there → map_or false known o ≡ map_or false (λ word. list_any (equals home word) there) o
 told_value home known there None h = refl
 told_value home known there (Some text) h = h text
 
@@ -68,6 +68,13 @@ told_more home known there s h text =
     ∙ ap (λ (b : Bool). b || (equals home text s || false)) (h text)
     ∙ sym (list_any-append (equals home text) there (s ∷ []))
 
+-- those that arrive of some elements, where a test tells which labels are there
+abbrev pub arrivals_by : Package → (Option (List ℕ) → Bool) → (List ℕ → Bool) → List Segment → List Segment
+arrivals_by home p known [] = []
+arrivals_by home p known (s ∷ ss) =
+    (if is_meant p s && not (map_or false known (string_value s.nodes)) then s ∷ [] else [])
+    ++ arrivals_by home p (λ text. (is_meant p s && equals home text s) || known text) ss
+
 -- those that are meant arrive
 abbrev one_by : Package → (Option (List ℕ) → Bool) → (List ℕ → Bool) → Segment → List Segment → Bool → Bool → List Segment
 one_by home p known s ss meant there = (if meant && not there then s ∷ [] else []) ++ arrivals_by home p (λ text. (meant && equals home text s) || known text) ss
@@ -76,10 +83,10 @@ pub told : (home : Package) (p : Option (List ℕ) → Bool) (known : List ℕ �
 told home p known there [] h = refl
 told home p known there (s ∷ ss) h =
     let text : Option (List ℕ) = string_value s.nodes in
-    let value : has_value known text ≡ map_or false (λ word. list_any (equals home word) there) text = told_value home known there text h in
+    let value : map_or false known text ≡ map_or false (λ word. list_any (equals home word) there) text = told_value home known there text h in
     elim (cases_Bool (is_meant p s)) [
       | inr other ↦
-          (λ j. one_by home p known s ss (other j) (has_value known text)) ∙ told home p known there ss h ∙ ap (λ (b : Bool). arrivals home there (cond b (s ∷ filter (is_meant p) ss) (filter (is_meant p) ss))) (sym other)
+          (λ j. one_by home p known s ss (other j) (map_or false known text)) ∙ told home p known there ss h ∙ ap (λ (b : Bool). arrivals home there (cond b (s ∷ filter (is_meant p) ss) (filter (is_meant p) ss))) (sym other)
       | inl is ↦ elim (cases_Bool (map_or false (λ word. list_any (equals home word) there) text)) [
         | inl among ↦
             (λ j. one_by home p known s ss (is j) ((value ∙ among) j)) ∙ told home p (λ text. equals home text s || known text) there ss (told_again home known there text h among)
@@ -95,6 +102,18 @@ told home p known there (s ∷ ss) h =
 -- all labels of the elements that are there
 in_joined : (home : Package) (lists : List (List Segment)) (text : List ℕ) → is_in home All lists text ≡ list_any (equals home text) (flat_map (λ ss. ss) lists)
 in_joined home lists text = (λ j. list_any (list_any (λ (s : Segment). or-false (equals home text s) j)) lists) ∙ sym (any_joined (equals home text) lists)
+
+-- of the elements that are left in one list, those before `at` that are meant and arrive among others stand there
+pub record IsArriving (home : Package) (p : Option (List ℕ) → Bool) (l : ListRest) (others : List Segment) (after ps : List RowPart) (at : ℕ) (set : LabelSet) (places : List Place) : Type 0 where
+  pub left : ListRest
+  pub made : List Segment
+  pub read : drop at ps ≡ rest_parts left after
+  pub parts : parts_at ps places ≡ segs_parts (segs_of made)
+  pub arrived : made ++ arrivals_by home p (has set) (elements_left left) ≡ arrivals home others (filter (is_meant p) (elements_left l))
+
+abbrev pub AreArriving : Package → (Option (List ℕ) → Bool) → Lists → List RowPart → ℕ → LabelSet → List Place → Type 0
+AreArriving home p at ps k set places =
+    (l : ListRest) (after : List RowPart) (lists : List (List Segment)) → drop at.from ps ≡ rest_parts l after → AreLists ps at.to lists → IsArriving home p l (flat_map (λ ss. ss) lists) after ps k set places
 
 -- element by element
 pub none_arrived : (home : Package) (p : Option (List ℕ) → Bool) (at : Lists) (ps : List RowPart) (set : LabelSet)
@@ -114,13 +133,13 @@ abbrev pub one_place : Bool → Place → List Place
 one_place b place = if b then place ∷ [] else []
 
 pub one_arrived : (home : Package) (p : Option (List ℕ) → Bool) (at : Lists) (ps : List RowPart) (k from token to : ℕ) (string : Option (List ℕ)) (old new : LabelSet) (places more : List Place) (b : Bool) → AreArriving home p at ps k old places → HasNext ps k from token to string
-    → b ≡ (p string && not (has_value (has old) (option_and_then value_of string))) → old.home.now ≡ home → ((text : List ℕ) → has new text ≡ ((p string && map_or false (λ value. same old.home.now value text) (option_and_then value_of string)) || has old text))
+    → b ≡ (p string && not (map_or false (has old) (option_and_then value_of string))) → old.home.now ≡ home → ((text : List ℕ) → has new text ≡ ((p string && map_or false (λ value. same old.home.now value text) (option_and_then value_of string)) || has old text))
     → more ≡ places ++ one_place b (record { from = from; to = to }) → AreArriving home p at ps to new more
 one_arrived home p at ps k from token to string old new places more b so_far next arrives of gains written = λ l rest lists read are.
     let h = so_far l rest lists read are in
     let n = next h.left rest h.read in
     let s : Segment = n.element in
-    let arrives_s : b ≡ (is_meant p s && not (has_value (has old) (string_value s.nodes))) = arrives ∙ (λ i. p (n.text i) && not (has_value (has old) (option_and_then value_of (n.text i)))) in
+    let arrives_s : b ≡ (is_meant p s && not (map_or false (has old) (string_value s.nodes))) = arrives ∙ (λ i. p (n.text i) && not (map_or false (has old) (option_and_then value_of (n.text i)))) in
     let one : List Segment = if b then s ∷ [] else [] in
     let own : parts_at ps (one_place b (record { from = from; to = to })) ≡ segs_parts (segs_of (if b then s ∷ [] else [])) =
     elim b as (λ c. parts_at ps (one_place c (record { from = from; to = to })) ≡ segs_parts (segs_of (if c then s ∷ [] else []))) [ true ↦ append-nil (take (to - from) (drop from ps)) ∙ n.own | false ↦ refl ] in

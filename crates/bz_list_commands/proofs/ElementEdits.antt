@@ -13,7 +13,7 @@ use Rattle.bz_tree.specs.Rows.{RowPart, a_token, above, beside_part, closing, se
 use Rattle.bz_command.specs.Labels.{Package}
 use Rattle.bz_attribute.specs.Rules.{elements, only_text}
 use Rattle.bz_attribute.specs.Elements.{HasNoList, IsListIn, IsNextElement, ListRest, edited_rest, elements_left, rest_parts, value_parts}
-use Rattle.bz_attribute.specs.Lists.{edit_from, edit_list, is_part, is_plus, parts_from}
+use Rattle.bz_attribute.specs.Lists.{edit_from, edit_list, edit_parts, is_part, is_plus, parts, parts_from}
 use Rattle.bz_attribute.specs.declared.place.Place.{Place}
 use Rattle.bz_attribute.proofs.LabelSets.{any_joined}
 use Rattle.bz_attribute.proofs.ListEdits.{list_cut, long_opened, opened}
@@ -21,7 +21,7 @@ use Rattle.bz_list_commands.specs.private.StringEdits.{become, become_all, in_pl
 use Rattle.bz_list_commands.specs.declared.string_edit.Meant.{Meant}
 use Rattle.bz_list_commands.specs.declared.string_edit.Meant.TheVariants.{Any, Unlike, Word, Words}
 use Rattle.bz_list_commands.specs.private.WrittenParts.{IsWritten, literal_parts}
-use Rattle.bz_list_commands.specs.private.ElementEdits.{HasEditedFront, HasEditedValue}
+use Rattle.bz_list_commands.specs.private.ElementEdits.{HasEditedValue}
 use Rattle.bz_list_commands.proofs.WrittenParts.{between, passed, passed_to, put}
 
 -- what stands after some parts
@@ -113,6 +113,15 @@ element_put p (Some literal) l after ps at from token to string places more firs
     let whole = passed new ps (((target ++ before) ++ comments) ++ new) last more (token + 1) to after_string at_last ends in
     let goes : become p (Some literal) s ≡ in_place (Some literal) s = ap (λ (b : Bool). if b then in_place (Some literal) s else s ∷ []) (ap p (sym n.text) ∙ is) in
     subst (λ (qs : List RowPart). IsWritten new ps more to qs) (joined target before comments new last ∙ ap (λ (ss : List Segment). target ++ (before ++ segs_parts (segs_of ss))) (sym goes)) whole
+
+-- of a value that begins at `from`, those before `at` were: `old` are the places of what was edited before
+pub record HasEditedFront (p : Option (List ℕ) → Bool) (literal : Option (List ℕ)) (nodes : List Item) (after ps : List RowPart) (from at : ℕ) (old places : List Place) : Type 0 where
+  pub left : ListRest
+  pub made : List RowPart
+  pub read : drop at ps ≡ rest_parts left after
+  pub changed : (not (is_empty places) || list_any (is_meant p) (elements_left left)) ≡ (not (is_empty old) || list_any (list_any (is_meant p)) (parts nodes))
+  pub total : made ++ rest_parts (edited_rest (become_all p literal) left) after ≡ value_parts (edit_parts (become_all p literal) nodes) after
+  pub written : (target : List RowPart) → IsWritten (literal_parts literal) ps old from target → IsWritten (literal_parts literal) ps places at (target ++ made)
 
 -- the walk over the elements
 pub none_edited : (p : Option (List ℕ) → Bool) (literal : Option (List ℕ)) (nodes : List Item) (after ps : List RowPart) (from to : ℕ) (places : List Place) → drop from ps ≡ value_parts nodes after → IsListIn true nodes after ps from to → HasEditedFront p literal nodes after ps from to places places

@@ -18,9 +18,13 @@ use Rattle.bz_attribute.specs.Effects.{is_chosen}
 use Rattle.bz_list_commands.specs.Add.{is_fresh}
 use Rattle.bz_attribute.specs.private.ElementSets.{is_in}
 use Rattle.std.proofs.Math.Bool.{or-false}
-use Rattle.bz_list_commands.specs.private.AddSteps.{Knows}
 use Rattle.bz_token.specs.Common.{map_or}
 use Rattle.std.proofs.Math.Bool.{and-false}
+
+-- the set has the labels of the elements of these lists that are among the values, and of the first i values
+pub record Knows (home : Package) (lists : List (List Segment)) (values : List (List ℕ)) (i : ℕ) (set : LabelSet) : Type 0 where
+  pub of : set.home.now ≡ home
+  pub all : (text : List ℕ) → has set text ≡ (is_in home (Values values) lists text || list_any (same home text) (take i values))
 
 or_last : (a b c : Bool) → (c || (a || b)) ≡ (a || (b || (c || false)))
 or_last true b true = refl

@@ -24,11 +24,10 @@ use Rattle.bz_attribute.proofs.RowEdits.{changed, unchanged}
 use Rattle.bz_list_commands.specs.declared.arrivals.Lists.{Lists}
 use Rattle.bz_list_commands.specs.private.ListPlaces.{HasNoListPart, IsListAt, IsTarget}
 use Rattle.bz_list_commands.specs.private.MoveSteps.{HaveArrivals, parts_at}
-use Rattle.bz_list_commands.specs.private.PlaceEdits.{changes_first}
-use Rattle.bz_list_commands.specs.private.StringEdits.{become_all, is_meant}
+use Rattle.bz_list_commands.specs.private.StringEdits.{changes, become_all, is_meant}
 use Rattle.bz_list_commands.proofs.Meanings.{left_unchosen, told_first}
 use Rattle.bz_attribute.proofs.Locals.{is_there}
-use Rattle.bz_token.specs.Common.{is_empty}
+use Rattle.bz_token.specs.Common.{map_or, is_empty}
 use Rattle.std.specs.Option.{option_or}
 
 -- no list part: nothing is edited
@@ -87,7 +86,7 @@ abbrev pub gone_from : List ℕ → (Option (List ℕ) → Bool) → List Segmen
 gone_from old p = edit_first (is_named old) (filtered (become_all p None))
 
 abbrev pub told_gone : List ℕ → (Option (List ℕ) → Bool) → List Segment → Done
-told_gone old p args = done None (changes_first p (first_named old args))
+told_gone old p args = done None (map_or false (changes p) (first_named old args))
 
 tells : (home : Package) (old : List ℕ) (chosen : Moved) (p : Option (List ℕ) → Bool) (s : Statement) (r : Rule) (ps one : List RowPart) (gone : Edit) (b : Bool) → is_meant p ≡ is_chosen home chosen → IsRowEdit (gone_from old p) (told_gone old p) ps one gone
     → gone.done.changed ≡ b → IsRuleRow s r ps → moves home old chosen r.args ≡ b

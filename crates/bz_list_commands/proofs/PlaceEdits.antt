@@ -1,5 +1,5 @@
 -- The edit of the arguments in a place among the parts of a rule is the edit of the rule.
-use Rattle.std.proofs.Common.{◌≡◌, ℕ, ◌-◌, ◌≤◌, List, [], ◌∷◌, ◌++◌, Bool, true, not, ◌&&◌, if◌then◌else◌, Option, Some, None, is_some, length, take, drop, refl, ap, sym, ◌∙◌, arith, append_assoc, append-nil, length-take-le, take-append-drop}
+use Rattle.std.proofs.Common.{false, ◌≡◌, ℕ, ◌-◌, ◌≤◌, List, [], ◌∷◌, ◌++◌, Bool, true, not, ◌&&◌, if◌then◌else◌, Option, Some, None, is_some, length, take, drop, refl, ap, sym, ◌∙◌, arith, append_assoc, append-nil, length-take-le, take-append-drop}
 use Rattle.std.specs.Prelude.{option_to_list}
 use Rattle.std.specs.List.{flat_map, list_any}
 use Rattle.bz_tree.specs.Tree.{Segment, Statement, segs_of}
@@ -13,11 +13,11 @@ use Rattle.bz_attribute.specs.declared.place.Place.{Place}
 use Rattle.std.proofs.Math.Bool.{or-false}
 use Rattle.bz_attribute.proofs.Locals.{edit_local, is_first_named}
 use Rattle.bz_list_commands.specs.private.ArgumentEdits.{HasEditedAll, edited, is_changed}
-use Rattle.bz_list_commands.specs.private.PlaceEdits.{AreThere, IsPlaceEdit, changes_first}
+use Rattle.bz_list_commands.specs.private.PlaceEdits.{AreThere, IsPlaceEdit}
 use Rattle.bz_list_commands.specs.private.StringEdits.{become_all, changes}
 use Rattle.bz_list_commands.specs.private.WrittenParts.{written}
 use Rattle.std.proofs.lemmas.List.{drop-append-le, drop-take, take-append-le}
-use Rattle.bz_token.specs.Common.{is_empty}
+use Rattle.bz_token.specs.Common.{map_or, is_empty}
 use Rattle.bz_attribute.proofs.Locals.{is_first_named}
 
 regrouped : (a b c d : List RowPart) → a ++ (b ++ (c ++ d)) ≡ (a ++ (b ++ c)) ++ d
@@ -71,13 +71,13 @@ edited_alone p literal name args (Some a) h =
     let is : is_named name a ≡ true = is_first_named name args a h in
     append-nil (edited p literal a) ∙ ap (λ (b : Bool). if b then f a else a ∷ []) (has_name name (name_of a.nodes) is) ∙ sym (edit_alone name f a is)
 
-told_alone : (p : Option (List ℕ) → Bool) (name : List ℕ) (args : List Segment) (o : Option Segment) → first_named name args ≡ o → list_any (is_changed p) (option_to_list o) ≡ changes_first p o
+told_alone : (p : Option (List ℕ) → Bool) (name : List ℕ) (args : List Segment) (o : Option Segment) → first_named name args ≡ o → list_any (is_changed p) (option_to_list o) ≡ map_or false (changes p) o
 told_alone p name args None h = refl
 told_alone p name args (Some a) h = or-false (is_changed p a) ∙ ap (λ (b : Bool). b && changes p a) (has_name name (name_of a.nodes) (is_first_named name args a h))
 
 pub named_row : (p : Option (List ℕ) → Bool) (literal : Option (List ℕ)) (name : List ℕ) (place : Place) (ps new : List RowPart) (e : Edit) → IsPlaceEdit (edited p literal) (is_changed p) place ps new e
     → ((s : Statement) (r : Rule) → IsRuleRow s r ps → IsPlaceOf name s r ps place.from place.to)
-    → IsRowEdit (edit_first (is_named name) (filtered (become_all p literal))) (λ args. done None (changes_first p (first_named name args))) ps new e
+    → IsRowEdit (edit_first (is_named name) (filtered (become_all p literal))) (λ args. done None (map_or false (changes p) (first_named name args))) ps new e
 named_row p literal name place ps new e edit at =
     let f : Segment → List Segment = filtered (become_all p literal) in
     record {

@@ -1,4 +1,3 @@
-pub mod AddSteps
 pub mod ArgumentEdits
 pub mod ElementEdits
 pub mod ListPlaces

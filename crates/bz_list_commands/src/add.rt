@@ -8,7 +8,7 @@ ghost use Rattle.bz_attribute.specs.Elements.{AreLists, ListRest, elements_left,
 ghost use Rattle.bz_attribute.specs.Lists.{equals, same};
 ghost use Rattle.bz_attribute.specs.RowEdits.{IsRowEdit};
 ghost use Rattle.bz_attribute.specs.Rules.{first_named};
-ghost use Rattle.bz_list_commands.specs.private.AddSteps.{HaveWritten};
+ghost use Rattle.bz_list_commands.specs.private.ListPlaces.{HaveWritten};
 ghost use Rattle.bz_list_commands.specs.Add as spec;
 ghost use Rattle.bz_attribute.specs.Effects as effects;
 ghost use Rattle.bz_command.specs.Values.{value_of};
@@ -108,20 +108,10 @@ fn write_if_missing(
     ensures { OnOk result (HaveWritten env.entry.home.now (word.now ∷ []) (map part_view parts.now) list
         (map part_view written.old.items) (map part_view written.new.items)) }
 {
-    if is_there(env.home, word, parts, list) {
-        return Ok(());
+    if let Some(from) = list {
+        if first_equal(env.home, word, parts, from).is_some() {
+            return Ok(());
+        }
     }
     push_element(env.alloc, word, written)
-}
-
-// An element of some list parts equals the word.
-fn is_there(home: &Package, word: &str, parts: &[Part<'_>], list: Option<usize>) -> bool
-    requires { IfSome list (λ from. from ≤ length parts.now) }
-    ensures { (lists : List (List Segment)) → AreLists (map part_view parts.now) list lists
-        → result ≡ list_any (list_any (equals home.now word.now)) lists }
-{
-    match list {
-        None => false,
-        Some(from) => first_equal(home, word, parts, from).is_some(),
-    }
 }

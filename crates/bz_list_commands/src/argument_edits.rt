@@ -8,14 +8,14 @@ ghost use Rattle.bz_list_commands.specs.private.StringEdits.{literal_of, means};
 ghost use Rattle.bz_list_commands.specs.private.WrittenParts.{AreOrdered, literal_parts};
 ghost use Rattle.bz_list_commands.specs.private.ArgumentEdits as spec;
 
-use crate::element_edits::add_places;
-use crate::emptied::loses_all;
+use crate::element_edits::{add_places, loses_all};
+use crate::rewriting::Places;
 use crate::string_edit::StringEdit;
+use bumpalo::Bump;
 use bz_attribute::{FirstArgument, Place, first_argument};
 use bz_command::Attributes;
 use bz_memory::{NoMemory, push};
 use bz_tree::Part;
-use std::alloc::Global;
 
 /// What becomes of the arguments of a rule.
 #[derive(Clone, Copy)]
@@ -58,7 +58,7 @@ fn add_strings(
     argument: FirstArgument<'_>,
     parts: &[Part<'_>],
     at: usize,
-    places: &mut Vec<Place>,
+    places: &mut Places<'_>,
 ) -> Result<usize, NoMemory>
     requires order { (argument.nodes ≤ argument.to) × (at + argument.to ≤ length parts.now) }
     requires ordered { AreOrdered 0 places.now.items at }
@@ -88,7 +88,7 @@ fn add_argument(
     parts: &[Part<'_>],
     argument: FirstArgument<'_>,
     at: usize,
-    places: &mut Vec<Place>,
+    places: &mut Places<'_>,
 ) -> Result<usize, NoMemory>
     requires ordered { AreOrdered 0 places.now.items at }
     requires order { (argument.nodes ≤ argument.to) × (at + argument.to ≤ length parts.now) }
@@ -113,12 +113,12 @@ fn add_argument(
 }
 
 /// The places that make way for an edit of the arguments that begin at one.
-pub fn edited_places(
-    alloc: Global,
+pub fn edited_places<'b>(
+    bump: &'b Bump,
     edit: ArgumentEdit<'_, '_, '_>,
     parts: &[Part<'_>],
     from: usize,
-) -> Result<Vec<Place>, NoMemory>
+) -> Result<Places<'b>, NoMemory>
     requires { from ≤ length parts.now }
     ensures ordered { IfOk result (λ places. AreOrdered 0 places.items (length parts.now)) }
     ensures edited { IfOk result (λ places. (args : List Segment)
@@ -126,7 +126,7 @@ pub fn edited_places(
         → spec.HasEditedAll (spec.edit_by edit.entry) (spec.changes_by edit.entry)
         (literal_parts (spec.literal_by edit.entry)) args (map part_view parts.now) from places.items) }
 {
-    let mut places = Vec::new(alloc);
+    let mut places = Vec::new(bump);
     let mut at = from;
     while at < parts.len() {
         let argument = first_argument(&parts[at..]);

@@ -3,13 +3,15 @@
 ghost use Rattle.std.specs.Prelude.{◌≡◌, ◌≤◌, ◌||◌, ◌&&◌, ℕ, List, not, map, length, option_map, IfOk, IfSome, OnOk, false, option_and_then};
 ghost use Rattle.bz_tree.specs.Rows.{part_view};
 ghost use Rattle.bz_command.specs.LabelSetViews.{has};
-ghost use Rattle.bz_list_commands.specs.private.MoveSteps.{AreWithin, HaveArrivals, has_value};
+ghost use Rattle.bz_list_commands.specs.private.MoveSteps.{AreWithin, HaveArrivals};
 ghost use Rattle.bz_list_commands.specs.private.StringEdits.{means};
 ghost use Rattle.bz_attribute.specs.Lists.{same};
 ghost use Rattle.bz_command.specs.Values.{value_of};
 ghost use Rattle.bz_token.specs.Common.{map_or};
 
+use crate::rewriting::Places;
 use crate::string_edit::StringEdit;
+use bumpalo::Bump;
 use bz_attribute::{Element, Env, Place, labels_of, next_of_value};
 use bz_command::{LabelSet, value_of};
 use bz_memory::{NoMemory, push};
@@ -23,24 +25,6 @@ pub struct Lists {
     pub to: Option<usize>,
 }
 
-// The element is no string that the set has. Its label goes into the set.
-fn is_new<'s>(string: Option<&'s str>, there: &mut LabelSet<'s>) -> Result<bool, NoMemory>
-    ensures new { IfOk result (λ new. new
-        ≡ not (has_value (has there.old) (option_and_then value_of (option_map (λ text. text.now) string.entry)))) }
-    ensures there { OnOk result ((text : List ℕ) → has there.new text
-        ≡ (map_or false (λ value. same there.old.home.now value text) (option_and_then value_of (option_map (λ text. text.now) string.entry))
-        || has there.old text)) }
-    ensures home { there.new.home.now ≡ there.old.home.now }
-{
-    let Some(text) = string else {
-        return Ok(true);
-    };
-    match value_of(text) {
-        None => Ok(true),
-        Some(value) => there.insert(value),
-    }
-}
-
 // The element is meant, and is no string that the set has. Its label goes into the set.
 fn arrives<'s>(
     edit: StringEdit<'_, '_, '_>,
@@ -49,7 +33,7 @@ fn arrives<'s>(
 ) -> Result<bool, NoMemory>
     ensures arrives { IfOk result (λ arrives. arrives
         ≡ (means edit.entry (option_map (λ text. text.now) string.entry)
-        && not (has_value (has there.old) (option_and_then value_of (option_map (λ text. text.now) string.entry))))) }
+        && not (map_or false (has there.old) (option_and_then value_of (option_map (λ text. text.now) string.entry))))) }
     ensures there { OnOk result ((text : List ℕ) → has there.new text
         ≡ ((means edit.entry (option_map (λ text. text.now) string.entry)
         && map_or false (λ value. same there.old.home.now value text) (option_and_then value_of (option_map (λ text. text.now) string.entry)))
@@ -59,16 +43,23 @@ fn arrives<'s>(
     if !edit.means(string) {
         return Ok(false);
     }
-    is_new(string, there)
+    let Some(text) = string else {
+        return Ok(true);
+    };
+    match value_of(text) {
+        None => Ok(true),
+        Some(value) => there.insert(value),
+    }
 }
 
-/// Where the elements stand that arrive, each with its comments.
+/// Where the elements stand that arrive, each with its comments, in an arena.
 #[tactic(auto, using(crate::proofs::Arriving::none_arrived))]
-pub fn arrivals<'s>(
+pub fn arrivals<'s, 'b>(
+    bump: &'b Bump,
     edit: StringEdit<'s, '_, '_>,
     lists: Lists,
     parts: &[Part<'s>],
-) -> Result<Vec<Place>, NoMemory>
+) -> Result<Places<'b>, NoMemory>
     requires from { lists.from ≤ length parts.now }
     requires to { IfSome lists.to (λ to. to ≤ length parts.now) }
     ensures within { IfOk result (λ places. AreWithin places.items (length parts.now)) }
@@ -77,7 +68,7 @@ pub fn arrivals<'s>(
 {
     let Env { alloc, home } = edit.env;
     let mut there = labels_of(alloc, home, None, parts, lists.to)?;
-    let mut places = Vec::new(alloc);
+    let mut places = Vec::new(bump);
     let mut at = lists.from;
     while let Some(element) = next_of_value(parts, at) {
         if arrives(edit, element.string, &mut there)? {

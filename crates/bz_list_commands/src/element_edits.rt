@@ -1,15 +1,17 @@
-//! Elements of a value that go or become another: where they stand among the parts.
+//! Elements of a value that go or become another: where they stand among the parts, and whether all go.
 
-ghost use Rattle.std.specs.Prelude.{◌≡◌, ◌≤◌, ◌<◌, List, map, length, drop, IfOk};
+ghost use Rattle.std.specs.Prelude.{◌≡◌, ◌≤◌, ◌<◌, List, None as Nothing, map, length, drop, IfOk};
 ghost use Rattle.bz_tree.specs.Tree.{Item};
 ghost use Rattle.bz_tree.specs.Rows.{RowPart, part_view};
+ghost use Rattle.bz_attribute.specs.Effects.{loses_all};
 ghost use Rattle.bz_attribute.specs.Elements.{value_parts};
-ghost use Rattle.bz_list_commands.specs.private.StringEdits.{literal_of, means, place_in};
+ghost use Rattle.bz_list_commands.specs.private.StringEdits.{become_all, literal_of, means, place_in};
 ghost use Rattle.bz_list_commands.specs.private.WrittenParts.{AreOrdered};
 ghost use Rattle.bz_list_commands.specs.private.ElementEdits as spec;
 
+use crate::rewriting::Places;
 use crate::string_edit::StringEdit;
-use bz_attribute::{Element, Place, first_list, next_of_value};
+use bz_attribute::{Element, Place, first_list, next_element, next_of_value, only_list};
 use bz_memory::{NoMemory, push};
 use bz_tree::Part;
 
@@ -36,7 +38,7 @@ pub fn add_places(
     edit: StringEdit<'_, '_, '_>,
     parts: &[Part<'_>],
     value: usize,
-    places: &mut Vec<Place>,
+    places: &mut Places<'_>,
 ) -> Result<usize, NoMemory>
     requires within { value ≤ length parts.now }
     requires ordered { AreOrdered 0 places.now.items value }
@@ -58,4 +60,28 @@ pub fn add_places(
         at = element.to;
     }
     Ok(at)
+}
+
+/// The value of an argument is one list, and no element of it is left, where it has some.
+#[tactic(auto, using(crate::proofs::EmptiedLists::no_list))]
+pub fn loses_all(edit: StringEdit<'_, '_, '_>, parts: &[Part<'_>], value: usize) -> bool
+    requires { value ≤ length parts.now }
+    ensures { (nodes : List Item) (after : List RowPart)
+        → drop value (map part_view parts.now) ≡ value_parts nodes after
+        → result ≡ loses_all (become_all (means edit.entry) (literal_of edit.entry)) nodes }
+{
+    let None = edit.new() else {
+        return false;
+    };
+    let Some(first) = only_list(parts, value) else {
+        return false;
+    };
+    let mut at = first;
+    while let Some(element) = next_element(parts, at) {
+        if !edit.means(element.string) {
+            return false;
+        }
+        at = element.to;
+    }
+    first < at
 }

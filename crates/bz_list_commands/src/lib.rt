@@ -5,7 +5,6 @@ pub mod add;
 mod argument_edits;
 mod arrivals;
 mod element_edits;
-mod emptied;
 mod list_place;
 pub mod moving;
 mod new_attribute;

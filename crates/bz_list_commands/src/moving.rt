@@ -1,13 +1,10 @@
 //! `move`: elements go from one attribute to another, each with its comments.
 
-ghost use Rattle.std.specs.Prelude.{◌≡◌, ◌≤◌, ◌++◌, List, false, None as Nothing, map, length, IfOk, IfSome, OnOk};
-ghost use Rattle.bz_tree.specs.Tree.{Segment, Statement, segs_of};
-ghost use Rattle.bz_tree.specs.Rows.{part_view, parts_of, segs_parts};
+ghost use Rattle.std.specs.Prelude.{◌≡◌, ◌≤◌, ◌++◌, None as Nothing, map, length, IfOk, IfSome, OnOk};
+ghost use Rattle.bz_tree.specs.Rows.{part_view};
 ghost use Rattle.bz_command.specs.declared.arguments.Moved.{Moved as Choice};
-ghost use Rattle.bz_attribute.specs.Effects.{done, has, is_chosen, with_args};
+ghost use Rattle.bz_attribute.specs.Effects.{done, is_chosen};
 ghost use Rattle.bz_attribute.specs.RowEdits.{IsRowEdit, replaced_at};
-ghost use Rattle.bz_attribute.specs.RowPlaces.{IsRuleRow};
-ghost use Rattle.bz_attribute.specs.Rules.{Rule};
 ghost use Rattle.bz_list_commands.specs.Move as spec;
 ghost use Rattle.bz_list_commands.specs.private.MoveSteps.{AreFound, AreWithin, HasPut, parts_at};
 ghost use Rattle.bz_list_commands.specs.private.StringEdits.{is_meant, literal_of, means};
@@ -18,11 +15,11 @@ use crate::list_place::{ListPlace, list_place};
 use crate::new_attribute::{close_attribute, open_attribute};
 use crate::place_edits::edit_in;
 use crate::string_edit::{Meant, StringEdit};
-use bz_attribute::{Done, Edit, Env, Parts, Place, WordSet, elements_end, place_of};
+use bumpalo::Bump;
+use bz_attribute::{Done, Edit, Env, Parts, Place, WordSet, elements_end, new_place, place_of};
 use bz_command::Moved;
 use bz_memory::{NoMemory, extend_from_slice};
 use bz_tree::Part;
-use std::alloc::Global;
 
 /// Which elements go from one attribute to another.
 #[derive(Clone, Copy)]
@@ -111,8 +108,9 @@ fn move_meant<'a>(
     if !gone.done.changed {
         return Ok(Edit::none(Done::quiet(false)));
     }
-    let left = replaced(edit.env.alloc, parts, gone.place, written)?;
-    let arriving = arrivals(edit, lists, &*parts)?;
+    let bump = *written.allocator();
+    let left = replaced(bump, parts, gone.place, written)?;
+    let arriving = arrivals(bump, edit, lists, &*parts)?;
     write_with(change.new, parts, &arriving, &left, written)?;
     Ok(Edit::at(Place {
         from: 0,
@@ -120,18 +118,18 @@ fn move_meant<'a>(
     }))
 }
 
-// The parts with others in a place.
+// The parts with others in a place, in an arena.
 fn replaced<'a>(
-    alloc: Global,
+    bump: &'a Bump,
     parts: &[Part<'a>],
     place: Place,
     new: &[Part<'a>],
-) -> Result<Vec<Part<'a>>, NoMemory>
+) -> Result<Parts<'a>, NoMemory>
     requires { (place.from ≤ place.to) × (place.to ≤ length parts.now) }
     ensures { IfOk result (λ left. map part_view left.items
         ≡ replaced_at place (map part_view new.now) (map part_view parts.now)) }
 {
-    let mut left = Vec::new(alloc);
+    let mut left = Vec::new(bump);
     extend_from_slice(&mut left, &parts[..place.from])?;
     extend_from_slice(&mut left, new)?;
     extend_from_slice(&mut left, &parts[place.to..])?;
@@ -155,30 +153,8 @@ fn push_places<'a>(
     Ok(())
 }
 
-// Writes the parts `left` of a rule with elements, which stand in places of `parts`, in a new attribute.
-fn write_new<'a>(
-    attr: &str,
-    left: &[Part<'a>],
-    parts: &[Part<'a>],
-    elements: &[Place],
-    written: &mut Parts<'a>,
-) -> Result<(), NoMemory>
-    requires within { AreWithin elements.now (length parts.now) }
-    requires absent { (s : Statement) (r : Rule) → IsRuleRow s r (map part_view left.now) → has attr.now r.args ≡ false }
-    ensures { OnOk result (HasPut attr.now (map part_view parts.now) elements.now
-        (map part_view left.now) (map part_view written.new.items)) }
-{
-    let place = place_of(left, attr);
-    written.clear();
-    extend_from_slice(written, &left[..place.from])?;
-    open_attribute(attr, written)?;
-    push_places(parts, elements, written)?;
-    close_attribute(written)?;
-    extend_from_slice(written, &left[place.to..])?;
-    Ok(())
-}
-
-// Writes them with the elements at the end of the first list part of an attribute, or in a new one.
+// Writes the parts `left` of a rule with elements, which stand in places of `parts`: they go to the end of the first list
+// part of an attribute, or into a new one.
 fn write_with<'a>(
     attr: &str,
     parts: &[Part<'a>],
@@ -190,15 +166,19 @@ fn write_with<'a>(
     ensures { OnOk result (HasPut attr.now (map part_view parts.now) elements.now
         (map part_view left.now) (map part_view written.new.items)) }
 {
+    written.clear();
     match list_place(left, attr) {
-        ListPlace::Absent => write_new(attr, left, parts, elements, written),
-        ListPlace::NoList => {
-            written.clear();
-            Ok(extend_from_slice(written, left)?)
+        ListPlace::NoList => Ok(extend_from_slice(written, left)?),
+        ListPlace::Absent => {
+            let place = new_place(left);
+            extend_from_slice(written, &left[..place.from])?;
+            open_attribute(attr, written)?;
+            push_places(parts, elements, written)?;
+            close_attribute(written)?;
+            Ok(extend_from_slice(written, &left[place.to..])?)
         }
         ListPlace::At(list) => {
             let end = elements_end(left, list);
-            written.clear();
             extend_from_slice(written, &left[..end])?;
             push_places(parts, elements, written)?;
             Ok(extend_from_slice(written, &left[end..])?)

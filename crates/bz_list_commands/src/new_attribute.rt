@@ -15,8 +15,7 @@ pub(crate) fn open_attribute(attr: &str, written: &mut Parts<'_>) -> Result<(), 
         ++ (a_token Identifier attr.now ∷ a_token Operator (codes "=") ∷ opening ListKind ∷ [])) }
 {
     begin_argument(attr, written)?;
-    push(written, Part::Open(GroupKind::List))?;
-    Ok(())
+    push(written, Part::Open(GroupKind::List))
 }
 
 /// Ends the argument after the elements of its list.
@@ -25,6 +24,5 @@ pub(crate) fn close_attribute(written: &mut Parts<'_>) -> Result<(), NoMemory>
         ≡ map part_view written.old.items ++ (closing false ∷ segment_end ∷ [])) }
 {
     push(written, Part::Close(false))?;
-    push(written, Part::End)?;
-    Ok(())
+    push(written, Part::End)
 }

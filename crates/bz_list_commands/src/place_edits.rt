@@ -30,7 +30,7 @@ pub(crate) fn edit_in<'a>(
         (map part_view parts.now) (map part_view new.new.items) e) }
 {
     let front = &parts[..place.to];
-    let places = edited_places(alloc, edit, front, place.from)?;
+    let places = edited_places(*new.allocator(), edit, front, place.from)?;
     write_around(alloc, front, &places, edit.new(), new)
 }
 

@@ -9,10 +9,14 @@ ghost use Rattle.bz_list_commands.specs.private.WrittenParts.{AreOrdered, litera
 ghost use Rattle.bz_list_commands.specs.private.WrittenParts as spec;
 ghost use Rattle.bz_command.specs.Values.{quoted};
 
+use bumpalo::Bump;
 use bz_attribute::{Done, Edit, Parts, Place, push_string};
 use bz_memory::{NoMemory, extend_from_slice};
 use bz_tree::Part;
 use std::alloc::Global;
+
+/// Places in the arena of the list that is written.
+pub type Places<'a> = Vec<Place, &'a Bump>;
 
 fn push_literal(alloc: Global, value: Option<&str>, out: &mut Parts<'_>) -> Result<(), NoMemory>
     ensures { OnOk result (map part_view out.new.items ≡ map part_view out.old.items

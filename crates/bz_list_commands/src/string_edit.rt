@@ -1,6 +1,6 @@
 //! What becomes of the elements that a command means.
 
-ghost use Rattle.std.specs.Prelude.{◌≡◌, Some as Something, option_map};
+ghost use Rattle.std.specs.Prelude.{◌≡◌, option_map};
 ghost use Rattle.bz_list_commands.specs.private.StringEdits as spec;
 ghost use Rattle.bz_command.specs.Values.{quoted};
 
@@ -38,27 +38,19 @@ impl<'h, 'c, 'w> StringEdit<'h, 'c, 'w> {
         }
     }
 
-    // A string token of this text is meant.
-    fn means_text(self, text: &str) -> bool
-        ensures { result ≡ spec.means self.entry (Something text.now) }
-    {
-        match self.meant {
-            Meant::Any => true,
-            Meant::Word(word) => text_equals(self.env.home, text, word),
-            Meant::Words(words) => words.has_text(self.env.home, text),
-            Meant::Unlike { old, new } => {
-                text_equals(self.env.home, text, old) && !has_value(text.as_bytes(), new.as_bytes())
-            }
-        }
-    }
-
     /// An element is meant, by its text where it is one string token.
     pub fn means(self, string: Option<&str>) -> bool
         ensures { result ≡ spec.means self.entry (option_map (λ text. text.now) string.entry) }
     {
-        match string {
-            Some(text) => self.means_text(text),
-            None => matches!(self.meant, Meant::Any),
+        let home = self.env.home;
+        match (self.meant, string) {
+            (Meant::Any, _) => true,
+            (_, None) => false,
+            (Meant::Word(word), Some(text)) => text_equals(home, text, word),
+            (Meant::Words(words), Some(text)) => words.has_text(home, text),
+            (Meant::Unlike { old, new }, Some(text)) => {
+                text_equals(home, text, old) && !has_value(text.as_bytes(), new.as_bytes())
+            }
         }
     }
 }

@@ -1,16 +1,12 @@
 -- For private clauses alone: whether a label is among those of chosen elements.
-use Rattle.std.specs.Prelude.{◌≡◌, ℕ, List, [], ◌∷◌, Bool, true, ◌&&◌, ◌||◌, if◌then◌else◌, Option, None, Some, drop}
+use Rattle.std.specs.Prelude.{ℕ, List, [], ◌∷◌, Bool, true, ◌&&◌, if◌then◌else◌, Option, None, Some}
 use Rattle.std.specs.List.{list_any}
 use Rattle.std.specs.Borrow.{Bor}
-use Rattle.bz_tree.specs.Rows.{RowPart}
 use Rattle.bz_tree.specs.Tree.{Segment}
 use Rattle.bz_command.specs.Labels.{Package}
-use Rattle.bz_command.specs.LabelSetViews.{has}
 use Rattle.bz_command.specs.declared.arguments.Moved.{Moved}
 use Rattle.bz_command.specs.declared.arguments.Moved.TheVariants.{All, Values}
-use Rattle.bz_command.specs.declared.label_set.LabelSet.{LabelSet}
 use Rattle.bz_attribute.specs.Effects.{is_chosen}
-use Rattle.bz_attribute.specs.Elements.{ListRest, elements_left, rest_parts}
 use Rattle.bz_attribute.specs.Lists.{same}
 use Rattle.bz_attribute.specs.declared.word_set.WordSet.{WordSet}
 
@@ -36,12 +32,3 @@ chooses home (Values words) value = list_any (same home value) words
 abbrev pub kept : Package → Moved → Option (List ℕ) → Option (List ℕ)
 kept home choice None = None
 kept home choice (Some value) = if chooses home choice value then Some value else None
-
--- of the elements that are left from `from` on, the set has the labels of those before `at`
-pub record AreLabelled (home : Package) (choice : Moved) (l : ListRest) (after ps : List RowPart) (at : ℕ) (set : LabelSet) : Type 0 where
-  pub left : ListRest
-  pub read : drop at ps ≡ rest_parts left after
-  pub same : (text : List ℕ) → (is_among home choice (elements_left left) text || has set text) ≡ is_among home choice (elements_left l) text
-
-abbrev pub HaveLabels : Package → Moved → List RowPart → ℕ → ℕ → LabelSet → Type 0
-HaveLabels home choice ps from at set = (l : ListRest) (after : List RowPart) → drop from ps ≡ rest_parts l after → AreLabelled home choice l after ps at set

@@ -7,7 +7,7 @@ use Rattle.bz_command.specs.declared.arguments.Attributes.{Attributes}
 use Rattle.bz_command.specs.declared.arguments.Attributes.TheVariants.{Every, Named}
 use Rattle.bz_attribute.specs.Rules.{is_text, name_of}
 use Rattle.bz_attribute.specs.Effects.{filtered}
-use Rattle.bz_attribute.specs.FirstArguments.{IsFirstArgument, argument_parts}
+use Rattle.bz_attribute.specs.RowPlaces.{IsFirstArgument, argument_parts}
 use Rattle.bz_attribute.specs.Lists.{is_attribute}
 use Rattle.bz_list_commands.specs.private.StringEdits.{become_all, changes, literal_of, means}
 use Rattle.bz_list_commands.specs.private.WrittenParts.{IsWritten}

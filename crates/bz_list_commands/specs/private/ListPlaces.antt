@@ -1,11 +1,13 @@
--- For private clauses alone: where the first list part of an attribute is.
-use Rattle.std.specs.Prelude.{◌≡◌, ℕ, ◌≤◌, List, [], true, false, Option, None, Some}
-use Rattle.bz_tree.specs.Rows.{RowPart}
-use Rattle.bz_tree.specs.Tree.{Statement}
+-- For private clauses alone: where the first list part of an attribute is, and what `add` writes for it.
+use Rattle.std.specs.Prelude.{◌≡◌, ℕ, ◌≤◌, List, [], ◌++◌, true, false, Option, None, Some}
+use Rattle.bz_tree.specs.Rows.{RowPart, segs_parts}
+use Rattle.bz_tree.specs.Tree.{Segment, Statement, segs_of}
+use Rattle.bz_command.specs.Labels.{Package}
 use Rattle.bz_attribute.specs.Effects.{has}
-use Rattle.bz_attribute.specs.Elements.{IsListIn, IsValueAt}
+use Rattle.bz_attribute.specs.Elements.{AreLists, IsListIn, IsValueAt}
 use Rattle.bz_attribute.specs.Lists.{parts}
 use Rattle.bz_attribute.specs.Rules.{Rule, value}
+use Rattle.bz_list_commands.specs.Add.{new_elements}
 use Rattle.bz_list_commands.specs.declared.list_place.ListPlace.{ListPlace}
 use Rattle.bz_list_commands.specs.declared.list_place.ListPlace.TheVariants.{Absent, At, NoList}
 
@@ -35,3 +37,7 @@ IsListPlace name s r ps (At from) = IsListAt name s r ps from
 abbrev pub IsTarget : List ℕ → Statement → Rule → List RowPart → Option ℕ → Type 0
 IsTarget name s r ps None = has name r.args ≡ false
 IsTarget name s r ps (Some from) = IsListAt name s r ps from
+
+-- the elements for the values that are missing in some list parts were written
+abbrev pub HaveWritten : Package → List (List ℕ) → List RowPart → Option ℕ → List RowPart → List RowPart → Type 0
+HaveWritten home values ps list before now = (lists : List (List Segment)) → AreLists ps list lists → now ≡ before ++ segs_parts (segs_of (new_elements home lists values))

@@ -1,5 +1,5 @@
 -- For private clauses alone: the edit of the arguments in a place among the parts of a rule.
-use Rattle.std.specs.Prelude.{◌≡◌, ℕ, ◌-◌, List, ◌++◌, Bool, true, false, Option, Some, None, take, drop}
+use Rattle.std.specs.Prelude.{◌≡◌, ℕ, ◌-◌, List, ◌++◌, Bool, true, false, Option, None, take, drop}
 use Rattle.std.specs.List.{flat_map, list_any}
 use Rattle.bz_tree.specs.Tree.{Segment, segs_of}
 use Rattle.bz_tree.specs.Rows.{RowPart, segs_parts}
@@ -12,6 +12,7 @@ use Rattle.bz_attribute.specs.declared.edit.Edit.{Edit}
 use Rattle.bz_attribute.specs.declared.place.Place.{Place}
 use Rattle.bz_list_commands.specs.private.ArgumentEdits.{edited, is_changed}
 use Rattle.bz_list_commands.specs.private.StringEdits.{become_all, changes}
+use Rattle.bz_token.specs.Common.{map_or}
 
 -- these arguments stand there
 abbrev pub AreThere : Place → List RowPart → List Segment → Type 0
@@ -29,10 +30,6 @@ abbrev pub edited_in : (Option (List ℕ) → Bool) → Option (List ℕ) → At
 edited_in p literal Every args = flat_map (edited p literal) args
 edited_in p literal (Named attr) args = edit_first (is_named attr) (filtered (become_all p literal)) args
 
-abbrev pub changes_first : (Option (List ℕ) → Bool) → Option Segment → Bool
-changes_first p None = false
-changes_first p (Some a) = changes p a
-
 abbrev pub changes_in : (Option (List ℕ) → Bool) → Attributes → List Segment → Bool
 changes_in p Every args = list_any (is_changed p) args
-changes_in p (Named attr) args = changes_first p (first_named attr args)
+changes_in p (Named attr) args = map_or false (changes p) (first_named attr args)

@@ -23,17 +23,12 @@ equals_one home words text = list_any (λ word. map_or false (λ value. same hom
 abbrev pub is_unlike : Package → List ℕ → List ℕ → List ℕ → Bool
 is_unlike home old new text = map_or false (λ value. same home value old) (value_of text) && not (is_text new (value_of text))
 
--- it is a text that passes
-abbrev pub passes : (List ℕ → Bool) → Option (List ℕ) → Bool
-passes p None = false
-passes p (Some text) = p text
-
 -- an element is meant, by its text where it is one string token
 abbrev pub means_in : Package → Meant → Option (List ℕ) → Bool
 means_in home Any string = true
-means_in home (Word word) string = passes (equals_word home word.now) string
-means_in home (Words set) string = passes (equals_one home set.now.words.now) string
-means_in home (Unlike old new) string = passes (is_unlike home old.now new.now) string
+means_in home (Word word) string = map_or false (equals_word home word.now) string
+means_in home (Words set) string = map_or false (equals_one home set.now.words.now) string
+means_in home (Unlike old new) string = map_or false (is_unlike home old.now new.now) string
 
 abbrev pub means : StringEdit → Option (List ℕ) → Bool
 means e string = means_in e.env.home.now e.meant string

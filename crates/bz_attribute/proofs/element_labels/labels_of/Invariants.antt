@@ -1,6 +1,7 @@
 use Rattle.std.proofs.Common.{◌≡◌, ◌-◌, ◌≤◌, length, map}
 use Rattle.bz_tree.specs.Rows.{part_view}
-use Rattle.bz_attribute.specs.private.ElementSets.{HaveLabels, choice}
+use Rattle.bz_attribute.specs.private.ElementSets.{choice}
+use Rattle.bz_attribute.proofs.LabelsFound.{HaveLabels}
 use Rattle.bz_attribute.proofs.element_labels.labels_of.Given as goal
 
 abbrev pub invariant-loop-element : goal.invariant-loop-element

@@ -1,6 +1,6 @@
 use Rattle.std.proofs.Common.{◌-◌, ◌≤◌, length, map}
 use Rattle.bz_tree.specs.Rows.{part_view}
-use Rattle.bz_attribute.specs.private.ListParts.{HasJoints}
+use Rattle.bz_attribute.proofs.ListWalk.{HasJoints}
 use Rattle.bz_attribute.proofs.elements.are_joints.Given as goal
 
 abbrev pub invariant-loop-at : goal.invariant-loop-at

@@ -1,6 +1,6 @@
 use Rattle.std.proofs.Common.{◌-◌, ◌≤◌, length, map}
 use Rattle.bz_tree.specs.Rows.{part_view}
-use Rattle.bz_attribute.specs.private.ListParts.{HasWalked}
+use Rattle.bz_attribute.proofs.ListWalk.{HasWalked}
 use Rattle.bz_attribute.proofs.elements.list_from.Given as goal
 
 abbrev pub invariant-loop-at : goal.invariant-loop-at

@@ -1,6 +1,6 @@
 use Rattle.std.proofs.Common.{◌-◌, ◌≤◌, length, map}
 use Rattle.bz_tree.specs.Rows.{part_view}
-use Rattle.bz_attribute.specs.private.ListParts.{HasEmptied}
+use Rattle.bz_attribute.proofs.ValueElements.{HasEmptied}
 use Rattle.bz_attribute.proofs.elements.next_of_value.Given as goal
 
 abbrev pub invariant-loop-from : goal.invariant-loop-from

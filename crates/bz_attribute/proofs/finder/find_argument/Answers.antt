@@ -1,24 +1,53 @@
-use Rattle.std.proofs.Common.{◌≡◌, ℕ, ◌≤◌, ◌+◌, List, Bool, false, ◌&&◌, drop, map, subst, ap, sym, ◌∙◌}
-use Rattle.std.proofs.lemmas.List.{take_rest}
-use Rattle.bz_tree.specs.declared.row.Part.{Part}
-use Rattle.bz_tree.specs.Rows.{part_view}
+use Rattle.std.proofs.Common.{◌≡◌, ℕ, ◌+◌, List, Bool, map, drop, ap, sym, ◌∙◌, arith}
+use Rattle.bz_tree.specs.Rows.{RowPart, part_view}
 use Rattle.bz_attribute.specs.Rules.{is_text}
-use Rattle.bz_attribute.specs.Finder.{flat_name}
-use Rattle.bz_attribute.proofs.FinderSteps.{depth_bound, one_on}
+use Rattle.bz_attribute.specs.private.Ends.{above_len, segment_len}
+use Rattle.bz_attribute.specs.private.HeadParts.{flat_name}
+use Rattle.bz_attribute.specs.private.ListParts.{ends_list}
+use Rattle.bz_attribute.proofs.ArgumentWalk.{never_past, none_named, none_passed, one_named, one_unnamed}
+use Rattle.bz_attribute.proofs.Slices.{rest_seen}
+use Rattle.std.proofs.lemmas.List.{length-map}
 use Rattle.bz_attribute.proofs.finder.find_argument.Goals as goal
-use Rattle.bz_attribute.proofs.finder.find_argument.Goals.{else-begins-via-then-begins+else-begins_with, else-begins-via-else-begins}
 
-pub loop-i-preserved : goal.loop-i-preserved
-loop-i-preserved c =
-    let test : (c.loop-i.begins && is_text c.args.name.now (flat_name (map part_view (drop c.loop-i.i c.args.parts.now)))) ≡ false =
-    elim c.else-begins.branch [
-      | else-begins-via-then-begins+else-begins_with w ↦
-          ap (λ (b : Bool). b && is_text c.args.name.now (flat_name (map part_view (drop c.loop-i.i c.args.parts.now)))) w.if-begins.true
-          ∙ sym (ap (λ (ps : List Part). is_text c.args.name.now (flat_name (map part_view ps))) (take_rest c.args.parts.now c.loop-i.i))
-          ∙ sym w.begins_with.ensures ∙ w.if-begins_with.false
-      | else-begins-via-else-begins w ↦ ap (λ (b : Bool). b && is_text c.args.name.now (flat_name (map part_view (drop c.loop-i.i c.args.parts.now)))) w.if-begins.false
-    ] in
+pub loop-at-init : goal.loop-at-init
+loop-at-init c = record {
+  within = c.arguments_begin-at.ensures.within;
+  unnamed = none_passed c.args.name.now (map part_view c.args.parts.now) c.arguments_begin-at.result c.arguments_begin-at.ensures.begin;
+}
+
+pub returns-then-ends_list-clause-found : goal.returns-then-ends_list-clause-found
+returns-then-ends_list-clause-found c =
+    let ps : List RowPart = map part_view c.args.parts.now in
+    let at : ℕ = c.loop-at.at in
+    none_named c.args.name.now ps at (at + c.comments_len.result) c.loop-at.invariant.unnamed
+    (ap (λ (n : ℕ). at + n) (c.comments_len.ensures.len ∙ ap above_len (rest_seen c.args.parts.now at)))
+    (ap ends_list (sym (rest_seen c.args.parts.now (at + c.comments_len.result))) ∙ sym c.ends_list.ensures ∙ c.if-ends_list.true)
+
+pub returns-then-begins_with-clause-found : goal.returns-then-begins_with-clause-found
+returns-then-begins_with-clause-found c =
+    let ps : List RowPart = map part_view c.args.parts.now in
+    let at : ℕ = c.loop-at.at in
+    let seen = rest_seen c.args.parts.now (at + c.comments_len.result) in
+    one_named c.args.name.now ps at (at + c.comments_len.result) c.loop-at.invariant.unnamed
+    (ap (λ (n : ℕ). at + n) (c.comments_len.ensures.len ∙ ap above_len (rest_seen c.args.parts.now at)))
+    (ap ends_list (sym seen) ∙ sym c.ends_list.ensures ∙ c.if-ends_list.false)
+    (ap (λ (qs : List RowPart). is_text c.args.name.now (flat_name qs)) (sym seen) ∙ sym c.begins_with.ensures ∙ c.if-begins_with.true)
+
+pub loop-at-preserved : goal.loop-at-preserved
+loop-at-preserved c =
+    let ps : List RowPart = map part_view c.args.parts.now in
+    let at : ℕ = c.loop-at.at in
+    let token : ℕ = at + c.comments_len.result in
+    let seen = rest_seen c.args.parts.now token in
     record {
-      depth = subst (λ (e : ℕ). e ≤ c.loop-i.i + 1 + 1) (sym c.depth_after-depth.ensures) (depth_bound _ c.loop-i.depth (c.loop-i.i + 1) c.loop-i.invariant.depth);
-      left = c.loop-i.invariant.left ∙ one_on c.args.name.now c.args.parts.now c.loop-i.i c.loop-i.depth _ c.loop-i.begins _ _ c.loop-i-test.true test c.depth_after-depth.ensures c.begins_after-begins.ensures;
+      within = omega (arith, c.comments_len.ensures.within, c.segment_len.ensures.within, c.loop-at.invariant.within);
+      unnamed = one_unnamed c.args.name.now ps at token (token + c.segment_len.result) c.loop-at.invariant.unnamed
+          (ap (λ (n : ℕ). at + n) (c.comments_len.ensures.len ∙ ap above_len (rest_seen c.args.parts.now at)))
+          (ap ends_list (sym seen) ∙ sym c.ends_list.ensures ∙ c.if-ends_list.false)
+          (ap (λ (qs : List RowPart). is_text c.args.name.now (flat_name qs)) (sym seen) ∙ sym c.begins_with.ensures ∙ c.if-begins_with.false)
+          (ap (λ (n : ℕ). token + n) (c.segment_len.ensures.len ∙ ap segment_len seen));
     }
+
+pub returns-clause-found : goal.returns-clause-found
+returns-clause-found c =
+    never_past c.args.name.now (map part_view c.args.parts.now) c.loop-at.at c.loop-at.invariant.unnamed (omega (arith, c.loop-at-test.false, length-map c.args.parts.now part_view))

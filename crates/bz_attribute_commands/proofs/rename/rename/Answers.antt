@@ -1,4 +1,4 @@
-use Rattle.std.proofs.Common.{◌≡◌, ◌+◌, ◌∷◌, ◌++◌, ◌≤◌, [], ◌∙◌, List, true, Some, is_some, length, map, take, drop, drop-drop, ap, sym, refl, false, ℕ, arith}
+use Rattle.std.proofs.Common.{◌≡◌, ◌+◌, ◌∷◌, ◌++◌, ◌≤◌, [], ◌∙◌, List, true, Some, is_some, length, map, take, drop, drop-drop, ap, sym, refl, false, ℕ, subst, arith}
 use Rattle.std.proofs.lemmas.Bool.{false≢true}
 use Rattle.std.proofs.lemmas.List.{length-map}
 use Rattle.bz_token.specs.declared.token.Kind.TheVariants.{Identifier}
@@ -7,8 +7,7 @@ use Rattle.bz_tree.specs.Rows.{RowPart, a_token, above, beside_part, items_parts
 use Rattle.bz_tree.specs.Tree.{Item, leaf, group, Segment, Statement, items_of}
 use Rattle.bz_attribute.specs.Rules.{Rule, is_named, is_text, name_of}
 use Rattle.bz_attribute.specs.RowEdits.{replaced_at}
-use Rattle.bz_attribute.specs.RowPlaces.{IsRuleRow}
-use Rattle.bz_attribute.specs.Finder.{find_from}
+use Rattle.bz_attribute.specs.RowPlaces.{HasArgument, IsArgumentAt, IsRuleRow}
 use Rattle.bz_attribute.specs.Effects.{edit_first, has, with_args}
 use Rattle.bz_attribute_commands.specs.Rename.{rename, rename_to}
 use Rattle.bz_attribute.specs.declared.done.Done.{Done}
@@ -26,7 +25,7 @@ begins name new (x ∷ []) rest h = absurd cc
 begins name new (leaf k text ∷ y ∷ xs) rest h = refl
 begins name new (group k segs one_comma end ∷ y ∷ xs) rest h = absurd (false≢true (sym (ap (is_text name) (group_name k segs one_comma end y xs)) ∙ h))
 
-argument_renamed : (old new : List ℕ) (s : Statement) (r : Rule) (ps : List RowPart) (at : ℕ) → IsRuleRow s r ps → find_from old 0 false ps ≡ Some at → has new r.args ≡ false
+argument_renamed : (old new : List ℕ) (s : Statement) (r : Rule) (ps : List RowPart) (at : ℕ) → IsRuleRow s r ps → IsArgumentAt old s r at → has new r.args ≡ false
     → take at ps ++ a_token Identifier new ∷ drop (at + 1) ps ≡ parts_of (with_args (rename old new) s)
 argument_renamed old new s r ps at h is free =
     let p = argument_at old s r ps at h is in
@@ -42,7 +41,7 @@ returns-in_default c =
     let ps : List RowPart = map part_view c.args.parts.now in
     let told = c.in_ok-no_attribute.ensures in
     unchanged _ _ ps _ _ _ c.none.ensures (ap (λ (d : Done). d.changed) told)
-    (λ s r h. rw (has_found c.args.old.now s r ps c.find_argument.result h c.find_argument.ensures.found ∙ ap is_some c.in_default.is) told)
+    (λ s r h. rw (has_found c.args.old.now s r ps c.find_argument.result h (c.find_argument.ensures.found s r h) ∙ ap is_some c.in_default.is) told)
 
 pub returns-then-is_some : goal.returns-then-is_some
 returns-then-is_some c =
@@ -50,8 +49,8 @@ returns-then-is_some c =
     let told = c.in_ok-attribute_exists.ensures in
     unchanged _ _ ps _ _ _ c.none-then-is_some.ensures (ap (λ (d : Done). d.changed) told)
     (λ s r h. rw (
-      has_found c.args.old.now s r ps c.find_argument.result h c.find_argument.ensures.found ∙ ap is_some c.in-Some.is,
-      has_found c.args.new.now s r ps c.find_argument-2.result h c.find_argument-2.ensures.found ∙ sym c.is_some.ensures ∙ c.if-is_some.true,
+      has_found c.args.old.now s r ps c.find_argument.result h (c.find_argument.ensures.found s r h) ∙ ap is_some c.in-Some.is,
+      has_found c.args.new.now s r ps c.find_argument-2.result h (c.find_argument-2.ensures.found s r h) ∙ sym c.is_some.ensures ∙ c.if-is_some.true,
     ) told)
 
 pub returns : goal.returns
@@ -59,11 +58,11 @@ returns c =
     let parts : List Part = c.args.parts.now in
     let ps : List RowPart = map part_view parts in
     let at : ℕ = c.in-Some.at in
-    let free = λ (s : Statement) (r : Rule) (h : IsRuleRow s r ps). has_found c.args.new.now s r ps c.find_argument-2.result h c.find_argument-2.ensures.found ∙ sym c.is_some.ensures ∙ c.if-is_some.false in
+    let free = λ (s : Statement) (r : Rule) (h : IsRuleRow s r ps). has_found c.args.new.now s r ps c.find_argument-2.result h (c.find_argument-2.ensures.found s r h) ∙ sym c.is_some.ensures ∙ c.if-is_some.false in
     let name : map part_view c.push.new.list.items ≡ a_token Identifier c.args.new.now ∷ [] =
     ap (map part_view) (c.in_ok-push.ensures.items ∙ ap (λ (qs : List Part). qs ++ Part.Token Identifier c.in_ok-name.name ∷ []) c.clear.ensures.items) ∙ ap (λ (text : List ℕ). a_token Identifier text ∷ []) c.in_ok-name.ensures in
     let within : at + 1 ≤ length parts = grind (arith, c.in-Some.is, c.find_argument.ensures.within) in
     changed _ _ ps _ _ _ c.at.ensures (omega arith, omega (arith, within, length-map parts part_view))
     (λ s r h. ap (λ (new : List RowPart). replaced_at (record { from = at; to = at + 1 }) new ps) name
-    ∙ argument_renamed c.args.old.now c.args.new.now s r ps at h (sym c.find_argument.ensures.found ∙ c.in-Some.is) (free s r h))
-    (λ s r h. rw (has_found c.args.old.now s r ps c.find_argument.result h c.find_argument.ensures.found ∙ ap is_some c.in-Some.is, free s r h) refl)
+    ∙ argument_renamed c.args.old.now c.args.new.now s r ps at h (subst (HasArgument c.args.old.now s r) c.in-Some.is (c.find_argument.ensures.found s r h)) (free s r h))
+    (λ s r h. rw (has_found c.args.old.now s r ps c.find_argument.result h (c.find_argument.ensures.found s r h) ∙ ap is_some c.in-Some.is, free s r h) refl)

@@ -4,7 +4,7 @@ use Rattle.bz_tree.specs.Tree.{Item, Statement, items_of}
 use Rattle.bz_tree.specs.Rows.{RowPart, items_parts, part_view, parts_of}
 use Rattle.bz_attribute.specs.RowEdits.{replaced_at}
 use Rattle.bz_attribute.specs.Effects.{nodes_of}
-use Rattle.bz_attribute.specs.KindPlaces.{IsKindPlace}
+use Rattle.bz_attribute.specs.RowPlaces.{IsKindPlace}
 use Rattle.bz_attribute.specs.Rules.{Rule, kind_text, rule_of}
 use Rattle.bz_attribute_commands.specs.Set.{kind_after, kind_items, with_kind}
 use Rattle.bz_attribute_commands.proofs.set_kind.set_kind.Goals as goal

@@ -2,7 +2,7 @@ use Rattle.std.proofs.Common.{List, map}
 use Rattle.bz_tree.specs.Rows.{part_view}
 use Rattle.bz_tree.specs.Tree.{Segment}
 use Rattle.bz_attribute.specs.Elements.{AreLists}
-use Rattle.bz_list_commands.specs.private.AddSteps.{IsAdding}
+use Rattle.bz_list_commands.proofs.Adding.{IsAdding}
 use Rattle.bz_list_commands.proofs.add.write_missing.Given as goal
 
 abbrev pub invariant-loop-word : goal.invariant-loop-word

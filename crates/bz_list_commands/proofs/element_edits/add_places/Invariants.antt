@@ -2,7 +2,7 @@ use Rattle.std.proofs.Common.{◌≡◌, ◌≤◌, ◌-◌, List, length, map, 
 use Rattle.bz_tree.specs.Tree.{Item}
 use Rattle.bz_tree.specs.Rows.{RowPart, part_view}
 use Rattle.bz_attribute.specs.Elements.{value_parts}
-use Rattle.bz_list_commands.specs.private.ElementEdits.{HasEditedFront}
+use Rattle.bz_list_commands.proofs.ElementEdits.{HasEditedFront}
 use Rattle.bz_list_commands.specs.private.StringEdits.{literal_of, means}
 use Rattle.bz_list_commands.specs.private.WrittenParts.{AreOrdered}
 use Rattle.bz_list_commands.proofs.element_edits.add_places.Given as goal

@@ -3,7 +3,7 @@ use Rattle.bz_tree.specs.Rows.{part_view}
 use Rattle.bz_attribute.specs.private.Ends.{tokens_len}
 use Rattle.bz_attribute.proofs.KindPlaced.{kind_at}
 use Rattle.bz_attribute.proofs.Slices.{rest_seen}
-use Rattle.bz_attribute.proofs.row_kind.kind_place.Goals as goal
+use Rattle.bz_attribute.proofs.place.kind_place.Goals as goal
 
 pub returns-clause-place : goal.returns-clause-place
 returns-clause-place c s r h =

@@ -4,7 +4,7 @@ use Rattle.bz_command.specs.Values.{value_of}
 use Rattle.bz_attribute.specs.private.ListParts.{string_in}
 use Rattle.bz_attribute.proofs.ListElements.{string_told}
 use Rattle.bz_attribute.proofs.Slices.{rest_seen}
-use Rattle.bz_attribute.proofs.head_parts.name_text.Goals as goal
+use Rattle.bz_attribute.proofs.head.name_text.Goals as goal
 
 pub returns : goal.returns
 returns c s r h =

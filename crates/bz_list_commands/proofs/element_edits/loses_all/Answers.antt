@@ -2,7 +2,7 @@ use Rattle.std.proofs.Common.{◌<◌, map, rules, arith, sym, ◌∙◌}
 use Rattle.bz_tree.specs.Rows.{part_view}
 use Rattle.bz_list_commands.specs.private.StringEdits.{means}
 use Rattle.bz_list_commands.proofs.EmptiedLists.{all_gone, none_gone, one_gone, one_stays}
-use Rattle.bz_list_commands.proofs.emptied.loses_all.Goals as goal
+use Rattle.bz_list_commands.proofs.element_edits.loses_all.Goals as goal
 
 pub loop-element-init : goal.loop-element-init
 loop-element-init c = record {

@@ -4,7 +4,7 @@ use Rattle.bz_tree.specs.Rows.{RowPart, part_view}
 use Rattle.bz_attribute.specs.Elements.{value_parts}
 use Rattle.bz_list_commands.specs.private.StringEdits.{means}
 use Rattle.bz_list_commands.proofs.EmptiedLists.{AreGone}
-use Rattle.bz_list_commands.proofs.emptied.loses_all.Given as goal
+use Rattle.bz_list_commands.proofs.element_edits.loses_all.Given as goal
 
 abbrev pub invariant-loop-element : goal.invariant-loop-element
 invariant-loop-element l = record {

@@ -1,7 +1,7 @@
 use Rattle.std.proofs.Common.{◌≡◌, ◌++◌, map, length, string_bytes}
 use Rattle.bz_tree.specs.Rows.{part_view}
 use Rattle.bz_attribute.specs.private.HeadParts.{token_texts}
-use Rattle.bz_attribute.proofs.head_parts.joined_tokens.Given as goal
+use Rattle.bz_attribute.proofs.head.joined_tokens.Given as goal
 
 -- the texts so far and those of the parts that are left
 abbrev pub invariant-loop-rest : goal.invariant-loop-rest
