@@ -1,5 +1,5 @@
 -- The walk backwards over parts marks each bracket as the tree says.
-use Rattle.std.proofs.Common.{◌≡◌, ℕ, suc, List, [], ◌∷◌, ◌++◌, map, Bool, true, false, ◌||◌, is_some, nat_le, Option, Some, None, refl, ap, sym, ◌∙◌, append_assoc, arith}
+use Rattle.std.proofs.Common.{◌≡◌, ℕ, suc, List, [], ◌∷◌, ◌++◌, map, Bool, false, ◌||◌, is_some, nat_le, Option, Some, None, refl, ap, ◌∙◌, append_assoc, arith}
 use Rattle.std.proofs.Math.Bool.{or_assoc, or_comm, or-false}
 use Rattle.std.proofs.lemmas.Bool.Decides.{nat_tests}
 use Rattle.bz_tree.specs.declared.tree.GroupKind.{GroupKind}

@@ -21,9 +21,7 @@ fn gap(before: Option<Class>, after: Class) -> &'static str
     ensures gap { result.now ≡ gap_text (lines_before before after) }
 {
     match (before, after) {
-        (None, _) => "",
-        (Some(Class::Load), Class::Load) => "",
-        (Some(Class::Assign), Class::Assign) => "",
-        (Some(_), _) => "\n",
+        (None, _) | (Some(Class::Load), Class::Load) | (Some(Class::Assign), Class::Assign) => "",
+        _ => "\n",
     }
 }
