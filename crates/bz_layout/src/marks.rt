@@ -5,7 +5,7 @@ ghost use Rattle.std.specs.Prelude.{◌≡◌, IfOk, OnOk, map, reverse};
 ghost use Rattle.bz_tree.specs.Rows.{part_view};
 ghost use Rattle.bz_layout.specs.private.RowLayout.{closed, opened_back, back, scan, scanned};
 
-use crate::broken::breaks_with;
+use crate::broken::breaks_by_count;
 use crate::walk::FIRST_DEPTH;
 use crate::write::has_commas;
 use bz_memory::{NoMemory, push, with_capacity};
@@ -64,15 +64,14 @@ impl Marks {
     {
         let segs = usize::from(self.here.segs);
         let mark = BracketForm {
-            broken: breaks_with(kind, self.here.comments, segs, self.here.holds),
+            broken: self.here.comments
+                || breaks_by_count(kind, segs)
+                || segs >= 2 && self.here.holds,
             comma: has_commas(kind, self.here.one_comma, segs),
         };
         let holds = mark.broken || self.here.holds;
         push(&mut self.marks, mark)?;
-        self.here = match self.outer.pop() {
-            Some(below) => below,
-            None => Contents::closed(false),
-        };
+        self.here = self.outer.pop().unwrap_or(Contents::closed(false));
         self.here.holds = holds || self.here.holds;
         Ok(())
     }

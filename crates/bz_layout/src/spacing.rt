@@ -48,10 +48,7 @@ pub(crate) fn hugs(kind: GroupKind) -> bool
 pub(crate) fn is_byte(text: &str, byte: u8) -> bool
     ensures { MatchBool result (text.now ≡ byte ∷ []) (text.now ≢ byte ∷ []) }
 {
-    match text.as_bytes() {
-        [one] => *one == byte,
-        _ => false,
-    }
+    matches!(text.as_bytes(), [one] if *one == byte)
 }
 
 #[inline(always)]
@@ -60,14 +57,6 @@ pub(crate) fn token_closes_up(kind: Kind, text: &str) -> bool
 {
     matches!(kind, Kind::Operator)
         && (is_byte(text, b'.') || is_byte(text, b',') || is_byte(text, b':'))
-}
-
-#[inline(always)]
-fn is_prefix(left: Edge, text: &str) -> bool
-    ensures { result ≡ is_prefix left text.now }
-{
-    !matches!(left, Edge::Dotted | Edge::Operand)
-        && (is_byte(text, b'+') || is_byte(text, b'-') || is_byte(text, b'~'))
 }
 
 // A prefix, the star that begins an argument, or the colon of an index.
@@ -79,7 +68,8 @@ fn holds_on(within: Option<GroupKind>, left: Edge, text: &str) -> bool
         (Some(GroupKind::Index), _) if is_byte(text, b':') => true,
         (Some(GroupKind::Call | GroupKind::RuleCall), Edge::Start)
             if is_byte(text, b'*') || text == "**" => true,
-        _ => is_prefix(left, text),
+        (_, Edge::Dotted | Edge::Operand) => false,
+        _ => is_byte(text, b'+') || is_byte(text, b'-') || is_byte(text, b'~'),
     }
 }
 

@@ -142,10 +142,7 @@ impl RowWriter {
         self.put_gap(hugs(kind), out)?;
         out.put_short(brackets(kind).0)?;
         push(&mut self.outer, self.here)?;
-        let mark = match self.marks.pop() {
-            Some(mark) => mark,
-            None => OpenBracket::top(None).mark,
-        };
+        let mark = self.marks.pop().unwrap_or(OpenBracket::top(None).mark);
         if mark.broken {
             self.level += 1;
         }
@@ -172,10 +169,7 @@ impl RowWriter {
         if let Some(kind) = self.here.within {
             out.put_short(brackets(kind).1)?;
         }
-        self.here = match self.outer.pop() {
-            Some(below) => below,
-            None => OpenBracket::top(None),
-        };
+        self.here = self.outer.pop().unwrap_or(OpenBracket::top(None));
         self.left = Edge::Operand;
         Ok(())
     }

@@ -21,10 +21,6 @@ use Rattle.bz_layout.specs.Broken.{breaks_by_count}
 use Rattle.bz_layout.specs.Pieces.{gap_bytes, bytes_of, comment_lines}
 use Rattle.bz_layout.specs.Layout.{has_commas, opening as opening_text, closing as closing_text}
 
--- whether a group is broken, without a tree: by whether it has comments, its number of segments, and whether one of them holds a broken group
-abbrev pub breaks_with : GroupKind → Bool → ℕ → Bool → Bool
-breaks_with kind comments n inside = comments || breaks_by_count kind n || (nat_le 2 n && inside)
-
 -- The walk backwards: marks of the brackets after it, the first one first, and what stands in the brackets that it is in, the innermost first.
 pub record Scan : Type 0 where
   pub marks : List BracketForm
@@ -38,7 +34,7 @@ abbrev pub one_more : ℕ → ℕ
 one_more n = if nat_lt n 2 then n + 1 else n
 
 abbrev pub mark_of : GroupKind → Contents → BracketForm
-mark_of kind i = record { broken = breaks_with kind i.comments i.segs i.holds; comma = has_commas kind i.one_comma i.segs }
+mark_of kind i = record { broken = i.comments || breaks_by_count kind i.segs || (nat_le 2 i.segs && i.holds); comma = has_commas kind i.one_comma i.segs }
 
 abbrev pub holding : Bool → Contents → Contents
 holding holds i = record i { holds = holds || i.holds }
@@ -115,9 +111,6 @@ with_token kind text s = record s {
   left = edge_after s.here.within s.left (leaf kind text);
 }
 
-abbrev pub level_in : BracketForm → ℕ → ℕ
-level_in mark level = if mark.broken then level + 1 else level
-
 abbrev pub opened : GroupKind → Laid → Laid
 opened kind s = record {
   text = s.text ++ (due s.here s.left ++ (gap_bytes (gap_for (first_gap s.here s.level) s.left (hugs kind)) ++ opening_text kind));
@@ -125,7 +118,7 @@ opened kind s = record {
   outer = s.here ∷ s.outer;
   here = record { within = Some kind; mark = get_or s.marks 0 whole; later = false };
   left = Start;
-  level = level_in (get_or s.marks 0 whole) s.level;
+  level = if (get_or s.marks 0 whole).broken then s.level + 1 else s.level;
 }
 
 abbrev pub closed_by : Bool → Laid → Laid
