@@ -14,7 +14,3 @@ argument_lines arg = bytes_of (broken_segs Broken 1 RuleCall true (segs_of (arg 
 -- the argument that `set` adds where none has its name
 abbrev pub new_argument : List ℕ → List (List ℕ) → Segment
 new_argument attr words = argument attr (new_value (new_of attr words None))
-
--- the one line of an argument of this value
-abbrev pub argument_line : List ℕ → List ℕ → List ℕ
-argument_line attr value = codes "\n    " ++ (attr ++ (codes " = " ++ (value ++ codes ",")))

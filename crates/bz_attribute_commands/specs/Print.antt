@@ -31,13 +31,9 @@ word_form v = if is_plain v then v else quoted v
 abbrev pub words_text : List Segment → List ℕ
 words_text ss = codes "[" ++ join_with_byte 32 (map (λ s. map_or [] word_form (string_value s.nodes)) ss) ++ codes "]"
 
--- a list of strings with values
-abbrev pub is_words : Item → Bool
-is_words x = is_list x && list_all (λ s. is_some (string_value s.nodes)) (elements x)
-
--- one list of strings in brackets; anything else but a string is its text on one line
+-- one list of strings with values in brackets; anything else but a string is its text on one line
 abbrev pub list_text : List Item → List ℕ
-list_text (x ∷ []) = if is_words x then words_text (elements x) else flat_text (Some RuleCall) (x ∷ [])
+list_text (x ∷ []) = if is_list x && list_all (λ s. is_some (string_value s.nodes)) (elements x) then words_text (elements x) else flat_text (Some RuleCall) (x ∷ [])
 list_text nodes = flat_text (Some RuleCall) nodes
 
 abbrev pub value_text : List Item → List ℕ
@@ -82,10 +78,6 @@ is_name_alone _ = false
 
 abbrev pub printed : Package → Statement → Rule → List Field → Done
 printed home s r fields = record { changed = false; line = Some (line_of home s r fields); note = missing home s r fields }
-
--- what a line alone is
-abbrev pub printed_line : List ℕ → Done
-printed_line line = record { changed = false; line = Some line; note = None }
 
 -- `print <field>..`
 abbrev pub prints : Package → List Field → Option Statement → Done

@@ -1,7 +1,7 @@
 //! The text of an argument that `set` adds.
 
-ghost use Rattle.std.specs.Prelude.{◌≡◌, ◌++◌, IfOk, IsFalse, IsTrue, OnOk};
-ghost use Rattle.bz_attribute_commands.specs.Argument.{argument_line, argument_lines, new_argument};
+ghost use Rattle.std.specs.Prelude.{◌≡◌, ◌++◌, codes, IfOk, IsFalse, IsTrue, OnOk};
+ghost use Rattle.bz_attribute_commands.specs.Argument.{argument_lines, new_argument};
 
 use crate::set::{New, new_of};
 use bz_command::{Text, quote};
@@ -21,8 +21,7 @@ pub fn put_argument(
     ensures nothing { IfOk result (λ put. IsFalse put → out.new.items ≡ out.old.items) }
 {
     match new_of(attr, words, false) {
-        New::Number(digits) => put_line(attr, "", digits, "", out)?,
-        New::Constant(name) => put_line(attr, "", name, "", out)?,
+        New::Number(word) | New::Constant(word) => put_line(attr, "", word, "", out)?,
         New::String(word) => put_line(attr, "", quote(alloc, word)?.as_str(), "", out)?,
         New::Strings(words) => {
             let [word] = words else {
@@ -43,7 +42,8 @@ fn put_line(
     out: &mut Vec<u8>,
 ) -> Result<(), NoMemory>
     ensures { OnOk result
-        (out.new.items ≡ out.old.items ++ argument_line attr.now (left.now ++ (value.now ++ right.now))) }
+        (out.new.items ≡ out.old.items ++ (codes "\n    " ++ (attr.now ++ (codes " = "
+        ++ ((left.now ++ (value.now ++ right.now)) ++ codes ","))))) }
 {
     extend_from_slice(out, b"\n    ")?;
     extend_from_slice(out, attr.as_bytes())?;

@@ -7,23 +7,16 @@ ghost use Rattle.bz_attribute_commands.specs.Comment as spec;
 use bz_memory::{NoMemory, from_str, push_str};
 use std::alloc::Global;
 
-/// The comment line of a text.
+/// The comment line of a text: without the spaces and tabs at its end.
 pub fn comment_line(alloc: Global, text: &str) -> Result<String, NoMemory>
     ensures { IfOk result (λ line. string_bytes line ≡ spec.comment_line text.now) }
 {
     let mut line = from_str(alloc, "# ")?;
     push_str(&mut line, text)?;
-    trim(&mut line);
-    Ok(line)
-}
-
-// Drops the spaces and tabs at the end.
-fn trim(line: &mut String)
-    ensures { string_bytes line.new ≡ spec.trimmed (string_bytes line.old) }
-{
     while ends_blank(line.as_bytes()) {
         let _ = line.pop();
     }
+    Ok(line)
 }
 
 fn ends_blank(bytes: &[u8]) -> bool

@@ -57,47 +57,20 @@ pub fn comment<'a>(
             Ok(insertion(at))
         }
         Commented::Value(attr, value) => {
-            let element = ElementOf {
-                attr: attr.as_str(),
-                value: value.as_str(),
+            let (attr, value) = (attr.as_str(), value.as_str());
+            let Some(at) = value_place(parts, attr) else {
+                return Ok(Edit::none(Done::no_attribute(env.alloc, attr)?));
             };
-            comment_value(env, element, text, parts, new)
+            let Some(list) = first_list(parts, at) else {
+                return Ok(Edit::none(Done::not_a_list(env.alloc, attr)?));
+            };
+            let Some(token) = first_equal(env.home, value, parts, list) else {
+                return Ok(Edit::none(Done::no_value(env.alloc, attr, value)?));
+            };
+            write_line(env.alloc, text, new)?;
+            Ok(insertion(token))
         }
     }
-}
-
-// An element of an attribute, by its value.
-#[derive(Clone, Copy)]
-struct ElementOf<'c> {
-    attr: &'c str,
-    value: &'c str,
-}
-
-// Adds a comment line above the first element of an attribute that equals a value.
-fn comment_value<'a>(
-    env: Env<'_>,
-    element: ElementOf<'_>,
-    text: &str,
-    parts: &[Part<'a>],
-    new: &mut Parts<'a>,
-) -> Result<Edit, NoMemory>
-    ensures { IfOk result (IsRowEdit
-        (spec.comment_value env.entry.home.now element.entry.attr.now element.entry.value.now text.now)
-        (λ args. done (spec.comment_note env.entry.home.now element.entry.attr.now element.entry.value.now args) true)
-        (map part_view parts.now) (map part_view new.new.items)) }
-{
-    let ElementOf { attr, value } = element;
-    let Some(at) = value_place(parts, attr) else {
-        return Ok(Edit::none(Done::no_attribute(env.alloc, attr)?));
-    };
-    let Some(list) = first_list(parts, at) else {
-        return Ok(Edit::none(Done::not_a_list(env.alloc, attr)?));
-    };
-    let Some(token) = first_equal(env.home, value, parts, list) else {
-        return Ok(Edit::none(Done::no_value(env.alloc, attr, value)?));
-    };
-    write_line(env.alloc, text, new)?;
-    Ok(insertion(token))
 }
 
 // What is written comes to stand before a part.
@@ -115,6 +88,5 @@ fn write_line<'a>(alloc: Global, text: &str, new: &mut Parts<'a>) -> Result<(), 
     let bump = *new.allocator();
     let line = alloc_str(bump, line.as_str())?;
     new.clear();
-    push(new, Part::Above(line))?;
-    Ok(())
+    push(new, Part::Above(line))
 }

@@ -28,8 +28,7 @@ pub fn write_argument<'a>(
     new.clear();
     begin_argument(attr, new)?;
     push_value(alloc, new_of(attr, words, false), new)?;
-    push(new, Part::End)?;
-    Ok(())
+    push(new, Part::End)
 }
 
 /// Appends the parts of a value.
@@ -58,6 +57,5 @@ fn push_list<'a>(alloc: Global, words: &[Text], new: &mut Parts<'a>) -> Result<(
     for word in words {
         push_element(alloc, word.as_str(), new)?;
     }
-    push(new, Part::Close(false))?;
-    Ok(())
+    push(new, Part::Close(false))
 }

@@ -1,7 +1,7 @@
 //! `print`: a line with the texts of a rule's fields. bz_rule (`statement_row.rt`) calls `print`, and bz_engine
 //! (`answer.rt`) calls `print_name` for a rule that it does not read.
 
-ghost use Rattle.std.specs.Prelude.{◌≡◌, ◌++◌, ◌∷◌, [], map, option_map, is_some, IfOk, IfSome, IsTrue, OnOk, string_bytes, false, true, Some};
+ghost use Rattle.std.specs.Prelude.{◌≡◌, ◌++◌, ◌∷◌, [], map, option_map, is_some, IfOk, IfSome, IsTrue, OnOk, string_bytes, false, true, None, Some};
 ghost use Rattle.std.specs.List.{list_all};
 ghost use Rattle.bz_tree.specs.Tree.{Statement};
 ghost use Rattle.bz_tree.specs.Rows.{part_view};
@@ -12,7 +12,7 @@ ghost use Rattle.bz_attribute.specs.RowPlaces.{IsRuleRow};
 ghost use Rattle.bz_attribute.specs.Rules.{Rule, name_in, rule_of, string_value};
 ghost use Rattle.bz_attribute.specs.declared.done.Note.TheVariants.{Missing};
 ghost use Rattle.bz_attribute_commands.specs.Print as spec;
-ghost use Rattle.bz_attribute_commands.specs.private.PrintSteps.{HasPrinted, IsFieldOfName};
+ghost use Rattle.bz_attribute_commands.specs.private.PrintSteps.{HasPrinted};
 ghost use Rattle.bz_token.specs.Common.{map_or};
 
 use bz_attribute::equals::string_of;
@@ -35,13 +35,22 @@ pub fn print(env: Env<'_>, fields: &[Field], head: Head<'_>, parts: &[Part<'_>])
     // Most often the name is all that is printed.
     let mut line = with_length_of(env.alloc, head.name.unwrap_or(""))?;
     let missing = match fields {
-        [] => push_name_and_kind(env, &mut line, head, parts)?,
+        [] => {
+            let missing = push_attribute(env, "name", &mut line, head, parts)?;
+            push_str(&mut line, " ")?;
+            push_str(&mut line, head.kind)?;
+            missing
+        }
         _ => push_fields(env, &mut line, fields, head, parts)?,
+    };
+    let note = match missing {
+        Some(name) => Some(Note::Missing(Text::from_str(env.alloc, name)?)),
+        None => None,
     };
     Ok(Done {
         changed: false,
         line: Some(Text::from_string(line)),
-        note: missing_note(env.alloc, missing)?,
+        note,
     })
 }
 
@@ -50,67 +59,21 @@ pub fn print_name(env: Env<'_>, fields: &[Field], name: &str) -> Result<Option<T
     ensures is { IfOk result (λ line. is_some line ≡ spec.is_name_alone fields.now) }
     ensures line { IfOk result (λ line. IfSome line (λ text. (s : Statement) (r : Rule) → rule_of s.nodes ≡ Some r
         → name_in r.args ≡ Some name.now
-        → spec.prints env.entry.home.now fields.now (Some s) ≡ spec.printed_line text)) }
+        → spec.prints env.entry.home.now fields.now (Some s) ≡ record { changed = false; line = Some text; note = None })) }
 {
     let [field] = fields else {
         return Ok(None);
     };
     let mut line = with_length_of(env.alloc, name)?;
-    if !push_of_name(env, &mut line, field, name)? {
-        return Ok(None);
-    }
-    Ok(Some(Text::from_string(line)))
-}
-
-// Writes a field of a rule of this name. False: it is another than the name and the label.
-fn push_of_name(
-    env: Env<'_>,
-    text: &mut String,
-    field: &Field,
-    name: &str,
-) -> Result<bool, NoMemory>
-    ensures is { IfOk result (λ known. known ≡ spec.is_of_name field.now) }
-    ensures text { IfOk result (λ known. IsTrue known
-        → IsFieldOfName env.entry.home.now field.now name.now (string_bytes text.old) (string_bytes text.new)) }
-{
     match field {
         Field::Label => {
-            push_home(text, env.home)?;
-            push_str(text, name)?;
-            Ok(true)
+            push_home(&mut line, env.home)?;
+            push_str(&mut line, name)?;
         }
-        Field::ValueOf(attr) if attr.as_str() == "name" => {
-            push_word(env.alloc, text, name)?;
-            Ok(true)
-        }
-        _ => Ok(false),
+        Field::ValueOf(attr) if attr.as_str() == "name" => push_word(env.alloc, &mut line, name)?,
+        _ => return Ok(None),
     }
-}
-
-fn missing_note(alloc: Global, missing: Option<&str>) -> Result<Option<Note>, NoMemory>
-    ensures { IfOk result (λ note. note ≡ option_map (λ name. Missing name.now) missing.entry) }
-{
-    match missing {
-        None => Ok(None),
-        Some(name) => Ok(Some(Note::Missing(Text::from_str(alloc, name)?))),
-    }
-}
-
-// Writes the name and the kind. Tells that the name is missing.
-fn push_name_and_kind(
-    env: Env<'_>,
-    text: &mut String,
-    head: Head<'_>,
-    parts: &[Part<'_>],
-) -> Result<Option<&'static str>, NoMemory>
-    ensures { IfOk result (λ missing. HasPrinted env.entry.home.now (spec.fields_of []) head.entry
-        (map part_view parts.now) (string_bytes text.old) (string_bytes text.new)
-        (option_map (λ name. Missing name.now) missing)) }
-{
-    let missing = push_attribute(env, "name", text, head, parts)?;
-    push_str(text, " ")?;
-    push_str(text, head.kind)?;
-    Ok(missing)
+    Ok(Some(Text::from_string(line)))
 }
 
 // Writes fields with a space between them. Tells the first that is missing.
@@ -178,12 +141,9 @@ fn push_attribute<'f>(
         (map part_view parts.now) (string_bytes text.old) (string_bytes text.new)
         (option_map (λ name. Missing name.now) missing)) }
 {
-    match head.name {
-        Some(name) if attr == "name" => {
-            push_word(env.alloc, text, name)?;
-            return Ok(None);
-        }
-        _ => {}
+    if let (Some(name), "name") = (head.name, attr) {
+        push_word(env.alloc, text, name)?;
+        return Ok(None);
     }
     let Some(value) = value_place(parts, attr) else {
         push_str(text, "(missing)")?;

@@ -41,13 +41,11 @@ fn is_token(new: New<'_>, value: &[Part<'_>]) -> bool
     let [Part::Token(kind, text), Part::End, ..] = value else {
         return false;
     };
-    match new {
-        New::String(word) => {
-            matches!(kind, Kind::String) && has_value(text.as_bytes(), word.as_bytes())
-        }
-        New::Number(digits) => matches!(kind, Kind::Integer) && *text == digits,
-        New::Constant(name) => matches!(kind, Kind::Identifier) && *text == name,
-        New::Strings(_) => false,
+    match (new, kind) {
+        (New::String(word), Kind::String) => has_value(text.as_bytes(), word.as_bytes()),
+        (New::Number(word), Kind::Integer) | (New::Constant(word), Kind::Identifier) => *text
+            == word,
+        _ => false,
     }
 }
 
@@ -62,19 +60,10 @@ fn are_strings(words: &[Text], parts: &[Part<'_>], from: usize) -> bool
         let Some(element) = next_element(parts, at) else {
             return false;
         };
-        if !is_word(word.as_str(), element.string) {
-            return false;
+        match element.string {
+            Some(text) if has_value(text.as_bytes(), word.as_str().as_bytes()) => at = element.to,
+            _ => return false,
         }
-        at = element.to;
     }
     next_element(parts, at).is_none()
-}
-
-fn is_word(word: &str, string: Option<&str>) -> bool
-    ensures { result ≡ is_text word.now (option_and_then value_of (option_map (λ text. text.now) string.entry)) }
-{
-    match string {
-        None => false,
-        Some(text) => has_value(text.as_bytes(), word.as_bytes()),
-    }
 }

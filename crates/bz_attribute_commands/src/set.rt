@@ -74,13 +74,11 @@ pub fn set_if_absent<'a>(
     ensures { IfOk result (IsRowEdit (spec.set_if_absent attr.now words.now)
         (λ args. done None (not (has attr.now args))) (map part_view parts.now) (map part_view written.new.items)) }
 {
-    match find_argument(parts, attr) {
-        Some(_) => Ok(Edit::none(Done::quiet(false))),
-        None => {
-            write_argument(alloc, attr, words, written)?;
-            Ok(Edit::at(new_place(parts)))
-        }
+    if find_argument(parts, attr).is_some() {
+        return Ok(Edit::none(Done::quiet(false)));
     }
+    write_argument(alloc, attr, words, written)?;
+    Ok(Edit::at(new_place(parts)))
 }
 
 // What the words stand for, where the attribute is one list or not.

@@ -50,6 +50,5 @@ fn push_kind<'a>(mut kind: &'a str, out: &mut Parts<'a>) -> Result<(), NoMemory>
         push(out, Part::Token(Kind::Operator, "."))?;
         kind = rest;
     }
-    push(out, Part::Token(Kind::Identifier, kind))?;
-    Ok(())
+    push(out, Part::Token(Kind::Identifier, kind))
 }

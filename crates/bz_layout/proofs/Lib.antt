@@ -1,6 +1,5 @@
 pub mod Pieces
 pub mod Quotes
-pub mod Rules
 pub mod Scans
 pub mod Runs
 pub mod Texts

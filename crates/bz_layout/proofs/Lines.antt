@@ -14,17 +14,17 @@ use Rattle.bz_layout.specs.declared.broken.Style.TheVariants.{Broken}
 use Rattle.bz_layout.specs.Pieces.{Piece, piece, indent, gap_bytes, bytes_of, comment_lines, suffix_piece}
 use Rattle.bz_layout.specs.Layout.{items_pieces, statement_line, is_comment, layout, layout_text}
 use Rattle.bz_token.specs.Brackets.{is_line}
-use Rattle.bz_layout.specs.Lines.{TextLine, text_line, lines_text, is_newline, ended_by, level_after, text_following, lines_from, lines_of}
+use Rattle.bz_layout.specs.Lines.{TextLine, text_line, lines_text, is_newline, ended_by, line_after, lines_from, lines_of}
 
 lines_append : (a b : List TextLine) → lines_text (a ++ b) ≡ lines_text a ++ lines_text b
 lines_append [] b = refl
 lines_append (l ∷ a) b = rw (lines_append a b) (simp append_assoc)
 
-after_gap : (gap : Gap) (level : ℕ) (text rest : List ℕ) → indent level ++ (text ++ (gap_bytes gap ++ rest)) ≡ lines_text (ended_by gap level text) ++ (indent (level_after gap level) ++ (text_following gap text ++ rest))
-after_gap Closed level text rest = simp append_assoc
-after_gap Space level text rest = simp append_assoc
-after_gap Apart level text rest = simp append_assoc
-after_gap (Line n) level text rest = simp append_assoc
+after_gap : (gap : Gap) (l : TextLine) (rest : List ℕ) → indent l.level ++ (l.text ++ (gap_bytes gap ++ rest)) ≡ lines_text (ended_by gap l) ++ (indent (line_after gap l).level ++ ((line_after gap l).text ++ rest))
+after_gap Closed l rest = simp append_assoc
+after_gap Space l rest = simp append_assoc
+after_gap Apart l rest = simp append_assoc
+after_gap (Line n) l rest = simp append_assoc
 
 -- the last piece is a newline
 abbrev pub ends_line : List Piece → Bool
@@ -35,24 +35,21 @@ ends_line (p ∷ q ∷ ps) = ends_line (q ∷ ps)
 newline_text : (p : Piece) → is_newline p ≡ true → p.text ≡ codes "\n"
 newline_text p h = (bytes_eq-Decides p.text (codes "\n")).0 (and_parts (is_line p.kind) (bytes_eq p.text (codes "\n")) h).1
 
-pub from_lines : (ps : List Piece) (level : ℕ) (text : List ℕ) → ends_line ps ≡ true → indent level ++ (text ++ bytes_of ps) ≡ lines_text (lines_from level text ps)
-from_lines [] level text h = absurd (false≢true h)
-from_lines (p ∷ []) level text h =
-    let l = level_after p.gap level in
-    let t = text_following p.gap text in
+pub from_lines : (ps : List Piece) (l : TextLine) → ends_line ps ≡ true → indent l.level ++ (l.text ++ bytes_of ps) ≡ lines_text (lines_from l ps)
+from_lines [] l h = absurd (false≢true h)
+from_lines (p ∷ []) l h =
     let is = newline_text p h in
-    rw (h, lines_append (ended_by p.gap level text) (text_line l t ∷ [])) (after_gap p.gap level text (p.text ++ []) ∙ rw is refl)
-from_lines (p ∷ q ∷ ps) level text h =
-    let l = level_after p.gap level in
-    let t = text_following p.gap text in
+    rw (h, lines_append (ended_by p.gap l) (line_after p.gap l ∷ [])) (after_gap p.gap l (p.text ++ []) ∙ rw is refl)
+from_lines (p ∷ q ∷ ps) l h =
+    let m = line_after p.gap l in
     elim (cases_Bool (is_newline p)) [
       | inl hit ↦
           let is = newline_text p hit in
-          let next = from_lines (q ∷ ps) 0 [] h in
-          rw (hit, lines_append (ended_by p.gap level text) (text_line l t ∷ lines_from 0 [] (q ∷ ps)), ← next) (after_gap p.gap level text (p.text ++ bytes_of (q ∷ ps)) ∙ rw is refl)
+          let next = from_lines (q ∷ ps) (text_line 0 []) h in
+          rw (hit, lines_append (ended_by p.gap l) (m ∷ lines_from (text_line 0 []) (q ∷ ps)), ← next) (after_gap p.gap l (p.text ++ bytes_of (q ∷ ps)) ∙ rw is refl)
       | inr miss ↦
-          let next = from_lines (q ∷ ps) l (t ++ p.text) h in
-          rw (miss, lines_append (ended_by p.gap level text) (lines_from l (t ++ p.text) (q ∷ ps)), ← next, append_assoc t p.text (bytes_of (q ∷ ps))) (after_gap p.gap level text (p.text ++ bytes_of (q ∷ ps)))
+          let next = from_lines (q ∷ ps) (text_line m.level (m.text ++ p.text)) h in
+          rw (miss, lines_append (ended_by p.gap l) (lines_from (text_line m.level (m.text ++ p.text)) (q ∷ ps)), ← next, append_assoc m.text p.text (bytes_of (q ∷ ps))) (after_gap p.gap l (p.text ++ bytes_of (q ∷ ps)))
     ]
 
 ends_after : (ps : List Piece) (qs : List Piece) → ends_line qs ≡ true → ends_line (ps ++ qs) ≡ true
@@ -72,10 +69,10 @@ comments_end comment (n ∷ comments) = comments_end n comments
 
 comments_read : (comments : List (List ℕ)) → bytes_of (comment_lines comments) ≡ lines_text (lines_of (comment_lines comments))
 comments_read [] = refl
-comments_read (n ∷ comments) = from_lines (comment_lines (n ∷ comments)) 0 [] (comments_end n comments)
+comments_read (n ∷ comments) = from_lines (comment_lines (n ∷ comments)) (text_line 0 []) (comments_end n comments)
 
 pub text_is_lines : (s : Statement) → layout_text s ≡ lines_text (lines_of (layout s))
 text_is_lines s = elim (cases_Bool (is_comment s.class)) [
   | inl hit ↦ rw (hit, append-nil (comment_lines s.before)) (comments_read s.before)
-  | inr miss ↦ rw miss (from_lines (comment_lines s.before ++ statement_line s) 0 [] (ends_after (comment_lines s.before) (statement_line s) (statement_ends s)))
+  | inr miss ↦ rw miss (from_lines (comment_lines s.before ++ statement_line s) (text_line 0 []) (ends_after (comment_lines s.before) (statement_line s) (statement_ends s)))
 ]

@@ -1,5 +1,5 @@
 -- The walk forwards over parts writes the pieces of their tree.
-use Rattle.std.proofs.Common.{◌≡◌, codes, bytes_eq, ℕ, ◌+◌, ◌-◌, List, [], ◌∷◌, ◌++◌, map, Bool, true, false, not, ◌||◌, if◌then◌else◌, inl, inr, Option, Some, None, refl, ap, ◌∙◌, append_assoc, append-nil, arith}
+use Rattle.std.proofs.Common.{◌≡◌, codes, bytes_eq, ℕ, ◌+◌, ◌-◌, List, [], ◌∷◌, ◌++◌, map, drop, get_or, Bool, true, false, not, ◌||◌, if◌then◌else◌, inl, inr, Option, Some, None, refl, ap, ◌∙◌, append_assoc, append-nil, arith}
 use Rattle.std.proofs.lemmas.Bool.{cases_Bool}
 use Rattle.bz_token.specs.declared.token.Kind.TheVariants.{Operator}
 use Rattle.bz_tree.specs.declared.tree.GroupKind.{GroupKind}
@@ -14,11 +14,10 @@ use Rattle.bz_layout.specs.declared.spacing.Gap.TheVariants.{Closed, Space, Line
 use Rattle.bz_layout.specs.declared.broken.Style.{Style}
 use Rattle.bz_layout.specs.declared.broken.Style.TheVariants.{Flat, Broken}
 use Rattle.bz_layout.specs.Broken.{count, is_broken, segs_hold}
-use Rattle.bz_layout.specs.Spacing.{edge_after, operator_edge, is_prefix, begins_argument, is_index_colon, gap_before, hugs}
+use Rattle.bz_layout.specs.Spacing.{edge_after, operator_edge, is_prefix, begins_argument, is_index_colon, gap_before, gap_for, hugs}
 use Rattle.bz_layout.specs.Pieces.{Piece, piece, gap_bytes, bytes_of, comma_if, comments, suffix_piece}
 use Rattle.bz_layout.specs.Layout.{breaks, has_commas, item_pieces, items_pieces, broken_segs, flat_segs, opening as opening_text, closing as closing_text}
-use Rattle.bz_layout.specs.private.RowLayout.{Laid, gap_for, run, whole, first_frame, tail, comma_bytes, due, is_start, first_gap, level_in}
-use Rattle.bz_layout.proofs.Rules.{gap_is}
+use Rattle.bz_layout.specs.private.RowLayout.{Laid, run, whole, top, comma_bytes, due, is_start, first_gap}
 use Rattle.bz_layout.proofs.Pieces.{bytes_append}
 use Rattle.bz_layout.proofs.Scans.{mark_as, item_marks, items_marks, segs_marks}
 use Rattle.bz_tree.proofs.Rows.FromParts.{segs_joined, seg_joined}
@@ -48,6 +47,9 @@ supply Broken ms = ms
 abbrev mark_in : Style → BracketForm → BracketForm
 mark_in Flat m = whole
 mark_in Broken m = m
+
+abbrev level_in : BracketForm → ℕ → ℕ
+level_in mark level = if mark.broken then level + 1 else level
 
 down : (n : ℕ) → n + 1 - 1 ≡ n
 down n = omega arith
@@ -167,7 +169,7 @@ BrokenRuns style ss rest t ms o kind comma n =
 
 abbrev FlatRuns : Style → Segs → List (List ℕ) → List RowPart → List ℕ → List BracketForm → List OpenBracket → GroupKind → Bool → Bool → Bool → ℕ → Type 0
 FlatRuns style ss end rest t ms o kind comma one later n =
-    run (segs_parts ss ++ (map above end ++ closing one ∷ rest)) (at t (supply style (segs_marks ss ++ ms)) o (flat_frame kind later comma) Start n) ≡ run rest (at (t ++ (bytes_of (flat_segs style n kind (not later) ss) ++ (comma_bytes one ++ closing_text kind))) (supply style ms) (tail o) (first_frame o) Operand n)
+    run (segs_parts ss ++ (map above end ++ closing one ∷ rest)) (at t (supply style (segs_marks ss ++ ms)) o (flat_frame kind later comma) Start n) ≡ run rest (at (t ++ (bytes_of (flat_segs style n kind (not later) ss) ++ (comma_bytes one ++ closing_text kind))) (supply style ms) (drop 1 o) (get_or o 0 (top None)) Operand n)
 
 -- a group in place, where its mark has any comma
 run_in_place : (style : Style) (comma : Bool) (kind : GroupKind) (segs : Segs) (one : Bool) (end : List (List ℕ)) (rest : List RowPart) (t : List ℕ) (ms : List BracketForm) (o : List OpenBracket) (h : OpenBracket) (d : List ℕ) (gap : Gap) (n : ℕ) →
@@ -206,7 +208,7 @@ group_text t d p gap close = simp append_assoc
 mutual
   pub run_item : (style : Style) (x : Item) (rest : List RowPart) (t : List ℕ) (ms : List BracketForm) (o : List OpenBracket) (h : OpenBracket) (l : Edge) (n : ℕ) →
       run (item_parts x ++ rest) (at t (supply style (item_marks x ++ ms)) o h l n) ≡ run rest (at (t ++ (due h l ++ bytes_of (item_pieces style n (gap_before (first_gap h n) l x) x))) (supply style ms) o h (edge_after h.within l x) n)
-  run_item style (leaf kind text) rest t ms o h l n = rw (gap_is (first_gap h n) l (leaf kind text), append-nil) refl
+  run_item style (leaf kind text) rest t ms o h l n = rw append-nil refl
   run_item style (group kind segs one end) rest t ms o h l n =
       let b = is_broken kind segs end (segs_hold segs) in
       let gap = gap_for (first_gap h n) l (hugs kind) in
@@ -216,7 +218,7 @@ mutual
       let flat : (comma : Bool) → FlatRuns style segs end rest (t ++ begun) ms (h ∷ o) kind comma one false n = λ comma. run_flat style segs end rest (t ++ begun) ms (h ∷ o) kind comma one false n in
       let all = run_group style b kind segs one end rest t ms o h d gap n broken flat in
       let begin = opens style (mark_as b kind segs one) (segs_marks segs ++ ms) kind ((segs_parts segs ++ (map above end ++ closing one ∷ [])) ++ rest) t o h l n in
-      rw (gap_is (first_gap h n) l (group kind segs one end)) (begin ∙ (all ∙ ap (λ (u : List ℕ). run rest (at u (supply style ms) o h Operand n)) (group_text t d (bytes_of (group_rest style (breaks style b) n kind segs one end)) gap (opening_text kind))))
+      begin ∙ (all ∙ ap (λ (u : List ℕ). run rest (at u (supply style ms) o h Operand n)) (group_text t d (bytes_of (group_rest style (breaks style b) n kind segs one end)) gap (opening_text kind)))
 
   pub run_items : (style : Style) (xs : Items) (rest : List RowPart) (t : List ℕ) (ms : List BracketForm) (o : List OpenBracket) (h : OpenBracket) (l : Edge) (n : ℕ) →
       run (items_parts xs ++ rest) (at t (supply style (items_marks xs ++ ms)) o h l n) ≡ run rest (at (t ++ (due_items h l xs ++ bytes_of (items_pieces style n h.within (first_gap h n) l xs))) (supply style ms) o h (last_edge h.within l xs) n)
@@ -258,4 +260,4 @@ mutual
       (skip_above before (items_parts nodes ++ ending) t (supply style (items_marks nodes ++ marks)) o (Some kind) later comma Start n ∙ (run_items style nodes ending t marks o frame Start n ∙
       (ap (λ (u : List ℕ). run (beside_part suffix ++ after) (at u (supply style marks) o (flat_frame kind true comma) Start n)) (in_place_text style n kind later comma nodes t) ∙
       (skip_beside suffix after t1 (supply style marks) o kind true comma Start n ∙ (run_flat style ss end rest t1 ms o kind comma one true n ∙
-      ap (λ (u : List ℕ). run rest (at u (supply style ms) (tail o) (first_frame o) Operand n)) (next_text t a (flat_segs style n kind false ss) (comma_bytes one ++ closing_text kind)))))))
+      ap (λ (u : List ℕ). run rest (at u (supply style ms) (drop 1 o) (get_or o 0 (top None)) Operand n)) (next_text t a (flat_segs style n kind false ss) (comma_bytes one ++ closing_text kind)))))))

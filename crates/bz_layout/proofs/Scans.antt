@@ -1,5 +1,5 @@
 -- The walk backwards over parts marks each bracket as the tree says.
-use Rattle.std.proofs.Common.{◌≡◌, ℕ, suc, List, [], ◌∷◌, ◌++◌, map, Bool, true, false, ◌||◌, is_some, nat_le, Option, Some, None, refl, ap, sym, ◌∙◌, append_assoc, arith}
+use Rattle.std.proofs.Common.{◌≡◌, ℕ, suc, List, [], ◌∷◌, ◌++◌, map, Bool, false, ◌||◌, ◌&&◌, is_some, nat_le, Option, Some, None, refl, ap, ◌∙◌, append_assoc, arith}
 use Rattle.std.proofs.Math.Bool.{or_assoc, or_comm, or-false}
 use Rattle.std.proofs.lemmas.Bool.Decides.{nat_tests}
 use Rattle.bz_tree.specs.declared.tree.GroupKind.{GroupKind}
@@ -10,7 +10,7 @@ use Rattle.bz_layout.specs.declared.marks.BracketForm.{BracketForm}
 use Rattle.bz_layout.specs.declared.marks.Contents.{Contents}
 use Rattle.bz_layout.specs.Broken.{count, have_comments, breaks_by_count, is_broken, holds_broken, items_hold, segs_hold}
 use Rattle.bz_layout.specs.Layout.{has_commas}
-use Rattle.bz_layout.specs.private.RowLayout.{Scan, closed, one_more, mark_of, breaks_with, holding, below, opened_back, scan}
+use Rattle.bz_layout.specs.private.RowLayout.{Scan, closed, one_more, mark_of, holding, below, opened_back, scan}
 use Rattle.bz_token.specs.Common.{is_filled}
 use Rattle.bz_tree.proofs.Rows.FromParts.{segs_joined, seg_joined}
 
@@ -71,7 +71,7 @@ commas : (kind : GroupKind) (one : Bool) (ss : Segs) → has_commas kind one (ad
 commas Paren one ss = rw (add_two ss) refl
 commas _ one ss = refl
 
-breaks_as : (kind : GroupKind) (ss : Segs) (end : List (List ℕ)) → breaks_with kind (have_comments ss || (is_filled end || false)) (add ss 0) (segs_hold ss || false) ≡ is_broken kind ss end (segs_hold ss)
+breaks_as : (kind : GroupKind) (ss : Segs) (end : List (List ℕ)) → (have_comments ss || (is_filled end || false)) || breaks_by_count kind (add ss 0) || (nat_le 2 (add ss 0) && (segs_hold ss || false)) ≡ is_broken kind ss end (segs_hold ss)
 breaks_as kind ss end = rw (or-false (is_filled end), or_comm (have_comments ss) (is_filled end), or-false (segs_hold ss), counts kind ss, add_two ss) refl
 
 abbrev pub inside_of : Bool → Segs → List (List ℕ) → Contents

@@ -14,7 +14,7 @@ use Rattle.bz_layout.specs.declared.spacing.Gap.TheVariants.{Closed}
 use Rattle.bz_layout.specs.declared.broken.Style.TheVariants.{Flat, Broken}
 use Rattle.bz_layout.specs.Pieces.{Piece, piece, bytes_of, comment_lines, suffix_piece}
 use Rattle.bz_layout.specs.Layout.{items_pieces, statement_line, is_comment, layout_text, flat_text}
-use Rattle.bz_layout.specs.private.RowLayout.{leading, Laid, Scan, line_text, lines_text, run, scan, start, top}
+use Rattle.bz_layout.specs.private.RowLayout.{leading, Laid, Scan, lines_text, run, scan, start, top}
 use Rattle.bz_layout.proofs.Pieces.{bytes_append}
 use Rattle.bz_layout.proofs.Scans.{items_marks, scan_above, scan_items}
 use Rattle.bz_layout.proofs.Runs.{at, last_edge, run_items, skip_above}
@@ -51,7 +51,7 @@ beside_text (Some comment) t ms o l n = rw (append-nil comment) refl
 line_joined : (t : List ℕ) (a b : List Piece) → ((t ++ bytes_of a) ++ bytes_of b) ++ codes "\n" ≡ t ++ bytes_of (a ++ (b ++ piece Closed Newline (codes "\n") ∷ []))
 line_joined t a b = rw (bytes_append a (b ++ piece Closed Newline (codes "\n") ∷ []), bytes_append b (piece Closed Newline (codes "\n") ∷ [])) (simp append_assoc)
 
-line_is : (t : List ℕ) (s : Statement) → line_text t (parts_of s) ≡ t ++ bytes_of (statement_line s)
+line_is : (t : List ℕ) (s : Statement) → (run (parts_of s) (start t (scan (parts_of s)).marks None)).text ++ codes "\n" ≡ t ++ bytes_of (statement_line s)
 line_is t s =
     let xs = items_of s.nodes in
     let a = items_pieces Broken 0 None Closed Start xs in

@@ -23,27 +23,21 @@ abbrev pub is_newline : Piece → Bool
 is_newline p = is_line p.kind && bytes_eq p.text (codes "\n")
 
 -- the line that a gap ends
-abbrev pub ended_by : Gap → ℕ → List ℕ → List TextLine
-ended_by (Line n) level text = text_line level text ∷ []
-ended_by _ level text = []
+abbrev pub ended_by : Gap → TextLine → List TextLine
+ended_by (Line n) l = l ∷ []
+ended_by _ l = []
 
--- the level and the text of the line after a gap
-abbrev pub level_after : Gap → ℕ → ℕ
-level_after (Line n) level = n
-level_after _ level = level
+-- the line after a gap
+abbrev pub line_after : Gap → TextLine → TextLine
+line_after (Line n) l = text_line n []
+line_after gap l = text_line l.level (l.text ++ gap_bytes gap)
 
-abbrev pub text_following : Gap → List ℕ → List ℕ
-text_following (Line n) text = []
-text_following gap text = text ++ gap_bytes gap
-
--- the lines of pieces, where a line of this level is begun with this text
-abbrev pub lines_from : ℕ → List ℕ → List Piece → List TextLine
-lines_from level text [] = []
-lines_from level text (p ∷ ps) =
-    ended_by p.gap level text ++
-    (if is_newline p
-    then text_line (level_after p.gap level) (text_following p.gap text) ∷ lines_from 0 [] ps
-    else lines_from (level_after p.gap level) (text_following p.gap text ++ p.text) ps)
+-- the lines of pieces, where this line is begun
+abbrev pub lines_from : TextLine → List Piece → List TextLine
+lines_from l [] = []
+lines_from l (p ∷ ps) =
+    let m = line_after p.gap l in
+    ended_by p.gap l ++ (if is_newline p then m ∷ lines_from (text_line 0 []) ps else lines_from (text_line m.level (m.text ++ p.text)) ps)
 
 abbrev pub lines_of : List Piece → List TextLine
-lines_of ps = lines_from 0 [] ps
+lines_of ps = lines_from (text_line 0 []) ps

@@ -64,7 +64,10 @@ holds_on Dotted = true
 holds_on Joined = true
 holds_on _ = false
 
--- the gap before a node: at the start that of the nodes, else a space where neither neighbour closes up
+-- the gap before what closes up or does not: at the start that of the nodes, else a space where neither neighbour closes up
+abbrev pub gap_for : Gap → Edge → Bool → Gap
+gap_for first Start closes = first
+gap_for first left closes = if holds_on left || closes then Closed else Space
+
 abbrev pub gap_before : Gap → Edge → Item → Gap
-gap_before first Start x = first
-gap_before first left x = if holds_on left || closes_up x then Closed else Space
+gap_before first left x = gap_for first left (closes_up x)

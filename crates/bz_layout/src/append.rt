@@ -47,10 +47,7 @@ impl Append for Vec<u8> {
     #[inline(always)]
     fn put_short(&mut self, text: &str) -> Result<(), NoMemory> {
         match text.as_bytes() {
-            [byte] => {
-                push(self, *byte)?;
-                Ok(())
-            }
+            [byte] => push(self, *byte),
             bytes => extend_from_slice(self, bytes),
         }
     }

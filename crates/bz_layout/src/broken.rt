@@ -2,7 +2,6 @@
 
 ghost use Rattle.std.specs.Prelude.{◌≡◌};
 ghost use Rattle.bz_layout.specs.Broken.{breaks_by_count};
-ghost use Rattle.bz_layout.specs.private.RowLayout.{breaks_with};
 
 use bz_tree::GroupKind;
 
@@ -14,7 +13,8 @@ pub enum Style {
     Broken,
 }
 
-fn breaks_by_count(kind: GroupKind, n: usize) -> bool
+#[inline(always)]
+pub(crate) fn breaks_by_count(kind: GroupKind, n: usize) -> bool
     ensures { result ≡ breaks_by_count kind n }
 {
     match kind {
@@ -22,13 +22,4 @@ fn breaks_by_count(kind: GroupKind, n: usize) -> bool
         GroupKind::Dict => n >= 1,
         _ => false,
     }
-}
-
-// Whether a group of `n` segments is broken, where `comments` tells whether it has comments, and `inside` whether a segment
-// of it holds a broken one.
-#[inline(always)]
-pub(crate) fn breaks_with(kind: GroupKind, comments: bool, n: usize, inside: bool) -> bool
-    ensures { result ≡ breaks_with kind comments n inside }
-{
-    comments || breaks_by_count(kind, n) || (n >= 2 && inside)
 }

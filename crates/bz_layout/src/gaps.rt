@@ -7,23 +7,15 @@ use bz_memory::{NoMemory, extend_from_slice};
 use bz_tree::Class;
 
 /// Writes what stands before a statement of class `after`. `before` is the class of the statement before it, or `None`
-/// for the first statement.
+/// for the first statement. An empty line stands between any two statements but two loads and two assignments, and none
+/// before the first (this project's own rule).
 pub fn put_gap(before: Option<Class>, after: Class, text: &mut Vec<u8>) -> Result<(), NoMemory>
     ensures gap { text.new.items
         ≡ (if is_ok result then text.old.items ++ gap_text (lines_before before after) else text.old.items) }
 {
-    extend_from_slice(text, gap(before, after).as_bytes())
-}
-
-/// An empty line stands between any two statements but two loads and two assignments, and none before the first (this
-/// project's own rule).
-fn gap(before: Option<Class>, after: Class) -> &'static str
-    ensures gap { result.now ≡ gap_text (lines_before before after) }
-{
-    match (before, after) {
-        (None, _) => "",
-        (Some(Class::Load), Class::Load) => "",
-        (Some(Class::Assign), Class::Assign) => "",
-        (Some(_), _) => "\n",
-    }
+    let gap = match (before, after) {
+        (None, _) | (Some(Class::Load), Class::Load) | (Some(Class::Assign), Class::Assign) => "",
+        _ => "\n",
+    };
+    extend_from_slice(text, gap.as_bytes())
 }

@@ -3,9 +3,9 @@
 
 ghost use Rattle.std.specs.Prelude.{◌≡◌, IfOk, OnOk, map, reverse};
 ghost use Rattle.bz_tree.specs.Rows.{part_view};
-ghost use Rattle.bz_layout.specs.private.RowLayout.{closed, mark_of, opened_back, back, scan, scan_onto, scanned};
+ghost use Rattle.bz_layout.specs.private.RowLayout.{closed, opened_back, back, scan, scanned};
 
-use crate::broken::breaks_with;
+use crate::broken::breaks_by_count;
 use crate::walk::FIRST_DEPTH;
 use crate::write::has_commas;
 use bz_memory::{NoMemory, push, with_capacity};
@@ -57,29 +57,21 @@ impl Contents {
     }
 }
 
-#[inline(always)]
-fn mark_of(kind: GroupKind, inside: Contents) -> BracketForm
-    ensures { result ≡ mark_of kind inside }
-{
-    let segs = usize::from(inside.segs);
-    BracketForm {
-        broken: breaks_with(kind, inside.comments, segs, inside.holds),
-        comma: has_commas(kind, inside.one_comma, segs),
-    }
-}
-
 impl Marks {
     // A bracket opens, with all that stands in it after it.
     fn open(&mut self, kind: GroupKind) -> Result<(), NoMemory>
         ensures { OnOk result (scanned self.new ≡ opened_back kind (scanned self.old)) }
     {
-        let mark = mark_of(kind, self.here);
+        let segs = usize::from(self.here.segs);
+        let mark = BracketForm {
+            broken: self.here.comments
+                || breaks_by_count(kind, segs)
+                || segs >= 2 && self.here.holds,
+            comma: has_commas(kind, self.here.one_comma, segs),
+        };
         let holds = mark.broken || self.here.holds;
         push(&mut self.marks, mark)?;
-        self.here = match self.outer.pop() {
-            Some(below) => below,
-            None => Contents::closed(false),
-        };
+        self.here = self.outer.pop().unwrap_or(Contents::closed(false));
         self.here.holds = holds || self.here.holds;
         Ok(())
     }
@@ -101,17 +93,6 @@ impl Marks {
         }
         Ok(())
     }
-
-    fn run_back(&mut self, parts: &[Part<'_>]) -> Result<(), NoMemory>
-        ensures { OnOk result (scanned self.new ≡ scan_onto (map part_view parts.now) (scanned self.old)) }
-    {
-        let mut i = parts.len();
-        while i > 0 {
-            i -= 1;
-            self.step(&parts[i])?;
-        }
-        Ok(())
-    }
 }
 
 // The marks of all brackets, that of the first one last.
@@ -123,7 +104,11 @@ pub(crate) fn marks_of(alloc: Global, parts: &[Part<'_>]) -> Result<Vec<BracketF
         here: Contents::closed(false),
         outer: with_capacity(alloc, FIRST_DEPTH)?,
     };
-    walk.run_back(parts)?;
+    let mut i = parts.len();
+    while i > 0 {
+        i -= 1;
+        walk.step(&parts[i])?;
+    }
     let Marks { marks, .. } = walk;
     Ok(marks)
 }

@@ -11,17 +11,12 @@ use bz_memory::NoMemory;
 use bz_token::Kind;
 
 #[inline(always)]
-fn is_plain(b: u8) -> bool
-    ensures { result ≡ is_plain b }
-{
-    b != b'"' && b != b'\'' && b != b'\\'
-}
-
-#[inline(always)]
 fn are_plain(bytes: &[u8]) -> bool
     ensures { result ≡ list_all is_plain bytes.now }
 {
-    bytes.iter().all(|b| is_plain(*b))
+    bytes
+        .iter()
+        .all(|b| *b != b'"' && *b != b'\'' && *b != b'\\')
 }
 
 // The content of a string without prefix in single quotes that holds neither a quote nor a backslash.
@@ -31,12 +26,7 @@ fn stripped(text: &str) -> Option<&str>
     ensures none { IfNone result
         ((inner : List ℕ) → text.now ≡ 39 ∷ (inner ++ 39 ∷ []) → list_all is_plain inner ≡ false) }
 {
-    let Some(rest) = text.strip_prefix('\'') else {
-        return None;
-    };
-    let Some(inner) = rest.strip_suffix('\'') else {
-        return None;
-    };
+    let inner = text.strip_prefix('\'')?.strip_suffix('\'')?;
     if are_plain(inner.as_bytes()) {
         Some(inner)
     } else {

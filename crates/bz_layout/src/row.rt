@@ -12,12 +12,9 @@ ghost use Rattle.bz_layout.specs.private.RowLayout.{leading, lines_text};
 use crate::append::Append;
 use crate::marks::marks_of;
 use crate::walk::RowWriter;
-use bz_memory::{NoMemory, with_capacity};
+use bz_memory::NoMemory;
 use bz_tree::{Class, Part, Row, Stmt, push_parts};
 use std::alloc::Global;
-
-// Most statements have no more parts.
-const FIRST_PARTS: usize = 40;
 
 // The comments above the statement, each with its newline.
 fn put_leading(parts: &[Part<'_>], out: &mut Vec<u8>) -> Result<(), NoMemory>
@@ -33,13 +30,6 @@ fn put_leading(parts: &[Part<'_>], out: &mut Vec<u8>) -> Result<(), NoMemory>
         out.put("\n")?;
     }
     Ok(())
-}
-
-#[inline(always)]
-fn is_comment(class: Class) -> bool
-    ensures { result ≡ is_comment class }
-{
-    matches!(class, Class::Comment)
 }
 
 // The comments above the statement, and its line. After a refusal some of it may stand in `out`.
@@ -67,10 +57,9 @@ fn put_parts(
     ensures unchanged { OnErr result (out.new.items ≡ out.old.items) }
 {
     let len = out.len();
-    let put = if is_comment(class) {
-        put_leading(parts, out)
-    } else {
-        put_lines(alloc, parts, out)
+    let put = match class {
+        Class::Comment => put_leading(parts, out),
+        _ => put_lines(alloc, parts, out),
     };
     if put.is_err() {
         out.truncate(len);
@@ -84,7 +73,7 @@ pub fn put_stmt(alloc: Global, stmt: &Stmt<'_>, out: &mut Vec<u8>) -> Result<(),
     ensures appended { OnOk result (out.new.items ≡ out.old.items ++ layout_text (view stmt.now)) }
     ensures unchanged { OnErr result (out.new.items ≡ out.old.items) }
 {
-    let mut parts = with_capacity(alloc, FIRST_PARTS)?;
+    let mut parts = Vec::new(alloc);
     push_parts(stmt, &mut parts)?;
     put_parts(alloc, &parts, stmt.class, out)
 }

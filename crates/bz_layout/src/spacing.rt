@@ -1,6 +1,6 @@
 //! Where a space stands between two neighbouring nodes.
 
-ghost use Rattle.std.specs.Prelude.{◌≡◌, ◌≢◌, ◌∷◌, [], MatchBool};
+ghost use Rattle.std.specs.Prelude.{◌≡◌, ◌≢◌, ◌∷◌, [], ◌||◌, MatchBool};
 ghost use Rattle.bz_tree.specs.Tree.{leaf};
 ghost use Rattle.bz_layout.specs.Spacing.{hugs, closes_up, is_prefix, begins_argument, is_index_colon, operator_edge, edge_after};
 
@@ -48,10 +48,7 @@ pub(crate) fn hugs(kind: GroupKind) -> bool
 pub(crate) fn is_byte(text: &str, byte: u8) -> bool
     ensures { MatchBool result (text.now ≡ byte ∷ []) (text.now ≢ byte ∷ []) }
 {
-    match text.as_bytes() {
-        [one] => *one == byte,
-        _ => false,
-    }
+    matches!(text.as_bytes(), [one] if *one == byte)
 }
 
 #[inline(always)]
@@ -62,43 +59,17 @@ pub(crate) fn token_closes_up(kind: Kind, text: &str) -> bool
         && (is_byte(text, b'.') || is_byte(text, b',') || is_byte(text, b':'))
 }
 
+// A prefix, the star that begins an argument, or the colon of an index.
 #[inline(always)]
-fn is_prefix(left: Edge, text: &str) -> bool
-    ensures { result ≡ is_prefix left text.now }
+fn holds_on(within: Option<GroupKind>, left: Edge, text: &str) -> bool
+    ensures { result ≡ (is_prefix left text.now || begins_argument within left text.now || is_index_colon within text.now) }
 {
-    !matches!(left, Edge::Dotted | Edge::Operand)
-        && (is_byte(text, b'+') || is_byte(text, b'-') || is_byte(text, b'~'))
-}
-
-#[inline(always)]
-fn begins_argument(within: Option<GroupKind>, left: Edge, text: &str) -> bool
-    ensures { result ≡ begins_argument within left text.now }
-{
-    matches!(left, Edge::Start)
-        && matches!(within, Some(GroupKind::Call | GroupKind::RuleCall))
-        && (is_byte(text, b'*') || text == "**")
-}
-
-#[inline(always)]
-fn is_index_colon(within: Option<GroupKind>, text: &str) -> bool
-    ensures { result ≡ is_index_colon within text.now }
-{
-    matches!(within, Some(GroupKind::Index)) && is_byte(text, b':')
-}
-
-#[inline(always)]
-fn operator_edge(within: Option<GroupKind>, left: Edge, text: &str) -> Edge
-    ensures { result ≡ operator_edge within left text.now }
-{
-    if is_byte(text, b'.') {
-        Edge::Dotted
-    } else if is_prefix(left, text)
-        || begins_argument(within, left, text)
-        || is_index_colon(within, text)
-    {
-        Edge::Joined
-    } else {
-        Edge::Operator
+    match (within, left) {
+        (Some(GroupKind::Index), _) if is_byte(text, b':') => true,
+        (Some(GroupKind::Call | GroupKind::RuleCall), Edge::Start)
+            if is_byte(text, b'*') || text == "**" => true,
+        (_, Edge::Dotted | Edge::Operand) => false,
+        _ => is_byte(text, b'+') || is_byte(text, b'-') || is_byte(text, b'~'),
     }
 }
 
@@ -107,8 +78,9 @@ pub(crate) fn token_edge(within: Option<GroupKind>, left: Edge, kind: Kind, text
     ensures { result ≡ edge_after within left (leaf kind text.now) }
 {
     match kind {
-        Kind::Operator => operator_edge(within, left, text),
-        Kind::Keyword => Edge::Operator,
+        Kind::Operator if is_byte(text, b'.') => Edge::Dotted,
+        Kind::Operator if holds_on(within, left, text) => Edge::Joined,
+        Kind::Operator | Kind::Keyword => Edge::Operator,
         _ => Edge::Operand,
     }
 }

@@ -6,7 +6,8 @@ ghost use Rattle.bz_tree.specs.Rows.{part_view};
 ghost use Rattle.bz_layout.specs.declared.spacing.Edge.TheVariants.{Start};
 ghost use Rattle.bz_layout.specs.private.Kept.{IsBegunBy};
 ghost use Rattle.bz_layout.specs.Pieces.{gap_bytes};
-ghost use Rattle.bz_layout.specs.private.RowLayout.{due, gap_for, top, first_gap, has_beside, start, with_token, opened, closed_by, ended, step, run, laid};
+ghost use Rattle.bz_layout.specs.Spacing.{gap_for};
+ghost use Rattle.bz_layout.specs.private.RowLayout.{due, top, first_gap, start, with_token, opened, closed_by, ended, step, run, laid};
 
 use crate::append::NewLine;
 use crate::marks::BracketForm;
@@ -56,14 +57,6 @@ impl OpenBracket {
             later: false,
         }
     }
-
-    // In place no comment stands beside a segment, but at the top.
-    #[inline(always)]
-    fn has_beside(self) -> bool
-        ensures { result ≡ has_beside self }
-    {
-        self.mark.broken || self.within.is_none()
-    }
 }
 
 impl RowWriter {
@@ -87,22 +80,6 @@ impl RowWriter {
         })
     }
 
-    // The comma that is due and the gap before the first node of a segment.
-    #[inline(always)]
-    fn put_first<T: NewLine>(&self, out: &mut T) -> Result<(), NoMemory>
-        ensures ok { OnOk result (T.bytes out.new ≡ T.bytes out.old
-            ++ (due self.now.here Start ++ gap_bytes (first_gap self.now.here self.now.level))) }
-        ensures begun { IsBegunBy (T.bytes out.old) (T.bytes out.new) }
-    {
-        if self.here.mark.broken {
-            out.new_line(self.level)
-        } else if self.here.later {
-            out.put(", ")
-        } else {
-            Ok(())
-        }
-    }
-
     // The gap before what closes up or does not, after the comma that is due.
     #[inline(always)]
     fn put_gap<T: NewLine>(&self, closes: bool, out: &mut T) -> Result<(), NoMemory>
@@ -111,13 +88,12 @@ impl RowWriter {
             ++ gap_bytes (gap_for (first_gap self.now.here self.now.level) self.now.left closes))) }
         ensures begun { IsBegunBy (T.bytes out.old) (T.bytes out.new) }
     {
-        if matches!(self.left, Edge::Start) {
-            return self.put_first(out);
+        match self.left {
+            Edge::Start if self.here.mark.broken => out.new_line(self.level),
+            Edge::Start if self.here.later => out.put(", "),
+            Edge::Operator | Edge::Operand if !closes => out.put_short(" "),
+            _ => Ok(()),
         }
-        if closes || matches!(self.left, Edge::Joined | Edge::Dotted) {
-            return Ok(());
-        }
-        out.put_short(" ")
     }
 
     #[inline(always)]
@@ -166,10 +142,7 @@ impl RowWriter {
         self.put_gap(hugs(kind), out)?;
         out.put_short(brackets(kind).0)?;
         push(&mut self.outer, self.here)?;
-        let mark = match self.marks.pop() {
-            Some(mark) => mark,
-            None => OpenBracket::top(None).mark,
-        };
+        let mark = self.marks.pop().unwrap_or(OpenBracket::top(None).mark);
         if mark.broken {
             self.level += 1;
         }
@@ -196,10 +169,7 @@ impl RowWriter {
         if let Some(kind) = self.here.within {
             out.put_short(brackets(kind).1)?;
         }
-        self.here = match self.outer.pop() {
-            Some(below) => below,
-            None => OpenBracket::top(None),
-        };
+        self.here = self.outer.pop().unwrap_or(OpenBracket::top(None));
         self.left = Edge::Operand;
         Ok(())
     }
@@ -237,7 +207,10 @@ impl RowWriter {
             Part::Close(one_comma) => self.close(one_comma, out),
             Part::End => self.end(out),
             Part::Above(text) if self.here.mark.broken => put(Gap::Line(self.level), text, out),
-            Part::Beside(text) if self.here.has_beside() => put(Gap::Apart, text, out),
+            // In place no comment stands beside a segment, but at the top.
+            Part::Beside(text) if self.here.mark.broken || self.here.within.is_none() => {
+                put(Gap::Apart, text, out)
+            }
             Part::Above(_) | Part::Beside(_) => Ok(()),
         }
     }

@@ -1,5 +1,5 @@
 -- A statement without the first of its comments, and what a command makes of both.
-use Rattle.std.proofs.Common.{◌≡◌, ◌≤◌, ◌+◌, ◌∙◌, ◌++◌, ℕ, List, [], ◌∷◌, true, Option, None, Some, length, map, take, drop, refl, ap, sym, arith, append_assoc}
+use Rattle.std.proofs.Common.{◌≡◌, ◌≤◌, ◌+◌, ◌∙◌, ◌++◌, ℕ, List, [], ◌∷◌, true, Option, None, Some, length, map, take, drop, refl, ap, sym, arith, append_assoc, length-append}
 use Rattle.std.specs.List.{drop-map, take-map}
 use Rattle.std.proofs.lemmas.Bool.{false≢true}
 use Rattle.std.proofs.lemmas.List.{drop-append-le, take-append-le, length-map, map-append, take-append-drop, drop-drop, length-take-le}
@@ -38,6 +38,9 @@ parts_off n s = off n s.before (own_parts s)
 
 pub parts_below : (n : ℕ) (s : Statement) → n ≤ length s.before → drop n (parts_of s) ≡ parts_of (below n s)
 parts_below n s h = drop-append-le n (map above s.before) (own_parts s) (omega (arith, h, length-map s.before above)) ∙ ap (λ (ps : List RowPart). ps ++ own_parts s) (drop-map above n s.before)
+
+pub fits_parts : (n : ℕ) (s : Statement) → n ≤ length s.before → n ≤ length (parts_of s)
+fits_parts n s h = omega (arith, h, length-append (map above s.before) (own_parts s), length-map s.before above)
 
 -- and so after a command
 commented : (n : ℕ) (text : List ℕ) (s : Statement) (o : Option Rule) → n ≤ length s.before

@@ -8,12 +8,13 @@ use Rattle.bz_command.specs.declared.arguments.Attributes.TheVariants.{Named}
 use Rattle.bz_command.specs.declared.arguments.Commented.TheVariants.{Rule as Above, Attribute, Value}
 use Rattle.bz_command.specs.declared.arguments.Moved.TheVariants.{Values}
 use Rattle.bz_command.specs.declared.arguments.Setting.TheVariants.{ToKind, ToValues}
-use Rattle.bz_attribute.specs.Rules.{first_named, is_named, is_text, name_of, value, string_value}
+use Rattle.bz_attribute.specs.Rules.{Rule, rule_of, first_named, is_named, is_text, name_of, value, string_value}
 use Rattle.bz_attribute.specs.Lists.{edit_first_part, edit_parts, equals, parts, with_value}
 use Rattle.bz_list_commands.specs.Add.{add, new_elements, with_added}
-use Rattle.bz_attribute_commands.specs.Comment.{comment_attribute, comment_element, comment_line, comment_note, comment_value}
+use Rattle.bz_attribute_commands.specs.Comment.{comment_attribute, comment_element, comment_line, comment_note, comment_rule, comment_value}
 use Rattle.bz_attribute.specs.Effects.{argument, edit_first, filtered, has, list_item, loses_all, unchosen, with_args, edit_element, with_comment}
 use Rattle.bz_attribute.specs.Heads.{HasHead}
+use Rattle.bz_attribute.specs.declared.head.Head.{Head}
 use Rattle.bz_list_commands.specs.Replace.{replace, replaced, replaced_in}
 use Rattle.bz_attribute.specs.RowPlaces.{IsLocal}
 use Rattle.bz_attribute_commands.specs.Set.{is_value, new_of, new_value, set, set_if_absent, set_in}
@@ -24,7 +25,7 @@ use Rattle.bz_rule.specs.OneAttribute.{one_attribute}
 use Rattle.bz_rule.specs.private.RowEdits.{KeepsHead, edits_arguments, rule_after}
 use Rattle.bz_rule.proofs.Arguments.{attribute_named, name_put}
 use Rattle.bz_rule.proofs.Commands.{local}
-use Rattle.bz_rule.proofs.RowEdited.{args_rule}
+use Rattle.bz_rule.proofs.RowEdited.{args_rule, none_above, one_above}
 use Rattle.bz_token.specs.Common.{is_empty}
 use Rattle.bz_attribute.proofs.Locals.{has_first, is_first_named}
 use Rattle.bz_attribute.proofs.EditedRules.{rule_after as rule_edited, rule_with}
@@ -178,7 +179,7 @@ edits (Comment Above text) attr is = absurd cc
 edits (Print fields) attr is = absurd cc
 edits _ attr is = refl
 
-with_head : (f : List Segment → List Segment) (s : Statement) → ((args : List Segment) → first_named (codes "name") (f args) ≡ first_named (codes "name") args) → KeepsHead s (with_args f s)
+with_head : (f : List Segment → List Segment) (s : Statement) → ((args : List Segment) → first_named (codes "name") (f args) ≡ first_named (codes "name") args) → (head : Option Head) → HasHead head s → HasHead head (with_args f s)
 with_head f s same None has = rule_edited f s ∙ ap (option_map (rule_with f)) has
 with_head f s same (Some head) has = record {
   rule = rule_with f has.rule;
@@ -189,7 +190,18 @@ with_head f s same (Some head) has = record {
   end_is = has.end_is;
 }
 
-pub head_stays : (c : Command) (home : Package) (attr : List ℕ) (s : Statement) → one_attribute c ≡ Some attr → bytes_eq attr (codes "name") ≡ false → KeepsHead s (rule_after c home s)
-head_stays c home attr s is h head has =
-    subst (HasHead head) (sym (args_rule c home s (edits c attr is)))
-    (with_head (args_after c home) s (first_stays (codes "name") attr (args_after c home) h (local c home attr is).args (makes_no c home attr (codes "name") is h)) head has)
+pub head_stays : (c : Command) (home : Package) (attr : List ℕ) (s : Statement) (r : Rule) → one_attribute c ≡ Some attr → bytes_eq attr (codes "name") ≡ false → rule_of s.nodes ≡ Some r → KeepsHead 0 s (rule_after c home s)
+head_stays c home attr s r is h rule = record {
+  head = λ head has.
+      subst (HasHead head) (sym (args_rule c home s (edits c attr is)))
+      (with_head (args_after c home) s (first_stays (codes "name") attr (args_after c home) h (local c home attr is).args (makes_no c home attr (codes "name") is h)) head has);
+  more = none_above c home s r rule;
+}
+
+-- and where it adds a comment above the rule
+commented : (text : List ℕ) (s : Statement) (head : Option Head) → HasHead head s → HasHead head (comment_rule text s)
+commented text s None has = has
+commented text s (Some head) has = record { rule = has.rule; is = has.is; kind_is = has.kind_is; name_is = has.name_is; start_is = has.start_is; end_is = has.end_is }
+
+pub head_below : (text : List ℕ) (home : Package) (s : Statement) (r : Rule) → rule_of s.nodes ≡ Some r → KeepsHead 1 s (rule_after (Comment Above text) home s)
+head_below text home s r is = record { head = commented text s; more = one_above text home s r is }

@@ -17,10 +17,12 @@ use Rattle.bz_attribute_commands.specs.Set.{kind_after, kind_items, sets_kind_of
 use Rattle.bz_rule.specs.Commands.{Command, after, args_after, args_done, done_of}
 use Rattle.bz_rule.specs.declared.command.Action.TheVariants.{Comment, Delete, Print, Set}
 use Rattle.bz_attribute.specs.RowEdits.{IsRowEdit, IsWithin, replaced_at}
+use Rattle.bz_attribute.specs.Heads.{HasHead}
+use Rattle.bz_attribute.specs.declared.head.Head.{Head}
 use Rattle.bz_attribute.specs.RowPlaces.{IsRuleRow}
 use Rattle.bz_memory.specs.declared.no_memory.NoMemory.{NoMemory}
 use Rattle.bz_attribute.specs.declared.edit.Edit.{Edit}
-use Rattle.bz_rule.specs.private.RowEdits.{HasMore, edits_arguments, is_edit, rule_after}
+use Rattle.bz_rule.specs.private.RowEdits.{edits_arguments, is_edit, rule_after}
 use Rattle.bz_command.specs.declared.arguments.Field.{Field}
 use Rattle.bz_attribute_commands.specs.Print.{prints, fields_of, printed}
 use Rattle.bz_rule.proofs.Commands.{lawful}
@@ -82,6 +84,11 @@ pub some_rule : (o : Option Rule) → is_some o ≡ true → (r : Rule) × (o �
 some_rule None h = absurd (false≢true h)
 some_rule (Some r) h = (r, refl)
 
+-- the kind that a head tells
+pub kind_known : (head : Option Head) (s : Statement) (r : Rule) → HasHead head s → rule_of s.nodes ≡ Some r → kind_text r.kind ≡ map_or [] (λ h. h.kind.now) head
+kind_known None s r has is = absurd cc
+kind_known (Some head) s r has is = let both : Some r ≡ Some has.rule = sym is ∙ has.is in let same : r ≡ has.rule = cc in ap (λ (z : Rule). kind_text z.kind) same ∙ has.kind_is
+
 -- of a command on arguments
 pub args_rule : (c : Command) (home : Package) (s : Statement) → edits_arguments c ≡ true → rule_after c home s ≡ with_args (args_after c home) s
 args_rule (Set (ToKind kind)) home s h = absurd (false≢true h)
@@ -110,12 +117,12 @@ arguments_edited c home kind ps new e edits edit = record {
 }
 
 -- a comment more above the rule
-pub one_above : (text : List ℕ) (home : Package) (s : Statement) (r : Rule) → rule_of s.nodes ≡ Some r → HasMore 1 s (rule_after (Comment Above text) home s)
+pub one_above : (text : List ℕ) (home : Package) (s : Statement) (r : Rule) → rule_of s.nodes ≡ Some r → length s.before + 1 ≤ length (rule_after (Comment Above text) home s).before
 one_above text home s r is =
     let more : length (map_or s.before (λ r. s.before ++ comment_line text ∷ []) (rule_of s.nodes)) ≡ length s.before + 1 = ap (λ (o : Option Rule). length (map_or s.before (λ r. s.before ++ comment_line text ∷ []) o)) is ∙ length-append s.before (comment_line text ∷ []) in
     omega (arith, more)
 
-pub none_above : (c : Command) (home : Package) (s : Statement) (r : Rule) → rule_of s.nodes ≡ Some r → HasMore 0 s (rule_after c home s)
+pub none_above : (c : Command) (home : Package) (s : Statement) (r : Rule) → rule_of s.nodes ≡ Some r → length s.before + 0 ≤ length (rule_after c home s).before
 none_above c home s r is = let next = next_of c home s r (parts_of (rule_after c home s)) is refl in omega (arith, next.before)
 
 pub comment_edited : (text : List ℕ) (home : Package) (kind : List ℕ) (ps new : List RowPart) (x : Result Edit NoMemory) → IfOk x (λ e. IsWithin e.place ps) → IfOk x (λ e. (s : Statement) (r : Rule) → IsRuleRow s r ps → replaced_at e.place new ps ≡ parts_of (comment_rule text s)) → IfOk x (λ e. e.done ≡ done None true) → IfOk x (IsEditOf (Comment Above text) home kind ps new)

@@ -55,19 +55,15 @@ abbrev pub remove_of : List (List ℕ) → Result Command CommandFault
 remove_of [] = Err WrongCount
 remove_of (attr ∷ values) = if is_star attr then Ok (Remove Every values) else on_attribute attr (Remove (Named attr) values)
 
--- attributes that take one word
-abbrev pub takes_one : List ℕ → Bool
-takes_one attr = bytes_eq attr (codes "name") || bytes_eq attr (codes "kind")
-
 abbrev pub set_kind_of : List (List ℕ) → Result Command CommandFault
 set_kind_of [] = Err WrongCount
 set_kind_of (kind ∷ words) = if is_kind kind then Ok (Set (ToKind kind)) else Err BadKind
 
--- `set <attr> <v>..`, `set kind <k>`
+-- `set <attr> <v>..`, `set kind <k>`: a name and a kind are one word
 abbrev pub set_of : List (List ℕ) → Result Command CommandFault
 set_of [] = Err WrongCount
 set_of (attr ∷ values) =
-    if length values == 0 || takes_one attr && not (length values == 1) then Err WrongCount
+    if length values == 0 || (bytes_eq attr (codes "name") || bytes_eq attr (codes "kind")) && not (length values == 1) then Err WrongCount
     else (if bytes_eq attr (codes "kind") then set_kind_of values else on_attribute attr (Set (ToValues attr values)))
 
 -- `set_if_absent <attr> <v>..`, where `kind` is an attribute

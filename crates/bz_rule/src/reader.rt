@@ -1,11 +1,12 @@
 //! How a command is read from its text, and what several commands read of their words.
 
 ghost use Rattle.bz_memory.specs.NoMemory.{no_memory};
-ghost use Rattle.std.specs.Prelude.{◌≡◌, ◌≢◌, ◌∷◌, [], Err, MatchResult, false, true};
+ghost use Rattle.std.specs.Prelude.{◌≡◌, ◌≢◌, ◌∷◌, [], Err, MatchResult, Ok, false, if◌then◌else◌, true};
 ghost use Rattle.std.specs.List.{list_any};
 ghost use Rattle.bz_command.specs.Arguments as arguments;
+ghost use Rattle.bz_command.specs.Names.{is_identifier};
 ghost use Rattle.bz_rule.specs.Commands as spec;
-ghost use Rattle.bz_rule.specs.private.CommandSteps.{attribute_of, attributes_of, place_of};
+ghost use Rattle.bz_rule.specs.private.CommandSteps.{place_of};
 
 use crate::command::{Command, CommandFault, read_named};
 use bz_command::{Attributes, Commented, Moved, Seq, Text, read_words};
@@ -60,7 +61,8 @@ pub(crate) fn breaks_line(text: &str) -> bool
 
 /// A star means every attribute.
 pub(crate) fn attributes(word: Text) -> Result<Attributes, CommandFault>
-    ensures { result ≡ attributes_of word }
+    ensures { result ≡ (if spec.is_star word then Ok Attributes.Every
+        else (if is_identifier word then Ok (Attributes.Named word) else Err CommandFault.BadAttribute)) }
 {
     if word.as_str() == "*" {
         return Ok(Attributes::Every);
@@ -69,7 +71,7 @@ pub(crate) fn attributes(word: Text) -> Result<Attributes, CommandFault>
 }
 
 pub(crate) fn attribute(word: Text) -> Result<Text, CommandFault>
-    ensures { result ≡ attribute_of word }
+    ensures { result ≡ (if is_identifier word then Ok word else Err CommandFault.BadAttribute) }
 {
     ensure(is_identifier(word.as_str()), CommandFault::BadAttribute)?;
     Ok(word)

@@ -1,32 +1,11 @@
 //! An edit of the parts of a statement: it moves what stands behind its place, and no more.
 
-ghost use Rattle.std.specs.Prelude.{◌≡◌, ◌≤◌, length, IfOk, OnErr, OnOk};
+ghost use Rattle.std.specs.Prelude.{◌≡◌, ◌≤◌, length, OnErr, OnOk};
 ghost use Rattle.std.specs.List.{splice};
 
-use bumpalo::Bump;
 use bz_attribute::{Parts, Place};
-use bz_memory::{NoMemory, extend_from_slice, with_room_for_both};
+use bz_memory::{NoMemory, extend_from_slice};
 use bz_tree::Part;
-
-// For the next edits, which mostly add.
-const ROOM: usize = 16;
-
-/// A list of some parts with others in a place of them.
-pub(crate) fn with_others<'a>(
-    bump: &'a Bump,
-    parts: &[Part<'a>],
-    place: Place,
-    new: &[Part<'a>],
-) -> Result<Parts<'a>, NoMemory>
-    requires { (place.from ≤ place.to) × (place.to ≤ length parts.now) }
-    ensures { IfOk result (λ list. list.items ≡ splice parts.now place.from place.to new.now) }
-{
-    let mut list = with_room_for_both(bump, parts, new, ROOM)?;
-    extend_from_slice(&mut list, &parts[..place.from])?;
-    extend_from_slice(&mut list, new)?;
-    extend_from_slice(&mut list, &parts[place.to..])?;
-    Ok(list)
-}
 
 /// Puts others in a place of a list. `Err`: memory was refused, and the list is as it was.
 pub(crate) fn put_in<'a>(

@@ -10,7 +10,6 @@ use crate::statement_row::{StatementRow, execute};
 use bumpalo::Bump;
 use bz_attribute::{Done, Env, Executed, is_rule};
 use bz_command::Package;
-use bz_memory::NoMemory;
 use bz_tree::Stmt;
 use std::alloc::Global;
 
@@ -41,17 +40,10 @@ pub fn apply<'a>(
     }
     let mut row = Some(StatementRow::of_stmt(alloc, bump, stmt)?);
     let done = execute(Env { alloc, home }, command, &mut row)?;
-    let left = tree_of(alloc, &row)?;
+    let left = match row {
+        None => None,
+        Some(row) => Some(row.tree(alloc)?),
+    };
     *slot = left;
     Ok(done)
-}
-
-// The tree of what a slot holds.
-fn tree_of<'a>(alloc: Global, slot: &Option<StatementRow<'a>>) -> Result<Option<Stmt<'a>>, NoMemory>
-    ensures { IfOk result (λ left. slot_view left ≡ slot.now) }
-{
-    match slot {
-        None => Ok(None),
-        Some(row) => Ok(Some(row.tree(alloc)?)),
-    }
 }

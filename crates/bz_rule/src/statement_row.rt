@@ -16,21 +16,24 @@ ghost use Rattle.bz_attribute_commands.specs.Print.{prints};
 ghost use Rattle.bz_layout.specs.Layout.{layout_text};
 ghost use Rattle.bz_rule.specs.Commands as commands;
 ghost use Rattle.bz_attribute.specs.RowEdits.{IsWithin, replaced_at};
-ghost use Rattle.bz_rule.specs.private.RowEdits.{HasKindAndParts, is_edit, rule_after};
+ghost use Rattle.bz_rule.specs.private.RowEdits.{is_edit, rule_after};
 
 use crate::command::{Action, Command};
-use crate::row_edit::{RuleParts, edit_rule, keeps_head, new_comments};
-use crate::row_parts::{put_in, with_others};
+use crate::row_edit::{edit_rule, kept_head};
+use crate::row_parts::put_in;
 use bumpalo::Bump;
 use bz_attribute::{Done, Env, Executed, Head, Parts, Place, is_rule};
 use bz_attribute_commands::print::print;
 use bz_command::{Field, Package, Target};
 use bz_layout::put_row;
-use bz_memory::NoMemory;
+use bz_memory::{NoMemory, extend_from_slice, with_room_for_both};
 use bz_tree::{Class, Part, Row, Stmt, push_parts, stmt_of_parts};
 use std::alloc::Global;
 use std::marker::Model;
 use std::mem;
+
+// For the next edits, which mostly add.
+const ROOM: usize = 16;
 
 /// A statement.
 #[derive(Drop)]
@@ -95,19 +98,18 @@ impl<'a> StatementRow<'a> {
     {
         let mut parts = Vec::new(bump);
         push_parts(stmt, &mut parts)?;
-        let head = head_of(alloc, bump, stmt, &parts)?;
-        Ok(StatementRow {
-            row: Row {
-                parts,
-                class: stmt.class,
-                start: stmt.start,
-                end: stmt.end,
-            },
-            spare: Vec::new(bump),
-            head,
-            comments: 0,
-            bump,
-        })
+        let head = if is_rule(&stmt.nodes) {
+            Head::of_parts(alloc, bump, &parts, stmt.start, stmt.end)?
+        } else {
+            None
+        };
+        let row = Row {
+            parts,
+            class: stmt.class,
+            start: stmt.start,
+            end: stmt.end,
+        };
+        Ok(StatementRow::new(bump, row, head))
     }
 
     pub fn class(&self) -> Class
@@ -126,10 +128,7 @@ impl<'a> StatementRow<'a> {
     pub fn is_marked_by(&self, target: &Target) -> bool
         ensures { result ≡ marks.marks target.now self.now }
     {
-        match &self.head {
-            None => false,
-            Some(head) => head.is_marked_by(target),
-        }
+        matches!(&self.head, Some(head) if head.is_marked_by(target))
     }
 
     /// The name of the rule that it is, if it has one.
@@ -137,10 +136,7 @@ impl<'a> StatementRow<'a> {
         ensures { (name : List ℕ) → marks.marks (Name name) self.now
             ≡ is_text name (option_map (λ text. text.now) result) }
     {
-        match &self.head {
-            None => None,
-            Some(head) => head.name,
-        }
+        self.head?.name
     }
 
     /// The rule that it is, by its name or by `%` and its kind; empty for a statement that is no rule.
@@ -180,20 +176,6 @@ impl<'a> StatementRow<'a> {
         }
     }
 
-    fn rule(&self) -> RuleParts<'_, 'a>
-        ensures { HasKindAndParts result self.now }
-    {
-        let kind = match &self.head {
-            None => "",
-            Some(head) => head.kind,
-        };
-        RuleParts {
-            kind,
-            comments: self.comments,
-            parts: self.row.parts.as_slice(),
-        }
-    }
-
     // Puts what a command has written in its place. `Err`: memory was refused, and all is as it was.
     fn change(
         &mut self,
@@ -209,12 +191,14 @@ impl<'a> StatementRow<'a> {
         ensures changed { OnOk result (self.new ≡ rule_after command.now env.entry.home.now self.old) }
         ensures err { OnErr result (self.new ≡ self.old) }
     {
-        if keeps_head(command) {
+        if let Some(more) = kept_head(command) {
             put_in(&mut self.row.parts, place, new)?;
-            self.comments = self.comments.saturating_add(new_comments(command));
+            self.comments = self.comments.saturating_add(more);
             return Ok(());
         }
-        let list = with_others(self.bump, self.row.parts.as_slice(), place, new)?;
+        let mut list = with_room_for_both(self.bump, &self.row.parts, new, ROOM)?;
+        extend_from_slice(&mut list, &self.row.parts)?;
+        put_in(&mut list, place, new)?;
         let head = Head::of_parts(env.alloc, self.bump, &list, self.row.start, self.row.end)?;
         self.row.parts = list;
         self.head = head;
@@ -230,7 +214,7 @@ impl<'a> StatementRow<'a> {
         ensures err { OnErr result (self.new ≡ self.old) }
     {
         let mut new = mem::replace(&mut self.spare, Vec::new(self.bump));
-        let edit = edit_rule(env, command, self.rule(), &mut new)?;
+        let edit = edit_rule(env, command, self, &mut new)?;
         if !edit.done.changed {
             self.spare = new;
             return Ok(edit.done);
@@ -239,22 +223,6 @@ impl<'a> StatementRow<'a> {
         self.spare = new;
         Ok(edit.done)
     }
-}
-
-// The head of the rule that has a tree and these parts.
-fn head_of<'a>(
-    alloc: Global,
-    bump: &'a Bump,
-    stmt: &Stmt<'a>,
-    parts: &[Part<'a>],
-) -> Result<Option<Head<'a>>, NoMemory>
-    requires { map part_view parts.now ≡ parts_of (view stmt.now) }
-    ensures { IfOk result (λ head. HasHead head (view stmt.now)) }
-{
-    if !is_rule(&stmt.nodes) {
-        return Ok(None);
-    }
-    Head::of_parts(alloc, bump, parts, stmt.start, stmt.end)
 }
 
 /// Applies a command to what a slot holds, as `apply` does. An `Err` leaves the slot as it was.

@@ -20,9 +20,3 @@ pub record IsRuleOf (known : Head) (ps : List RowPart) (s : Statement) (r : Rule
 pub record HasPrinted (home : Package) (fields : List Field) (head : Head) (ps : List RowPart) (old new : List ℕ) (told : Option Note) : Type 0 where
   pub line : (s : Statement) (r : Rule) → IsRuleOf head ps s r → new ≡ old ++ line_of home s r fields
   pub note : (s : Statement) (r : Rule) → IsRuleOf head ps s r → told ≡ missing home s r fields
-
--- this is written of each rule of this name
-pub record IsFieldOfName (home : Package) (field : Field) (name old new : List ℕ) : Type 0 where
-  pub text : List ℕ
-  pub is : (s : Statement) (r : Rule) → name_in r.args ≡ Some name → field_text home s r field ≡ Some text
-  pub line : new ≡ old ++ text

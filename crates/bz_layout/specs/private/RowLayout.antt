@@ -1,7 +1,8 @@
 -- For private clauses: the two walks over the parts of a statement.
-use Rattle.std.specs.Prelude.{codes, ℕ, ◌+◌, ◌-◌, List, [], ◌∷◌, ◌++◌, reverse, Bool, true, false, not, ◌||◌, ◌&&◌, if◌then◌else◌, nat_le, nat_lt, Option, is_some}
+use Rattle.std.specs.Prelude.{codes, ℕ, ◌+◌, ◌-◌, List, [], ◌∷◌, ◌++◌, reverse, drop, get_or, Bool, true, false, not, ◌||◌, ◌&&◌, if◌then◌else◌, nat_le, nat_lt, Option, is_some}
 use Rattle.std.specs.Prelude.Option.{Some, None}
 use Rattle.bz_token.specs.declared.token.Kind.{Kind}
+use Rattle.bz_token.specs.Common.{map_or}
 use Rattle.bz_tree.specs.declared.tree.GroupKind.{GroupKind}
 use Rattle.bz_tree.specs.Tree.{leaf}
 use Rattle.bz_tree.specs.Rows.{RowPart, a_token, opening, closing, segment_end, above, beside}
@@ -15,19 +16,10 @@ use Rattle.bz_layout.specs.declared.marks.Marks.{Marks}
 use Rattle.bz_layout.specs.declared.walk.OpenBracket.{OpenBracket}
 use Rattle.bz_layout.specs.declared.walk.RowWriter.{RowWriter}
 use Rattle.bz_layout.specs.Respell.{respell}
-use Rattle.bz_layout.specs.Spacing.{closes_up, hugs, edge_after, holds_on}
+use Rattle.bz_layout.specs.Spacing.{closes_up, hugs, edge_after, gap_for}
 use Rattle.bz_layout.specs.Broken.{breaks_by_count}
 use Rattle.bz_layout.specs.Pieces.{gap_bytes, bytes_of, comment_lines}
 use Rattle.bz_layout.specs.Layout.{has_commas, opening as opening_text, closing as closing_text}
-
--- The rules of the layout, without a tree: the gap before what closes up or does not ..
-abbrev pub gap_for : Gap → Edge → Bool → Gap
-gap_for first Start closes = first
-gap_for first left closes = if holds_on left || closes then Closed else Space
-
--- .. and whether a group is broken, by whether it has comments, its number of segments, and whether one of them holds a broken group
-abbrev pub breaks_with : GroupKind → Bool → ℕ → Bool → Bool
-breaks_with kind comments n inside = comments || breaks_by_count kind n || (nat_le 2 n && inside)
 
 -- The walk backwards: marks of the brackets after it, the first one first, and what stands in the brackets that it is in, the innermost first.
 pub record Scan : Type 0 where
@@ -42,7 +34,7 @@ abbrev pub one_more : ℕ → ℕ
 one_more n = if nat_lt n 2 then n + 1 else n
 
 abbrev pub mark_of : GroupKind → Contents → BracketForm
-mark_of kind i = record { broken = breaks_with kind i.comments i.segs i.holds; comma = has_commas kind i.one_comma i.segs }
+mark_of kind i = record { broken = i.comments || breaks_by_count kind i.segs || (nat_le 2 i.segs && i.holds); comma = has_commas kind i.one_comma i.segs }
 
 abbrev pub holding : Bool → Contents → Contents
 holding holds i = record i { holds = holds || i.holds }
@@ -104,10 +96,6 @@ is_start _ = false
 abbrev pub due : OpenBracket → Edge → List ℕ
 due f left = if f.mark.broken then [] else (if f.later then comma_bytes (is_start left) else [])
 
--- comments stand on lines of their own in broken brackets, and beside their segment there and at the top
-abbrev pub has_beside : OpenBracket → Bool
-has_beside f = f.mark.broken || not (is_some f.within)
-
 abbrev pub start : List ℕ → List BracketForm → Option GroupKind → Laid
 start text marks within = record { text = text; marks = marks; outer = []; here = top within; left = Start; level = 0 }
 
@@ -123,40 +111,21 @@ with_token kind text s = record s {
   left = edge_after s.here.within s.left (leaf kind text);
 }
 
-abbrev pub level_in : BracketForm → ℕ → ℕ
-level_in mark level = if mark.broken then level + 1 else level
-
-abbrev pub first_mark : List BracketForm → BracketForm
-first_mark [] = whole
-first_mark (mark ∷ marks) = mark
-
-abbrev pub tail : {A : Type 0} → List A → List A
-tail [] = []
-tail (x ∷ xs) = xs
-
 abbrev pub opened : GroupKind → Laid → Laid
 opened kind s = record {
   text = s.text ++ (due s.here s.left ++ (gap_bytes (gap_for (first_gap s.here s.level) s.left (hugs kind)) ++ opening_text kind));
-  marks = tail s.marks;
+  marks = drop 1 s.marks;
   outer = s.here ∷ s.outer;
-  here = record { within = Some kind; mark = first_mark s.marks; later = false };
+  here = record { within = Some kind; mark = get_or s.marks 0 whole; later = false };
   left = Start;
-  level = level_in (first_mark s.marks) s.level;
+  level = if (get_or s.marks 0 whole).broken then s.level + 1 else s.level;
 }
-
-abbrev pub first_frame : List OpenBracket → OpenBracket
-first_frame [] = top None
-first_frame (f ∷ fs) = f
-
-abbrev pub closing_of : Option GroupKind → List ℕ
-closing_of None = []
-closing_of (Some kind) = closing_text kind
 
 abbrev pub closed_by : Bool → Laid → Laid
 closed_by one_comma s = record s {
-  text = s.text ++ ((if s.here.mark.broken then gap_bytes (Line (s.level - 1)) else comma_bytes one_comma) ++ closing_of s.here.within);
-  outer = tail s.outer;
-  here = first_frame s.outer;
+  text = s.text ++ ((if s.here.mark.broken then gap_bytes (Line (s.level - 1)) else comma_bytes one_comma) ++ map_or [] closing_text s.here.within);
+  outer = drop 1 s.outer;
+  here = get_or s.outer 0 (top None);
   left = Operand;
   level = if s.here.mark.broken then s.level - 1 else s.level;
 }
@@ -174,8 +143,9 @@ step (a_token kind text) s = with_token kind text s
 step (opening kind) s = opened kind s
 step (closing one_comma) s = closed_by one_comma s
 step segment_end s = ended s
+-- comments stand on lines of their own in broken brackets, and beside their segment there and at the top
 step (above text) s = put_comment s.here.mark.broken (Line s.level) text s
-step (beside text) s = put_comment (has_beside s.here) Apart text s
+step (beside text) s = put_comment (s.here.mark.broken || not (is_some s.here.within)) Apart text s
 
 abbrev pub run : List RowPart → Laid → Laid
 run [] s = s
@@ -186,9 +156,6 @@ abbrev pub leading : List RowPart → List (List ℕ)
 leading (above text ∷ ps) = text ∷ leading ps
 leading _ = []
 
-abbrev pub line_text : List ℕ → List RowPart → List ℕ
-line_text text ps = (run ps (start text (scan ps).marks None)).text ++ codes "\n"
-
 -- the comments above the statement and its line, after what stands before them
 abbrev pub lines_text : List ℕ → List RowPart → List ℕ
-lines_text before ps = line_text (before ++ bytes_of (comment_lines (leading ps))) ps
+lines_text before ps = (run ps (start (before ++ bytes_of (comment_lines (leading ps))) (scan ps).marks None)).text ++ codes "\n"

@@ -23,7 +23,7 @@ use Rattle.bz_rule.proofs.Lawful.{Lawful, on_arguments, passed, held}
 use Rattle.bz_command.specs.Names.{is_identifier}
 use Rattle.std.specs.Str.{is_utf8}
 use Rattle.bz_rule.specs.declared.command.CommandFault.TheVariants.{WrongCount, BadAttribute}
-use Rattle.bz_rule.specs.Commands.{Command, IsRead, on_attribute, set_if_absent_of, set_kind_of, set_of, takes_one}
+use Rattle.bz_rule.specs.Commands.{Command, IsRead, on_attribute, set_if_absent_of, set_kind_of, set_of}
 use Rattle.bz_token.specs.Common.{map_or}
 use Rattle.bz_attribute.proofs.Locals.{has_first}
 use Rattle.bz_attribute_commands.proofs.SetEdits.{set_if_absent_local}
@@ -178,12 +178,12 @@ set_kind_read (kind ∷ words) c h u = search rules
 pub set_read : (words : List (List ℕ)) (c : Command) → Ok c ≡ set_of words → list_all is_utf8 words ≡ true → IsRead c
 set_read [] c h u = absurd (cc)
 set_read (attr ∷ values) c h u =
-    let right = passed (length values == 0 || takes_one attr && not (length values == 1)) WrongCount (if bytes_eq attr (codes "kind") then set_kind_of values else on_attribute attr (Set (ToValues attr values))) c h in
+    let right = passed (length values == 0 || (bytes_eq attr (codes "name") || bytes_eq attr (codes "kind")) && not (length values == 1)) WrongCount (if bytes_eq attr (codes "kind") then set_kind_of values else on_attribute attr (Set (ToValues attr values))) c h in
     elim (cases_Bool (bytes_eq attr (codes "kind"))) [
       | inl kind ↦ set_kind_read values c (rw kind at right.1) (and_parts (is_utf8 attr) (list_all is_utf8 values) u).1
       | inr other ↦
           let named = held (is_identifier attr) BadAttribute (Set (ToValues attr values)) c (rw other at right.1) in
-          rw named.1 (record { command = rw (named.0, (or_parts (length values == 0) (takes_one attr && not (length values == 1)) right.0).0) refl; words = u })
+          rw named.1 (record { command = rw (named.0, (or_parts (length values == 0) ((bytes_eq attr (codes "name") || bytes_eq attr (codes "kind")) && not (length values == 1)) right.0).0) refl; words = u })
     ]
 
 pub set_if_absent_read : (words : List (List ℕ)) (c : Command) → Ok c ≡ set_if_absent_of words → list_all is_utf8 words ≡ true → IsRead c

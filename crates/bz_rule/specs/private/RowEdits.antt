@@ -1,7 +1,7 @@
 -- For private clauses: where the arguments stand that a command looks at, and a row with its head.
-use Rattle.std.specs.Prelude.{◌≡◌, ℕ, List, Bool, true, false, Option, Some, map, ◌≤◌, ◌+◌, length}
+use Rattle.std.specs.Prelude.{◌≡◌, ℕ, List, Bool, true, false, Option, Some, ◌≤◌, ◌+◌, length}
 use Rattle.bz_tree.specs.Tree.{Statement}
-use Rattle.bz_tree.specs.Rows.{RowPart, part_view, parts_of}
+use Rattle.bz_tree.specs.Rows.{RowPart, parts_of}
 use Rattle.bz_command.specs.Labels.{Package}
 use Rattle.bz_command.specs.declared.arguments.Commented.TheVariants.{Rule as Above}
 use Rattle.bz_command.specs.declared.arguments.Setting.TheVariants.{ToKind}
@@ -12,8 +12,6 @@ use Rattle.bz_attribute.specs.Effects.{with_args}
 use Rattle.bz_attribute.specs.Heads.{HasHead}
 use Rattle.bz_attribute.specs.RowEdits.{replaced_at}
 use Rattle.bz_attribute.specs.declared.edit.Edit.{Edit}
-use Rattle.bz_attribute.specs.Rules.{Rule, rule_of, kind_text}
-use Rattle.bz_rule.specs.declared.row_edit.RuleParts.{RuleParts}
 use Rattle.bz_attribute_commands.specs.Set.{with_kind}
 use Rattle.bz_attribute.specs.declared.head.Head.{Head}
 use Rattle.bz_rule.specs.RowViews.{RowValue, row_statement}
@@ -25,15 +23,10 @@ pub record HasItsHead (row : RowValue) (head : Option Head) (comments : ℕ) : T
   -- at least so many comments stand above it
   pub below : comments ≤ length (row_statement row).before
 
--- the parts of a rule, beside its kind, and how many comments they begin with at least
-pub record HasKindAndParts (rule : RuleParts) (s : Statement) : Type 0 where
-  pub fits : rule.comments ≤ length s.before
-  pub are : map part_view rule.parts.now ≡ parts_of s
-  pub kind : (r : Rule) → rule_of s.nodes ≡ Some r → kind_text r.kind ≡ rule.kind.now
-
--- the one has each head that the other has
-abbrev pub KeepsHead : Statement → Statement → Type 0
-KeepsHead s after = (head : Option Head) → HasHead head s → HasHead head after
+-- the one has each head that the other has, and at least so many comments more above it
+pub record KeepsHead (comments : ℕ) (s after : Statement) : Type 0 where
+  pub head : (head : Option Head) → HasHead head s → HasHead head after
+  pub more : length s.before + comments ≤ length after.before
 
 -- a command that makes another rule of a rule
 abbrev pub is_edit : Command → Bool
@@ -53,11 +46,7 @@ rule_after (Set (ToKind kind)) home s = with_kind kind s
 rule_after (Comment Above text) home s = comment_rule text s
 rule_after c home s = with_args (args_after c home) s
 
--- it has at least so many comments more above it
-abbrev pub HasMore : ℕ → Statement → Statement → Type 0
-HasMore comments s after = length s.before + comments ≤ length after.before
-
--- What a command makes of the parts of a rule: the new ones, in their place, make the rule after it.
-pub record IsEditFor (c : Command) (home : Package) (s : Statement) (ps new : List RowPart) (e : Edit) : Type 0 where
-  pub parts : e.done.changed ≡ true → replaced_at e.place new ps ≡ parts_of (rule_after c home s)
+-- What a command makes of a rule: the new parts, in their place, make the rule after it.
+pub record IsEditFor (c : Command) (home : Package) (s : Statement) (new : List RowPart) (e : Edit) : Type 0 where
+  pub parts : e.done.changed ≡ true → replaced_at e.place new (parts_of s) ≡ parts_of (rule_after c home s)
   pub done : e.done ≡ done_of c home (Some s)

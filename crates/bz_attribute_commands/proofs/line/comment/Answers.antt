@@ -1,11 +1,14 @@
 use Rattle.std.proofs.Common.{◌∙◌, ◌≤◌, ℕ, List, is_some, length, map, ap, sym, refl, subst, arith}
 use Rattle.std.proofs.lemmas.List.{length-map}
 use Rattle.bz_tree.specs.Rows.{RowPart, part_view}
+use Rattle.bz_tree.specs.Tree.{Statement}
 use Rattle.bz_attribute.specs.RowEdits.{replaced_at}
-use Rattle.bz_attribute.specs.RowPlaces.{HasArgument}
+use Rattle.bz_attribute.specs.RowPlaces.{HasArgument, IsRuleRow}
+use Rattle.bz_attribute.specs.Rules.{Rule, value}
 use Rattle.bz_attribute.specs.declared.done.Done.{Done}
 use Rattle.bz_attribute.proofs.RowEdits.{changed, unchanged}
 use Rattle.bz_attribute_commands.proofs.ArgumentEdits.{argument_commented, has_found}
+use Rattle.bz_attribute_commands.proofs.CommentEdits.{no_list_told, no_value_told, value_commented, value_told}
 use Rattle.bz_attribute_commands.proofs.line.comment.Goals as goal
 
 pub returns-in_default : goal.returns-in_default
@@ -27,5 +30,35 @@ returns-in_ok-write_line-in-Attribute c =
     ∙ argument_commented c.args.text.now attr s r ps at h (subst (HasArgument attr s r) c.in-Some.is (c.find_argument.ensures.found s r h)))
     (λ s r h. rw (has_found attr s r ps c.find_argument.result h (c.find_argument.ensures.found s r h) ∙ ap is_some c.in-Some.is) refl))
 
-pub returns-in-Value : goal.returns-in-Value
-returns-in-Value c = rw (c.in-Value.is) (rw (c.as_str-in-Value.ensures, c.as_str-in-Value-2.ensures) at c.comment_value.ensures)
+pub returns-in_default-first_list : goal.returns-in_default-first_list
+returns-in_default-first_list c =
+    let told = c.in_ok-not_a_list-in-Value.ensures in
+    rw (c.in-Value.is, sym c.as_str-attr.ensures, sym c.as_str-value.ensures) (unchanged _ _ (map part_view c.args.parts.now) _ _ _ c.none-in_default-first_list.ensures (ap (λ (d : Done). d.changed) told) (λ s r h.
+    let v = c.in-Some-value_place.ensures.some s r h in
+    told ∙ no_list_told c.args.env.home.now c.as_str-attr.result.now c.as_str-value.result.now r.args v.arg v.first (c.in_default-first_list.ensures.none (value v.arg) v.after v.read).none))
+
+pub returns-in_default-first_equal : goal.returns-in_default-first_equal
+returns-in_default-first_equal c =
+    let ps = map part_view c.args.parts.now in
+    let told = c.in_ok-no_value-in-Value.ensures in
+    rw (c.in-Value.is, sym c.as_str-attr.ensures, sym c.as_str-value.ensures) (unchanged _ _ ps _ _ _ c.none-in_default-first_equal.ensures (ap (λ (d : Done). d.changed) told) (λ s r h.
+    let v = c.in-Some-value_place.ensures.some s r h in
+    let l = c.in-Some-first_list.ensures.some (value v.arg) v.after v.read in
+    told ∙ no_value_told c.args.env.home.now c.as_str-attr.result.now c.as_str-value.result.now r.args v.arg v.after ps c.in-Some-value_place.at c.in-Some-first_list.list v.first l (c.in_default-first_equal.ensures.none l.list v.after l.read)))
+
+pub returns-in_ok-write_line-in-Value : goal.returns-in_ok-write_line-in-Value
+returns-in_ok-write_line-in-Value c =
+    let home = c.args.env.home.now in
+    let attr = c.as_str-attr.result.now in
+    let word = c.as_str-value.result.now in
+    let parts = c.args.parts.now in
+    let ps = map part_view parts in
+    let at : ℕ = c.in-Some-value_place.at in
+    let list : ℕ = c.in-Some-first_list.list in
+    let token : ℕ = c.in-Some-first_equal.token in
+    let v = λ (s : Statement) (r : Rule) (h : IsRuleRow s r ps). c.in-Some-value_place.ensures.some s r h in
+    let l = λ (s : Statement) (r : Rule) (h : IsRuleRow s r ps). c.in-Some-first_list.ensures.some (value (v s r h).arg) (v s r h).after (v s r h).read in
+    let e = λ (s : Statement) (r : Rule) (h : IsRuleRow s r ps). c.in-Some-first_equal.ensures.some (l s r h).list (v s r h).after (l s r h).read in
+    rw (c.in-Value.is, sym c.as_str-attr.ensures, sym c.as_str-value.ensures) (changed _ _ ps _ _ _ c.insertion-in-Value.ensures (omega arith, omega (arith, c.in-Some-first_equal.ensures.within, length-map parts part_view))
+    (λ s r h. ap (λ (new : List RowPart). replaced_at (record { from = token; to = token }) new ps) c.in_ok-write_line-in-Value.ensures ∙ value_commented home attr word c.args.text.now s r ps at list token h (v s r h) (l s r h) (e s r h))
+    (λ s r h. value_told home attr word r.args (v s r h).arg (v s r h).after ps at list (v s r h).first (l s r h) (e s r h).there))

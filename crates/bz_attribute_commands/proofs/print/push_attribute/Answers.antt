@@ -19,13 +19,13 @@ returns-in_default-value_place c =
 
 pub returns : goal.returns
 returns c =
-    let at = c.in-Some-value_place.value in
+    let at = c.in-Some.value in
     let end = c.value_end.result in
     let ps = map part_view c.args.parts.now in
     let nodes : List Item = nodes_view c.in_ok-nodes.nodes.items in
     one_argument c.args.env.home.now c.args.attr.now c.args.head ps _ _ (Some (value_text nodes))
     (λ s r h.
-    let v = c.in-Some-value_place.ensures.some s r h in
+    let v = c.in-Some.ensures.some s r h in
     let read : nodes ≡ value v.arg =
     c.in_ok-nodes.ensures ∙ ap nodes_of_parts (slice_seen c.args.parts.now at (end - at)) ∙ value_read (value v.arg) v.after c.args.parts.now at end v.read (c.value_end.ensures.end (value v.arg) v.after v.read) c.value_end.ensures.within in
     ap (option_map (λ (a : Segment). value_text (value a))) v.first ∙ ap (λ (xs : List Item). Some (value_text xs)) (sym read))

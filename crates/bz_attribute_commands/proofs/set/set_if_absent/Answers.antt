@@ -1,4 +1,4 @@
-use Rattle.std.proofs.Common.{ap, is_some, map, refl, ◌∙◌}
+use Rattle.std.proofs.Common.{ap, map, refl, sym, ◌∙◌}
 use Rattle.bz_tree.specs.Rows.{part_view}
 use Rattle.bz_tree.specs.Tree.{Statement}
 use Rattle.bz_attribute.specs.RowPlaces.{IsRuleRow}
@@ -9,17 +9,17 @@ use Rattle.bz_attribute_commands.proofs.ArgumentEdits.{has_found}
 use Rattle.bz_attribute_commands.proofs.SetEdits.{argument_added}
 use Rattle.bz_attribute_commands.proofs.set.set_if_absent.Goals as goal
 
-pub returns-in-Some : goal.returns-in-Some
-returns-in-Some c =
+pub returns-then-is_some : goal.returns-then-is_some
+returns-then-is_some c =
     let ps = map part_view c.args.parts.now in
     unchanged _ _ ps _ _ _ c.none.ensures (ap (λ (d : Done). d.changed) c.quiet.ensures)
-    (λ s r h. rw (has_found c.args.attr.now s r ps c.find_argument.result h (c.find_argument.ensures.found s r h) ∙ ap is_some c.in-Some.is) c.quiet.ensures)
+    (λ s r h. rw (has_found c.args.attr.now s r ps c.find_argument.result h (c.find_argument.ensures.found s r h) ∙ sym c.is_some.ensures ∙ c.if-is_some.true) c.quiet.ensures)
 
-pub returns-in_ok-write_argument-in-None : goal.returns-in_ok-write_argument-in-None
-returns-in_ok-write_argument-in-None c =
+pub returns : goal.returns
+returns c =
     let attr = c.args.attr.now in
     let ps = map part_view c.args.parts.now in
-    let none = λ (s : Statement) (r : Rule) (h : IsRuleRow s r ps). has_found attr s r ps c.find_argument.result h (c.find_argument.ensures.found s r h) ∙ ap is_some c.in-None.is in
+    let none = λ (s : Statement) (r : Rule) (h : IsRuleRow s r ps). has_found attr s r ps c.find_argument.result h (c.find_argument.ensures.found s r h) ∙ sym c.is_some.ensures ∙ c.if-is_some.false in
     changed _ _ ps _ _ _ c.at.ensures (seen_within c.new_place.result c.args.parts.now c.new_place.ensures.within)
-    (λ s r h. argument_added attr c.args.words.now s r ps _ c.new_place.result (none s r h) (c.new_place.ensures.place attr s r h (none s r h)) c.in_ok-write_argument-in-None.ensures)
+    (λ s r h. argument_added attr c.args.words.now s r ps _ c.new_place.result (none s r h) (c.new_place.ensures.place attr s r h (none s r h)) c.in_ok-write_argument.ensures)
     (λ s r h. rw (none s r h) refl)

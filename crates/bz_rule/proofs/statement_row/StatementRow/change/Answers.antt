@@ -1,4 +1,4 @@
-use Rattle.std.proofs.Common.{◌≡◌, ◌∙◌, ℕ, List, true, is_some, ap, length, map, subst, sym, arith}
+use Rattle.std.proofs.Common.{◌≡◌, ◌∙◌, ◌++◌, ℕ, List, true, is_some, ap, length, map, subst, sym, arith}
 use Rattle.std.specs.List.{splice}
 use Rattle.bz_tree.specs.Tree.{Statement}
 use Rattle.bz_tree.specs.declared.row.Part.{Part}
@@ -34,19 +34,19 @@ after_edit command home place items new list class start end old rule view are p
       },
     )
 
-pub invariant_of-self-then-keeps_head : goal.invariant_of-self-then-keeps_head
-invariant_of-self-then-keeps_head c =
+pub invariant_of-self-in-Some : goal.invariant_of-self-in-Some
+invariant_of-self-in-Some c =
     let i = c.self.inside in
     let old = c.args.self.now in
     let command = c.args.command.now in
     let home = c.args.env.home.now in
     let r = some_rule (rule_of old.nodes) c.requires.rule in
     let row = after_edit command home c.args.place i.row.parts.items c.args.new.now c.put_in.new.list.items _ _ _ old c.requires.rule c.self.view_is c.self.invariant.are c.in_ok-put_in.ensures.ok c.requires.next in
-    has_head (rule_after command home old) c.put_in.new.list.items _ _ _ i.head _ row.1 (c.keeps_head.ensures c.if-keeps_head.true home old i.head (subst (HasHead i.head) c.self.view_is c.self.invariant.has))
-    (grind (arith, c.saturating_add-self-inside.ensures, c.self.invariant.below, ap (λ (z : Statement). length z.before) c.self.view_is, c.new_comments.ensures home old r.0 r.1))
+    has_head (rule_after command home old) c.put_in.new.list.items _ _ _ i.head _ row.1 ((c.in-Some.ensures home old r.0 r.1).head i.head (subst (HasHead i.head) c.self.view_is c.self.invariant.has))
+    (grind (arith, c.saturating_add-self-inside.ensures, c.self.invariant.below, ap (λ (z : Statement). length z.before) c.self.view_is, (c.in-Some.ensures home old r.0 r.1).more))
 
-pub returns-then-keeps_head-clause-changed : goal.returns-then-keeps_head-clause-changed
-returns-then-keeps_head-clause-changed c =
+pub returns-in-Some-clause-changed : goal.returns-in-Some-clause-changed
+returns-in-Some-clause-changed c =
     let i = c.self.inside in
     let old = c.args.self.now in
     let command = c.args.command.now in
@@ -60,12 +60,12 @@ invariant_of-self-2 c =
     let old = c.args.self.now in
     let command = c.args.command.now in
     let home = c.args.env.home.now in
-    let list = c.in_ok-list.list.items in
-    let put : list ≡ splice i.row.parts.items c.args.place.from c.args.place.to c.args.new.now =
-    c.in_ok-list.ensures ∙ ap (λ (ps : List Part). splice ps c.args.place.from c.args.place.to c.args.new.now) c.as_slice.ensures.value in
+    let list = c.put_in-2.new.list.items in
+    let copied : c.extend_from_slice.new.list.items ≡ i.row.parts.items = c.in_ok-extend_from_slice.ensures.items ∙ ap (λ (ps : List Part). ps ++ c.deref-2.result.now) c.in_ok-list.ensures ∙ c.deref-2.ensures.value in
+    let put : list ≡ splice i.row.parts.items c.args.place.from c.args.place.to c.args.new.now = c.in_ok-put_in-2.ensures.ok ∙ ap (λ (ps : List Part). splice ps c.args.place.from c.args.place.to c.args.new.now) copied in
     let row = after_edit command home c.args.place i.row.parts.items c.args.new.now list _ _ _ old c.requires.rule c.self.view_is c.self.invariant.are put c.requires.next in
     has_head (rule_after command home old) list _ _ _ c.in_ok-head.head i.comments row.1
-    (c.in_ok-head.ensures (rule_after command home old) row.0.rule (ap (map part_view) c.deref.ensures.value ∙ row.0.are) (sym row.1.begins) (sym row.1.ends))
+    (c.in_ok-head.ensures (rule_after command home old) row.0.rule (ap (map part_view) c.deref-3.ensures.value ∙ row.0.are) (sym row.1.begins) (sym row.1.ends))
     (omega (arith, c.self.invariant.below, ap (λ (z : Statement). length z.before) c.self.view_is, row.0.before))
 
 pub returns-clause-changed : goal.returns-clause-changed
@@ -74,8 +74,8 @@ returns-clause-changed c =
     let old = c.args.self.now in
     let command = c.args.command.now in
     let home = c.args.env.home.now in
-    let list = c.in_ok-list.list.items in
-    let put : list ≡ splice i.row.parts.items c.args.place.from c.args.place.to c.args.new.now =
-    c.in_ok-list.ensures ∙ ap (λ (ps : List Part). splice ps c.args.place.from c.args.place.to c.args.new.now) c.as_slice.ensures.value in
+    let list = c.put_in-2.new.list.items in
+    let copied : c.extend_from_slice.new.list.items ≡ i.row.parts.items = c.in_ok-extend_from_slice.ensures.items ∙ ap (λ (ps : List Part). ps ++ c.deref-2.result.now) c.in_ok-list.ensures ∙ c.deref-2.ensures.value in
+    let put : list ≡ splice i.row.parts.items c.args.place.from c.args.place.to c.args.new.now = c.in_ok-put_in-2.ensures.ok ∙ ap (λ (ps : List Part). splice ps c.args.place.from c.args.place.to c.args.new.now) copied in
     let row = after_edit command home c.args.place i.row.parts.items c.args.new.now list _ _ _ old c.requires.rule c.self.view_is c.self.invariant.are put c.requires.next in
     statement_of (rule_after command home old) list _ _ _ row.1

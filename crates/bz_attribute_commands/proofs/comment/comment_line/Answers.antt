@@ -1,7 +1,8 @@
-use Rattle.std.proofs.Common.{◌≡◌, true, false, string_bytes, string_len, ap, sym, ◌∙◌, arith}
+use Rattle.std.proofs.Common.{◌≡◌, ◌∷◌, ◌++◌, ℕ, List, true, false, string_bytes, string_len, ap, sym, ◌∙◌, arith}
+use Rattle.bz_attribute_commands.specs.Comment.{trimmed}
 use Rattle.bz_attribute_commands.specs.private.CommentTexts.{ends_blank}
 use Rattle.bz_attribute_commands.proofs.CommentEdits.{trim_step, trim_end}
-use Rattle.bz_attribute_commands.proofs.comment.trim.Goals as goal
+use Rattle.bz_attribute_commands.proofs.comment.comment_line.Goals as goal
 
 pub loop-line-preserved : goal.loop-line-preserved
 loop-line-preserved c =
@@ -11,4 +12,5 @@ loop-line-preserved c =
 pub returns : goal.returns
 returns c =
     let other : ends_blank (string_bytes c.loop-line.line) ≡ false = ap ends_blank (sym c.as_bytes.ensures.value) ∙ sym c.ends_blank.ensures ∙ c.loop-line-test.false in
-    sym (trim_end (string_bytes c.loop-line.line) other) ∙ c.loop-line.invariant
+    let begun : string_bytes c.push_str.new.string ≡ 35 ∷ 32 ∷ c.args.text.now = c.in_ok-push_str.ensures.bytes ∙ ap (λ (z : List ℕ). z ++ c.args.text.now) c.in_ok-line.ensures.ok in
+    sym (trim_end (string_bytes c.loop-line.line) other) ∙ c.loop-line.invariant ∙ ap trimmed begun
