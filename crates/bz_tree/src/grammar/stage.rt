@@ -69,17 +69,23 @@ pub(crate) enum Stage {
     Done,
 }
 
+fn ends(part: Goal) -> bool
+    ensures { result ≡ ends part }
+{
+    !matches!(
+        part,
+        Goal::Key | Goal::Element | Goal::EntryKey | Goal::Target
+    )
+}
+
 /// Whether a segment may end here.
 #[inline(always)]
 pub(crate) fn may_end(stage: Stage) -> bool
     ensures { result ≡ may_end stage }
 {
     match stage {
-        Stage::Has(part, asked) | Stage::HasNumber(part, asked) => match part {
-            Goal::Key | Goal::Element | Goal::EntryKey | Goal::Target => false,
-            _ => !asked,
-        },
-        Stage::Begins(Goal::To | Goal::Step) => true,
+        Stage::Has(part, asked) | Stage::HasNumber(part, asked) => !asked && ends(part),
+        Stage::Begins(part) => matches!(part, Goal::To | Goal::Step),
         Stage::Statement | Stage::Keyword | Stage::Done => true,
         _ => false,
     }

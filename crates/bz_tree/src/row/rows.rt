@@ -21,7 +21,9 @@ use crate::row::spot::{Here, Spot, shown_kind};
 use crate::row::{Part, Parts, Row};
 use crate::tree::GroupKind;
 use crate::tree::block::is_block_word;
-use crate::tree::kinds::{Mark, Shape, closes, group_kind, is_for_at, is_one, operator_mark};
+use crate::tree::kinds::{
+    Mark, Shape, group_kind, is_for_at, is_one, operator_mark, same_shape, shape_of,
+};
 use crate::tree::owners::ends_on;
 use crate::tree::span::{counted_end_of, first_seen, first_token, newlines, start_of};
 use bumpalo::Bump;
@@ -191,7 +193,7 @@ impl<'a> RowWalk<'a> {
         let Some(kind) = self.top.kind else {
             return Ok(false);
         };
-        if !closes(shape, kind) {
+        if !same_shape(shape_of(kind), shape) {
             return Ok(false);
         }
         if !self.end_last()? {

@@ -65,15 +65,19 @@ pub(crate) fn shown_kind(naming: Naming, kind: GroupKind) -> GroupKind
 fn start(kind: Option<GroupKind>) -> Read
     ensures { result ≡ start kind }
 {
-    let (stage, naming) = match kind {
-        None => (Stage::Statement, Naming::Name),
-        Some(kind) => (begin(kind), Naming::Never),
-    };
-    Read {
-        stage,
-        at: Preceding::Other,
-        naming,
-        assigns: false,
+    match kind {
+        None => Read {
+            stage: Stage::Statement,
+            at: Preceding::Other,
+            naming: Naming::Name,
+            assigns: false,
+        },
+        Some(kind) => Read {
+            stage: begin(kind),
+            at: Preceding::Other,
+            naming: Naming::Never,
+            assigns: false,
+        },
     }
 }
 

@@ -13,8 +13,8 @@ ghost use Rattle.bz_tree.specs.private.Steps.{content_view, level, levels, with_
 
 use crate::tree::classes::with_rule_call;
 use crate::tree::kinds::{
-    Mark, Preceding, Shape, as_comprehension, closes, group_kind, is_for_at, is_one, kind_after,
-    mark_of,
+    Mark, Preceding, Shape, as_comprehension, group_kind, is_for_at, is_one, kind_after, mark_of,
+    same_shape, shape_of,
 };
 use crate::tree::owners::{Content, Walk, empty_segment};
 use crate::tree::{Group, GroupKind, Leaf, Node, Seg};
@@ -101,7 +101,7 @@ impl<'a> State<'a> {
         let Some(kind) = self.top.kind else {
             return Ok(false);
         };
-        if !closes(shape, kind) {
+        if !same_shape(shape_of(kind), shape) {
             return Ok(false);
         }
         let Some(below) = self.outer.pop() else {

@@ -69,15 +69,21 @@ pub(crate) fn operator_mark(text: &str) -> Mark
     }
 }
 
-/// Whether a bracket of this shape closes a group of this kind.
-pub(crate) fn closes(shape: Shape, kind: GroupKind) -> bool
-    ensures { result ≡ same_shape (Some (shape_of kind)) shape }
+#[inline(always)]
+pub(crate) fn same_shape(opened: Shape, shape: Shape) -> bool
+    ensures { result ≡ same_shape (Some opened) shape }
+{
+    opened == shape
+}
+
+/// The shape of a group's bracket.
+pub(crate) fn shape_of(kind: GroupKind) -> Shape
+    ensures { result ≡ shape_of kind }
 {
     match kind {
-        GroupKind::Call | GroupKind::RuleCall | GroupKind::Load | GroupKind::Paren => shape
-            == Shape::Round,
-        GroupKind::List | GroupKind::Index | GroupKind::ListComp => shape == Shape::Square,
-        GroupKind::Dict | GroupKind::DictComp => shape == Shape::Curly,
+        GroupKind::Call | GroupKind::RuleCall | GroupKind::Load | GroupKind::Paren => Shape::Round,
+        GroupKind::List | GroupKind::Index | GroupKind::ListComp => Shape::Square,
+        GroupKind::Dict | GroupKind::DictComp => Shape::Curly,
     }
 }
 
