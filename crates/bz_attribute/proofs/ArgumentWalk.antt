@@ -9,8 +9,7 @@ use Rattle.bz_tree.specs.Rows.{RowPart, above, beside_part, closing, items_parts
 use Rattle.bz_attribute.specs.Effects.{has}
 use Rattle.bz_attribute.specs.RowPlaces.{before_args, IsArgumentAt, IsRuleRow}
 use Rattle.bz_attribute.specs.Rules.{Rule, is_named, is_text, name_of}
-use Rattle.bz_attribute.specs.private.Ends.{above_len, arguments_begin, segment_len}
-use Rattle.bz_attribute.specs.private.HeadParts.{flat_name}
+use Rattle.bz_attribute.specs.private.Ends.{above_len, arguments_begin, flat_name, segment_len}
 use Rattle.bz_attribute.specs.private.ListParts.{ends_list}
 use Rattle.bz_attribute.proofs.EditedAt.{segs_join}
 use Rattle.bz_attribute.proofs.EndsBack.{argument_long, end_alone, segment_long}

@@ -6,7 +6,7 @@ use Rattle.bz_tree.specs.Tree.{Item, leaf, group, Segs, Segment, items_of, segs_
 use Rattle.bz_tree.specs.Rows.{RowPart, opening, closing, segment_end, above, beside_part, items_parts, segs_parts}
 use Rattle.bz_attribute.specs.Rules.{name_of, is_operator_item}
 use Rattle.bz_token.specs.declared.token.Kind.TheVariants.{Identifier, Operator}
-use Rattle.bz_attribute.specs.private.HeadParts.{flat_name}
+use Rattle.bz_attribute.specs.private.Ends.{flat_name}
 
 pub group_name : (k : GroupKind) (segs : Segs) (one_comma : Bool) (end : List (List ℕ)) (y : Item) (xs : List Item) → name_of (group k segs one_comma end ∷ y ∷ xs) ≡ None
 group_name k segs one_comma end y xs =

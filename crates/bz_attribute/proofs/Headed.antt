@@ -10,10 +10,9 @@ use Rattle.bz_tree.specs.Tree.{Item, leaf, group, Segs, Statement, items_of, seg
 use Rattle.bz_tree.specs.Statement.{class_of, is_assign_operator, is_rule, is_rule_after, is_kept, is_load_word, is_call as is_call_kind, is_assign}
 use Rattle.bz_tree.specs.Rows.{RowPart, opening, closing, above, beside_part, item_parts, items_parts, segs_parts, parts_of}
 use Rattle.bz_attribute.specs.Rules.{Rule, rule_of, call_at, kind_text, dotted}
-use Rattle.bz_attribute.specs.private.HeadParts.{after_comments, after_tokens, token_texts, opens_call}
+use Rattle.bz_attribute.specs.private.Ends.{above_len, after_comments, after_tokens, opens_call, token_texts}
 use Rattle.bz_attribute.proofs.Calls.{rule_from_end, no_call, is_rule_call}
 use Rattle.bz_attribute.proofs.RuleNodes.{rule_nodes}
-use Rattle.bz_attribute.specs.private.Ends.{above_len}
 use Rattle.bz_attribute.proofs.Lengths.{above_passed, none_above}
 use Rattle.bz_attribute.proofs.RuleParts.{AreTokens, rule_dotted, tokens, tokens_long, with_last}
 use Rattle.std.proofs.lemmas.List.{length-map}

@@ -1,4 +1,3 @@
 pub mod ElementSets
 pub mod Ends
-pub mod HeadParts
 pub mod ListParts

@@ -5,7 +5,7 @@ ghost use Rattle.bz_tree.specs.Tree.{Segment, Statement};
 ghost use Rattle.bz_tree.specs.Rows.{part_view};
 ghost use Rattle.bz_attribute.specs.RowPlaces.{HasArgument, IsFirstArgument, IsRuleRow, argument_parts};
 ghost use Rattle.bz_attribute.specs.Rules.{Rule, is_text};
-ghost use Rattle.bz_attribute.specs.private.HeadParts as spec;
+ghost use Rattle.bz_attribute.specs.private.Ends as spec;
 
 use crate::elements::ends_list;
 use crate::place::{arguments_begin, comments_len, segment_len};

@@ -18,10 +18,8 @@ use Rattle.bz_attribute.proofs.EditedAt.{segs_join}
 use Rattle.bz_attribute.proofs.ListElements.{IsKeyword, is_keyword}
 use Rattle.std.proofs.Math.Bool.{or-false}
 use Rattle.bz_attribute.specs.declared.place.Place.{Place}
-use Rattle.bz_list_commands.specs.private.ArgumentEdits.{HasEdited, HasEditedAll, HasEditedSome, edited, is_changed}
-use Rattle.bz_list_commands.specs.private.ElementEdits.{HasEditedValue}
-use Rattle.bz_list_commands.specs.private.StringEdits.{become_all, changes, is_meant}
-use Rattle.bz_list_commands.specs.private.WrittenParts.{IsWritten, literal_parts}
+use Rattle.bz_list_commands.specs.private.ArgumentEdits.{edited, HasEdited, HasEditedAll, HasEditedSome, HasEditedValue, is_changed}
+use Rattle.bz_list_commands.specs.private.StringEdits.{become_all, changes, is_meant, IsWritten, literal_parts}
 use Rattle.bz_list_commands.proofs.ElementEdits.{after_them, and_them, none_more, some_more}
 use Rattle.bz_list_commands.proofs.WrittenParts.{passed, put}
 use Rattle.bz_token.specs.Common.{is_empty}

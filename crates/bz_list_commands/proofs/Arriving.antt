@@ -17,7 +17,7 @@ use Rattle.bz_list_commands.specs.Move.{arrivals}
 use Rattle.bz_attribute.specs.Rules.{string_value}
 use Rattle.bz_attribute.proofs.LabelSets.{any_joined}
 use Rattle.std.proofs.Math.Bool.{or-false}
-use Rattle.bz_list_commands.specs.private.MoveSteps.{HaveArrivals, parts_at}
+use Rattle.bz_list_commands.specs.private.ListPlaces.{HaveArrivals, parts_at}
 use Rattle.bz_token.specs.Common.{map_or}
 use Rattle.bz_command.specs.LabelSetViews.{has}
 use Rattle.bz_command.specs.Same.{completed}

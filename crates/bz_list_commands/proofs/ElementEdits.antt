@@ -17,11 +17,10 @@ use Rattle.bz_attribute.specs.Lists.{edit_from, edit_list, edit_parts, is_part, 
 use Rattle.bz_attribute.specs.declared.place.Place.{Place}
 use Rattle.bz_attribute.proofs.LabelSets.{any_joined}
 use Rattle.bz_attribute.proofs.ListEdits.{list_cut, long_opened, opened}
-use Rattle.bz_list_commands.specs.private.StringEdits.{become, become_all, in_place, is_meant, literal_in, means_in, place_in}
+use Rattle.bz_list_commands.specs.private.StringEdits.{become, become_all, in_place, is_meant, IsWritten, literal_in, literal_parts, means_in, place_in}
 use Rattle.bz_list_commands.specs.declared.string_edit.Meant.{Meant}
 use Rattle.bz_list_commands.specs.declared.string_edit.Meant.TheVariants.{Any, Unlike, Word, Words}
-use Rattle.bz_list_commands.specs.private.WrittenParts.{IsWritten, literal_parts}
-use Rattle.bz_list_commands.specs.private.ElementEdits.{HasEditedValue}
+use Rattle.bz_list_commands.specs.private.ArgumentEdits.{HasEditedValue}
 use Rattle.bz_list_commands.proofs.WrittenParts.{between, passed, passed_to, put}
 
 -- what stands after some parts

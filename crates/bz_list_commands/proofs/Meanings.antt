@@ -21,8 +21,7 @@ use Rattle.bz_attribute.specs.Rules.{first_named, is_named, is_text, only_text, 
 use Rattle.bz_attribute.specs.declared.edit.Edit.{Edit}
 use Rattle.bz_attribute.proofs.LabelSets.{none_same}
 use Rattle.std.proofs.Math.Bool.{or-false}
-use Rattle.bz_list_commands.specs.private.ArgumentEdits.{edited, goes_by, kept}
-use Rattle.bz_list_commands.specs.private.PlaceEdits.{changes_in, edited_in}
+use Rattle.bz_list_commands.specs.private.ArgumentEdits.{changes_in, edited, edited_in, goes_by, kept}
 use Rattle.bz_list_commands.specs.private.StringEdits.{changes, become, become_all, equals_one, equals_word, is_meant, is_unlike}
 use Rattle.bz_list_commands.proofs.ArgumentEdits.{never_lost}
 use Rattle.bz_token.specs.Common.{map_or}

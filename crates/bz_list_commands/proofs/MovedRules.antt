@@ -22,8 +22,7 @@ use Rattle.bz_attribute.proofs.EditedAt.{none_first, with_args_at}
 use Rattle.bz_attribute.proofs.EditedRules.{row_after, rule_with, with_args_twice}
 use Rattle.bz_attribute.proofs.RowEdits.{changed, unchanged}
 use Rattle.bz_list_commands.specs.declared.arrivals.Lists.{Lists}
-use Rattle.bz_list_commands.specs.private.ListPlaces.{HasNoListPart, IsListAt, IsTarget}
-use Rattle.bz_list_commands.specs.private.MoveSteps.{HaveArrivals, parts_at}
+use Rattle.bz_list_commands.specs.private.ListPlaces.{HasNoListPart, HaveArrivals, IsListAt, IsTarget, parts_at}
 use Rattle.bz_list_commands.specs.private.StringEdits.{changes, become_all, is_meant}
 use Rattle.bz_list_commands.proofs.Meanings.{left_unchosen, told_first}
 use Rattle.bz_attribute.proofs.Locals.{is_there}

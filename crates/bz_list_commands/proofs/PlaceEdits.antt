@@ -12,13 +12,10 @@ use Rattle.bz_attribute.specs.declared.edit.Edit.{Edit}
 use Rattle.bz_attribute.specs.declared.place.Place.{Place}
 use Rattle.std.proofs.Math.Bool.{or-false}
 use Rattle.bz_attribute.proofs.Locals.{edit_local, is_first_named}
-use Rattle.bz_list_commands.specs.private.ArgumentEdits.{HasEditedAll, edited, is_changed}
-use Rattle.bz_list_commands.specs.private.PlaceEdits.{AreThere, IsPlaceEdit}
-use Rattle.bz_list_commands.specs.private.StringEdits.{become_all, changes}
-use Rattle.bz_list_commands.specs.private.WrittenParts.{written}
+use Rattle.bz_list_commands.specs.private.ArgumentEdits.{AreThere, edited, HasEditedAll, is_changed, IsPlaceEdit}
+use Rattle.bz_list_commands.specs.private.StringEdits.{become_all, changes, written}
 use Rattle.std.proofs.lemmas.List.{drop-append-le, drop-take, take-append-le}
 use Rattle.bz_token.specs.Common.{map_or, is_empty}
-use Rattle.bz_attribute.proofs.Locals.{is_first_named}
 
 regrouped : (a b c d : List RowPart) → a ++ (b ++ (c ++ d)) ≡ (a ++ (b ++ c)) ++ d
 regrouped a b c d = simp append_assoc

@@ -9,8 +9,7 @@ use Rattle.bz_attribute.specs.RowEdits.{replaced_at}
 use Rattle.bz_attribute.specs.declared.place.Place.{Place}
 use Rattle.bz_token.specs.Common.{is_empty}
 use Rattle.bz_attribute.proofs.Slices.{slice_seen}
-use Rattle.bz_list_commands.specs.private.StringEdits.{place_in}
-use Rattle.bz_list_commands.specs.private.WrittenParts.{AreOrdered, IsWritten, written}
+use Rattle.bz_list_commands.specs.private.StringEdits.{AreOrdered, IsWritten, place_in, written}
 
 regroup : (a b c d : List RowPart) → a ++ (b ++ (c ++ d)) ≡ (a ++ (b ++ c)) ++ d
 regroup a b c d = simp append_assoc

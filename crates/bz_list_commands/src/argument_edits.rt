@@ -4,8 +4,7 @@ ghost use Rattle.std.specs.Prelude.{◌≡◌, ◌≤◌, ◌+◌, List, map, le
 ghost use Rattle.bz_tree.specs.Tree.{Segment, segs_of};
 ghost use Rattle.bz_tree.specs.Rows.{part_view, segs_parts};
 ghost use Rattle.bz_command.specs.Values.{quoted};
-ghost use Rattle.bz_list_commands.specs.private.StringEdits.{literal_of, means};
-ghost use Rattle.bz_list_commands.specs.private.WrittenParts.{AreOrdered, literal_parts};
+ghost use Rattle.bz_list_commands.specs.private.StringEdits.{AreOrdered, literal_of, literal_parts, means};
 ghost use Rattle.bz_list_commands.specs.private.ArgumentEdits as spec;
 
 use crate::element_edits::{add_places, loses_all};

@@ -3,7 +3,7 @@
 ghost use Rattle.std.specs.Prelude.{◌≡◌, ◌≤◌, ◌||◌, ◌&&◌, ℕ, List, not, map, length, option_map, IfOk, IfSome, OnOk, false, option_and_then};
 ghost use Rattle.bz_tree.specs.Rows.{part_view};
 ghost use Rattle.bz_command.specs.LabelSetViews.{has};
-ghost use Rattle.bz_list_commands.specs.private.MoveSteps.{AreWithin, HaveArrivals};
+ghost use Rattle.bz_list_commands.specs.private.ListPlaces.{AreWithin, HaveArrivals};
 ghost use Rattle.bz_list_commands.specs.private.StringEdits.{means};
 ghost use Rattle.bz_attribute.specs.Lists.{same};
 ghost use Rattle.bz_command.specs.Values.{value_of};

@@ -5,9 +5,8 @@ ghost use Rattle.bz_tree.specs.Tree.{Item};
 ghost use Rattle.bz_tree.specs.Rows.{RowPart, part_view};
 ghost use Rattle.bz_attribute.specs.Effects.{loses_all};
 ghost use Rattle.bz_attribute.specs.Elements.{value_parts};
-ghost use Rattle.bz_list_commands.specs.private.StringEdits.{become_all, literal_of, means, place_in};
-ghost use Rattle.bz_list_commands.specs.private.WrittenParts.{AreOrdered};
-ghost use Rattle.bz_list_commands.specs.private.ElementEdits as spec;
+ghost use Rattle.bz_list_commands.specs.private.StringEdits.{AreOrdered, become_all, literal_of, means, place_in};
+ghost use Rattle.bz_list_commands.specs.private.ArgumentEdits as spec;
 
 use crate::rewriting::Places;
 use crate::string_edit::StringEdit;

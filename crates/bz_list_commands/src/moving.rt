@@ -6,7 +6,7 @@ ghost use Rattle.bz_command.specs.declared.arguments.Moved.{Moved as Choice};
 ghost use Rattle.bz_attribute.specs.Effects.{done, is_chosen};
 ghost use Rattle.bz_attribute.specs.RowEdits.{IsRowEdit, replaced_at};
 ghost use Rattle.bz_list_commands.specs.Move as spec;
-ghost use Rattle.bz_list_commands.specs.private.MoveSteps.{AreFound, AreWithin, HasPut, parts_at};
+ghost use Rattle.bz_list_commands.specs.private.ListPlaces.{AreFound, AreWithin, HasPut, parts_at};
 ghost use Rattle.bz_list_commands.specs.private.StringEdits.{is_meant, literal_of, means};
 
 use crate::argument_edits::ArgumentEdit;

@@ -6,7 +6,7 @@ ghost use Rattle.bz_attribute.specs.Effects.{done};
 ghost use Rattle.bz_attribute.specs.RowEdits.{IsRowEdit};
 ghost use Rattle.bz_list_commands.specs.private.ArgumentEdits.{changes_by, edit_by};
 ghost use Rattle.bz_list_commands.specs.private.StringEdits.{literal_of, means};
-ghost use Rattle.bz_list_commands.specs.private.PlaceEdits as spec;
+ghost use Rattle.bz_list_commands.specs.private.ArgumentEdits as spec;
 
 use crate::argument_edits::{ArgumentEdit, edited_places};
 use crate::rewriting::write_around;

@@ -5,8 +5,8 @@ ghost use Rattle.bz_tree.specs.Rows.{part_view};
 ghost use Rattle.bz_token.specs.Common.{is_empty};
 ghost use Rattle.bz_attribute.specs.Effects.{done};
 ghost use Rattle.bz_attribute.specs.RowEdits.{replaced_at};
-ghost use Rattle.bz_list_commands.specs.private.WrittenParts.{AreOrdered, literal_parts};
-ghost use Rattle.bz_list_commands.specs.private.WrittenParts as spec;
+ghost use Rattle.bz_list_commands.specs.private.StringEdits.{AreOrdered, literal_parts};
+ghost use Rattle.bz_list_commands.specs.private.StringEdits as spec;
 ghost use Rattle.bz_command.specs.Values.{quoted};
 
 use bumpalo::Bump;

@@ -1,20 +1,31 @@
--- For private clauses alone: how far the arguments of a rule were edited.
-use Rattle.std.specs.Prelude.{◌≡◌, ℕ, List, [], ◌∷◌, ◌++◌, Bool, ◌||◌, ◌&&◌, not, if◌then◌else◌, Option, None, is_some, codes, length, take, drop}
+-- For private clauses alone: how far the elements of a value and the arguments of a rule were edited, and the edit of those in a place
+-- among its parts.
+use Rattle.std.specs.Prelude.{◌≡◌, ℕ, List, ◌∷◌, ◌++◌, Bool, ◌||◌, not, Option, drop, [], ◌&&◌, if◌then◌else◌, None, is_some, codes, length, take, ◌-◌, true, false}
 use Rattle.std.specs.List.{flat_map, list_any}
-use Rattle.bz_tree.specs.Tree.{Segment, segs_of}
-use Rattle.bz_tree.specs.Rows.{RowPart, segs_parts}
+use Rattle.bz_token.specs.Common.{is_empty, map_or}
+use Rattle.bz_tree.specs.Tree.{Item, items_of, Segment, segs_of}
+use Rattle.bz_tree.specs.Rows.{items_parts, RowPart, segment_end, segs_parts}
+use Rattle.bz_attribute.specs.Lists.{edit_parts, is_attribute, parts}
+use Rattle.bz_attribute.specs.declared.place.Place.{Place}
+use Rattle.bz_list_commands.specs.private.StringEdits.{become_all, changes, is_meant, IsWritten, literal_of, literal_parts, means}
 use Rattle.bz_command.specs.declared.arguments.Attributes.{Attributes}
 use Rattle.bz_command.specs.declared.arguments.Attributes.TheVariants.{Every, Named}
-use Rattle.bz_attribute.specs.Rules.{is_text, name_of}
-use Rattle.bz_attribute.specs.Effects.{filtered}
+use Rattle.bz_attribute.specs.Rules.{first_named, is_named, is_text, name_of}
+use Rattle.bz_attribute.specs.Effects.{done, edit_first, filtered}
 use Rattle.bz_attribute.specs.RowPlaces.{IsFirstArgument, argument_parts}
-use Rattle.bz_attribute.specs.Lists.{is_attribute}
-use Rattle.bz_list_commands.specs.private.StringEdits.{become_all, changes, literal_of, means}
-use Rattle.bz_list_commands.specs.private.WrittenParts.{IsWritten}
 use Rattle.bz_list_commands.specs.declared.argument_edits.ArgumentEdit.{ArgumentEdit}
 use Rattle.bz_list_commands.specs.declared.argument_edits.ArgumentEdit.TheVariants.{Gone, Strings}
-use Rattle.bz_attribute.specs.declared.place.Place.{Place}
-use Rattle.bz_token.specs.Common.{is_empty}
+use Rattle.bz_attribute.specs.RowEdits.{IsWithin, replaced_at}
+use Rattle.bz_attribute.specs.declared.edit.Edit.{Edit}
+
+-- The elements of a value that begins at `from` were: `old` are the places of what was edited before. The rest of the value stays.
+pub record HasEditedValue (p : Option (List ℕ) → Bool) (literal : Option (List ℕ)) (nodes : List Item) (after ps : List RowPart) (from at : ℕ) (old places : List Place) : Type 0 where
+  pub rest : List RowPart
+  pub made : List RowPart
+  pub read : drop at ps ≡ rest ++ segment_end ∷ after
+  pub changed : not (is_empty places) ≡ (not (is_empty old) || list_any (list_any (is_meant p)) (parts nodes))
+  pub total : made ++ rest ≡ items_parts (items_of (edit_parts (become_all p literal) nodes))
+  pub written : (target : List RowPart) → IsWritten (literal_parts literal) ps old from target → IsWritten (literal_parts literal) ps places at (target ++ made)
 
 -- an argument of this name goes: each of a name, or each keyword argument but `name`
 abbrev pub goes : Attributes → Option (List ℕ) → Bool
@@ -70,3 +81,23 @@ pub record HasEditedSome (f : Segment → List Segment) (t : Segment → Bool) (
 pub record HasEditedAll (f : Segment → List Segment) (t : Segment → Bool) (new : List RowPart) (args : List Segment) (ps : List RowPart) (from : ℕ) (places : List Place) : Type 0 where
   pub changed : not (is_empty places) ≡ list_any t args
   pub written : IsWritten new ps places (length ps) (take from ps ++ segs_parts (segs_of (flat_map f args)))
+
+-- these arguments stand there
+abbrev pub AreThere : Place → List RowPart → List Segment → Type 0
+AreThere place ps args = take (place.to - place.from) (drop place.from ps) ≡ segs_parts (segs_of args)
+
+-- each became others, and what is told
+pub record IsPlaceEdit (f : Segment → List Segment) (t : Segment → Bool) (place : Place) (ps new : List RowPart) (e : Edit) : Type 0 where
+  pub within : IsWithin e.place ps
+  pub parts : (args : List Segment) → AreThere place ps args → e.done.changed ≡ true
+      → replaced_at e.place new ps ≡ take place.from ps ++ (segs_parts (segs_of (flat_map f args)) ++ drop place.to ps)
+  pub done : (args : List Segment) → AreThere place ps args → e.done ≡ done None (list_any t args)
+
+-- strings in the first argument of a name, or in all
+abbrev pub edited_in : (Option (List ℕ) → Bool) → Option (List ℕ) → Attributes → List Segment → List Segment
+edited_in p literal Every args = flat_map (edited p literal) args
+edited_in p literal (Named attr) args = edit_first (is_named attr) (filtered (become_all p literal)) args
+
+abbrev pub changes_in : (Option (List ℕ) → Bool) → Attributes → List Segment → Bool
+changes_in p Every args = list_any (is_changed p) args
+changes_in p (Named attr) args = map_or false (changes p) (first_named attr args)

@@ -1,5 +1,6 @@
--- For private clauses alone: what becomes of the elements that are strings which a command means.
-use Rattle.std.specs.Prelude.{ℕ, ◌+◌, List, [], ◌∷◌, Bool, true, false, ◌&&◌, not, if◌then◌else◌, Option, None, Some}
+-- For private clauses alone: what becomes of the elements that are strings which a command means, and parts that are written anew,
+-- where some places of them make way for others.
+use Rattle.std.specs.Prelude.{ℕ, ◌+◌, List, [], ◌∷◌, Bool, true, false, ◌&&◌, not, if◌then◌else◌, Option, None, Some, ◌≡◌, ◌-◌, ◌≤◌, ◌++◌, take, drop}
 use Rattle.std.specs.List.{flat_map, list_any}
 use Rattle.bz_token.specs.declared.token.Kind.TheVariants.{String}
 use Rattle.bz_tree.specs.Tree.{leaf, Segment}
@@ -12,6 +13,7 @@ use Rattle.bz_list_commands.specs.declared.string_edit.Meant.{Meant}
 use Rattle.bz_list_commands.specs.declared.string_edit.Meant.TheVariants.{Any, Word, Words, Unlike}
 use Rattle.bz_list_commands.specs.declared.string_edit.StringEdit.{StringEdit}
 use Rattle.bz_token.specs.Common.{map_or}
+use Rattle.bz_tree.specs.Rows.{RowPart, a_token}
 
 -- the text of a string token equals a word, one of some, or `old` and is not exactly `new`
 abbrev pub equals_word : Package → List ℕ → List ℕ → Bool
@@ -63,3 +65,22 @@ become_all p literal ss = flat_map (become p literal) ss
 -- an argument is changed
 abbrev pub changes : (Option (List ℕ) → Bool) → Segment → Bool
 changes p a = list_any (list_any (is_meant p)) (parts (value a))
+
+-- the places come one after another, between two others
+abbrev pub AreOrdered : ℕ → List Place → ℕ → Type 0
+AreOrdered from [] to = from ≤ to
+AreOrdered from (place ∷ places) to = (from ≤ place.from) × ((place.from ≤ place.to) × AreOrdered place.to places to)
+
+-- what stands between the two, where each place makes way
+abbrev pub written : List RowPart → List RowPart → ℕ → List Place → ℕ → List RowPart
+written new ps from [] to = take (to - from) (drop from ps)
+written new ps from (place ∷ places) to = take (place.from - from) (drop from ps) ++ (new ++ written new ps place.to places to)
+
+-- up to a place that is the target
+pub record IsWritten (new ps : List RowPart) (places : List Place) (at : ℕ) (target : List RowPart) : Type 0 where
+  pub ordered : AreOrdered 0 places at
+  pub are : written new ps 0 places at ≡ target
+
+abbrev pub literal_parts : Option (List ℕ) → List RowPart
+literal_parts None = []
+literal_parts (Some literal) = a_token String literal ∷ []

@@ -1,8 +1,7 @@
 use Rattle.std.proofs.Common.{◌≡◌, ℕ, ◌+◌, List, Bool, map, drop, ap, sym, ◌∙◌, arith}
 use Rattle.bz_tree.specs.Rows.{RowPart, part_view}
 use Rattle.bz_attribute.specs.Rules.{is_text}
-use Rattle.bz_attribute.specs.private.Ends.{above_len, segment_len}
-use Rattle.bz_attribute.specs.private.HeadParts.{flat_name}
+use Rattle.bz_attribute.specs.private.Ends.{above_len, flat_name, segment_len}
 use Rattle.bz_attribute.specs.private.ListParts.{ends_list}
 use Rattle.bz_attribute.proofs.ArgumentWalk.{never_past, none_named, none_passed, one_named, one_unnamed}
 use Rattle.bz_attribute.proofs.Slices.{rest_seen}

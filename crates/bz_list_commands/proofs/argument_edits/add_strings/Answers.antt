@@ -5,8 +5,7 @@ use Rattle.bz_attribute.specs.Effects.{filtered}
 use Rattle.bz_attribute.specs.Lists.{is_attribute}
 use Rattle.bz_attribute.specs.Rules.{value}
 use Rattle.bz_list_commands.specs.private.ArgumentEdits.{edited, is_changed}
-use Rattle.bz_list_commands.specs.private.StringEdits.{become_all, changes, literal_of, means}
-use Rattle.bz_list_commands.specs.private.WrittenParts.{literal_parts}
+use Rattle.bz_list_commands.specs.private.StringEdits.{become_all, changes, literal_of, literal_parts, means}
 use Rattle.bz_list_commands.proofs.ArgumentEdits.{after_value, left, lost, mapped_some, of_keyword, stays, value_early, value_reads}
 use Rattle.bz_list_commands.proofs.WrittenParts.{ordered_more, ordered_to}
 use Rattle.bz_list_commands.proofs.argument_edits.add_strings.Goals as goal

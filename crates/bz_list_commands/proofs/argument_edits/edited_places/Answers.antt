@@ -3,7 +3,7 @@ use Rattle.std.proofs.lemmas.List.{length-map}
 use Rattle.bz_tree.specs.Rows.{part_view}
 use Rattle.bz_attribute.proofs.Slices.{rest_seen}
 use Rattle.bz_list_commands.specs.private.ArgumentEdits.{changes_by, edit_by, literal_by}
-use Rattle.bz_list_commands.specs.private.WrittenParts.{literal_parts}
+use Rattle.bz_list_commands.specs.private.StringEdits.{literal_parts}
 use Rattle.bz_list_commands.proofs.ArgumentEdits.{all_edited, none_edited, one_edited}
 use Rattle.bz_list_commands.proofs.WrittenParts.{ordered_to}
 use Rattle.bz_list_commands.proofs.argument_edits.edited_places.Goals as goal

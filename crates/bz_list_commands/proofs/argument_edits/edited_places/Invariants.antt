@@ -2,7 +2,7 @@ use Rattle.std.proofs.Common.{◌≡◌, ◌≤◌, ◌-◌, List, length, map, 
 use Rattle.bz_tree.specs.Tree.{Segment, segs_of}
 use Rattle.bz_tree.specs.Rows.{part_view, segs_parts}
 use Rattle.bz_list_commands.specs.private.ArgumentEdits.{HasEditedSome, changes_by, edit_by, literal_by}
-use Rattle.bz_list_commands.specs.private.WrittenParts.{AreOrdered, literal_parts}
+use Rattle.bz_list_commands.specs.private.StringEdits.{AreOrdered, literal_parts}
 use Rattle.bz_list_commands.proofs.argument_edits.edited_places.Given as goal
 
 abbrev pub invariant-loop-at : goal.invariant-loop-at

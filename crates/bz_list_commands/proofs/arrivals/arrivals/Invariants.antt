@@ -1,6 +1,6 @@
 use Rattle.std.proofs.Common.{◌≡◌, ◌-◌, ◌≤◌, length, map}
 use Rattle.bz_tree.specs.Rows.{part_view}
-use Rattle.bz_list_commands.specs.private.MoveSteps.{AreWithin}
+use Rattle.bz_list_commands.specs.private.ListPlaces.{AreWithin}
 use Rattle.bz_list_commands.proofs.Arriving.{AreArriving}
 use Rattle.bz_list_commands.specs.private.StringEdits.{means}
 use Rattle.bz_list_commands.proofs.arrivals.arrivals.Given as goal

@@ -3,8 +3,7 @@ use Rattle.bz_tree.specs.Tree.{Item}
 use Rattle.bz_tree.specs.Rows.{RowPart, part_view}
 use Rattle.bz_attribute.specs.Elements.{value_parts}
 use Rattle.bz_list_commands.proofs.ElementEdits.{HasEditedFront}
-use Rattle.bz_list_commands.specs.private.StringEdits.{literal_of, means}
-use Rattle.bz_list_commands.specs.private.WrittenParts.{AreOrdered}
+use Rattle.bz_list_commands.specs.private.StringEdits.{AreOrdered, literal_of, means}
 use Rattle.bz_list_commands.proofs.element_edits.add_places.Given as goal
 
 abbrev pub invariant-loop-element : goal.invariant-loop-element

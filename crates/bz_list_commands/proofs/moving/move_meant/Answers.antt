@@ -7,7 +7,7 @@ use Rattle.bz_attribute.specs.RowEdits.{IsRowEdit, replaced_at}
 use Rattle.bz_attribute.specs.Rules.{is_named}
 use Rattle.bz_attribute.specs.declared.done.Done.{Done}
 use Rattle.bz_attribute.specs.declared.place.Place.{Place}
-use Rattle.bz_list_commands.specs.private.MoveSteps.{HaveArrivals}
+use Rattle.bz_list_commands.specs.private.ListPlaces.{HaveArrivals}
 use Rattle.bz_list_commands.specs.private.StringEdits.{become_all, literal_of, means}
 use Rattle.bz_list_commands.proofs.MovedRules.{gone_from, has_moved, not_moved, told_gone}
 use Rattle.bz_list_commands.proofs.PlaceEdits.{named_row}

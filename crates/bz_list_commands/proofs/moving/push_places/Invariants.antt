@@ -1,6 +1,6 @@
 use Rattle.std.proofs.Common.{◌≡◌, ◌++◌, map, take}
 use Rattle.bz_tree.specs.Rows.{part_view}
-use Rattle.bz_list_commands.specs.private.MoveSteps.{parts_at}
+use Rattle.bz_list_commands.specs.private.ListPlaces.{parts_at}
 use Rattle.bz_list_commands.proofs.moving.push_places.Given as goal
 
 abbrev pub invariant-loop-place : goal.invariant-loop-place

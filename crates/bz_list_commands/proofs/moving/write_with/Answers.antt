@@ -7,7 +7,7 @@ use Rattle.bz_attribute.specs.Lists.{edit_first_part, with_value}
 use Rattle.bz_attribute.specs.Rules.{value}
 use Rattle.bz_attribute.proofs.Slices.{three_written}
 use Rattle.bz_list_commands.specs.Move.{put_in}
-use Rattle.bz_list_commands.specs.private.MoveSteps.{parts_at}
+use Rattle.bz_list_commands.specs.private.ListPlaces.{parts_at}
 use Rattle.bz_list_commands.proofs.Adding.{attribute_written, put_local, put_new, put_there}
 use Rattle.bz_list_commands.proofs.MovedRules.{put_nowhere}
 use Rattle.bz_list_commands.proofs.moving.write_with.Goals as goal

@@ -4,7 +4,7 @@ use Rattle.bz_tree.specs.Rows.{RowPart, part_view}
 use Rattle.bz_attribute.specs.RowEdits.{replaced_at}
 use Rattle.bz_attribute.proofs.Slices.{front_seen}
 use Rattle.bz_list_commands.specs.private.ArgumentEdits.{changes_by, edit_by, literal_by}
-use Rattle.bz_list_commands.specs.private.WrittenParts.{literal_parts, written}
+use Rattle.bz_list_commands.specs.private.StringEdits.{literal_parts, written}
 use Rattle.bz_list_commands.proofs.PlaceEdits.{written_place}
 use Rattle.bz_list_commands.proofs.WrittenParts.{ok_three}
 use Rattle.bz_list_commands.proofs.place_edits.edit_in.Goals as goal

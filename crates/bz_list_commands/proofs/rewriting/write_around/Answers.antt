@@ -6,7 +6,7 @@ use Rattle.bz_command.specs.Values.{quoted}
 use Rattle.bz_attribute.specs.Effects.{done}
 use Rattle.bz_attribute.specs.RowEdits.{replaced_at}
 use Rattle.bz_attribute.specs.declared.place.Place.{Place}
-use Rattle.bz_list_commands.specs.private.WrittenParts.{literal_parts, written}
+use Rattle.bz_list_commands.specs.private.StringEdits.{literal_parts, written}
 use Rattle.bz_list_commands.proofs.WrittenParts.{first_written, last_written, one_first, one_ordered, one_written, ordered_within, some_there}
 use Rattle.bz_list_commands.proofs.rewriting.write_around.Goals as goal
 

@@ -1,7 +1,7 @@
 use Rattle.std.proofs.Common.{◌≡◌, ◌≤◌, ◌++◌, length, map, option_map, take, drop}
 use Rattle.bz_tree.specs.Rows.{part_view}
-use Rattle.bz_list_commands.specs.private.WrittenParts.{AreOrdered, literal_parts}
-use Rattle.bz_list_commands.specs.private.WrittenParts as spec
+use Rattle.bz_list_commands.specs.private.StringEdits.{AreOrdered, literal_parts}
+use Rattle.bz_list_commands.specs.private.StringEdits as spec
 use Rattle.bz_command.specs.Values.{quoted}
 use Rattle.bz_list_commands.proofs.rewriting.write_around.Given as goal
 
