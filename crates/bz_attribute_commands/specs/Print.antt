@@ -66,14 +66,10 @@ abbrev pub missing : Package → Statement → Rule → List Field → Option No
 missing home s r [] = None
 missing home s r (field ∷ fields) = if is_some (field_text home s r field) then missing home s r fields else Some (Missing (field_name field))
 
--- the fields that the name alone determines
-abbrev pub is_of_name : Field → Bool
-is_of_name Label = true
-is_of_name (ValueOf attr) = bytes_eq attr (codes "name")
-is_of_name _ = false
-
+-- the name alone determines what is printed
 abbrev pub is_name_alone : List Field → Bool
-is_name_alone (field ∷ []) = is_of_name field
+is_name_alone (Label ∷ []) = true
+is_name_alone (ValueOf attr ∷ []) = bytes_eq attr (codes "name")
 is_name_alone _ = false
 
 abbrev pub printed : Package → Statement → Rule → List Field → Done

@@ -1,5 +1,5 @@
 -- The walk backwards over parts marks each bracket as the tree says.
-use Rattle.std.proofs.Common.{◌≡◌, ℕ, suc, List, [], ◌∷◌, ◌++◌, map, Bool, false, ◌||◌, ◌&&◌, is_some, nat_le, Option, Some, None, refl, ap, ◌∙◌, append_assoc, arith}
+use Rattle.std.proofs.Common.{◌≡◌, ℕ, suc, ◌+◌, List, [], ◌∷◌, ◌++◌, map, Bool, false, ◌||◌, ◌&&◌, is_some, if◌then◌else◌, nat_le, nat_lt, Option, Some, None, refl, ap, ◌∙◌, append_assoc, arith}
 use Rattle.std.proofs.Math.Bool.{or_assoc, or_comm, or-false}
 use Rattle.std.proofs.lemmas.Bool.Decides.{nat_tests}
 use Rattle.bz_tree.specs.declared.tree.GroupKind.{GroupKind}
@@ -10,7 +10,7 @@ use Rattle.bz_layout.specs.declared.marks.BracketForm.{BracketForm}
 use Rattle.bz_layout.specs.declared.marks.Contents.{Contents}
 use Rattle.bz_layout.specs.Broken.{count, have_comments, breaks_by_count, is_broken, holds_broken, items_hold, segs_hold}
 use Rattle.bz_layout.specs.Layout.{has_commas}
-use Rattle.bz_layout.specs.private.RowLayout.{Scan, closed, one_more, mark_of, holding, below, opened_back, scan}
+use Rattle.bz_layout.specs.private.RowLayout.{Scan, closed, mark_of, holding, below, opened_back, scan}
 use Rattle.bz_token.specs.Common.{is_filled}
 use Rattle.bz_tree.proofs.Rows.FromParts.{segs_joined, seg_joined}
 
@@ -34,6 +34,9 @@ abbrev mutual
 -- what an item adds to what stands after it, and what segments add
 abbrev found : List BracketForm → Bool → Scan → Scan
 found ms b s = record { marks = ms ++ s.marks; here = holding b s.here; outer = s.outer }
+
+abbrev one_more : ℕ → ℕ
+one_more n = if nat_lt n 2 then n + 1 else n
 
 abbrev add : Segs → ℕ → ℕ
 add no_segs n = n

@@ -59,9 +59,9 @@ pub(crate) fn token_closes_up(kind: Kind, text: &str) -> bool
         && (is_byte(text, b'.') || is_byte(text, b',') || is_byte(text, b':'))
 }
 
-// A prefix, the star that begins an argument, or the colon of an index.
+// An operator is a prefix, the star that begins an argument, or the colon of an index.
 #[inline(always)]
-fn holds_on(within: Option<GroupKind>, left: Edge, text: &str) -> bool
+fn joins(within: Option<GroupKind>, left: Edge, text: &str) -> bool
     ensures { result ≡ (is_prefix left text.now || begins_argument within left text.now || is_index_colon within text.now) }
 {
     match (within, left) {
@@ -79,7 +79,7 @@ pub(crate) fn token_edge(within: Option<GroupKind>, left: Edge, kind: Kind, text
 {
     match kind {
         Kind::Operator if is_byte(text, b'.') => Edge::Dotted,
-        Kind::Operator if holds_on(within, left, text) => Edge::Joined,
+        Kind::Operator if joins(within, left, text) => Edge::Joined,
         Kind::Operator | Kind::Keyword => Edge::Operator,
         _ => Edge::Operand,
     }

@@ -30,9 +30,6 @@ pub record Scan : Type 0 where
 abbrev pub closed : Bool → Contents
 closed one_comma = record { one_comma = one_comma; comments = false; holds = false; segs = 0 }
 
-abbrev pub one_more : ℕ → ℕ
-one_more n = if nat_lt n 2 then n + 1 else n
-
 abbrev pub mark_of : GroupKind → Contents → BracketForm
 mark_of kind i = record { broken = i.comments || breaks_by_count kind i.segs || (nat_le 2 i.segs && i.holds); comma = has_commas kind i.one_comma i.segs }
 
@@ -51,7 +48,7 @@ abbrev pub back : RowPart → Scan → Scan
 back (a_token kind text) s = s
 back (opening kind) s = opened_back kind s
 back (closing one_comma) s = record s { here = closed one_comma; outer = s.here ∷ s.outer }
-back segment_end s = record s { here = record s.here { segs = one_more s.here.segs } }
+back segment_end s = record s { here = record s.here { segs = if nat_lt s.here.segs 2 then s.here.segs + 1 else s.here.segs } }
 back (above text) s = record s { here = record s.here { comments = true } }
 back (beside text) s = record s { here = record s.here { comments = true } }
 
