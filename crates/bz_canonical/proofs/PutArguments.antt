@@ -354,9 +354,9 @@ one_put depth attr text from to middle begun w v u one more a p t =
 
 -- all of them, and the comments after them
 
-finish : (depth : ℕ) (attr text middle rest begun w : List ℕ) (one e some : Bool) (a : AreRead depth text middle w one) (n : AreNotesFront 1 middle rest e) → some ≡ (one || e) → (place : Option PutEnds) → IfSome place (HasPut depth attr begun text a.placed)
+pub arguments_end : (depth : ℕ) (attr text middle rest begun w : List ℕ) (one e some : Bool) (a : AreRead depth text middle w one) (n : AreNotesFront 1 middle rest e) → some ≡ (one || e) → (place : Option PutEnds) → IfSome place (HasPut depth attr begun text a.placed)
     → AreArgumentsRead depth attr text rest begun (w ++ bytes_of (comments 1 n.notes)) some place
-finish depth attr text middle rest begun w one e some a n some_is place has = record {
+arguments_end depth attr text middle rest begun w one e some a n some_is place has = record {
   placed = a.placed;
   are = a.are;
   end = n.notes;
@@ -371,7 +371,7 @@ pub arguments_read : (named : Bool) (depth : ℕ) (attr text to middle rest begu
     → some ≡ ((one || more) || e) → (place : Option PutEnds) → IfSome place (λ p. (p ≡ ends) × (named ≡ false → more ≡ false))
     → AreArgumentsRead depth attr text rest begun ((w ++ u) ++ bytes_of (comments 1 n.notes)) some place
 arguments_read false depth attr text to middle rest begun w u one more e some ends r t n some_is place known =
-    finish depth attr text middle rest begun (w ++ u) (one || more) e some (append_read depth text to middle w u one more r.0.read t) n some_is place (at place known)
+    arguments_end depth attr text middle rest begun (w ++ u) (one || more) e some (append_read depth text to middle w u one more r.0.read t) n some_is place (at place known)
   where
     at : (place : Option PutEnds) → IfSome place (λ p. (p ≡ ends) × (false ≡ false → more ≡ false)) → IfSome place (HasPut depth attr begun text (r.0.read.placed ++ t.placed))
     at None known = tt
@@ -379,7 +379,7 @@ arguments_read false depth attr text to middle rest begun w u one more e some en
 arguments_read true depth attr text to middle rest begun w u one more e some ends r t n some_is place known =
     let later = append_read depth r.0 to middle r.2 u true more (single_read depth attr r.0 to r.2 true r.5) t in
     subst (λ (y : List ℕ). AreArgumentsRead depth attr text rest begun (y ++ bytes_of (comments 1 n.notes)) some place) (sym (append_assoc r.1 r.2 u) ∙ ap (λ (y : List ℕ). y ++ u) (sym r.6))
-    (finish depth attr text middle rest begun (r.1 ++ (r.2 ++ u)) (r.3 || true) e some (append_read depth text r.0 middle r.1 (r.2 ++ u) r.3 true r.4.read later) n
+    (arguments_end depth attr text middle rest begun (r.1 ++ (r.2 ++ u)) (r.3 || true) e some (append_read depth text r.0 middle r.1 (r.2 ++ u) r.3 true r.4.read later) n
     (some_is ∙ ap (λ b. (b || more) || e) r.7 ∙ ap (λ b. b || e) (sym (or_true r.3))) place (at place known))
   where
     at : (place : Option PutEnds) → IfSome place (λ p. (p ≡ ends) × (true ≡ false → more ≡ false)) → IfSome place (HasPut depth attr begun text (r.4.read.placed ++ (r.5.placed ∷ t.placed)))

@@ -1,8 +1,7 @@
 -- Strings that are elements of lists.
-use Rattle.std.proofs.Common.{◌≡◌, ℕ, suc, ◌+◌, List, [], ◌∷◌, ◌++◌, Bool, ◌||◌, true, false, refl, sym, subst}
-use Rattle.bz_token.specs.declared.token.Kind.TheVariants.{String}
+use Rattle.std.proofs.Common.{◌≡◌, ℕ, suc, ◌+◌, List, ◌∷◌, ◌++◌, Bool, ◌||◌, true, false, refl, sym, subst}
 use Rattle.bz_tree.specs.declared.tree.GroupKind.TheVariants.{List as ListKind}
-use Rattle.bz_canonical.specs.private.Fronts.{IsTokenFront, IsQuotedFront}
+use Rattle.bz_canonical.specs.private.Fronts.{IsQuotedFront}
 use Rattle.bz_canonical.specs.private.Values.{AreNodesFront}
 use Rattle.bz_layout.specs.Pieces.{indent}
 use Rattle.bz_tree.specs.declared.tree.GroupKind.{GroupKind}

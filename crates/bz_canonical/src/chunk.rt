@@ -79,9 +79,27 @@ pub fn canonical<'t>(
         return Ok(None);
     }
     let start = lines(text.as_bytes());
-    if let Some(head) = rule_head(start) {
-        return rule_chunk(text, head, asked, max_depth, written);
+    match rule_head(start) {
+        Some(head) => rule_chunk(text, head, asked, max_depth, written),
+        None => rarer_chunk(text, start, asked, max_depth, written),
     }
+}
+
+/// The same of what does not begin as a rule whose name is on a line of its own.
+#[inline(never)]
+fn rarer_chunk<'t>(
+    text: &'t str,
+    start: &'t [u8],
+    asked: Lookup<'_>,
+    max_depth: u8,
+    written: &'t mut Vec<u8>,
+) -> Result<Option<CanonicalChunk<'t>>, NoMemory>
+    requires depth { max_depth < 254 }
+    requires lines { AreLinesFront text.now start.now }
+    ensures { IfOk result (λ told. IfSome told (λ found. IsCanonical max_depth asked.entry.attr.now found.class
+        (option_map (λ name. name.now) found.name) (option_map between found.place)
+        found.chunk.now found.written.now text.now)) }
+{
     match unnamed_rule(start, asked, max_depth) {
         Some(rule) => {
             let Some(found) = unnamed_chunk(text, rule, written)? else {

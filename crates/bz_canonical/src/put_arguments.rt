@@ -108,15 +108,7 @@ fn put_argument<'t>(
             from: at.from,
             rest,
         })),
-        None => {
-            if depth == 0 {
-                return Ok(None);
-            }
-            let Some(next) = put_list_argument(at, value, written)? else {
-                return Ok(None);
-            };
-            Ok(Some(next))
-        }
+        None => put_list_argument(at, value, depth, written),
     }
 }
 
@@ -125,13 +117,17 @@ fn put_argument<'t>(
 fn put_list_argument<'t>(
     at: Pending<'t>,
     value: &'t [u8],
+    depth: u8,
     written: &mut Vec<u8>,
 ) -> Told<Pending<'t>>
-    ensures { IfOk result (λ told. IfSome told (λ next. (depth : ℕ) (attr : List ℕ) (named : Bool)
-        → 0 < depth → IsHeadRead attr at.entry.rest.now value.now named
+    ensures { IfOk result (λ told. IfSome told (λ next. (attr : List ℕ) (named : Bool)
+        → IsHeadRead attr at.entry.rest.now value.now named
         → Puts written.old.items (pending at.entry) written.new.items (pending next)
         (λ begun w. IsArgumentRead depth attr at.entry.rest.now next.rest.now w named))) }
 {
+    if depth == 0 {
+        return Ok(None);
+    }
     let Some(front) = before(at.from, value.len()) else {
         return Ok(None);
     };
@@ -298,6 +294,46 @@ fn put_later<'t>(placed: PutPlaced<'t>, depth: u8, written: &mut Vec<u8>) -> Tol
         return Ok(None);
     };
     Ok(Some(later))
+}
+
+/// All arguments of a rule, and the comments after them.
+#[derive(Clone, Copy)]
+pub(crate) struct PassedArguments<'t> {
+    pub(crate) at: Pending<'t>,
+    /// There is one at least, or a comment.
+    pub(crate) some: bool,
+}
+
+/// Passes the arguments here, with the comments after them, where the place of none is asked for.
+#[inline(always)]
+pub(crate) fn pass_arguments<'t>(
+    from: Pending<'t>,
+    depth: u8,
+    written: &mut Vec<u8>,
+) -> Told<PassedArguments<'t>>
+    requires { depth < 254 }
+    ensures { IfOk result (λ told. IfSome told (λ read. (attr : List ℕ)
+        → Puts written.old.items (pending from.entry) written.new.items (pending read.at)
+        (λ begun w. AreArgumentsRead depth attr from.entry.rest.now read.at.rest.now begun w read.some None))) }
+{
+    let none = Sought {
+        attr: b"".as_slice(),
+        depth,
+    };
+    let Some(others) = put_others(from, none, written)? else {
+        return Ok(None);
+    };
+    let Some(last) = last_segments(others.at.rest, depth) else {
+        return Ok(None);
+    };
+    let more = either(others.one, last.count > 0);
+    Ok(Some(PassedArguments {
+        at: Pending {
+            from: others.at.from,
+            rest: last.rest,
+        },
+        some: either(more, last.ended),
+    }))
 }
 
 /// The arguments of a rule, and the comments after them.

@@ -1,13 +1,15 @@
 //! A rule as it would be written, where lists of strings in it stand otherwise.
 
-ghost use Rattle.std.specs.Prelude.{ℕ, List, ◌+◌, ◌<◌, ◌-◌, codes, length, take, option_map, if◌then◌else◌, IfOk, IfSome, bytes_eq, true, false};
+ghost use Rattle.std.specs.Prelude.{ℕ, List, ◌+◌, ◌<◌, ◌-◌, codes, length, take, option_map, if◌then◌else◌, IfOk, IfSome, IsTrue, bytes_eq, ◌≡◌, [], true, false};
 ghost use Rattle.bz_canonical.specs.private.Segments.{AreLinesFront};
-ghost use Rattle.bz_canonical.specs.private.Rewritten.{IsRuleEnd, IsRuleHead, IsRulePlace, IsRuleRead, put_ends};
+ghost use Rattle.bz_canonical.specs.private.Rewritten.{IsPending, IsRuleEnd, IsRuleHead, IsRulePlace, IsRuleRead, put_ends};
 
 use crate::chunk::Lookup;
 use crate::front::{Word, after, after_word, before, identifier, line, simple_string};
 use crate::notes::beside;
-use crate::put_arguments::{Lines, Pending, PutPlace, Sought, put_arguments};
+use crate::put_arguments::{
+    Lines, PassedArguments, Pending, PutPlace, Sought, pass_arguments, put_arguments,
+};
 use bz_memory::{NoMemory, extend_from_slice};
 
 /// A rule, and what follows it.
@@ -37,6 +39,43 @@ pub(crate) fn put_rule<'t>(
         (option_map put_ends read.place))) }
 {
     written.clear();
+    if asked.is_of(head.name) {
+        return put_asked_rule(text, head, asked, depth, written);
+    }
+    let start = Pending {
+        from: text,
+        rest: head.rest,
+    };
+    let Some(read) = pass_arguments(start, depth, written)? else {
+        return Ok(None);
+    };
+    let Some(end) = put_rule_end(read, written)? else {
+        return Ok(None);
+    };
+    Ok(Some(PutRule {
+        place: None,
+        rest: end.rest,
+        as_is: end.as_is,
+    }))
+}
+
+/// The same, where the place of an argument is asked for, and the buffer is empty.
+#[inline(never)]
+fn put_asked_rule<'t>(
+    text: &'t [u8],
+    head: RuleHead<'t>,
+    asked: Lookup<'_>,
+    depth: u8,
+    written: &mut Vec<u8>,
+) -> Result<Option<PutRule<'t>>, NoMemory>
+    requires deep { depth < 253 }
+    requires head { IsRuleHead text.now head.name.now head.inside.now head.rest.now }
+    requires empty { written.old.items ≡ [] }
+    ensures { IfOk result (λ told. IfSome told (λ read. IsRuleRead (depth + 1) asked.entry.attr.now head.entry.name.now
+        text.now read.rest.now
+        (if read.as_is then take (length text.now - length read.rest.now) text.now else written.new.items)
+        (option_map put_ends read.place))) }
+{
     let start = Pending {
         from: text,
         rest: head.rest,
@@ -45,29 +84,54 @@ pub(crate) fn put_rule<'t>(
     let Some(read) = put_arguments(start, Sought { attr, depth }, written)? else {
         return Ok(None);
     };
+    let passed = PassedArguments {
+        at: read.at,
+        some: read.some,
+    };
+    let Some(end) = put_rule_end(passed, written)? else {
+        return Ok(None);
+    };
+    Ok(Some(PutRule {
+        place: place_of(text, head, attr, read.place),
+        rest: end.rest,
+        as_is: end.as_is,
+    }))
+}
+
+/// The end of a rule.
+#[derive(Clone, Copy)]
+struct RuleEnd<'t> {
+    rest: &'t [u8],
+    /// The rule stands as it is written, and is not in the buffer.
+    as_is: bool,
+}
+
+/// Passes the end of the rule of these arguments.
+#[inline(always)]
+fn put_rule_end<'t>(
+    read: PassedArguments<'t>,
+    written: &mut Vec<u8>,
+) -> Result<Option<RuleEnd<'t>>, NoMemory>
+    ensures some { IfOk result (λ told. IfSome told (λ end. IsTrue read.entry.some)) }
+    ensures end { IfOk result (λ told. IfSome told (λ end. IsRuleEnd read.entry.at.rest.now end.rest.now)) }
+    ensures written { IfOk result (λ told. IfSome told (λ end. (text all : List ℕ)
+        → IsPending text written.old.items all read.entry.at.from.now end.rest.now
+        → (if end.as_is then take (length text - length end.rest.now) text else written.new.items) ≡ all)) }
+{
     if !read.some {
         return Ok(None);
     }
     let Some(rest) = rule_end(read.at.rest) else {
         return Ok(None);
     };
-    let place = place_of(text, head, asked, read.place);
     if written.is_empty() {
-        return Ok(Some(PutRule {
-            place,
-            rest,
-            as_is: true,
-        }));
+        return Ok(Some(RuleEnd { rest, as_is: true }));
     }
     let Some(back) = before(read.at.from, rest.len()) else {
         return Ok(None);
     };
     extend_from_slice(written, back)?;
-    Ok(Some(PutRule {
-        place,
-        rest,
-        as_is: false,
-    }))
+    Ok(Some(RuleEnd { rest, as_is: false }))
 }
 
 /// The beginning of a rule: the comments above it, its kind, its name.
@@ -112,20 +176,17 @@ fn rule_end(text: &[u8]) -> Option<&[u8]>
     Some(rest)
 }
 
-/// The place of the argument that is asked for, by that of one after the name.
+/// The place of the argument of this name, by that of one after the name of the rule.
 fn place_of<'t>(
     text: &[u8],
     head: RuleHead<'t>,
-    asked: Lookup<'_>,
+    attr: &[u8],
     place: Option<PutPlace<'t>>,
 ) -> Option<PutPlace<'t>>
-    ensures { IfSome (option_map put_ends result) (IsRulePlace (bytes_eq asked.entry.attr.now (codes "name")) text.now
+    ensures { IfSome (option_map put_ends result) (IsRulePlace (bytes_eq attr.now (codes "name")) text.now
         head.entry.inside.now head.entry.rest.now (option_map put_ends place.entry)) }
 {
-    if !asked.is_of(head.name) {
-        return None;
-    }
-    if asked.attr.as_bytes() != b"name".as_slice() {
+    if attr != b"name".as_slice() {
         return place;
     }
     let start = text.len().checked_sub(head.inside.len())?;

@@ -21,10 +21,9 @@ use Rattle.bz_engine.specs.Outcome.{Run}
 use Rattle.bz_engine.specs.Progress.{Progress}
 use Rattle.bz_engine.specs.declared.canonical.Found.{Found}
 use Rattle.bz_engine.specs.declared.edit.Edited.TheVariants.{Done}
-use Rattle.bz_engine.specs.declared.next_chunk.NextChunk.{NextChunk}
 use Rattle.bz_engine.specs.declared.edit.Scripted.TheVariants.{Done as Laid}
 use Rattle.bz_engine.specs.private.Edits.{DoesNothing, EditsChunk, EditsWhole, IsEdited, IsLaidOut}
-use Rattle.bz_engine.specs.private.NextChunks.{IsFirstEdited, IsKnownEdited}
+use Rattle.bz_engine.specs.private.NextChunks.{IsFirstEdited, IsKnownEdited, done_chunk}
 use Rattle.bz_engine.specs.private.Rows.{HasKey}
 use Rattle.bz_engine.proofs.ChunkEdits.{line_passed, scripted_edited}
 use Rattle.bz_engine.proofs.FirstChunks.{IsTakenOf, first_is_next, chunk_is}
@@ -71,10 +70,10 @@ few_lines : (line : ℕ) (chunk : List ℕ) → line_at line chunk ≤ line + le
 few_lines line chunk = omega (arith, count_by-le-length (λ b. b == 10) chunk)
 
 -- the statement that is read of the chunk, laid out
-known_laid : (run : Run) (found : Found) (text : List ℕ) (old new : Progress) (before after : List ℕ) (next : NextChunk)
+known_laid : (run : Run) (found : Found) (text : List ℕ) (old new : Progress) (before after : List ℕ) (len : ℕ)
     → (c : IsCanonical run.max_depth found.attr.now found.chunk.class (option_map (λ name. name.now) found.chunk.name) (option_map between found.chunk.place) found.chunk.chunk.now found.chunk.written.now text)
-    → (known : IsKnownEdited run found old new before after next) → IsLaidOut run (c.read old.line).statement old known.mid before after
-known_laid run found text old new before after next c known =
+    → (known : IsKnownEdited run found old new before after len) → IsLaidOut run (c.read old.line).statement old known.mid before after
+known_laid run found text old new before after len c known =
     let read = c.read old.line in
     let s = read.statement in
     known.laid s (record { class = chunk_class old.line found.chunk.chunk.now read.read.tokens s read.read.reads.chunk; class_is = read.class_is; named = read.named; written = read.written; has = read.has })
@@ -84,15 +83,15 @@ all_taken chunk [] text is size = sym (is ∙ append-nil chunk)
 all_taken chunk (b ∷ bs) text is size = absurd (omega (arith, ap length is, length-append chunk (b ∷ bs), size))
 
 -- the chunk is the whole text
-whole_edited : (run : Run) (found : Found) (text : List ℕ) (old new : Progress) (before after : List ℕ) (next : NextChunk) → length found.chunk.chunk.now ≡ length text
+whole_edited : (run : Run) (found : Found) (text : List ℕ) (old new : Progress) (before after : List ℕ) (len : ℕ) → length found.chunk.chunk.now ≡ length text
     → IsCanonical run.max_depth found.attr.now found.chunk.class (option_map (λ name. name.now) found.chunk.name) (option_map between found.chunk.place) found.chunk.chunk.now found.chunk.written.now text
-    → IsKnownEdited run found old new before after next → EditsChunk run text old new before after Done × (new.line ≤ old.line + length text)
-whole_edited run found text old new before after next size c known =
+    → IsKnownEdited run found old new before after len → EditsChunk run text old new before after Done × (new.line ≤ old.line + length text)
+whole_edited run found text old new before after len size c known =
     let chunk : List ℕ = found.chunk.chunk.now in
     let whole : chunk ≡ text = all_taken chunk c.rest text c.front size in
     let read = c.read old.line in
     let s = read.statement in
-    let done : IsLaidOut run s old known.mid before after = known_laid run found text old new before after next c known in
+    let done : IsLaidOut run s old known.mid before after = known_laid run found text old new before after len c known in
     let at : new.line ≡ line_at old.line chunk = ap (λ (p : Progress). p.line) known.passed ∙ ap (λ n. line_at n chunk) done.line in (
       λ cs statements kept. scripted_edited run cs statements text s old known.mid new before after Laid kept
           (subst IsUtf8 whole known.utf8, subst (λ bytes. IsStatementIn old.line run.max_depth bytes s) whole read.read) done (known.passed ∙ ap (λ bytes. line_passed bytes known.mid) whole),
@@ -103,7 +102,7 @@ no_line : (n old new : ℕ) → new ≡ old → new ≤ old + n
 no_line n old new is = omega arith
 
 -- where a buffer is taken before it, and given back after it
-pub whole_known : (run : Run) (found : Found) (text : List ℕ) (start old mid new : Progress) (before after : List ℕ) (next : Option NextChunk) → length found.chunk.chunk.now ≡ length text
+pub whole_known : (run : Run) (found : Found) (text : List ℕ) (start old mid new : Progress) (before after : List ℕ) (next : Option ℕ) → length found.chunk.chunk.now ≡ length text
     → IsCanonical run.max_depth found.attr.now found.chunk.class (option_map (λ name. name.now) found.chunk.name) (option_map between found.chunk.place) found.chunk.chunk.now found.chunk.written.now text
     → old ≡ start → new ≡ mid → Fits mid.kept run.passes → IfSome next (IsKnownEdited run found old mid before after) → IfNone next (DoesNothing old mid before after)
     → EditsWhole run text start new before after (is_some next)
@@ -111,7 +110,7 @@ whole_known run found text start old mid new before after next size c first last
     subst (λ (p : Progress). EditsWhole run text p new before after (is_some next)) first
     (subst (λ (p : Progress). EditsWhole run text old p before after (is_some next)) (sym last) (by next known none))
   where
-    by : (next : Option NextChunk) → IfSome next (IsKnownEdited run found old mid before after) → IfNone next (DoesNothing old mid before after) → EditsWhole run text old mid before after (is_some next)
+    by : (next : Option ℕ) → IfSome next (IsKnownEdited run found old mid before after) → IfNone next (DoesNothing old mid before after) → EditsWhole run text old mid before after (is_some next)
     by None known none = record {
       fits = fits;
       lines = no_line (length text) old.line mid.line (ap (λ (p : Progress). p.line) none.0);
@@ -122,31 +121,31 @@ whole_known run found text start old mid new before after next size c first last
         let whole = whole_edited run found text old mid before after next size c known in
         record { fits = fits; lines = whole.1; edited = λ _. whole.0; nothing = λ other. absurd (false≢true (sym other)) }
 
-canonical_edited : (run : Run) (most : ℕ) (ahead : Ahead) (found : Found) (text : List ℕ) (old new : Progress) (before after : List ℕ) (next : NextChunk)
+canonical_edited : (run : Run) (most : ℕ) (ahead : Ahead) (found : Found) (text : List ℕ) (old new : Progress) (before after : List ℕ) (len : ℕ)
     → IsFewAfter ahead → IsTakenOf text ahead.bytes → length found.chunk.chunk.now ≤ most
     → IsCanonical run.max_depth found.attr.now found.chunk.class (option_map (λ name. name.now) found.chunk.name) (option_map between found.chunk.place) found.chunk.chunk.now found.chunk.written.now text
-    → IsKnownEdited run found old new before after next → IsFirstEdited run most ahead old new before after next
-canonical_edited run most ahead found text old new before after next few outer size c known =
+    → IsKnownEdited run found old new before after len → IsFirstEdited run most ahead old new before after (done_chunk len)
+canonical_edited run most ahead found text old new before after len few outer size c known =
     let chunk : List ℕ = found.chunk.chunk.now in
     let mid : Progress = known.mid in
     let within : length chunk ≤ length text = front_size chunk c.rest text c.front in
     let front : chunk ≡ take (length chunk) text = front_taken chunk c.rest text c.front in
     let read = c.read old.line in
     let s = read.statement in
-    let done : IsLaidOut run s old mid before after = known_laid run found text old new before after next c known in
-    subst (IsFirstEdited run most ahead old new before after) (sym known.next_is) (record {
+    let laid : IsLaidOut run s old mid before after = known_laid run found text old new before after len c known in
+    subst (λ n. IsFirstEdited run most ahead old new before after (done_chunk n)) (sym known.len_is) (record {
       chunk = first_is_next most ahead chunk text few outer c.some within front size c.ends;
-      lines = subst (λ n. n ≤ old.line + length chunk) (sym (ap (λ (p : Progress). p.line) known.passed ∙ ap (λ n. line_at n chunk) done.line)) (few_lines old.line chunk);
+      lines = subst (λ n. n ≤ old.line + length chunk) (sym (ap (λ (p : Progress). p.line) known.passed ∙ ap (λ n. line_at n chunk) laid.line)) (few_lines old.line chunk);
       edited = λ cs statements kept. subst (λ bytes. IsEdited run cs statements bytes old new before after Done) (chunk_is chunk text ahead.bytes outer within front)
-          (scripted_edited run cs statements chunk s old mid new before after Laid kept (known.utf8, read.read) done known.passed);
+          (scripted_edited run cs statements chunk s old mid new before after Laid kept (known.utf8, read.read) laid known.passed);
     })
 
 -- where a buffer is taken before it, and given back after it
-pub known_edited : (run : Run) (most : ℕ) (ahead : Ahead) (found : Found) (text : List ℕ) (start old mid new : Progress) (before after : List ℕ) (next : Option NextChunk)
+pub known_edited : (run : Run) (most : ℕ) (ahead : Ahead) (found : Found) (text : List ℕ) (start old mid new : Progress) (before after : List ℕ) (next : Option ℕ)
     → IsFewAfter ahead → IsTakenOf text ahead.bytes → length found.chunk.chunk.now ≤ most
     → IsCanonical run.max_depth found.attr.now found.chunk.class (option_map (λ name. name.now) found.chunk.name) (option_map between found.chunk.place) found.chunk.chunk.now found.chunk.written.now text
-    → old ≡ start → new ≡ mid → IfSome next (IsKnownEdited run found old mid before after) → IfSome next (IsFirstEdited run most ahead start new before after)
+    → old ≡ start → new ≡ mid → IfSome next (IsKnownEdited run found old mid before after) → IfSome next (λ len. IsFirstEdited run most ahead start new before after (done_chunk len))
 known_edited run most ahead found text start old mid new before after None few outer size c first last known = tt
-known_edited run most ahead found text start old mid new before after (Some next) few outer size c first last known =
-    subst (λ (p : Progress). IsFirstEdited run most ahead p new before after next) first
-    (subst (λ (p : Progress). IsFirstEdited run most ahead old p before after next) (sym last) (canonical_edited run most ahead found text old mid before after next few outer size c known))
+known_edited run most ahead found text start old mid new before after (Some len) few outer size c first last known =
+    subst (λ (p : Progress). IsFirstEdited run most ahead p new before after (done_chunk len)) first
+    (subst (λ (p : Progress). IsFirstEdited run most ahead old p before after (done_chunk len)) (sym last) (canonical_edited run most ahead found text old mid before after len few outer size c known))

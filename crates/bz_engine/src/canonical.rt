@@ -15,14 +15,13 @@ ghost use Rattle.bz_engine.specs.Outcome.{is_query};
 ghost use Rattle.bz_engine.specs.Progress.{text_following};
 ghost use Rattle.bz_engine.specs.private.Edits.{DoesNothing, EditsWhole, run_of};
 ghost use Rattle.bz_engine.specs.private.Found.{IsFound, IsMarked, one_pass};
-ghost use Rattle.bz_engine.specs.private.NextChunks.{EditsFound, IsFirstEdited, IsKnownEdited};
+ghost use Rattle.bz_engine.specs.private.NextChunks.{EditsFound, IsFirstEdited, IsKnownEdited, done_chunk};
 ghost use Rattle.bz_engine.specs.private.Rows.{HasKey};
 
 use crate::answer::{marks_found, unchanged_by_text};
 use crate::argument::{EditedArgument, edit_lines};
-use crate::edit::{Edited, ScriptRun};
+use crate::edit::ScriptRun;
 use crate::failure::failure_by_text;
-use crate::next_chunk::NextChunk;
 use crate::progress::Progress;
 use crate::rule_passes::OnePass;
 use crate::rules::Rules;
@@ -43,13 +42,13 @@ pub(crate) fn edit_canonical(
     script: ScriptRun<'_>,
     progress: &mut Progress,
     text: &mut Vec<u8>,
-) -> Result<Option<NextChunk>, NoMemory>
+) -> Result<Option<usize>, NoMemory>
     requires few { IsFewAfter ahead.now }
     requires fits { Fits progress.old.kept script.passes.now }
     requires lines { progress.old.line + length ahead.now.bytes < 2 ^ 64 }
     ensures fits { OnOk result (Fits progress.new.kept script.entry.passes.now) }
-    ensures chunk { IfOk result (λ found. IfSome found (IsFirstEdited (run_of script.entry) script.entry.max_statement
-        ahead.now progress.old progress.new text.old.items text.new.items)) }
+    ensures chunk { IfOk result (λ found. IfSome found (λ len. IsFirstEdited (run_of script.entry)
+        script.entry.max_statement ahead.now progress.old progress.new text.old.items text.new.items (done_chunk len))) }
     ensures none { IfOk result (λ found. IfNone found
         (DoesNothing progress.old progress.new text.old.items text.new.items)) }
 {
@@ -64,9 +63,9 @@ pub(crate) fn edit_canonical(
             Ok(None)
         }
         Some(found) => {
-            let next = edit_known(script, &found, progress, text)?;
+            let len = edit_known(script, found, progress, text)?;
             progress.give_back_written(written);
-            Ok(next)
+            Ok(len)
         }
     }
 }
@@ -90,9 +89,9 @@ pub(crate) fn edit_whole(
     let mut written = progress.take_written(script.alloc);
     match find_canonical(script, chunk, u64::MAX, &mut written)? {
         Some(found) if found.chunk.chunk.len() == chunk.len() => {
-            let next = edit_known(script, &found, progress, text)?;
+            let len = edit_known(script, found, progress, text)?;
             progress.give_back_written(written);
-            Ok(next.is_some())
+            Ok(len.is_some())
         }
         _ => {
             progress.give_back_written(written);
@@ -106,28 +105,25 @@ pub(crate) fn edit_whole(
 #[inline(always)]
 fn edit_known(
     script: ScriptRun<'_>,
-    found: &Found<'_>,
+    found: Found<'_>,
     progress: &mut Progress,
     text: &mut Vec<u8>,
-) -> Result<Option<NextChunk>, NoMemory>
+) -> Result<Option<usize>, NoMemory>
     requires fits { Fits progress.old.kept script.passes.now }
-    requires lines { progress.old.line + length found.now.chunk.chunk.now < 2 ^ 64 }
+    requires lines { progress.old.line + length found.chunk.chunk.now < 2 ^ 64 }
     ensures fits { OnOk result (Fits progress.new.kept script.entry.passes.now) }
-    ensures chunk { IfOk result (λ next. IfSome next (IsKnownEdited (run_of script.entry) found.now
+    ensures chunk { IfOk result (λ len. IfSome len (IsKnownEdited (run_of script.entry) found.entry
         progress.old progress.new text.old.items text.new.items)) }
-    ensures none { IfOk result (λ next. IfNone next
+    ensures none { IfOk result (λ len. IfNone len
         (DoesNothing progress.old progress.new text.old.items text.new.items)) }
 {
-    if !edit_unseen(script, *found, progress, text)? {
+    if !edit_unseen(script, found, progress, text)? {
         progress.looked_in_vain();
         return Ok(None);
     }
     progress.looked_well();
     progress.pass_lines(found.chunk.chunk.as_bytes());
-    Ok(Some(NextChunk {
-        len: found.chunk.chunk.len(),
-        edited: Edited::Done,
-    }))
+    Ok(Some(found.chunk.chunk.len()))
 }
 
 /// A chunk of which it is known what would be written, and the attribute whose argument was looked for in it.
@@ -182,14 +178,14 @@ fn edit_unseen(
         put_canonical(script, found.chunk, text, progress)?;
         return Ok(true);
     }
-    edit_marked(&found, script, progress, text)
+    edit_marked(found, script, progress, text)
 }
 
 /// The script on the statement of such a chunk, by the first of these: the one command leaves it as it is, fails on it,
 /// or edits one argument. False, with nothing done: the statement is to be seen.
 #[inline(never)]
 fn edit_marked(
-    found: &Found<'_>,
+    found: Found<'_>,
     script: ScriptRun<'_>,
     progress: &mut Progress,
     text: &mut Vec<u8>,
@@ -197,27 +193,27 @@ fn edit_marked(
     requires fits { Fits progress.old.kept script.passes.now }
     ensures line { OnOk result (progress.new.line ≡ progress.old.line) }
     ensures fits { OnOk result (Fits progress.new.kept script.entry.passes.now) }
-    ensures edited { IfOk result (EditsFound (run_of script.entry) found.now progress.old progress.new
+    ensures edited { IfOk result (EditsFound (run_of script.entry) found.entry progress.old progress.new
         text.old.items text.new.items) }
 {
-    let Some(only) = marking(script, *found) else {
+    let Some(only) = marking(script, found) else {
         return Ok(false);
     };
     let env = Env {
         alloc: script.alloc,
         home: script.home,
     };
-    if let Some(unchanged) = unchanged_by_text(env, only.command, *found)? {
+    if let Some(unchanged) = unchanged_by_text(env, only.command, found)? {
         progress.keep_line(unchanged.line)?;
         put_canonical(script, found.chunk, text, progress)?;
         return Ok(true);
     }
-    if let Some(entry) = failure_by_text(script, only.command, *found)? {
+    if let Some(entry) = failure_by_text(script, only.command, found)? {
         progress.keep_failure(entry)?;
         put_canonical(script, found.chunk, text, progress)?;
         return Ok(true);
     }
-    edit_argument(script, only, *found, progress, text)
+    edit_argument(script, only, found, progress, text)
 }
 
 /// The one command of the script, with its target, where that marks the statement of the chunk.

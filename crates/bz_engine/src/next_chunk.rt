@@ -6,9 +6,9 @@ ghost use Rattle.bz_token.specs.Reading.{AreTokensOf};
 ghost use Rattle.bz_devices.specs.Ahead.{IsFewAfter};
 ghost use Rattle.bz_passes.specs.Exchange.{Fits};
 ghost use Rattle.bz_engine.specs.private.Edits.{EditsChunk, run_of};
-ghost use Rattle.bz_engine.specs.private.NextChunks.{IsFirst};
+ghost use Rattle.bz_engine.specs.private.NextChunks.{IsFirst, done_chunk};
 
-use crate::canonical::{edit_canonical, edit_whole};
+use crate::canonical::edit_whole;
 use crate::chunk::not_utf8;
 use crate::edit::{Edited, ScriptRun, edit_chunk};
 use crate::progress::Progress;
@@ -23,6 +23,16 @@ pub(crate) struct NextChunk {
     /// How many of the bytes ahead it has.
     pub(crate) len: usize,
     pub(crate) edited: Edited,
+}
+
+/// What is answered of a chunk of so many bytes that is done.
+pub(crate) fn done_chunk(len: usize) -> NextChunk
+    ensures { result ≡ done_chunk len }
+{
+    NextChunk {
+        len,
+        edited: Edited::Done,
+    }
 }
 
 /// What is done of the first chunk of the text ahead.
@@ -52,9 +62,6 @@ pub(crate) fn edit_first(
         progress.old progress.new text.old.items text.new.items) }
 {
     let text_ahead = ahead.text();
-    if let Some(next) = edit_canonical(ahead, script, progress, text)? {
-        return Ok(First::Edited(next));
-    }
     let chunk = match first_chunk(script.bump, text_ahead, progress.line, script.max_depth)? {
         Front::Chunk(chunk) => chunk,
         Front::Short => return Ok(First::Short),

@@ -16,9 +16,10 @@ ghost use Rattle.bz_engine.specs.SessionValue.{at_start, run_in, IsSameRun, IsRe
 ghost use Rattle.bz_engine.specs.SessionSteps.{Steps, reader, writer};
 ghost use Rattle.bz_engine.specs.declared.session.SessionState.TheVariants.{Going, Ended, Stopped};
 
+use crate::canonical::edit_canonical;
 use crate::edit::{Edited, ScriptRun};
 use crate::looks::Looks;
-use crate::next_chunk::{First, NextChunk, edit_bytes, edit_first};
+use crate::next_chunk::{First, NextChunk, done_chunk, edit_bytes, edit_first};
 use crate::options::Options;
 use crate::progress::Progress;
 use crate::report::{End, Report};
@@ -374,7 +375,25 @@ impl Session {
         ensures fits { OnOk result (Fits self.new.progress.kept self.new.passes) }
         ensures first { IfOk result (IsFirstNext self.old self.new text.old.items text.new.items) }
     {
-        // The lists of the last chunk are given up.
+        let options = self.options;
+        let script = script_run(self.alloc, &self.bump, &self.home, &self.passes, options);
+        match edit_canonical(&self.ahead, script, &mut self.progress, text)? {
+            Some(len) => Ok(First::Edited(done_chunk(len))),
+            None => self.edit_read(text),
+        }
+    }
+
+    /// The same, where the chunk is read.
+    #[inline(never)]
+    fn edit_read(&mut self, text: &mut Vec<u8>) -> Result<First, NoMemory>
+        requires stopped { self.old.stage ≡ Stopped }
+        requires ready { CanTake self.old }
+        ensures same { self.new ≡ record self.old { progress = self.new.progress } }
+        ensures unread { IsReadOn self.old.options.max_reads self.old.ahead self.new.ahead [] }
+        ensures fits { OnOk result (Fits self.new.progress.kept self.new.passes) }
+        ensures first { IfOk result (IsFirstNext self.old self.new text.old.items text.new.items) }
+    {
+        // The lists of the last chunk that was read are given up.
         clear(self.alloc, &mut self.bump);
         let options = self.options;
         let script = script_run(self.alloc, &self.bump, &self.home, &self.passes, options);

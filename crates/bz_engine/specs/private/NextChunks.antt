@@ -16,6 +16,10 @@ use Rattle.bz_engine.specs.declared.next_chunk.NextChunk.{NextChunk}
 use Rattle.bz_engine.specs.declared.next_chunk.First.{First}
 use Rattle.bz_engine.specs.declared.next_chunk.First.TheVariants.{Edited, Short, Other}
 
+-- what is answered of a chunk that is done
+abbrev pub done_chunk : ℕ → NextChunk
+done_chunk len = record { len = len; edited = Done }
+
 -- The chunk stands ahead, it is not too long, and this is what the script made of it.
 pub record IsFirstEdited (run : Run) (max_statement : ℕ) (ahead : Ahead) (old new : Progress) (before after : List ℕ) (next : NextChunk) : Type 0 where
   pub chunk : IsNextChunk max_statement ahead next.len
@@ -28,12 +32,12 @@ EditsFound run found old new before after true = (s : Statement) → IsFound run
 EditsFound run found old new before after false = DoesNothing old new before after
 
 -- This is what the script made of the statement of a chunk that was found.
-pub record IsKnownEdited (run : Run) (found : Found) (old new : Progress) (before after : List ℕ) (next : NextChunk) : Type 0 where
+pub record IsKnownEdited (run : Run) (found : Found) (old new : Progress) (before after : List ℕ) (len : ℕ) : Type 0 where
   pub utf8 : IsUtf8 found.chunk.chunk.now
   pub mid : Progress
   pub laid : (s : Statement) → IsFound run.max_depth found s → IsLaidOut run s old mid before after
   pub passed : new ≡ record mid { line = line_at mid.line found.chunk.chunk.now }
-  pub next_is : next ≡ record { len = length found.chunk.chunk.now; edited = Done }
+  pub len_is : len ≡ length found.chunk.chunk.now
 
 -- The script was run on the first chunk ahead, or nothing was done.
 abbrev pub IsFirst : Run → ℕ → Ahead → Progress → Progress → List ℕ → List ℕ → First → Type 0

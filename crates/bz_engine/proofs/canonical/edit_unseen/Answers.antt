@@ -1,12 +1,6 @@
-use Rattle.std.proofs.Common.{[], ◌∷◌, sym, ap, subst, ◌∙◌}
-use Rattle.std.specs.Prelude.{Option, Some, IfSome}
-use Rattle.bz_passes.specs.Exchange.{Fits}
-use Rattle.bz_passes.specs.declared.entry.Entry.{Entry}
-use Rattle.bz_engine.specs.Progress.{Progress}
+use Rattle.std.proofs.Common.{sym}
 use Rattle.bz_engine.specs.private.Edits.{run_of}
-use Rattle.bz_engine.specs.private.Found.{FailsRule, LeavesRule}
 use Rattle.bz_engine.proofs.ChunkEdits.{passed_by}
-use Rattle.bz_engine.proofs.OnlyPass.{failed_laid, log_fits, one_log, stays_laid, told_fits}
 use Rattle.bz_engine.proofs.canonical.edit_unseen.Goals as goal
 
 pub returns-then-is_passed_by-clause-edited : goal.returns-then-is_passed_by-clause-edited
