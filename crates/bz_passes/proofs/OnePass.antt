@@ -1,7 +1,8 @@
 -- A slot that one pass of a script alone marks.
 use Rattle.std.proofs.Common.{◌≡◌, ℕ, zero, suc, ◌+◌, ◌<◌, false, ◌||◌, List, [], ◌∷◌, length, get_or, Option, Some, None, set, refl, ◌∙◌, ap, sym, arith}
+use Rattle.std.proofs.Math.Nat.{suc_inj}
 use Rattle.bz_command.specs.Passes.{Slot, Meaning, Pass, marked}
-use Rattle.bz_passes.specs.Exchange.{Kept, Fits, kept_alone, kept_and, pass_alone, pass_and, slot_after, slot_after_pass, some_of_commands_alone}
+use Rattle.bz_passes.specs.Exchange.{Kept, Fits, kept_alone, kept_and, logs_and, pass_alone, pass_and, slot_after, slot_after_pass, some_of_commands_alone}
 use Rattle.bz_passes.specs.OnePass.{IsOnlyAt, IsOnlyFor, and_at}
 use Rattle.bz_passes.specs.declared.index.Key.{Key}
 use Rattle.bz_passes.specs.private.Indexes.{IsFirstFrom, may_mark}
@@ -51,3 +52,24 @@ pub put_at : {M : Type 0} (ks : List (Kept M)) (at : ℕ) (e k more : Kept M) �
 put_at [] at e k more within is made = absurd (omega (arith, within))
 put_at (x ∷ ks) zero e k more within is made = ap (λ z. z ∷ ks) (made ∙ ap (λ z. pass_and z more) is)
 put_at (x ∷ ks) (suc at) e k more within is made = ap (λ l. x ∷ l) (put_at ks at e k more (omega (arith, within)) is made)
+
+-- there is a place for what the pass at a position tells
+pub fits_at : {T C M : Type 0} (ks : List (Kept M)) (ps : List (Pass T C)) (at : ℕ) (p : Pass T C) → at < length ps → p ≡ get_or ps at p → Fits ks ps
+    → (at < length ks) × ((e : Kept M) → length (get_or ks at e).logs ≡ length p.commands)
+fits_at ks [] at p within is fits = absurd (omega (arith, within))
+fits_at [] (q ∷ ps) at p within is fits = absurd fits
+fits_at (k ∷ ks) (q ∷ ps) zero p within is fits = (omega arith, λ e. fits.0 ∙ ap (λ (p : Pass _ _). length p.commands) (sym is))
+fits_at (k ∷ ks) (q ∷ ps) (suc at) p within is fits = let rest = fits_at ks ps at p (omega (arith, within)) is fits.1 in (omega (arith, rest.0), rest.1)
+
+-- and it stays
+both_logs : {M : Type 0} (xs ys : List (List M)) → length xs ≡ length ys → length (logs_and xs ys) ≡ length xs
+both_logs [] ys same = refl
+both_logs (x ∷ xs) [] same = absurd (omega (arith, same))
+both_logs (x ∷ xs) (y ∷ ys) same = ap suc (both_logs xs ys (suc_inj same))
+
+pub fits_and : {T C M : Type 0} (ks : List (Kept M)) (ps : List (Pass T C)) (at : ℕ) (p : Pass T C) (more : Kept M) → p ≡ get_or ps at p → length more.logs ≡ length p.commands → Fits ks ps → Fits (and_at at more ks) ps
+fits_and [] ps at p more is size fits = fits
+fits_and (k ∷ ks) [] at p more is size fits = absurd fits
+fits_and (k ∷ ks) (q ∷ ps) zero p more is size fits =
+    (both_logs k.logs more.logs (fits.0 ∙ ap (λ (p : Pass _ _). length p.commands) (sym is) ∙ sym size) ∙ fits.0, fits.1)
+fits_and (k ∷ ks) (q ∷ ps) (suc at) p more is size fits = (fits.0, fits_and ks ps at p more is size fits.1)
