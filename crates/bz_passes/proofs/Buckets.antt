@@ -3,7 +3,7 @@ use Rattle.std.proofs.Common.{◌≡◌, ◌≢◌, ℕ, suc, zero, ◌<◌, Boo
 use Rattle.std.proofs.lemmas.Bool.Decides.{eqb_tells}
 use Rattle.std.proofs.lemmas.List.{append-nil, length-set}
 use Rattle.std.proofs.lemmas.Slice.Eq.{bytes_eq-Decides}
-use Rattle.bz_passes.specs.private.Indexes.{Bucket, found, found_at, named_in, place_of}
+use Rattle.bz_passes.specs.private.Indexes.{Bucket, bucket_of, found, found_at, named_in}
 
 -- nothing is in empty buckets, nor in one more
 pub one_more_empty : (bs : List Bucket) (b : Bucket) (place : ℕ) (name : List ℕ)
@@ -35,16 +35,16 @@ others_stay (b ∷ bs) (suc place) (suc k) new name h = others_stay bs place k n
 
 -- a position is put after those of its name, and those of no other
 pub one_added : (bs : List Bucket) (place : ℕ) (old new : Bucket) (asked : List ℕ) (position : ℕ) (name : List ℕ)
-    → place ≡ place_of asked (length bs) → place < length bs → old ≡ get_or bs place old
+    → place ≡ bucket_of asked (length bs) → place < length bs → old ≡ get_or bs place old
     → ((q : List ℕ) → found new q ≡ found old q ++ (if bytes_eq q asked then position ∷ [] else []))
     → named_in (slice_set bs place new) name ≡ named_in bs name ++ (if bytes_eq name asked then position ∷ [] else [])
 one_added bs place old new asked position name at within is adds =
-    rw (length-set bs place new) (elim (eqb_tells (place_of name (length bs)) place) [
+    rw (length-set bs place new) (elim (eqb_tells (bucket_of name (length bs)) place) [
       | inl same ↦ rw (same.1) (is_there bs place new name within ∙ adds name
           ∙ ap (λ l. l ++ (if bytes_eq name asked then position ∷ [] else [])) (ap (λ b. found b name) is ∙ was_there bs place old name within))
-      | inr other ↦ others_stay bs place (place_of name (length bs)) new name other.1 ∙ unasked (bytes_eq name asked) refl other.1
+      | inr other ↦ others_stay bs place (bucket_of name (length bs)) new name other.1 ∙ unasked (bytes_eq name asked) refl other.1
     ]) where
-      unasked : (b : Bool) → bytes_eq name asked ≡ b → place_of name (length bs) ≢ place
-          → found_at bs (place_of name (length bs)) name ≡ found_at bs (place_of name (length bs)) name ++ (if b then position ∷ [] else [])
-      unasked true is other = absurd (other (ap (λ q. place_of q (length bs)) ((bytes_eq-Decides name asked).0 is) ∙ sym at))
+      unasked : (b : Bool) → bytes_eq name asked ≡ b → bucket_of name (length bs) ≢ place
+          → found_at bs (bucket_of name (length bs)) name ≡ found_at bs (bucket_of name (length bs)) name ++ (if b then position ∷ [] else [])
+      unasked true is other = absurd (other (ap (λ q. bucket_of q (length bs)) ((bytes_eq-Decides name asked).0 is) ∙ sym at))
       unasked false is other = sym (append-nil _)

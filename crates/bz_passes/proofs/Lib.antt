@@ -7,4 +7,5 @@ pub mod Buckets
 pub mod Positions
 pub mod Skips
 pub mod PassedBy
+pub mod OnePass
 pub mod Woven

@@ -6,8 +6,7 @@ use Rattle.bz_passes.specs.Exchange.{Kept, Fits, IsPassedBy, slot_after, logs_of
 use Rattle.bz_passes.specs.declared.index.Key.{Key}
 use Rattle.bz_passes.specs.private.Indexes.{IsFirstFrom, IsKeyOf, may_mark}
 use Rattle.bz_passes.proofs.ExchangeLaw.{left_more}
-use Rattle.bz_passes.proofs.Skips.{Skips, skip_from, slot_at_end, kept_at_end, some_at_end}
-use Rattle.bz_passes.proofs.Steps.{fits_length}
+use Rattle.bz_passes.proofs.Skips.{unmarked_kept, unmarked_slot, unmarked_test}
 use Rattle.bz_command.specs.Passes.{Marked, executed, marked, slots_after_pass}
 use Rattle.std.specs.Prelude.{map}
 
@@ -39,29 +38,50 @@ kept_fits : {S T C M : Type 0} (m : Meaning S T C M) (ps : List (Pass T C)) (slo
 kept_fits m [] slots = tt
 kept_fits m (p ∷ ps) slots = (logs_fit m p.commands (map (marked m p.target) slots), kept_fits m ps (slots_after_pass m p slots))
 
--- all passes are skipped
-all_skip : {S T C M : Type 0} (m : Meaning S T C M) (x : Slot S) (ps : List (Pass T C)) (ks : List (Kept M)) → Fits ks ps
-    → ((i : ℕ) (d : Pass T C) → i < length ps → m.marks (get_or ps i d).target x ≡ false) → Skips m x ps ks (length ps)
-all_skip m x ps ks fits none = skip_from m x ps ks 0 (length ps) (length ps) (omega arith) (omega arith) fits (λ i d le l. none i d l)
+pub or_nothing : (b : Bool) → (b || false) ≡ b
+or_nothing true = refl
+or_nothing false = refl
+
+-- No pass marks the slot: it stays, and has nothing to tell.
+pub record IsUnmarked {S T C M : Type 0} (m : Meaning S T C M) (ps : List (Pass T C)) (x : Slot S) : Type 0 where
+  pub stays : slot_after m ps x ≡ x
+  pub kept : (ks : List (Kept M)) → Fits ks ps → kept_and ks (kept_alone m ps x) ≡ ks
+  pub some : (test : C → Slot S → Bool) → some_alone m test ps x ≡ false
+
+no_passes : {S T C M : Type 0} (m : Meaning S T C M) (x : Slot S) → IsUnmarked m [] x
+no_passes {T = T} {C = C} {M = M} m x = record { stays = refl; kept = by; some = λ test. refl } where
+  by : (ks : List (Kept M)) → Fits {T = T} {C = C} ks [] → kept_and ks [] ≡ ks
+  by [] fits = refl
+  by (k ∷ ks) fits = absurd fits
+
+one_pass_more : {S T C M : Type 0} (m : Meaning S T C M) (x : Slot S) (p : Pass T C) (ps : List (Pass T C)) → m.marks p.target x ≡ false → IsUnmarked m ps x → IsUnmarked m (p ∷ ps) x
+one_pass_more {M = M} m x p ps here others = record {
+  stays = ap (slot_after m ps) (unmarked_slot m p x here) ∙ others.stays;
+  kept = by;
+  some = λ test. rw (unmarked_slot m p x here, unmarked_test m test p x here) (others.some test);
+} where
+  by : (ks : List (Kept M)) → Fits ks (p ∷ ps) → kept_and ks (kept_alone m (p ∷ ps) x) ≡ ks
+  by [] fits = absurd fits
+  by (k ∷ ks) fits = rw (unmarked_slot m p x here, unmarked_kept m p x k fits.0 here) (ap (λ l. k ∷ l) (others.kept ks fits.1))
+
+pub none_marks : {S T C M : Type 0} (m : Meaning S T C M) (x : Slot S) (ps : List (Pass T C)) → ((i : ℕ) (d : Pass T C) → i < length ps → m.marks (get_or ps i d).target x ≡ false) → IsUnmarked m ps x
+none_marks m x [] none = no_passes m x
+none_marks m x (p ∷ ps) none = one_pass_more m x p ps (none 0 p (omega arith)) (none_marks m x ps (λ i d l. none (suc i) d (omega (arith, l))))
 
 pub unmarked_passed : {S T C M : Type 0} (m : Meaning S T C M) (changes fails : C → Slot S → Bool) (ps : List (Pass T C)) (x : Slot S)
     → ((i : ℕ) (d : Pass T C) → i < length ps → m.marks (get_or ps i d).target x ≡ false) → IsPassedBy m changes fails ps x
 unmarked_passed {S = S} {C = C} m changes fails ps x none =
-    let skips : (slots : List (Slot S)) → Skips m x ps (kept_of m ps slots) (length ps) = λ slots. all_skip m x ps (kept_of m ps slots) (kept_fits m ps slots) none in
-    let stays : x ≡ slot_after m ps x = slot_at_end m x (slot_after m ps x) ps (skips []).slot in
-    let same : (test : C → Slot S → Bool) (before : Bool) → before ≡ (before || some_alone m test ps x) =
-    λ test before. some_at_end m test x ps before (before || some_alone m test ps x) (ap (λ (b : Bool). before || b) ((skips []).some test)) in
+    let all : IsUnmarked m ps x = none_marks m x ps none in
+    let same : (test : C → Slot S → Bool) (before : Bool) → before ≡ (before || some_alone m test ps x) = λ test before. sym (ap (λ (b : Bool). before || b) (all.some test) ∙ or_nothing before) in
     record {
-      stays = sym stays;
+      stays = all.stays;
       left = λ slots ks some_changed some_failed is.
-          let here : kept_of m ps slots ≡ kept_and (kept_of m ps slots) (kept_alone m ps x) =
-          kept_at_end m x ps (kept_of m ps slots) _ (fits_length (kept_of m ps slots) ps (kept_fits m ps slots)) (skips slots).kept in
-          let kept : ks ≡ kept_and ks (kept_alone m ps x) = rw is.kept here in
-          left_more m changes fails ps slots x ks ks some_changed some_changed some_failed some_failed kept (same changes some_changed) (same fails some_failed) is;
+          left_more m changes fails ps slots x ks ks some_changed some_changed some_failed some_failed
+          (sym (all.kept ks (rw is.kept (kept_fits m ps slots)))) (same changes some_changed) (same fails some_failed) is;
     }
 
 -- no pass may mark what has the key, so none marks it
-unmarked : (mark may : Bool) → (mark ≡ true → may ≡ true) → may ≡ false → mark ≡ false
+pub unmarked : (mark may : Bool) → (mark ≡ true → may ≡ true) → may ≡ false → mark ≡ false
 unmarked true may h = λ no. sym (h refl) ∙ no
 unmarked false may h = λ no. refl
 

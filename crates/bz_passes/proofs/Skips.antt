@@ -32,11 +32,11 @@ or_nothing : (b : Bool) → (b || false) ≡ b
 or_nothing true = refl
 or_nothing false = refl
 
-unmarked_kept : {S T C M : Type 0} (m : Meaning S T C M) (p : Pass T C) (x : Slot S) (k : Kept M) → length k.logs ≡ length p.commands → m.marks p.target x ≡ false
+pub unmarked_kept : {S T C M : Type 0} (m : Meaning S T C M) (p : Pass T C) (x : Slot S) (k : Kept M) → length k.logs ≡ length p.commands → m.marks p.target x ≡ false
     → pass_and k (pass_alone m p x) ≡ k
 unmarked_kept m p x k fits h = rw (h, or_nothing k.found, logs_stay m p.commands x k.logs fits) refl
 
-unmarked_test : {S T C M : Type 0} (m : Meaning S T C M) (test : C → Slot S → Bool) (p : Pass T C) (x : Slot S) → m.marks p.target x ≡ false
+pub unmarked_test : {S T C M : Type 0} (m : Meaning S T C M) (test : C → Slot S → Bool) (p : Pass T C) (x : Slot S) → m.marks p.target x ≡ false
     → some_of_commands_alone m test p.commands (marked m p.target x) ≡ false
 unmarked_test m test p x h = rw h (no_command m test p.commands x)
 

@@ -1,4 +1,5 @@
 pub mod Asked
 pub mod Entries
 pub mod Exchange
+pub mod OnePass
 pub mod private

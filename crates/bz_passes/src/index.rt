@@ -78,7 +78,7 @@ impl Index {
         if self.buckets.is_empty() {
             return &[];
         }
-        match self.buckets[place_of(name, self.buckets.len())].get(name) {
+        match self.buckets[bucket_of(name, self.buckets.len())].get(name) {
             None => &[],
             Some(positions) => positions.as_slice(),
         }
@@ -86,7 +86,7 @@ impl Index {
 
     /// The place of the bucket for a name. Where there is none, the first is made.
     fn place_for(&mut self, alloc: Global, name: &str) -> Result<usize, NoMemory>
-        ensures place { IfOk result (λ place. place ≡ spec.place_of name.now (length self.new.buckets.items)) }
+        ensures place { IfOk result (λ place. place ≡ spec.bucket_of name.now (length self.new.buckets.items)) }
         ensures within { IfOk result (λ place. place < length self.new.buckets.items) }
         ensures names { OnOk result ((name : List ℕ) → spec.named self.new name ≡ spec.named self.old name) }
         ensures others { self.new.others ≡ self.old.others }
@@ -94,14 +94,14 @@ impl Index {
         if self.buckets.is_empty() {
             push(&mut self.buckets, BTreeMap::new(alloc))?;
         }
-        Ok(place_of(name, self.buckets.len()))
+        Ok(bucket_of(name, self.buckets.len()))
     }
 }
 
 /// The place of the bucket for a name among so many.
-fn place_of(name: &str, buckets: usize) -> usize
+fn bucket_of(name: &str, buckets: usize) -> usize
     requires { 0 < buckets }
-    ensures place { result ≡ spec.place_of name.now buckets }
+    ensures place { result ≡ spec.bucket_of name.now buckets }
     ensures within { result < buckets }
 {
     // Where there is one bucket, as of few passes, the name has not to be hashed.

@@ -1,8 +1,9 @@
 //! A whole script on one slot.
 
-ghost use Rattle.std.specs.Prelude.{◌≡◌, ◌++◌, ◌||◌, not, [], ◌∷◌, List, length, true, IsTrue, OnOk};
+ghost use Rattle.std.specs.Prelude.{◌≡◌, ◌<◌, ◌++◌, ◌||◌, not, [], ◌∷◌, List, length, true, IfSome, IsTrue, OnOk};
 ghost use Rattle.bz_command.specs.Passes.{Slot, executed, entries, meets, with_mark, marked};
 ghost use Rattle.bz_passes.specs.Exchange.{Fits, IsLeftBy, IsPassedBy, slot_after_commands, slot_after_pass, slot_after, logs_alone, logs_and, pass_alone, pass_and, kept_alone, kept_and, some_of_commands_alone, some_alone};
+ghost use Rattle.bz_passes.specs.OnePass.{IsOnlyFor};
 ghost use Rattle.bz_passes.specs.private.Indexes.{IsFirstFrom, IsKeyOf, some_may_mark};
 
 use crate::index::Key;
@@ -175,4 +176,25 @@ pub fn passes_by<L: Language>(
         → IsPassedBy (L.meaning language.now) (L.changes language.now) (L.fails language.now) passes.now slot }
 {
     passes.first_from(key, 0).is_none()
+}
+
+/// The position of the one pass that may mark what has this key; none where no pass may, or several. Then `run_script` on
+/// such a slot would do what this pass does.
+pub fn only_pass<L: Language>(
+    language: &L,
+    passes: &Passes<L::Target, L::Command>,
+    key: Key<'_>,
+) -> Option<usize>
+    ensures within { IfSome result (λ at. at < length passes.now) }
+    ensures law { IfSome result (IsOnlyFor (L.meaning language.now) L.Target.asked passes.now key.entry) }
+{
+    let count = passes.as_slice().len();
+    let at = passes.first_from(key, 0)?;
+    if at + 1 == count {
+        return Some(at);
+    }
+    match passes.first_from(key, at + 1) {
+        None => Some(at),
+        Some(_) => None,
+    }
 }

@@ -8,7 +8,7 @@ use Rattle.bz_command.specs.declared.arguments.Attributes.TheVariants.{Named}
 use Rattle.bz_command.specs.declared.arguments.Commented.TheVariants.{Rule as Above, Attribute, Value}
 use Rattle.bz_command.specs.declared.arguments.Moved.TheVariants.{Values}
 use Rattle.bz_command.specs.declared.arguments.Setting.TheVariants.{ToKind, ToValues}
-use Rattle.bz_attribute.specs.Rules.{Rule, rule_of, first_named, is_named, is_text, name_of, value, string_value}
+use Rattle.bz_attribute.specs.Rules.{Rule, rule_of, first_named, is_named, is_text, name_in, name_of, value, string_value}
 use Rattle.bz_attribute.specs.Lists.{edit_first_part, edit_parts, equals, parts, with_value}
 use Rattle.bz_list_commands.specs.Add.{add, new_elements, with_added}
 use Rattle.bz_attribute_commands.specs.Comment.{comment_attribute, comment_element, comment_line, comment_note, comment_rule, comment_value}
@@ -190,11 +190,14 @@ with_head f s same (Some head) has = record {
   end_is = has.end_is;
 }
 
+name_kept : (c : Command) (home : Package) (attr : List ℕ) → one_attribute c ≡ Some attr → bytes_eq attr (codes "name") ≡ false → (args : List Segment) → first_named (codes "name") (args_after c home args) ≡ first_named (codes "name") args
+name_kept c home attr is h = first_stays (codes "name") attr (args_after c home) h (local c home attr is).args (makes_no c home attr (codes "name") is h)
+
 pub head_stays : (c : Command) (home : Package) (attr : List ℕ) (s : Statement) (r : Rule) → one_attribute c ≡ Some attr → bytes_eq attr (codes "name") ≡ false → rule_of s.nodes ≡ Some r → KeepsHead 0 s (rule_after c home s)
 head_stays c home attr s r is h rule = record {
   head = λ head has.
       subst (HasHead head) (sym (args_rule c home s (edits c attr is)))
-      (with_head (args_after c home) s (first_stays (codes "name") attr (args_after c home) h (local c home attr is).args (makes_no c home attr (codes "name") is h)) head has);
+      (with_head (args_after c home) s (name_kept c home attr is h) head has);
   more = none_above c home s r rule;
 }
 
@@ -205,3 +208,6 @@ commented text s (Some head) has = record { rule = has.rule; is = has.is; kind_i
 
 pub head_below : (text : List ℕ) (home : Package) (s : Statement) (r : Rule) → rule_of s.nodes ≡ Some r → KeepsHead 1 s (rule_after (Comment Above text) home s)
 head_below text home s r is = record { head = commented text s; more = one_above text home s r is }
+
+pub name_stays : (c : Command) (home : Package) (attr : List ℕ) (args : List Segment) → one_attribute c ≡ Some attr → bytes_eq attr (codes "name") ≡ false → name_in (args_after c home args) ≡ name_in args
+name_stays c home attr args is h = ap (option_and_then (λ a. string_value (value a))) (name_kept c home attr is h args)

@@ -3,7 +3,7 @@ mod Below
 pub mod Commands
 pub mod CommentEdits
 pub mod FirstEdits
-mod HeadKept
+pub mod HeadKept
 pub mod Kept
 mod Lawful
 mod Local

@@ -1,7 +1,10 @@
 -- How the loops over a group's words go on.
 use Rattle.std.proofs.Common.{◌≡◌, ℕ, ◌+◌, ◌<◌, List, [], ◌∷◌, ◌++◌, length, get_or, drop, map, Option, None, Some, Result, Ok, Err, refl, sym, ◌∙◌, ap, append_assoc}
+use Rattle.std.proofs.lemmas.List.{map-append}
+use Rattle.std.specs.List.{filter_map}
 use Rattle.std.specs.Option.{option_to_list}
-use Rattle.bz_script.specs.Groups.{Label, label_and, label_in, labels_of}
+use Rattle.bz_rule.specs.Commands.{Command}
+use Rattle.bz_script.specs.Groups.{Label, Step, command_in, commands_of, label_and, label_in, labels_of, pass_for}
 use Rattle.bz_script.specs.declared.usage.UsageFault.{UsageFault}
 use Rattle.bz_script.proofs.Loops.{drop_at}
 
@@ -38,3 +41,27 @@ labels-fault line seen done whole xs i x why inside same before =
     ap (λ r. labels_and done (label_and r (labels_of line ((i + 1) + 1) (map seen (drop (i + 1) xs))))) same
     ∙ sym (ap (λ zs. labels_and done (labels_of line (i + 1) (map seen zs))) (drop_at xs i x inside))
     ∙ before
+
+-- the commands of the words from a place on begin with that of the word there, if it is one
+commands_next : {A B : Type 0} (f : A → Option B) (x : A) (xs : List A) → option_to_list (f x) ++ filter_map f xs ≡ filter_map f (x ∷ xs)
+commands_next {B = B} f x xs = by (f x) refl
+  where
+    by : (read : Option B) → f x ≡ read → option_to_list (f x) ++ filter_map f xs ≡ filter_map f (x ∷ xs)
+    by None is = rw is refl
+    by (Some y) is = rw is refl
+
+pub commands-step : {A : Type 0} (seen : A → List ℕ) (done whole : List Command) (xs : List A) (i : ℕ) (x : A) (read : Option Command)
+    → i < length xs → read ≡ command_in (seen (get_or xs i x)) → done ++ commands_of (map seen (drop i xs)) ≡ whole
+    → (done ++ option_to_list read) ++ commands_of (map seen (drop (i + 1) xs)) ≡ whole
+commands-step seen done whole xs i x read inside same before =
+    append_assoc done (option_to_list read) (commands_of (map seen (drop (i + 1) xs)))
+    ∙ ap (λ r. done ++ (option_to_list r ++ commands_of (map seen (drop (i + 1) xs)))) same
+    ∙ ap (λ l. done ++ l) (commands_next command_in (seen (get_or xs i x)) (map seen (drop (i + 1) xs)))
+    ∙ sym (ap (λ zs. done ++ commands_of (map seen zs)) (drop_at xs i x inside))
+    ∙ before
+
+-- the pass of the last label after those of the others
+pub last_pass : (commands : List Command) (labels front : List Label) (last : Label) (made script : List Step) → labels ≡ front ++ last ∷ [] → made ≡ map (pass_for commands) front → script ≡ made ++ pass_for commands last ∷ []
+    → script ≡ map (pass_for commands) labels
+last_pass commands labels front last made script are before more =
+    more ∙ ap (λ steps. steps ++ pass_for commands last ∷ []) before ∙ sym (map-append (pass_for commands) front (last ∷ [])) ∙ ap (map (pass_for commands)) (sym are)

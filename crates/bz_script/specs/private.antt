@@ -1,1 +1,2 @@
 pub mod FlagViews
+pub mod Words

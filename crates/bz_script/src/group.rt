@@ -6,6 +6,7 @@ ghost use Rattle.std.specs.List.{filter};
 ghost use Rattle.std.specs.Option.{option_to_list};
 ghost use Rattle.bz_script.specs.Results.{map_ok};
 ghost use Rattle.bz_script.specs.Groups as spec;
+ghost use Rattle.bz_script.specs.private.Words.{command_of, label_of};
 
 use crate::usage::{Refused, UsageFault};
 use bz_command::{LabelFault, Package, Pass, Target, read_label};
@@ -24,8 +25,7 @@ pub fn read_group(alloc: Global, line: u64, words: &[&str]) -> Result<Script, Us
     ensures { result ≢ Err (UsageFault.OutOfMemory no_memory)
         → map_ok (λ script. script.items) result ≡ spec.group_of line (map (λ word. word.now) words.now) }
 {
-    let labels = read_labels(alloc, line, words)?;
-    let commands = command_words(alloc, words)?;
+    let Group { commands, labels } = read_words(alloc, line, words)?;
     if commands.is_empty() {
         let first = Refused::new(alloc, line, 1, first_of(words))?;
         return Err(UsageFault::NoCommand { first });
@@ -33,8 +33,22 @@ pub fn read_group(alloc: Global, line: u64, words: &[&str]) -> Result<Script, Us
     if labels.is_empty() {
         return Err(UsageFault::NoTarget { line });
     }
-    let script = passes_for(alloc, commands.as_slice(), labels)?;
+    let script = passes_for(alloc, words, commands, labels)?;
     Ok(script)
+}
+
+/// What the words of a group are, each kind in order.
+#[derive(Drop)]
+struct Group {
+    commands: Vec<Command>,
+    labels: Vec<(Package, Target)>,
+}
+
+/// What a word of a group is.
+#[derive(Drop)]
+enum Word {
+    Command(Command),
+    Label((Package, Target)),
 }
 
 /// The first word, which is empty where there is none.
@@ -47,17 +61,14 @@ fn first_of<'a>(words: &[&'a str]) -> &'a str
     }
 }
 
-/// Reads one word of a group: nothing of a command, or a label. `number` counts the words from 1.
-fn read_word(
-    alloc: Global,
-    line: u64,
-    number: u64,
-    word: &str,
-) -> Result<Option<(Package, Target)>, UsageFault>
-    ensures { result ≢ Err (UsageFault.OutOfMemory no_memory) → result ≡ spec.label_in line number word.now }
+/// Reads one word of a group. `number` counts the words from 1.
+fn read_word(alloc: Global, line: u64, number: u64, word: &str) -> Result<Word, UsageFault>
+    ensures label { result ≢ Err (UsageFault.OutOfMemory no_memory)
+        → map_ok label_of result ≡ spec.label_in line number word.now }
+    ensures command { IfOk result (λ read. command_of read ≡ spec.command_in word.now) }
 {
     match read_command(alloc, word) {
-        Ok(Some(_)) => return Ok(None),
+        Ok(Some(command)) => return Ok(Word::Command(command)),
         Ok(None) => {}
         Err(CommandFault::OutOfMemory(why)) => return Err(UsageFault::OutOfMemory(why)),
         Err(fault) => {
@@ -66,7 +77,7 @@ fn read_word(
         }
     }
     match read_label(alloc, word) {
-        Ok(label) => Ok(Some(label)),
+        Ok(label) => Ok(Word::Label(label)),
         Err(LabelFault::OutOfMemory(why)) => Err(UsageFault::OutOfMemory(why)),
         Err(fault) => {
             let refused = Refused::new(alloc, line, number, word)?;
@@ -75,35 +86,37 @@ fn read_word(
     }
 }
 
-fn keep_label(
-    label: Option<(Package, Target)>,
+/// Puts a word after those of its kind.
+fn keep_word(
+    word: Word,
+    commands: &mut Vec<Command>,
     labels: &mut Vec<(Package, Target)>,
 ) -> Result<(), NoMemory>
-    ensures { OnOk result (labels.new.items ≡ labels.old.items ++ option_to_list label) }
+    ensures commands { OnOk result (commands.new.items ≡ commands.old.items ++ option_to_list (command_of word)) }
+    ensures labels { OnOk result (labels.new.items ≡ labels.old.items ++ option_to_list (label_of word)) }
 {
-    match label {
-        Some(label) => Ok(push(labels, label)?),
-        None => Ok(()),
+    match word {
+        Word::Command(command) => Ok(push(commands, command)?),
+        Word::Label(label) => Ok(push(labels, label)?),
     }
 }
 
-/// Reads each word, and gives the labels.
-fn read_labels(
-    alloc: Global,
-    line: u64,
-    words: &[&str],
-) -> Result<Vec<(Package, Target)>, UsageFault>
-    ensures { result ≢ Err (UsageFault.OutOfMemory no_memory)
-        → map_ok (λ labels. labels.items) result ≡ spec.labels_of line 1 (map (λ word. word.now) words.now) }
+/// Reads each word.
+fn read_words(alloc: Global, line: u64, words: &[&str]) -> Result<Group, UsageFault>
+    ensures labels { result ≢ Err (UsageFault.OutOfMemory no_memory)
+        → map_ok (λ group. group.labels.items) result ≡ spec.labels_of line 1 (map (λ word. word.now) words.now) }
+    ensures commands { IfOk result (λ group. group.commands.items
+        ≡ spec.commands_of (map (λ word. word.now) words.now)) }
 {
+    let mut commands = Vec::new(alloc);
     let mut labels = Vec::new(alloc);
     for (index, word) in words.iter().enumerate() {
         match read_word(alloc, line, index as u64 + 1, *word) {
-            Ok(label) => keep_label(label, &mut labels)?,
+            Ok(word) => keep_word(word, &mut commands, &mut labels)?,
             Err(fault) => return Err(fault),
         }
     }
-    Ok(labels)
+    Ok(Group { commands, labels })
 }
 
 /// The command that a word is, where it is one without a fault.
@@ -144,8 +157,42 @@ fn read_commands(alloc: Global, words: &[&str]) -> Result<Vec<Command>, NoMemory
     Ok(commands)
 }
 
-/// One pass for each label, each with all commands. A command has no copy, so its word is read again for each label.
+/// One pass for each label, each with all commands, which are those of the words.
 fn passes_for(
+    alloc: Global,
+    words: &[&str],
+    commands: Vec<Command>,
+    mut labels: Vec<(Package, Target)>,
+) -> Result<Script, NoMemory>
+    requires { commands.items ≡ spec.commands_of (map (λ word. word.now) words.now) }
+    ensures { IfOk result (λ script. script.items ≡ map (spec.pass_for commands.items) labels.items) }
+{
+    let Some((package, target)) = labels.pop() else {
+        return Ok(Vec::new(alloc));
+    };
+    let mut script = passes_anew(alloc, words, labels)?;
+    push(&mut script, (package, Pass { target, commands }))?;
+    Ok(script)
+}
+
+/// The same, where the commands are read anew: a command has no copy.
+fn passes_anew(
+    alloc: Global,
+    words: &[&str],
+    labels: Vec<(Package, Target)>,
+) -> Result<Script, NoMemory>
+    ensures { IfOk result (λ script. script.items
+        ≡ map (spec.pass_for (spec.commands_of (map (λ word. word.now) words.now))) labels.items) }
+{
+    if labels.is_empty() {
+        return Ok(Vec::new(alloc));
+    }
+    let commands = command_words(alloc, words)?;
+    passes_reading(alloc, commands.as_slice(), labels)
+}
+
+/// The same, where all words are commands.
+fn passes_reading(
     alloc: Global,
     commands: &[&str],
     labels: Vec<(Package, Target)>,

@@ -55,15 +55,15 @@ abbrev pub found : Bucket → List ℕ → List ℕ
 found bucket name = option_map_or (λ g. g.items) (get_by_text bucket name) []
 
 -- the place of the bucket for a name among so many, by its hash
-unfoldable pub place_of : List ℕ → ℕ → ℕ
-place_of name buckets = finish (write initial name) % buckets
+unfoldable pub bucket_of : List ℕ → ℕ → ℕ
+bucket_of name buckets = finish (write initial name) % buckets
 
 -- the positions that are kept of a name in the bucket at a place
 abbrev pub found_at : List Bucket → ℕ → List ℕ → List ℕ
 found_at buckets place name = option_map_or (λ bucket. found bucket name) (slice_get buckets place) []
 
 abbrev pub named_in : List Bucket → List ℕ → List ℕ
-named_in buckets name = found_at buckets (place_of name (length buckets)) name
+named_in buckets name = found_at buckets (bucket_of name (length buckets)) name
 
 abbrev pub named : Index → List ℕ → List ℕ
 named index name = named_in index.buckets.items name
