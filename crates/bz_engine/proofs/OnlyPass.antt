@@ -23,7 +23,9 @@ use Rattle.bz_engine.specs.Language.{meaning, changes, fails_on, note_told}
 use Rattle.bz_engine.specs.Outcome.{Run, Script, is_query}
 use Rattle.bz_engine.specs.Progress.{Progress, last_class, text_following}
 use Rattle.bz_engine.specs.private.Edits.{IsLaidOut}
-use Rattle.bz_engine.specs.private.Found.{FailsOn, HasOneLog, Makes, one_log_of, one_pass, one_told, told_line}
+use Rattle.bz_engine.specs.declared.canonical.Found.{Found}
+use Rattle.bz_engine.specs.private.Found.{FailsOn, HasOneLog, IsFound, Makes, one_log_of, one_pass, one_told, told_line}
+use Rattle.bz_engine.specs.private.NextChunks.{EditsFound}
 use Rattle.std.proofs.lemmas.Bool.{false≢true}
 use Rattle.bz_attribute.specs.Texts.{shown_text}
 use Rattle.bz_token.specs.Common.{map_or}
@@ -182,3 +184,10 @@ pub laid_as : (run : Run) (s : Statement) (old start end new : Progress) (before
     → IsLaidOut run s old new before after_it
 laid_as run s old start end new before after_it begun ended laid =
     subst (λ (p : Progress). IsLaidOut run s old p before after_it) (sym ended) (subst (λ (p : Progress). IsLaidOut run s p end before after_it) begun laid)
+
+-- The script on the statement of a chunk that was found is done.
+pub is_done : (run : Run) (found : Found) (old new : Progress) (before after : List ℕ)
+    → Fits new.kept run.passes → new.line ≡ old.line → ((s : Statement) → IsFound run.max_depth found s → IsLaidOut run s old new before after)
+    → EditsFound run found old new before after true
+is_done run found old new before after fits line laid =
+    record { fits = fits; line = line; edited = λ done. laid; nothing = λ other. absurd (false≢true (sym other)) }

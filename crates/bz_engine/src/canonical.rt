@@ -26,10 +26,10 @@ use crate::next_chunk::NextChunk;
 use crate::progress::Progress;
 use crate::rule_passes::OnePass;
 use crate::rules::Rules;
+use crate::written::{begin_statement, put_canonical};
 use bz_attribute::Env;
 use bz_canonical::{ArgumentPlace, CanonicalChunk, canonical};
 use bz_devices::ahead::Ahead;
-use bz_layout::put_gap;
 use bz_memory::{NoMemory, extend_from_slice};
 use bz_passes::index::Key;
 use bz_passes::script::passes_by;
@@ -64,7 +64,7 @@ pub(crate) fn edit_canonical(
             Ok(None)
         }
         Some(found) => {
-            let next = edit_known(script, &found, progress, text)?;
+            let next = edit_known(script, found, progress, text)?;
             progress.give_back_written(written);
             Ok(next)
         }
@@ -90,7 +90,7 @@ pub(crate) fn edit_whole(
     let mut written = progress.take_written(script.alloc);
     match find_canonical(script, chunk, u64::MAX, &mut written)? {
         Some(found) if found.chunk.chunk.len() == chunk.len() => {
-            let next = edit_known(script, &found, progress, text)?;
+            let next = edit_known(script, found, progress, text)?;
             progress.give_back_written(written);
             Ok(next.is_some())
         }
@@ -101,24 +101,27 @@ pub(crate) fn edit_whole(
     }
 }
 
-/// The script on the statement of a chunk that was found, for both calls above. `text` is the buffer for what is written
-/// of the chunk. None, with nothing done: the chunk is to be read.
+/// The script on the statement of a chunk that was found, for both calls above: no pass marks it, or `edit_marked` knows
+/// what is made of it. `text` is the buffer for what is written of the chunk. None, with nothing done: the chunk is to be
+/// read.
 #[inline(always)]
 fn edit_known(
     script: ScriptRun<'_>,
-    found: &Found<'_>,
+    found: Found<'_>,
     progress: &mut Progress,
     text: &mut Vec<u8>,
 ) -> Result<Option<NextChunk>, NoMemory>
     requires fits { Fits progress.old.kept script.passes.now }
-    requires lines { progress.old.line + length found.now.chunk.chunk.now < 2 ^ 64 }
+    requires lines { progress.old.line + length found.chunk.chunk.now < 2 ^ 64 }
     ensures fits { OnOk result (Fits progress.new.kept script.entry.passes.now) }
-    ensures chunk { IfOk result (λ next. IfSome next (IsKnownEdited (run_of script.entry) found.now
+    ensures chunk { IfOk result (λ next. IfSome next (IsKnownEdited (run_of script.entry) found.entry
         progress.old progress.new text.old.items text.new.items)) }
     ensures none { IfOk result (λ next. IfNone next
         (DoesNothing progress.old progress.new text.old.items text.new.items)) }
 {
-    if !edit_unseen(script, *found, progress, text)? {
+    if is_passed_by(script, found) {
+        put_canonical(script, found.chunk, progress, text)?;
+    } else if !edit_marked(script, &found, progress, text)? {
         progress.looked_in_vain();
         return Ok(None);
     }
@@ -163,41 +166,17 @@ fn find_canonical<'a>(
     }))
 }
 
-/// The script on the statement of such a chunk: no pass marks it, or `edit_marked` knows what is made of it. False, with
-/// nothing done: the statement is to be seen.
-#[inline(always)]
-fn edit_unseen(
-    script: ScriptRun<'_>,
-    found: Found<'_>,
-    progress: &mut Progress,
-    text: &mut Vec<u8>,
-) -> Result<bool, NoMemory>
-    requires fits { Fits progress.old.kept script.passes.now }
-    ensures fits { OnOk result (Fits progress.new.kept script.entry.passes.now) }
-    ensures line { OnOk result (progress.new.line ≡ progress.old.line) }
-    ensures edited { IfOk result (EditsFound (run_of script.entry) found.entry progress.old progress.new
-        text.old.items text.new.items) }
-{
-    if is_passed_by(script, found) {
-        put_canonical(script, found.chunk, text, progress)?;
-        return Ok(true);
-    }
-    edit_marked(&found, script, progress, text)
-}
-
 /// The script on the statement of such a chunk, by the first of these: the one command leaves it as it is, fails on it,
 /// or edits one argument. False, with nothing done: the statement is to be seen.
 #[inline(never)]
 fn edit_marked(
-    found: &Found<'_>,
     script: ScriptRun<'_>,
+    found: &Found<'_>,
     progress: &mut Progress,
     text: &mut Vec<u8>,
 ) -> Result<bool, NoMemory>
-    requires fits { Fits progress.old.kept script.passes.now }
-    ensures line { OnOk result (progress.new.line ≡ progress.old.line) }
-    ensures fits { OnOk result (Fits progress.new.kept script.entry.passes.now) }
-    ensures edited { IfOk result (EditsFound (run_of script.entry) found.now progress.old progress.new
+    requires { Fits progress.old.kept script.passes.now }
+    ensures { IfOk result (EditsFound (run_of script.entry) found.now progress.old progress.new
         text.old.items text.new.items) }
 {
     let Some(only) = marking(script, *found) else {
@@ -209,12 +188,12 @@ fn edit_marked(
     };
     if let Some(unchanged) = unchanged_by_text(env, only.command, *found)? {
         progress.keep_line(unchanged.line)?;
-        put_canonical(script, found.chunk, text, progress)?;
+        put_canonical(script, found.chunk, progress, text)?;
         return Ok(true);
     }
     if let Some(entry) = failure_by_text(script, only.command, *found)? {
         progress.keep_failure(entry)?;
-        put_canonical(script, found.chunk, text, progress)?;
+        put_canonical(script, found.chunk, progress, text)?;
         return Ok(true);
     }
     edit_argument(script, only, *found, progress, text)
@@ -244,9 +223,7 @@ fn edit_argument(
     requires only { script.passes.now ≡ one_pass only.target.now only.command.now }
     requires marked { IsMarked script.max_depth only.target.now found }
     requires fits { Fits progress.old.kept script.passes.now }
-    ensures fits { OnOk result (Fits progress.new.kept script.entry.passes.now) }
-    ensures line { OnOk result (progress.new.line ≡ progress.old.line) }
-    ensures edited { IfOk result (EditsFound (run_of script.entry) found.entry progress.old progress.new
+    ensures { IfOk result (EditsFound (run_of script.entry) found.entry progress.old progress.new
         text.old.items text.new.items) }
 {
     let Some(place) = place_for(only.command, found) else {
@@ -260,7 +237,7 @@ fn edit_argument(
         }
         Some(EditedArgument::Unchanged) => {
             progress.keep_line(None)?;
-            put_canonical(script, found.chunk, text, progress)?;
+            put_canonical(script, found.chunk, progress, text)?;
             progress.give_back(spare);
             Ok(true)
         }
@@ -328,27 +305,6 @@ fn name_key(name: Option<&str>) -> Key<'_>
     }
 }
 
-/// Writes the chunk of a statement that the script passes by.
-#[inline(always)]
-fn put_canonical(
-    script: ScriptRun<'_>,
-    found: CanonicalChunk<'_>,
-    text: &mut Vec<u8>,
-    progress: &mut Progress,
-) -> Result<(), NoMemory>
-    ensures last { OnOk result (progress.new ≡ record progress.old { last = Some found.entry.class }) }
-    ensures text { OnOk result ((s : Statement) → s.class ≡ found.entry.class → layout_text s ≡ found.entry.written.now
-        → text.new.items ≡ text.old.items
-        ++ (if is_query script.entry.passes.now then [] else text_following progress.old.last (Some s ∷ []))) }
-{
-    if !script.passes.is_query() {
-        put_gap(progress.last, found.class, text)?;
-        extend_from_slice(text, found.written.as_bytes())?;
-    }
-    progress.last = Some(found.class);
-    Ok(())
-}
-
 /// A rule with other lines in the place of an argument.
 #[derive(Clone, Copy)]
 struct Changed<'t> {
@@ -371,13 +327,11 @@ impl Changed<'_> {
             → text.new.items ≡ text.old.items
             ++ (if is_query script.entry.passes.now then [] else text_following progress.old.last (Some s ∷ []))) }
     {
-        if !script.passes.is_query() {
-            put_gap(progress.last, self.class, text)?;
+        if begin_statement(script, self.class, progress, text)? {
             extend_from_slice(text, self.place.before.as_bytes())?;
             extend_from_slice(text, self.lines)?;
             extend_from_slice(text, self.place.after.as_bytes())?;
         }
-        progress.last = Some(self.class);
         progress.changed = true;
         Ok(())
     }
