@@ -2,8 +2,7 @@
 //! are, or of which it edits one argument: they are copied. `next_chunk.rt` asks here first, of the first chunk of the
 //! text ahead (`edit_canonical`) and of one that was found line by line (`edit_whole`), and reads what is left.
 
-ghost use Rattle.std.specs.Prelude.{◌≡◌, ◌+◌, ◌<◌, ◌≤◌, ◌^◌, ◌++◌, if◌then◌else◌, [], ◌∷◌, Some, true, length, option_map, IfOk, OnOk, IfSome, IfNone, IsTrue};
-ghost use Rattle.bz_tree.specs.Statement.{class_of};
+ghost use Rattle.std.specs.Prelude.{◌≡◌, ◌+◌, ◌<◌, ◌≤◌, ◌^◌, ◌++◌, if◌then◌else◌, [], ◌∷◌, Some, false, true, bytes_eq, codes, length, option_map, IfOk, OnOk, IfSome, IfNone, IsTrue};
 ghost use Rattle.bz_tree.specs.Tree.{Statement};
 ghost use Rattle.bz_layout.specs.Layout.{layout_text};
 ghost use Rattle.bz_canonical.specs.Canonical.{HasName, IsCanonical, between};
@@ -14,7 +13,7 @@ ghost use Rattle.bz_engine.specs.Language.{meaning, changes, fails_on};
 ghost use Rattle.bz_engine.specs.Outcome.{is_query};
 ghost use Rattle.bz_engine.specs.Progress.{text_following};
 ghost use Rattle.bz_engine.specs.private.Edits.{DoesNothing, EditsWhole, run_of};
-ghost use Rattle.bz_engine.specs.private.Found.{IsFound, IsMarked, one_pass};
+ghost use Rattle.bz_engine.specs.private.Found.{IsFound, IsForOne};
 ghost use Rattle.bz_engine.specs.private.NextChunks.{EditsFound, IsFirstEdited, IsKnownEdited};
 ghost use Rattle.bz_engine.specs.private.Rows.{HasKey};
 
@@ -32,8 +31,8 @@ use bz_canonical::{ArgumentPlace, CanonicalChunk, canonical};
 use bz_devices::ahead::Ahead;
 use bz_memory::{NoMemory, extend_from_slice};
 use bz_passes::index::Key;
-use bz_passes::script::passes_by;
-use bz_rule::{Command, one_attribute};
+use bz_passes::script::{only_pass, passes_by};
+use bz_rule::one_attribute;
 use bz_tree::Class;
 
 /// The script on the first chunk of the text ahead, where what would be written of it and what the script makes of its
@@ -187,31 +186,36 @@ fn edit_marked(
         home: script.home,
     };
     if let Some(unchanged) = unchanged_by_text(env, only.command, *found)? {
-        progress.keep_line(unchanged.line)?;
+        progress.keep_line(only.at, unchanged.line)?;
         put_canonical(script, found.chunk, progress, text)?;
         return Ok(true);
     }
     if let Some(entry) = failure_by_text(script, only.command, *found)? {
-        progress.keep_failure(entry)?;
+        progress.keep_failure(only.at, entry)?;
         put_canonical(script, found.chunk, progress, text)?;
         return Ok(true);
     }
     edit_argument(script, only, *found, progress, text)
 }
 
-/// The one command of the script, with its target, where that marks the statement of the chunk.
+/// The one pass of the script that marks the statement of the chunk, where it has one command.
 fn marking<'a>(script: ScriptRun<'a>, found: Found<'_>) -> Option<OnePass<'a>>
-    ensures only { IfSome result (λ only. script.entry.passes.now ≡ one_pass only.target.now only.command.now) }
-    ensures marked { IfSome result (λ only. IsMarked script.entry.max_depth only.target.now found.entry) }
+    ensures { IfSome result (λ only. IsForOne script.entry.max_depth script.entry.home.now script.entry.passes.now only
+        found.entry) }
 {
-    let only = script.passes.only()?;
+    let rules = Rules {
+        alloc: script.alloc,
+        home: script.home,
+    };
+    let at = only_pass(&rules, script.passes.indexed(), name_key(found.chunk.name))?;
+    let only = script.passes.one_at(at)?;
     if !marks_found(only.target, found) {
         return None;
     }
     Some(only)
 }
 
-/// The one command of the script on a rule that it marks, where it looks at one argument alone, and the lines of that
+/// The one command of a pass on a rule that it alone marks, where it looks at one argument alone, and the lines of that
 /// are known.
 fn edit_argument(
     script: ScriptRun<'_>,
@@ -220,13 +224,12 @@ fn edit_argument(
     progress: &mut Progress,
     text: &mut Vec<u8>,
 ) -> Result<bool, NoMemory>
-    requires only { script.passes.now ≡ one_pass only.target.now only.command.now }
-    requires marked { IsMarked script.max_depth only.target.now found }
+    requires only { IsForOne script.max_depth script.home.now script.passes.now only found }
     requires fits { Fits progress.old.kept script.passes.now }
     ensures { IfOk result (EditsFound (run_of script.entry) found.entry progress.old progress.new
         text.old.items text.new.items) }
 {
-    let Some(place) = place_for(only.command, found) else {
+    let Some(place) = place_for(only, found) else {
         return Ok(false);
     };
     let mut spare = progress.take_spare(script.alloc);
@@ -236,13 +239,13 @@ fn edit_argument(
             Ok(false)
         }
         Some(EditedArgument::Unchanged) => {
-            progress.keep_line(None)?;
+            progress.keep_line(only.at, None)?;
             put_canonical(script, found.chunk, progress, text)?;
             progress.give_back(spare);
             Ok(true)
         }
         Some(EditedArgument::Lines(lines)) => {
-            progress.keep_line(None)?;
+            progress.keep_line(only.at, None)?;
             let changed = Changed {
                 class: found.chunk.class,
                 place,
@@ -255,13 +258,16 @@ fn edit_argument(
     }
 }
 
-/// The place of the argument that the command looks at alone.
-fn place_for<'a>(command: &Command, found: Found<'a>) -> Option<ArgumentPlace<'a>>
-    ensures { IfSome result (λ place. (one_attribute command.now ≡ Some found.entry.attr.now)
-        × (found.entry.chunk.place ≡ Some place)) }
+/// The place of the argument that the command looks at alone. None also for the name where a pass comes after: that may
+/// mark the rule by its new one.
+fn place_for<'a>(only: OnePass<'_>, found: Found<'a>) -> Option<ArgumentPlace<'a>>
+    ensures place { IfSome result (λ place. found.entry.chunk.place ≡ Some place) }
+    ensures attr { IfSome result (λ _. one_attribute only.entry.command.now ≡ Some found.entry.attr.now) }
+    ensures name { IfSome result (λ _. only.entry.last ≡ false
+        → bytes_eq found.entry.attr.now (codes "name") ≡ false) }
 {
-    let attr = one_attribute(command)?;
-    if attr != found.attr {
+    let attr = one_attribute(only.command)?;
+    if attr != found.attr || (attr == "name" && !only.last) {
         return None;
     }
     found.chunk.place
@@ -282,8 +288,7 @@ fn is_passed_by(script: ScriptRun<'_>, found: Found<'_>) -> bool
 
 /// No pass of the script may mark a statement of this name.
 fn is_name_passed_by(script: ScriptRun<'_>, name: Option<&str>) -> bool
-    ensures { IsTrue result → (s : Statement) → s.class ≡ class_of s.nodes
-        → HasName (option_map (λ name. name.now) name.entry) s
+    ensures { IsTrue result → (s : Statement) → HasName (option_map (λ name. name.now) name.entry) s
         → IsPassedBy (meaning script.entry.home.now) (changes script.entry.home.now) (fails_on script.entry.home.now)
         script.entry.passes.now (Some s) }
 {
@@ -296,8 +301,7 @@ fn is_name_passed_by(script: ScriptRun<'_>, name: Option<&str>) -> bool
 
 /// The key of a rule of this name, or of what has none.
 fn name_key(name: Option<&str>) -> Key<'_>
-    ensures { (s : Statement) → s.class ≡ class_of s.nodes → HasName (option_map (λ name. name.now) name.entry) s
-        → HasKey s result }
+    ensures { (s : Statement) → HasName (option_map (λ name. name.now) name.entry) s → HasKey s result }
 {
     match name {
         Some(name) => Key::Name(name),
