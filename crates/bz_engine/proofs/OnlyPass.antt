@@ -1,32 +1,44 @@
--- The script of one pass with one command on a statement that it marks.
-use Rattle.std.proofs.Common.{◌≡◌, ℕ, Bool, true, false, ◌||◌, List, [], ◌∷◌, ◌++◌, length, refl, sym, ◌∙◌, ap, subst, append-nil}
-use Rattle.bz_passes.specs.declared.entry.Entry.TheVariants.{Line}
-use Rattle.std.specs.Prelude.{Option, None, Some, if◌then◌else◌, map, option_to_list}
+-- A statement that one pass of the script alone marks, whose one command it is.
+use Rattle.std.proofs.Common.{◌≡◌, ℕ, ◌+◌, ◌<◌, length, get_or, Bool, true, false, ◌||◌, List, [], ◌∷◌, ◌++◌, refl, sym, ◌∙◌, ap, subst, append-nil}
+use Rattle.std.proofs.lemmas.Bool.{false≢true}
+use Rattle.std.specs.Prelude.{Option, None, Some, if◌then◌else◌, bytes_eq, codes, map, option_map, option_to_list}
+use Rattle.bz_token.specs.Common.{map_or}
 use Rattle.bz_tree.specs.declared.tree.Class.{Class}
 use Rattle.bz_tree.specs.declared.tree.Class.TheVariants.{Rule as RuleClass}
 use Rattle.bz_tree.specs.Statement.{class_of}
 use Rattle.bz_tree.specs.Tree.{Statement}
 use Rattle.bz_command.specs.Labels.{Package, Target}
-use Rattle.bz_command.specs.Passes.{Slot}
+use Rattle.bz_command.specs.Passes.{Slot, marked}
 use Rattle.bz_attribute.specs.declared.done.Done.{Done}
-use Rattle.bz_attribute.specs.Effects.{fails}
+use Rattle.bz_attribute.specs.Effects.{fails, with_args}
 use Rattle.bz_attribute.specs.Marks.{marks, marks_rule}
 use Rattle.bz_attribute.specs.Rules.{Rule, name_in, rule_of}
+use Rattle.bz_attribute.specs.Texts.{shown_text}
+use Rattle.bz_attribute.proofs.EditedRules.{rule_after, rule_with}
 use Rattle.bz_attribute.proofs.Headed.{other_class}
 use Rattle.bz_canonical.specs.Canonical.{HasName, rule_name}
-use Rattle.bz_rule.specs.Commands.{Command, after, done_of}
-use Rattle.bz_passes.specs.Exchange.{Fits, IsPassedBy, Kept, kept_alone, kept_and, logs_and, slot_after, some_alone}
+use Rattle.bz_rule.specs.Commands.{Command, after, args_after, done_of}
+use Rattle.bz_rule.specs.OneAttribute.{one_attribute}
+use Rattle.bz_rule.proofs.HeadKept.{name_stays}
+use Rattle.bz_passes.specs.Exchange.{Fits, IsPassedBy, Kept, kept_alone, kept_and, pass_alone, slot_after, slot_after_pass, some_alone, some_of_commands_alone}
+use Rattle.bz_passes.specs.Asked.{asked_by}
+use Rattle.bz_passes.specs.OnePass.{IsOnlyAt, IsOnlyFor, and_at}
+use Rattle.bz_passes.specs.declared.index.Key.{Key}
+use Rattle.bz_passes.specs.private.Indexes.{IsKeyOf}
 use Rattle.bz_passes.specs.declared.entry.Entry.{Entry}
+use Rattle.bz_passes.specs.declared.entry.Entry.TheVariants.{Line}
 use Rattle.bz_passes.proofs.ExchangeLaw.{left_more}
+use Rattle.bz_passes.proofs.OnePass.{fits_and, fits_at}
 use Rattle.bz_passes.proofs.PassedBy.{unmarked_passed}
 use Rattle.bz_engine.specs.Language.{meaning, changes, fails_on, note_told}
 use Rattle.bz_engine.specs.Outcome.{Run, Script, is_query}
 use Rattle.bz_engine.specs.Progress.{Progress, last_class, text_following}
+use Rattle.bz_engine.specs.declared.canonical.Found.{Found}
+use Rattle.bz_engine.specs.declared.rule_passes.OnePass.{OnePass}
 use Rattle.bz_engine.specs.private.Edits.{IsLaidOut}
-use Rattle.bz_engine.specs.private.Found.{FailsOn, HasOneLog, Makes, one_log_of, one_pass, one_told, told_line}
-use Rattle.std.proofs.lemmas.Bool.{false≢true}
-use Rattle.bz_attribute.specs.Texts.{shown_text}
-use Rattle.bz_token.specs.Common.{map_or}
+use Rattle.bz_engine.specs.private.Found.{FailsOn, HasLogAt, IsForOne, IsFound, IsMarked, KeepsName, Makes, one_log_of, one_pass, one_told, told_line}
+use Rattle.bz_engine.specs.private.NextChunks.{EditsFound}
+use Rattle.bz_engine.specs.private.Rows.{HasKey}
 
 -- a rule that has this name
 pub named_rule : (s : Statement) (name : List ℕ) → HasName (Some name) s → (r : Rule) × (rule_of s.nodes ≡ Some r) × (name_in r.args ≡ Some name)
@@ -51,38 +63,41 @@ no_rule_passed home passes s class other =
     let none : rule_of s.nodes ≡ None = other_class s.nodes (λ is. other (class ∙ is)) in
     unmarked_passed (meaning home) (changes home) (fails_on home) passes (Some s) (λ i d within. ap (map_or false (marks_rule _ s.start)) none)
 
--- a place for one log
-log_in : (k : Kept Entry) (logs : List (List Entry)) → k.logs ≡ logs → length logs ≡ 1 → HasOneLog (k ∷ [])
-log_in k [] at size = absurd cc
-log_in k (log ∷ []) at size = (k, log, refl, at)
-log_in k (log ∷ more ∷ logs) at size = absurd cc
+-- a place for the log of a pass that one statement is for, before and after
+pub log_at : (depth : ℕ) (home : Package) (kept : List (Kept Entry)) (passes : Script) (only : OnePass) (found : Found) → IsForOne depth home passes only found → Fits kept passes → HasLogAt kept only.at
+log_at depth home kept passes only found one fits = fits_at kept passes only.at (one_pass only) one.within one.is fits
 
-pub one_log : (kept : List (Kept Entry)) (passes : Script) (target : Target) (command : Command) → passes ≡ one_pass target command → Fits kept passes → HasOneLog kept
-one_log kept passes target command is fits = by kept (subst (Fits kept) is fits)
+pub log_fits : (depth : ℕ) (home : Package) (kept : List (Kept Entry)) (passes : Script) (only : OnePass) (found : Found) (log : List Entry) → IsForOne depth home passes only found → Fits kept passes
+    → Fits (and_at only.at (one_log_of log) kept) passes
+log_fits depth home kept passes only found log one fits = fits_and kept passes only.at (one_pass only) (one_log_of log) one.is refl fits
+
+-- a command that looks at one argument leaves the name, unless that is it
+pub name_kept : (command : Command) (home : Package) (attr : List ℕ) (s : Statement) → one_attribute command ≡ Some attr → bytes_eq attr (codes "name") ≡ false → KeepsName s (with_args (args_after command home) s)
+name_kept command home attr s one other = ap rule_name (rule_after (args_after command home) s) ∙ by (rule_of s.nodes)
   where
-    by : (kept : List (Kept Entry)) → Fits kept (one_pass target command) → HasOneLog kept
-    by [] other = absurd other
-    by (k ∷ []) size = log_in k k.logs refl size.0
-    by (k ∷ j ∷ ks) other = absurd other.1
-
-pub log_fits : (kept : List (Kept Entry)) (passes : Script) (target : Target) (command : Command) (log : List Entry) → passes ≡ one_pass target command → Fits kept passes
-    → Fits (kept_and kept (one_log_of log)) passes
-log_fits kept passes target command log is fits =
-    let h : HasOneLog kept = one_log kept passes target command is fits in
-    subst (λ (ks : List (Kept Entry)). Fits (kept_and ks (one_log_of log)) passes) (sym h.2)
-    (subst (Fits (kept_and (h.0 ∷ []) (one_log_of log))) (sym is) (ap (λ (logs : List (List Entry)). length (logs_and logs (log ∷ []))) h.3, tt))
-
-pub told_fits : (kept : List (Kept Entry)) (passes : Script) (target : Target) (command : Command) (line : Option (List ℕ)) → passes ≡ one_pass target command → Fits kept passes
-    → Fits (kept_and kept (one_told line)) passes
-told_fits kept passes target command line is fits = log_fits kept passes target command (map Line (option_to_list line)) is fits
+    by : (rule : Option Rule) → rule_name (option_map (rule_with (args_after command home)) rule) ≡ rule_name rule
+    by None = refl
+    by (Some r) = name_stays command home attr r.args one other
 
 -- what the pass makes of a statement that it marks, and what is kept of it
-slot_of_one : (home : Package) (target : Target) (command : Command) (s : Statement) (t : Slot Statement) → marks target s ≡ true → after command home (Some s) ≡ t
-    → slot_after (meaning home) (one_pass target command) (Some s) ≡ t
-slot_of_one home target command s t met is = ap (λ b. if b then after command home (Some s) else Some s) met ∙ is
+slot_of_one : (home : Package) (only : OnePass) (s : Statement) (t : Slot Statement) → marks only.target.now s ≡ true → after only.command.now home (Some s) ≡ t
+    → slot_after_pass (meaning home) (one_pass only) (Some s) ≡ t
+slot_of_one home only s t met is = ap (λ b. if b then after only.command.now home (Some s) else Some s) met ∙ is
 
-abbrev kept_by : Bool → List Entry → List (Kept Entry)
-kept_by found log = record { found = found; logs = log ∷ [] } ∷ []
+-- the one pass that may mark what has the key of the statement, and marks it
+pub for_one : (depth : ℕ) (home : Package) (passes : Script) (only : OnePass) (found : Found) (key : Key) → IsOnlyFor (meaning home) asked_by passes key only.at → only.at < length passes
+    → one_pass only ≡ get_or passes only.at (one_pass only) → (only.at + 1 < length passes → only.last ≡ false)
+    → ((s : Statement) → HasName (option_map (λ name. name.now) found.chunk.name) s → HasKey s key) → IsMarked depth only.target.now found → IsForOne depth home passes only found
+for_one depth home passes only found key law within is last keyed marks_it = record {
+  within = within;
+  is = is;
+  marked = marks_it;
+  alone = λ s t found_is made keeps. law (Some s) (one_pass only) is (keyed s found_is.named)
+      (λ later. subst (λ (slot : Slot Statement). IsKeyOf (meaning home) asked_by slot key) (sym (slot_of_one home only s (Some t) (marks_it s found_is) made)) (keyed t (keeps (last later) ∙ found_is.named)));
+}
+
+abbrev kept_by : Bool → List Entry → Kept Entry
+kept_by found log = record { found = found; logs = log ∷ [] }
 
 -- what is told of an execution
 abbrev log_of_one : Package → Statement → Done → List Entry
@@ -91,41 +106,46 @@ log_of_one home s d = map Line (option_to_list d.line) ++ note_told (shown_text 
 quiet_log : (home : Package) (s : Statement) (d : Done) → d.note ≡ None → log_of_one home s d ≡ map Line (option_to_list d.line)
 quiet_log home s d quiet = ap (λ n. map Line (option_to_list d.line) ++ note_told (shown_text home s) n) quiet ∙ append-nil (map Line (option_to_list d.line))
 
-kept_of_one : (home : Package) (target : Target) (command : Command) (s : Statement) (d : Done) → marks target s ≡ true → done_of command home (Some s) ≡ d
-    → kept_alone (meaning home) (one_pass target command) (Some s) ≡ one_log_of (log_of_one home s d)
-kept_of_one home target command s d met told =
-    ap (λ b. kept_by b (if b then (meaning home).says command (Some s) else [])) met ∙ ap (λ x. kept_by true (log_of_one home s x)) told
+kept_of_one : (home : Package) (only : OnePass) (s : Statement) (d : Done) → marks only.target.now s ≡ true → done_of only.command.now home (Some s) ≡ d
+    → pass_alone (meaning home) (one_pass only) (Some s) ≡ one_log_of (log_of_one home s d)
+kept_of_one home only s d met told =
+    ap (λ b. kept_by b (if b then (meaning home).says only.command.now (Some s) else [])) met ∙ ap (λ x. kept_by true (log_of_one home s x)) told
 
-or_nothing : (b : Bool) → ((b || false) || false) ≡ b
+or_nothing : (b : Bool) → (b || false) ≡ b
 or_nothing true = refl
 or_nothing false = refl
 
-some_of_one : (home : Package) (target : Target) (command : Command) (s : Statement) (test : Command → Slot Statement → Bool) (b : Bool) → marks target s ≡ true → test command (Some s) ≡ b
-    → some_alone (meaning home) test (one_pass target command) (Some s) ≡ b
-some_of_one home target command s test b met is = ap (λ b. ((if b then test command (Some s) else false) || false) || false) met ∙ or_nothing (test command (Some s)) ∙ is
+some_of_one : (home : Package) (only : OnePass) (s : Statement) (test : Command → Slot Statement → Bool) (b : Bool) → marks only.target.now s ≡ true → test only.command.now (Some s) ≡ b
+    → some_of_commands_alone (meaning home) test (only.command.now ∷ []) (marked (meaning home) only.target.now (Some s)) ≡ b
+some_of_one home only s test b met is = ap (λ b. (if b then test only.command.now (Some s) else false) || false) met ∙ or_nothing (test only.command.now (Some s)) ∙ is
+
+-- The script on a statement is this pass on it.
+abbrev pub IsOnly : Run → OnePass → Statement → Type 0
+IsOnly run only s = IsOnlyAt (meaning run.home) run.passes (Some s) only.at (one_pass only)
 
 or_false : (b : Bool) → b ≡ (b || false)
 or_false true = refl
 or_false false = refl
 
--- The one command makes t of s, tells this of it, and t is written.
-pub only_laid : (run : Run) (target : Target) (command : Command) (s t : Statement) (d : Done) (old new : Progress) (before after_it : List ℕ)
-    → run.passes ≡ one_pass target command → marks target s ≡ true → after command run.home (Some s) ≡ Some t → done_of command run.home (Some s) ≡ d
+-- Its command makes t of s, tells this of it, and t is written.
+pub only_laid : (run : Run) (only : OnePass) (s t : Statement) (d : Done) (old new : Progress) (before after_it : List ℕ)
+    → IsOnly run only s → Fits old.kept run.passes → marks only.target.now s ≡ true → after only.command.now run.home (Some s) ≡ Some t → done_of only.command.now run.home (Some s) ≡ d
     → (run.keep_going ≡ false → fails d.note ≡ false)
-    → new ≡ record { kept = kept_and old.kept (one_log_of (log_of_one run.home s d)); changed = old.changed || d.changed; failed = old.failed || fails d.note; last = Some t.class; line = old.line }
+    → new ≡ record { kept = and_at only.at (one_log_of (log_of_one run.home s d)) old.kept; changed = old.changed || d.changed; failed = old.failed || fails d.note; last = Some t.class; line = old.line }
     → after_it ≡ before ++ (if is_query run.passes then [] else text_following old.last (Some t ∷ []))
     → IsLaidOut run s old new before after_it
-only_laid run target command s t d old new before after_it passes met made told quiet is text =
+only_laid run only s t d old new before after_it alone fits met made told quiet is text =
     let home = run.home in
-    let slot : slot_after (meaning home) run.passes (Some s) ≡ Some t = ap (λ ps. slot_after (meaning home) ps (Some s)) passes ∙ slot_of_one home target command s (Some t) met made in
-    let kept : kept_alone (meaning home) run.passes (Some s) ≡ one_log_of (log_of_one home s d) = ap (λ ps. kept_alone (meaning home) ps (Some s)) passes ∙ kept_of_one home target command s d met told in
+    let slot : slot_after (meaning home) run.passes (Some s) ≡ Some t = alone.after ∙ slot_of_one home only s (Some t) met made in
+    let kept : and_at only.at (one_log_of (log_of_one home s d)) old.kept ≡ kept_and old.kept (kept_alone (meaning home) run.passes (Some s)) =
+    ap (λ k. and_at only.at k old.kept) (sym (kept_of_one home only s d met told)) ∙ sym (alone.kept old.kept fits) in
     let changed : some_alone (meaning home) (changes home) run.passes (Some s) ≡ d.changed =
-    ap (λ ps. some_alone (meaning home) (changes home) ps (Some s)) passes ∙ some_of_one home target command s (changes home) d.changed met (ap (λ x. x.changed) told) in
+    alone.some (changes home) ∙ some_of_one home only s (changes home) d.changed met (ap (λ x. x.changed) told) in
     let failed : some_alone (meaning home) (fails_on home) run.passes (Some s) ≡ fails d.note =
-    ap (λ ps. some_alone (meaning home) (fails_on home) ps (Some s)) passes ∙ some_of_one home target command s (fails_on home) (fails d.note) met (ap (λ x. fails x.note) told) in
+    alone.some (fails_on home) ∙ some_of_one home only s (fails_on home) (fails d.note) met (ap (λ x. fails x.note) told) in
     record {
       left = λ slots left. left_more (meaning home) (changes home) (fails_on home) run.passes slots (Some s) old.kept new.kept old.changed new.changed old.failed new.failed
-          (ap (λ p. p.kept) is ∙ ap (kept_and old.kept) (sym kept)) (ap (λ p. p.changed) is ∙ ap (λ b. old.changed || b) (sym changed))
+          (ap (λ p. p.kept) is ∙ kept) (ap (λ p. p.changed) is ∙ ap (λ b. old.changed || b) (sym changed))
           (ap (λ p. p.failed) is ∙ ap (λ b. old.failed || b) (sym failed)) left;
       last = ap (λ p. p.last) is ∙ ap (λ x. last_class old.last (x ∷ [])) (sym slot);
       line = ap (λ p. p.line) is;
@@ -134,18 +154,18 @@ only_laid run target command s t d old new before after_it passes met made told 
     }
 
 -- The one command leaves s as it is, and tells this line of it.
-pub stays_laid : (run : Run) (target : Target) (command : Command) (line : Option (List ℕ)) (class : Class) (s : Statement) (old mid new : Progress) (before after_it : List ℕ)
-    → run.passes ≡ one_pass target command → marks target s ≡ true → after command run.home (Some s) ≡ Some s
-    → done_of command run.home (Some s) ≡ record { changed = false; line = line; note = None } → s.class ≡ class
-    → mid ≡ record old { kept = kept_and old.kept (one_told line) } → new ≡ record mid { last = Some class }
+pub stays_laid : (run : Run) (only : OnePass) (line : Option (List ℕ)) (class : Class) (s : Statement) (old mid new : Progress) (before after_it : List ℕ)
+    → IsOnly run only s → Fits old.kept run.passes → marks only.target.now s ≡ true → after only.command.now run.home (Some s) ≡ Some s
+    → done_of only.command.now run.home (Some s) ≡ record { changed = false; line = line; note = None } → s.class ≡ class
+    → mid ≡ record old { kept = and_at only.at (one_told line) old.kept } → new ≡ record mid { last = Some class }
     → after_it ≡ before ++ (if is_query run.passes then [] else text_following mid.last (Some s ∷ []))
     → IsLaidOut run s old new before after_it
-stays_laid run target command line class s old mid new before after_it passes met made told class_is kept is text =
+stays_laid run only line class s old mid new before after_it alone fits met made told class_is kept is text =
     let d : Done = record { changed = false; line = line; note = None } in
     let log : log_of_one run.home s d ≡ map Line (option_to_list line) = quiet_log run.home s d refl in
-    only_laid run target command s s d old new before after_it passes met made told (λ ends. refl)
+    only_laid run only s s d old new before after_it alone fits met made told (λ ends. refl)
     (is ∙ ap (λ (p : Progress). record p { last = Some class }) kept
-    ∙ (λ i. record { kept = kept_and old.kept (one_log_of (sym log i)); changed = or_false old.changed i; failed = or_false old.failed i; last = Some (sym class_is i); line = old.line }))
+    ∙ (λ i. record { kept = and_at only.at (one_log_of (sym log i)) old.kept; changed = or_false old.changed i; failed = or_false old.failed i; last = Some (sym class_is i); line = old.line }))
     (text ∙ ap (λ (p : Progress). before ++ (if is_query run.passes then [] else text_following p.last (Some s ∷ []))) kept)
 
 or_true : (b : Bool) → true ≡ (b || true)
@@ -153,28 +173,28 @@ or_true true = refl
 or_true false = refl
 
 -- The one command makes t of s.
-pub grown_laid : (run : Run) (target : Target) (command : Command) (class : Class) (s t : Statement) (old mid new : Progress) (before after_it : List ℕ)
-    → run.passes ≡ one_pass target command → marks target s ≡ true → Makes command run.home s t (told_line true None) → t.class ≡ class
-    → mid ≡ record old { kept = kept_and old.kept (one_told None) } → new ≡ record mid { last = Some class; changed = true }
+pub grown_laid : (run : Run) (only : OnePass) (class : Class) (s t : Statement) (old mid new : Progress) (before after_it : List ℕ)
+    → IsOnly run only s → Fits old.kept run.passes → marks only.target.now s ≡ true → Makes only.command.now run.home s t (told_line true None) → t.class ≡ class
+    → mid ≡ record old { kept = and_at only.at (one_told None) old.kept } → new ≡ record mid { last = Some class; changed = true }
     → after_it ≡ before ++ (if is_query run.passes then [] else text_following mid.last (Some t ∷ []))
     → IsLaidOut run s old new before after_it
-grown_laid run target command class s t old mid new before after_it passes met makes class_is kept is text =
-    only_laid run target command s t (told_line true None) old new before after_it passes met makes.after_is makes.done (λ ends. refl)
+grown_laid run only class s t old mid new before after_it alone fits met makes class_is kept is text =
+    only_laid run only s t (told_line true None) old new before after_it alone fits met makes.after_is makes.done (λ ends. refl)
     (is ∙ ap (λ (p : Progress). record p { last = Some class; changed = true }) kept
-    ∙ (λ i. record { kept = kept_and old.kept (one_told None); changed = or_true old.changed i; failed = or_false old.failed i; last = Some (sym class_is i); line = old.line }))
+    ∙ (λ i. record { kept = and_at only.at (one_told None) old.kept; changed = or_true old.changed i; failed = or_false old.failed i; last = Some (sym class_is i); line = old.line }))
     (text ∙ ap (λ (p : Progress). before ++ (if is_query run.passes then [] else text_following p.last (Some t ∷ []))) kept)
 
 -- The one command fails on s, and the run goes on.
-pub failed_laid : (run : Run) (target : Target) (command : Command) (entry : Entry) (class : Class) (s : Statement) (old mid new : Progress) (before after_it : List ℕ)
-    → run.passes ≡ one_pass target command → run.keep_going ≡ true → marks target s ≡ true → FailsOn command run.home s entry → s.class ≡ class
-    → mid ≡ record old { kept = kept_and old.kept (one_log_of (entry ∷ [])); failed = true } → new ≡ record mid { last = Some class }
+pub failed_laid : (run : Run) (only : OnePass) (entry : Entry) (class : Class) (s : Statement) (old mid new : Progress) (before after_it : List ℕ)
+    → IsOnly run only s → Fits old.kept run.passes → run.keep_going ≡ true → marks only.target.now s ≡ true → FailsOn only.command.now run.home s entry → s.class ≡ class
+    → mid ≡ record old { kept = and_at only.at (one_log_of (entry ∷ [])) old.kept; failed = true } → new ≡ record mid { last = Some class }
     → after_it ≡ before ++ (if is_query run.passes then [] else text_following mid.last (Some s ∷ []))
     → IsLaidOut run s old new before after_it
-failed_laid run target command entry class s old mid new before after_it passes goes_on met fails class_is kept is text =
-    let d : Done = record { changed = false; line = None; note = Some fails.note } in
-    only_laid run target command s s d old new before after_it passes met fails.made.after_is fails.made.done (λ ends. absurd (false≢true (sym ends ∙ goes_on)))
+failed_laid run only entry class s old mid new before after_it alone fits goes_on met failing class_is kept is text =
+    let d : Done = record { changed = false; line = None; note = Some failing.note } in
+    only_laid run only s s d old new before after_it alone fits met failing.made.after_is failing.made.done (λ ends. absurd (false≢true (sym ends ∙ goes_on)))
     (is ∙ ap (λ (p : Progress). record p { last = Some class }) kept
-    ∙ (λ i. record { kept = kept_and old.kept (one_log_of (sym fails.told i)); changed = or_false old.changed i; failed = (or_true old.failed ∙ ap (λ b. old.failed || b) (sym fails.failed)) i; last = Some (sym class_is i); line = old.line }))
+    ∙ (λ i. record { kept = and_at only.at (one_log_of (sym failing.told i)) old.kept; changed = or_false old.changed i; failed = (or_true old.failed ∙ ap (λ b. old.failed || b) (sym failing.failed)) i; last = Some (sym class_is i); line = old.line }))
     (text ∙ ap (λ (p : Progress). before ++ (if is_query run.passes then [] else text_following p.last (Some s ∷ []))) kept)
 
 -- the same of what is kept before and after
@@ -182,3 +202,10 @@ pub laid_as : (run : Run) (s : Statement) (old start end new : Progress) (before
     → IsLaidOut run s old new before after_it
 laid_as run s old start end new before after_it begun ended laid =
     subst (λ (p : Progress). IsLaidOut run s old p before after_it) (sym ended) (subst (λ (p : Progress). IsLaidOut run s p end before after_it) begun laid)
+
+-- The script on the statement of a chunk that was found is done.
+pub is_done : (run : Run) (found : Found) (old new : Progress) (before after : List ℕ)
+    → Fits new.kept run.passes → new.line ≡ old.line → ((s : Statement) → IsFound run.max_depth found s → IsLaidOut run s old new before after)
+    → EditsFound run found old new before after true
+is_done run found old new before after fits line laid =
+    record { fits = fits; line = line; edited = λ done. laid; nothing = λ other. absurd (false≢true (sym other)) }

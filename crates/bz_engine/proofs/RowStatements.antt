@@ -20,8 +20,7 @@ statement_row : (line depth : ℕ) (text : List ℕ) (row : Row) → HasRow line
 statement_row line depth text row read = record {
   statement = read.0;
   read = read.1;
-  parts = read.2;
-  class = chunk_class line text read.1.tokens read.0 read.1.reads.chunk;
+  of_row = record { class = chunk_class line text read.1.tokens read.0 read.1.reads.chunk; parts = read.2 };
 }
 
 pub read_by_text : (line depth : ℕ) (text : List ℕ) (r : Result (Option Row) ParseFault)

@@ -2,8 +2,7 @@
 //! are, or of which it edits one argument: they are copied. `next_chunk.rt` asks here first, of the first chunk of the
 //! text ahead (`edit_canonical`) and of one that was found line by line (`edit_whole`), and reads what is left.
 
-ghost use Rattle.std.specs.Prelude.{◌≡◌, ◌+◌, ◌<◌, ◌≤◌, ◌^◌, ◌++◌, if◌then◌else◌, [], ◌∷◌, Some, true, length, option_map, IfOk, OnOk, IfSome, IfNone, IsTrue};
-ghost use Rattle.bz_tree.specs.Statement.{class_of};
+ghost use Rattle.std.specs.Prelude.{◌≡◌, ◌+◌, ◌<◌, ◌≤◌, ◌^◌, ◌++◌, if◌then◌else◌, [], ◌∷◌, Some, false, true, bytes_eq, codes, length, option_map, IfOk, OnOk, IfSome, IfNone, IsTrue};
 ghost use Rattle.bz_tree.specs.Tree.{Statement};
 ghost use Rattle.bz_layout.specs.Layout.{layout_text};
 ghost use Rattle.bz_canonical.specs.Canonical.{HasName, IsCanonical, between};
@@ -14,7 +13,7 @@ ghost use Rattle.bz_engine.specs.Language.{meaning, changes, fails_on};
 ghost use Rattle.bz_engine.specs.Outcome.{is_query};
 ghost use Rattle.bz_engine.specs.Progress.{text_following};
 ghost use Rattle.bz_engine.specs.private.Edits.{DoesNothing, EditsWhole, run_of};
-ghost use Rattle.bz_engine.specs.private.Found.{IsFound, IsMarked, one_pass};
+ghost use Rattle.bz_engine.specs.private.Found.{IsFound, IsForOne};
 ghost use Rattle.bz_engine.specs.private.NextChunks.{EditsFound, IsFirstEdited, IsKnownEdited, done_chunk};
 ghost use Rattle.bz_engine.specs.private.Rows.{HasKey};
 
@@ -25,14 +24,14 @@ use crate::failure::failure_by_text;
 use crate::progress::Progress;
 use crate::rule_passes::OnePass;
 use crate::rules::Rules;
+use crate::written::{begin_statement, put_canonical};
 use bz_attribute::Env;
 use bz_canonical::{ArgumentPlace, CanonicalChunk, canonical};
 use bz_devices::ahead::Ahead;
-use bz_layout::put_gap;
 use bz_memory::{NoMemory, extend_from_slice};
 use bz_passes::index::Key;
-use bz_passes::script::passes_by;
-use bz_rule::{Command, one_attribute};
+use bz_passes::script::{only_pass, passes_by};
+use bz_rule::one_attribute;
 use bz_tree::Class;
 
 /// The script on the first chunk of the text ahead, where what would be written of it and what the script makes of its
@@ -100,8 +99,9 @@ pub(crate) fn edit_whole(
     }
 }
 
-/// The script on the statement of a chunk that was found, for both calls above. `text` is the buffer for what is written
-/// of the chunk. None, with nothing done: the chunk is to be read.
+/// The script on the statement of a chunk that was found, for both calls above: no pass marks it, or `edit_marked` knows
+/// what is made of it. `text` is the buffer for what is written of the chunk. None, with nothing done: the chunk is to be
+/// read.
 #[inline(always)]
 fn edit_known(
     script: ScriptRun<'_>,
@@ -117,7 +117,9 @@ fn edit_known(
     ensures none { IfOk result (λ len. IfNone len
         (DoesNothing progress.old progress.new text.old.items text.new.items)) }
 {
-    if !edit_unseen(script, found, progress, text)? {
+    if is_passed_by(script, found) {
+        put_canonical(script, found.chunk, progress, text)?;
+    } else if !edit_marked(script, &found, progress, text)? {
         progress.looked_in_vain();
         return Ok(None);
     }
@@ -159,41 +161,17 @@ fn find_canonical<'a>(
     }))
 }
 
-/// The script on the statement of such a chunk: no pass marks it, or `edit_marked` knows what is made of it. False, with
-/// nothing done: the statement is to be seen.
-#[inline(always)]
-fn edit_unseen(
-    script: ScriptRun<'_>,
-    found: Found<'_>,
-    progress: &mut Progress,
-    text: &mut Vec<u8>,
-) -> Result<bool, NoMemory>
-    requires fits { Fits progress.old.kept script.passes.now }
-    ensures fits { OnOk result (Fits progress.new.kept script.entry.passes.now) }
-    ensures line { OnOk result (progress.new.line ≡ progress.old.line) }
-    ensures edited { IfOk result (EditsFound (run_of script.entry) found.entry progress.old progress.new
-        text.old.items text.new.items) }
-{
-    if is_passed_by(script, found) {
-        put_canonical(script, found.chunk, text, progress)?;
-        return Ok(true);
-    }
-    edit_marked(found, script, progress, text)
-}
-
 /// The script on the statement of such a chunk, by the first of these: the one command leaves it as it is, fails on it,
 /// or edits one argument. False, with nothing done: the statement is to be seen.
 #[inline(never)]
 fn edit_marked(
-    found: Found<'_>,
     script: ScriptRun<'_>,
+    found: &Found<'_>,
     progress: &mut Progress,
     text: &mut Vec<u8>,
 ) -> Result<bool, NoMemory>
-    requires fits { Fits progress.old.kept script.passes.now }
-    ensures line { OnOk result (progress.new.line ≡ progress.old.line) }
-    ensures fits { OnOk result (Fits progress.new.kept script.entry.passes.now) }
-    ensures edited { IfOk result (EditsFound (run_of script.entry) found.entry progress.old progress.new
+    requires { Fits progress.old.kept script.passes.now }
+    ensures { IfOk result (EditsFound (run_of script.entry) found.now progress.old progress.new
         text.old.items text.new.items) }
 {
     let Some(only) = marking(script, found) else {
@@ -203,32 +181,37 @@ fn edit_marked(
         alloc: script.alloc,
         home: script.home,
     };
-    if let Some(unchanged) = unchanged_by_text(env, only.command, found)? {
-        progress.keep_line(unchanged.line)?;
-        put_canonical(script, found.chunk, text, progress)?;
+    if let Some(unchanged) = unchanged_by_text(env, only.command, *found)? {
+        progress.keep_line(only.at, unchanged.line)?;
+        put_canonical(script, found.chunk, progress, text)?;
         return Ok(true);
     }
-    if let Some(entry) = failure_by_text(script, only.command, found)? {
-        progress.keep_failure(entry)?;
-        put_canonical(script, found.chunk, text, progress)?;
+    if let Some(entry) = failure_by_text(script, only.command, *found)? {
+        progress.keep_failure(only.at, entry)?;
+        put_canonical(script, found.chunk, progress, text)?;
         return Ok(true);
     }
     edit_argument(script, only, found, progress, text)
 }
 
-/// The one command of the script, with its target, where that marks the statement of the chunk.
+/// The one pass of the script that marks the statement of the chunk, where it has one command.
 fn marking<'a>(script: ScriptRun<'a>, found: Found<'_>) -> Option<OnePass<'a>>
-    ensures only { IfSome result (λ only. script.entry.passes.now ≡ one_pass only.target.now only.command.now) }
-    ensures marked { IfSome result (λ only. IsMarked script.entry.max_depth only.target.now found.entry) }
+    ensures { IfSome result (λ only. IsForOne script.entry.max_depth script.entry.home.now script.entry.passes.now only
+        found.entry) }
 {
-    let only = script.passes.only()?;
+    let rules = Rules {
+        alloc: script.alloc,
+        home: script.home,
+    };
+    let at = only_pass(&rules, script.passes.indexed(), name_key(found.chunk.name))?;
+    let only = script.passes.one_at(at)?;
     if !marks_found(only.target, found) {
         return None;
     }
     Some(only)
 }
 
-/// The one command of the script on a rule that it marks, where it looks at one argument alone, and the lines of that
+/// The one command of a pass on a rule that it alone marks, where it looks at one argument alone, and the lines of that
 /// are known.
 fn edit_argument(
     script: ScriptRun<'_>,
@@ -237,15 +220,12 @@ fn edit_argument(
     progress: &mut Progress,
     text: &mut Vec<u8>,
 ) -> Result<bool, NoMemory>
-    requires only { script.passes.now ≡ one_pass only.target.now only.command.now }
-    requires marked { IsMarked script.max_depth only.target.now found }
+    requires only { IsForOne script.max_depth script.home.now script.passes.now only found }
     requires fits { Fits progress.old.kept script.passes.now }
-    ensures fits { OnOk result (Fits progress.new.kept script.entry.passes.now) }
-    ensures line { OnOk result (progress.new.line ≡ progress.old.line) }
-    ensures edited { IfOk result (EditsFound (run_of script.entry) found.entry progress.old progress.new
+    ensures { IfOk result (EditsFound (run_of script.entry) found.entry progress.old progress.new
         text.old.items text.new.items) }
 {
-    let Some(place) = place_for(only.command, found) else {
+    let Some(place) = place_for(only, found) else {
         return Ok(false);
     };
     let mut spare = progress.take_spare(script.alloc);
@@ -255,13 +235,13 @@ fn edit_argument(
             Ok(false)
         }
         Some(EditedArgument::Unchanged) => {
-            progress.keep_line(None)?;
-            put_canonical(script, found.chunk, text, progress)?;
+            progress.keep_line(only.at, None)?;
+            put_canonical(script, found.chunk, progress, text)?;
             progress.give_back(spare);
             Ok(true)
         }
         Some(EditedArgument::Lines(lines)) => {
-            progress.keep_line(None)?;
+            progress.keep_line(only.at, None)?;
             let changed = Changed {
                 class: found.chunk.class,
                 place,
@@ -274,13 +254,16 @@ fn edit_argument(
     }
 }
 
-/// The place of the argument that the command looks at alone.
-fn place_for<'a>(command: &Command, found: Found<'a>) -> Option<ArgumentPlace<'a>>
-    ensures { IfSome result (λ place. (one_attribute command.now ≡ Some found.entry.attr.now)
-        × (found.entry.chunk.place ≡ Some place)) }
+/// The place of the argument that the command looks at alone. None also for the name where a pass comes after: that may
+/// mark the rule by its new one.
+fn place_for<'a>(only: OnePass<'_>, found: Found<'a>) -> Option<ArgumentPlace<'a>>
+    ensures place { IfSome result (λ place. found.entry.chunk.place ≡ Some place) }
+    ensures attr { IfSome result (λ _. one_attribute only.entry.command.now ≡ Some found.entry.attr.now) }
+    ensures name { IfSome result (λ _. only.entry.last ≡ false
+        → bytes_eq found.entry.attr.now (codes "name") ≡ false) }
 {
-    let attr = one_attribute(command)?;
-    if attr != found.attr {
+    let attr = one_attribute(only.command)?;
+    if attr != found.attr || (attr == "name" && !only.last) {
         return None;
     }
     found.chunk.place
@@ -301,8 +284,7 @@ fn is_passed_by(script: ScriptRun<'_>, found: Found<'_>) -> bool
 
 /// No pass of the script may mark a statement of this name.
 fn is_name_passed_by(script: ScriptRun<'_>, name: Option<&str>) -> bool
-    ensures { IsTrue result → (s : Statement) → s.class ≡ class_of s.nodes
-        → HasName (option_map (λ name. name.now) name.entry) s
+    ensures { IsTrue result → (s : Statement) → HasName (option_map (λ name. name.now) name.entry) s
         → IsPassedBy (meaning script.entry.home.now) (changes script.entry.home.now) (fails_on script.entry.home.now)
         script.entry.passes.now (Some s) }
 {
@@ -315,34 +297,12 @@ fn is_name_passed_by(script: ScriptRun<'_>, name: Option<&str>) -> bool
 
 /// The key of a rule of this name, or of what has none.
 fn name_key(name: Option<&str>) -> Key<'_>
-    ensures { (s : Statement) → s.class ≡ class_of s.nodes → HasName (option_map (λ name. name.now) name.entry) s
-        → HasKey s result }
+    ensures { (s : Statement) → HasName (option_map (λ name. name.now) name.entry) s → HasKey s result }
 {
     match name {
         Some(name) => Key::Name(name),
         None => Key::NoName,
     }
-}
-
-/// Writes the chunk of a statement that the script passes by.
-#[inline(always)]
-fn put_canonical(
-    script: ScriptRun<'_>,
-    found: CanonicalChunk<'_>,
-    text: &mut Vec<u8>,
-    progress: &mut Progress,
-) -> Result<(), NoMemory>
-    ensures last { OnOk result (progress.new ≡ record progress.old { last = Some found.entry.class }) }
-    ensures text { OnOk result ((s : Statement) → s.class ≡ found.entry.class → layout_text s ≡ found.entry.written.now
-        → text.new.items ≡ text.old.items
-        ++ (if is_query script.entry.passes.now then [] else text_following progress.old.last (Some s ∷ []))) }
-{
-    if !script.passes.is_query() {
-        put_gap(progress.last, found.class, text)?;
-        extend_from_slice(text, found.written.as_bytes())?;
-    }
-    progress.last = Some(found.class);
-    Ok(())
 }
 
 /// A rule with other lines in the place of an argument.
@@ -367,13 +327,11 @@ impl Changed<'_> {
             → text.new.items ≡ text.old.items
             ++ (if is_query script.entry.passes.now then [] else text_following progress.old.last (Some s ∷ []))) }
     {
-        if !script.passes.is_query() {
-            put_gap(progress.last, self.class, text)?;
+        if begin_statement(script, self.class, progress, text)? {
             extend_from_slice(text, self.place.before.as_bytes())?;
             extend_from_slice(text, self.lines)?;
             extend_from_slice(text, self.place.after.as_bytes())?;
         }
-        progress.last = Some(self.class);
         progress.changed = true;
         Ok(())
     }

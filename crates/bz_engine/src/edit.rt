@@ -1,33 +1,28 @@
 //! A whole script on one chunk.
 
-ghost use Rattle.std.specs.Prelude.{◌≡◌, ℕ, ◌+◌, ◌<◌, ◌≤◌, ◌^◌, ◌++◌, if◌then◌else◌, List, [], ◌∷◌, Option, None, Some, length, IfOk, OnOk, option_map, option_to_list, codes, take};
+ghost use Rattle.std.specs.Prelude.{◌≡◌, ◌+◌, ◌<◌, ◌≤◌, ◌^◌, Some, length, IfOk, OnOk, option_map, option_to_list, take};
 ghost use Rattle.std.specs.List.{flat_map};
-ghost use Rattle.bz_tree.specs.Rows.{IsRowOf};
-ghost use Rattle.bz_layout.specs.Gaps.{lines_before, gap_text};
-ghost use Rattle.bz_tree.specs.Statement.{class_of};
-ghost use Rattle.bz_passes.specs.Exchange.{Fits, log_alone};
 ghost use Rattle.bz_tree.specs.Tree.{Statement};
-ghost use Rattle.bz_engine.specs.Progress.{last_class, text_following};
-ghost use Rattle.bz_layout.specs.Layout.{layout_text};
-ghost use Rattle.bz_engine.specs.Outcome.{is_query};
 ghost use Rattle.bz_passes.specs.Entries.{failure_text};
+ghost use Rattle.bz_passes.specs.Exchange.{Fits, log_alone};
 ghost use Rattle.bz_engine.specs.private.ChunkRead.{IsReadAs};
 ghost use Rattle.bz_engine.specs.private.Edits.{EditsChunk, IsScripted, edited_of, run_of};
+ghost use Rattle.bz_engine.specs.private.Rows.{IsOfRow};
 
 use crate::progress::Progress;
 use crate::report::SyntaxFault;
 use crate::row::is_passed_by;
 use crate::rule_passes::RulePasses;
 use crate::rules::Rules;
+use crate::written::{put_passed, put_slot};
 use bumpalo::Bump;
 use bz_attribute::Head;
-use bz_layout::{put_gap, put_row};
 use bz_memory::NoMemory;
 use bz_passes::kept::Kept;
 use bz_passes::language::Facts;
 use bz_passes::script::run_script;
 use bz_rule::{Package, StatementRow, Text};
-use bz_tree::{Class, ParseFault, Row};
+use bz_tree::{ParseFault, Row};
 use std::alloc::Global;
 
 /// What a run is to do with each chunk.
@@ -113,9 +108,9 @@ fn edit_row<'a>(
     text: &mut Vec<u8>,
 ) -> Result<Scripted, NoMemory>
     requires fits { Fits progress.old.kept script.passes.now }
-    requires row { (s : Statement) × ((s.class ≡ class_of s.nodes) × IsRowOf s row) }
+    requires row { (s : Statement) × IsOfRow s row }
     ensures fits { OnOk result (Fits progress.new.kept script.entry.passes.now) }
-    ensures scripted { IfOk result (λ scripted. (s : Statement) → s.class ≡ class_of s.nodes → IsRowOf s row.entry
+    ensures scripted { IfOk result (λ scripted. (s : Statement) → IsOfRow s row.entry
         → IsScripted (run_of script.entry) s progress.old progress.new text.old.items text.new.items scripted) }
 {
     let head = Head::of_row(script.alloc, script.bump, &row)?;
@@ -125,25 +120,6 @@ fn edit_row<'a>(
     }
     let mut slot = Some(StatementRow::new(script.bump, row, head));
     edit_slot(script, &mut slot, progress, text)
-}
-
-/// Lays out a statement that the script passes by.
-fn put_passed(
-    script: ScriptRun<'_>,
-    row: &Row<'_>,
-    progress: &mut Progress,
-    text: &mut Vec<u8>,
-) -> Result<(), NoMemory>
-    ensures last { OnOk result (progress.new ≡ record progress.old { last = Some row.now.class }) }
-    ensures text { OnOk result ((s : Statement) → IsRowOf s row.now → text.new.items ≡ text.old.items
-        ++ (if is_query script.entry.passes.now then [] else text_following progress.old.last (Some s ∷ []))) }
-{
-    if !script.passes.is_query() {
-        put_gap(progress.last, row.class, text)?;
-        put_row(script.alloc, row, text)?;
-    }
-    progress.last = Some(row.class);
-    Ok(())
 }
 
 /// The script on what is in a slot.
@@ -176,52 +152,8 @@ fn edit_slot<'a>(
     }
     progress.changed = facts.changed;
     progress.failed = facts.failed;
-    put_slot(script, progress.last, slot, text)?;
-    progress.last = last_class(progress.last, slot);
+    put_slot(script, slot, progress, text)?;
     Ok(Scripted::Done)
-}
-
-/// The class of the last statement that is left, where this slot is the last.
-fn last_class(last: Option<Class>, slot: &Option<StatementRow<'_>>) -> Option<Class>
-    ensures { result ≡ last_class last (slot.now ∷ []) }
-{
-    match slot {
-        None => last,
-        Some(stmt) => Some(stmt.class()),
-    }
-}
-
-/// Writes what is in a slot after the statement of class `last`.
-fn put_slot(
-    script: ScriptRun<'_>,
-    last: Option<Class>,
-    slot: &Option<StatementRow<'_>>,
-    text: &mut Vec<u8>,
-) -> Result<(), NoMemory>
-    ensures { OnOk result (text.new.items ≡ text.old.items
-        ++ (if is_query script.entry.passes.now then [] else text_following last (slot.now ∷ []))) }
-{
-    let Some(stmt) = slot else {
-        return Ok(());
-    };
-    if script.passes.is_query() {
-        return Ok(());
-    }
-    put_after(script.alloc, last, stmt, text)
-}
-
-/// Writes a statement after another.
-fn put_after(
-    alloc: Global,
-    last: Option<Class>,
-    stmt: &StatementRow<'_>,
-    text: &mut Vec<u8>,
-) -> Result<(), NoMemory>
-    ensures { OnOk result (text.new.items ≡ text.old.items
-        ++ (gap_text (lines_before last stmt.now.class) ++ layout_text stmt.now)) }
-{
-    put_gap(last, stmt.class(), text)?;
-    stmt.put(alloc, text)
 }
 
 /// The message of the first failure that was told, by pass and command.

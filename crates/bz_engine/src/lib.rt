@@ -27,6 +27,7 @@ mod runner;
 mod session;
 mod spare;
 mod telling;
+mod written;
 
 pub use bz_command::Pass;
 pub use bz_devices::device::{Failed, Sink, Source};

@@ -1,10 +1,10 @@
 //! What a run keeps of the chunks that are done.
 
-ghost use Rattle.std.specs.Prelude.{◌≡◌, ◌+◌, ◌<◌, ◌^◌, ◌∷◌, [], length, map, option_to_list, OnOk, true};
-ghost use Rattle.bz_passes.specs.declared.entry.Entry.TheVariants.{Line};
+ghost use Rattle.std.specs.Prelude.{◌≡◌, ◌+◌, ◌<◌, ◌^◌, ◌∷◌, [], length, OnOk, true};
 ghost use Rattle.bz_token.specs.Places.{line_at};
-ghost use Rattle.bz_passes.specs.Exchange.{kept_and, pass_and};
-ghost use Rattle.bz_engine.specs.private.Found.{HasOneLog, one_log_of, one_told};
+ghost use Rattle.bz_passes.specs.Exchange.{pass_and};
+ghost use Rattle.bz_passes.specs.OnePass.{and_at};
+ghost use Rattle.bz_engine.specs.private.Found.{HasLogAt, one_log_of, one_told};
 
 use crate::chunk::newlines;
 use crate::looks::Looks;
@@ -58,23 +58,22 @@ impl Progress {
         self.line += newlines(chunk);
     }
 
-    /// The one command of the script ran on one statement more, and this line was told of it.
-    pub(crate) fn keep_line(&mut self, line: Option<Text>) -> Result<(), NoMemory>
-        requires { HasOneLog self.old.kept }
-        ensures { OnOk result
-            (self.new ≡ record self.old { kept = kept_and self.old.kept (one_told line) }) }
+    /// The one command of the pass at this position ran on one statement more, and this line was told of it.
+    pub(crate) fn keep_line(&mut self, at: usize, line: Option<Text>) -> Result<(), NoMemory>
+        requires { HasLogAt self.old.kept at }
+        ensures { OnOk result (self.new ≡ record self.old { kept = and_at at (one_told line) self.old.kept }) }
     {
-        keep_line(&mut self.kept[0], line)
+        keep_line(&mut self.kept[at], line)
     }
 
-    /// The one command of the script failed on one statement more, and this was told of it.
-    pub(crate) fn keep_failure(&mut self, entry: Entry) -> Result<(), NoMemory>
-        requires { HasOneLog self.old.kept }
-        ensures { OnOk result
-            (self.new ≡ record self.old { kept = kept_and self.old.kept (one_log_of (entry ∷ [])); failed = true }) }
+    /// It failed on one statement more, and this was told of it.
+    pub(crate) fn keep_failure(&mut self, at: usize, entry: Entry) -> Result<(), NoMemory>
+        requires { HasLogAt self.old.kept at }
+        ensures { OnOk result (self.new
+            ≡ record self.old { kept = and_at at (one_log_of (entry ∷ [])) self.old.kept; failed = true }) }
     {
         self.failed = true;
-        keep_entry(&mut self.kept[0], entry)
+        keep_entry(&mut self.kept[at], entry)
     }
 
     /// The buffers, until they are given back.
@@ -142,8 +141,7 @@ impl Progress {
 /// The one command of a pass ran on one statement more, which the pass marked, and this line was told of it.
 fn keep_line(kept: &mut Kept, line: Option<Text>) -> Result<(), NoMemory>
     requires { length kept.old.logs ≡ 1 }
-    ensures { OnOk result (kept.new
-        ≡ pass_and kept.old (record { found = true; logs = map Line (option_to_list line) ∷ [] })) }
+    ensures { OnOk result (kept.new ≡ pass_and kept.old (one_told line)) }
 {
     kept.found = true;
     tell_line(line, &mut kept.logs[0])
@@ -152,7 +150,7 @@ fn keep_line(kept: &mut Kept, line: Option<Text>) -> Result<(), NoMemory>
 /// The one command of a pass ran on one statement more, which the pass marked, and this was told of it.
 fn keep_entry(kept: &mut Kept, entry: Entry) -> Result<(), NoMemory>
     requires { length kept.old.logs ≡ 1 }
-    ensures { OnOk result (kept.new ≡ pass_and kept.old (record { found = true; logs = (entry ∷ []) ∷ [] })) }
+    ensures { OnOk result (kept.new ≡ pass_and kept.old (one_log_of (entry ∷ []))) }
 {
     kept.found = true;
     kept.logs[0].push(entry)

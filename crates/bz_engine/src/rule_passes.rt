@@ -1,6 +1,6 @@
 //! The passes of a script over rules, with what is asked of them at each statement.
 
-ghost use Rattle.std.specs.Prelude.{◌≡◌, IfOk, IfSome};
+ghost use Rattle.std.specs.Prelude.{◌≡◌, ◌+◌, ◌<◌, false, get_or, length, IfOk, IfSome};
 ghost use Rattle.std.specs.List.{list_all};
 ghost use Rattle.bz_rule.specs.Commands.{is_print};
 ghost use Rattle.bz_engine.specs.Outcome as spec;
@@ -25,15 +25,19 @@ pub(crate) struct RulePasses {
     named: bool,
     /// What the script makes of some statements may be known without them.
     may_be_known: bool,
-    /// The attribute that the one command looks at. Empty: there is none.
+    /// The attribute that the one command of the first pass looks at. Empty: there is none.
     attr: String,
 }
 
-/// The one pass of a script, which has one command.
+/// A pass of one command.
 #[derive(Clone, Copy)]
 pub(crate) struct OnePass<'p> {
     pub(crate) target: &'p Target,
     pub(crate) command: &'p Command,
+    /// Its position in the script.
+    pub(crate) at: usize,
+    /// No pass comes after it.
+    pub(crate) last: bool,
 }
 
 impl Model for RulePasses {
@@ -59,7 +63,7 @@ impl RulePasses {
         let query = is_query(passes.as_slice());
         let named = all_named(passes.as_slice());
         let may_be_known = named || is_one_answerable(passes.as_slice());
-        let attr = from_str(alloc, attribute_of_one(passes.as_slice()))?;
+        let attr = from_str(alloc, first_attribute(passes.as_slice()))?;
         let passes = Passes::new(alloc, passes)?;
         Ok(RulePasses {
             passes,
@@ -90,19 +94,23 @@ impl RulePasses {
         self.query
     }
 
-    /// Its pass, where it has one, and that one command.
-    pub(crate) fn only(&self) -> Option<OnePass<'_>>
-        ensures { IfSome result (λ only. self.now ≡ one_pass only.target.now only.command.now) }
+    /// The pass at this position, where it has one command.
+    pub(crate) fn one_at(&self, at: usize) -> Option<OnePass<'_>>
+        requires { at < length self.now }
+        ensures at { IfSome result (λ only. only.at ≡ at) }
+        ensures pass { IfSome result (λ only. one_pass only ≡ get_or self.now only.at (one_pass only)) }
+        ensures last { IfSome result (λ only. only.at + 1 < length self.now → only.last ≡ false) }
     {
-        let [pass] = self.as_slice() else {
-            return None;
-        };
+        let passes = self.as_slice();
+        let pass = &passes[at];
         let [command] = pass.commands.as_slice() else {
             return None;
         };
         Some(OnePass {
             target: &pass.target,
             command,
+            at,
+            last: at + 1 == passes.len(),
         })
     }
 
@@ -136,10 +144,7 @@ impl RulePasses {
     }
 }
 
-fn one_command(passes: &[Pass<Target, Command>]) -> Option<&Command> {
-    let [pass] = passes else {
-        return None;
-    };
+fn one_command(pass: &Pass<Target, Command>) -> Option<&Command> {
     let [command] = pass.commands.as_slice() else {
         return None;
     };
@@ -147,14 +152,21 @@ fn one_command(passes: &[Pass<Target, Command>]) -> Option<&Command> {
 }
 
 fn is_one_answerable(passes: &[Pass<Target, Command>]) -> bool {
-    match one_command(passes) {
+    let [pass] = passes else {
+        return false;
+    };
+    match one_command(pass) {
         None => false,
         Some(command) => is_answerable(command),
     }
 }
 
-fn attribute_of_one(passes: &[Pass<Target, Command>]) -> &str {
-    match one_command(passes) {
+/// The attribute that the first pass looks at: mostly the others look at the same.
+fn first_attribute(passes: &[Pass<Target, Command>]) -> &str {
+    let [pass, ..] = passes else {
+        return "";
+    };
+    match one_command(pass) {
         None => "",
         Some(command) => asked_attribute(command),
     }

@@ -1,6 +1,6 @@
--- What is known of the statement of a chunk that stands as it would be written, and what the one command of a script tells of it, for
+-- What is known of the statement of a chunk that stands as it would be written, and what one command tells of it, for
 -- private clauses.
-use Rattle.std.specs.Prelude.{◌≡◌, ℕ, List, [], ◌∷◌, Bool, false, true, Option, None, Some, option_map, IfSome, map, option_to_list}
+use Rattle.std.specs.Prelude.{◌≡◌, ℕ, ◌<◌, length, get_or, List, [], ◌∷◌, Bool, false, true, Option, None, Some, option_map, IfSome, map, option_to_list}
 use Rattle.bz_passes.specs.declared.entry.Entry.TheVariants.{Line}
 use Rattle.bz_tree.specs.Statement.{class_of}
 use Rattle.bz_tree.specs.Tree.{Statement}
@@ -10,35 +10,38 @@ use Rattle.bz_attribute.specs.declared.done.Note.{Note}
 use Rattle.bz_attribute.specs.Effects.{fails}
 use Rattle.bz_attribute.specs.Texts.{shown_text}
 use Rattle.bz_command.specs.declared.arguments.Commented.TheVariants.{Attribute, Value}
-use Rattle.bz_engine.specs.Language.{note_told}
+use Rattle.bz_engine.specs.Language.{meaning, note_told}
 use Rattle.bz_command.specs.declared.arguments.Attributes.TheVariants.{Named}
 use Rattle.bz_command.specs.Labels.{Package, Target}
 use Rattle.bz_rule.specs.declared.command.Action.TheVariants.{Comment, Remove, Replace}
 use Rattle.bz_attribute.specs.Rules.{first_named, rule_of}
 use Rattle.bz_attribute.specs.Marks.{marks}
-use Rattle.bz_canonical.specs.Canonical.{HasName, HasPlace, between, rule_args}
+use Rattle.bz_canonical.specs.Canonical.{HasName, HasPlace, between, rule_args, rule_name}
 use Rattle.bz_rule.specs.Commands.{Command, after, done_of}
+use Rattle.bz_command.specs.Passes.{Pass}
 use Rattle.bz_passes.specs.Exchange.{Kept}
+use Rattle.bz_passes.specs.OnePass.{IsOnlyAt}
 use Rattle.bz_passes.specs.declared.entry.Entry.{Entry}
 use Rattle.bz_engine.specs.declared.answer.Unchanged.{Unchanged}
 use Rattle.bz_engine.specs.declared.canonical.Found.{Found}
+use Rattle.bz_engine.specs.declared.rule_passes.OnePass.{OnePass}
 use Rattle.bz_engine.specs.Outcome.{Script}
 
--- a script of one pass with one command
-abbrev pub one_pass : Target → Command → Script
-one_pass target command = record { target = target; commands = command ∷ [] } ∷ []
+-- a pass of one command
+abbrev pub one_pass : OnePass → Pass Target Command
+one_pass only = record { target = only.target.now; commands = only.command.now ∷ [] }
 
 -- what is kept of one slot that it marked, of which this was told
-abbrev pub one_log_of : List Entry → List (Kept Entry)
-one_log_of log = record { found = true; logs = log ∷ [] } ∷ []
+abbrev pub one_log_of : List Entry → Kept Entry
+one_log_of log = record { found = true; logs = log ∷ [] }
 
 -- a line was told of it, or nothing
-abbrev pub one_told : Option (List ℕ) → List (Kept Entry)
+abbrev pub one_told : Option (List ℕ) → Kept Entry
 one_told line = one_log_of (map Line (option_to_list line))
 
 -- a place for the log of one command
-abbrev pub HasOneLog : List (Kept Entry) → Type 0
-HasOneLog kept = (k : Kept Entry) × (log : List Entry) × (kept ≡ k ∷ []) × (k.logs ≡ log ∷ [])
+abbrev pub HasLogAt : List (Kept Entry) → ℕ → Type 0
+HasLogAt kept at = (at < length kept) × ((d : Kept Entry) → length (get_or kept at d).logs ≡ 1)
 
 -- the statement of the chunk
 pub record IsFound (depth : ℕ) (found : Found) (s : Statement) : Type 0 where
@@ -48,9 +51,21 @@ pub record IsFound (depth : ℕ) (found : Found) (s : Statement) : Type 0 where
   pub written : layout_text s ≡ found.chunk.written.now
   pub has : IfSome (option_map between found.chunk.place) (HasPlace depth found.attr.now s)
 
+-- a rule has the name that another has
+abbrev pub KeepsName : Statement → Statement → Type 0
+KeepsName s t = HasName (rule_name (rule_of s.nodes)) t
+
 -- the target marks the statement of the chunk
 abbrev pub IsMarked : ℕ → Target → Found → Type 0
 IsMarked depth target found = (s : Statement) → IsFound depth found s → marks target s ≡ true
+
+-- The pass marks the statement of the chunk, and what it makes of it is what the script makes, where a name is kept for later passes.
+pub record IsForOne (depth : ℕ) (home : Package) (passes : Script) (only : OnePass) (found : Found) : Type 0 where
+  pub within : only.at < length passes
+  pub is : one_pass only ≡ get_or passes only.at (one_pass only)
+  pub marked : IsMarked depth only.target.now found
+  pub alone : (s t : Statement) → IsFound depth found s → after only.command.now home (Some s) ≡ Some t → (only.last ≡ false → KeepsName s t)
+      → IsOnlyAt (meaning home) passes (Some s) only.at (one_pass only)
 
 -- no argument of this name stands in a rule
 abbrev pub IsWithout : List ℕ → Statement → Type 0

@@ -1,5 +1,5 @@
 -- What the script on the next chunk answers, for private clauses.
-use Rattle.std.specs.Prelude.{◌≡◌, ℕ, ◌+◌, ◌*◌, ◌≤◌, Bool, true, false, IsTrue, List, [], length, take, Option, None, Some}
+use Rattle.std.specs.Prelude.{◌≡◌, ℕ, ◌+◌, ◌*◌, ◌≤◌, Bool, IsTrue, IsFalse, List, [], length, take, Option, None, Some}
 use Rattle.std.specs.Str.{IsUtf8}
 use Rattle.bz_token.specs.Places.{line_at}
 use Rattle.bz_tree.specs.Tree.{Statement}
@@ -27,9 +27,11 @@ pub record IsFirstEdited (run : Run) (max_statement : ℕ) (ahead : Ahead) (old 
   pub edited : EditsChunk run (take next.len ahead.bytes) old new before after next.edited
 
 -- The script on the statement of a chunk that was found: it is done, or nothing is.
-abbrev pub EditsFound : Run → Found → Progress → Progress → List ℕ → List ℕ → Bool → Type 0
-EditsFound run found old new before after true = (s : Statement) → IsFound run.max_depth found s → IsLaidOut run s old new before after
-EditsFound run found old new before after false = DoesNothing old new before after
+pub record EditsFound (run : Run) (found : Found) (old new : Progress) (before after : List ℕ) (done : Bool) : Type 0 where
+  pub fits : Fits new.kept run.passes
+  pub line : new.line ≡ old.line
+  pub edited : IsTrue done → (s : Statement) → IsFound run.max_depth found s → IsLaidOut run s old new before after
+  pub nothing : IsFalse done → DoesNothing old new before after
 
 -- This is what the script made of the statement of a chunk that was found.
 pub record IsKnownEdited (run : Run) (found : Found) (old new : Progress) (before after : List ℕ) (len : ℕ) : Type 0 where

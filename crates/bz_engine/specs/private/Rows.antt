@@ -15,9 +15,13 @@ use Rattle.bz_passes.specs.Asked.{asked_by}
 abbrev pub HasKey : Statement → Key → Type 0
 HasKey s key = (target : Target) → marks target s ≡ true → may_mark key (asked_by target) ≡ true
 
+-- A row of the statement, as it is read of a text: its class is that of its nodes.
+pub record IsOfRow (s : Statement) (row : Row) : Type 0 where
+  pub class : s.class ≡ class_of s.nodes
+  pub parts : IsRowOf s row
+
 -- The row of the statement of a text.
 pub record IsStatementRow (line max_depth : ℕ) (text : List ℕ) (row : Row) : Type 0 where
   pub statement : Statement
   pub read : IsStatementIn line max_depth text statement
-  pub parts : IsRowOf statement row
-  pub class : statement.class ≡ class_of statement.nodes
+  pub of_row : IsOfRow statement row

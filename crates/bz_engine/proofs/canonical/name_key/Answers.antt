@@ -5,7 +5,7 @@ use Rattle.bz_engine.proofs.CanonicalChunks.{named_key, nameless_key}
 use Rattle.bz_engine.proofs.canonical.name_key.Goals as goal
 
 pub returns-in-Some : goal.returns-in-Some
-returns-in-Some c s is named = named_key s c.in-Some.name (subst (λ (o : Option (Bor (List ℕ))). HasName (option_map (λ name. name.now) o) s) c.in-Some.is named)
+returns-in-Some c s named = named_key s c.in-Some.name (subst (λ (o : Option (Bor (List ℕ))). HasName (option_map (λ name. name.now) o) s) c.in-Some.is named)
 
 pub returns-in-None : goal.returns-in-None
-returns-in-None c s is named = nameless_key s (subst (λ (o : Option (Bor (List ℕ))). HasName (option_map (λ name. name.now) o) s) c.in-None.is named)
+returns-in-None c s named = nameless_key s (subst (λ (o : Option (Bor (List ℕ))). HasName (option_map (λ name. name.now) o) s) c.in-None.is named)

@@ -29,5 +29,5 @@ returns-clause-edited c cs statements kept =
     let row = subst (λ o. IsReadAs depth old.line chunk (Ok o)) c.in-Some.is (subst (IsReadAs depth old.line chunk) c.in-Ok.is c.requires.read) in
     subst (IsEdited run cs statements chunk old _ before after) (sym c.edited_of.ensures)
     (scripted_edited run cs statements chunk row.statement old mid _ before after c.in_ok-scripted.scripted
-    kept (c.utf8.chunk, row.read) (c.in_ok-scripted.ensures.scripted row.statement row.class row.parts)
+    kept (c.utf8.chunk, row.read) (c.in_ok-scripted.ensures.scripted row.statement row.of_row)
     (c.pass_lines-2.ensures ∙ ap (λ bytes. record mid { line = line_at mid.line bytes }) c.as_bytes-2.ensures.value))

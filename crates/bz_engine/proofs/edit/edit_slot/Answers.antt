@@ -1,12 +1,13 @@
-use Rattle.std.proofs.Common.{◌≡◌, sym, ◌∙◌, ap}
+use Rattle.std.proofs.Common.{◌≡◌, refl, sym, ◌∙◌, ap, subst}
 use Rattle.std.specs.Prelude.{Some}
 use Rattle.std.specs.Vec.{with_items}
 use Rattle.std.proofs.lemmas.Bool.{false≢true}
 use Rattle.std.proofs.lemmas.List.{with_items_is}
-use Rattle.bz_engine.specs.private.Edits.{run_of}
+use Rattle.bz_engine.specs.private.Edits.{IsLaidOut, run_of}
 use Rattle.bz_engine.proofs.Failing.{ends_there}
 use Rattle.bz_passes.specs.Exchange.{slot_after}
 use Rattle.bz_engine.specs.Language.{meaning}
+use Rattle.bz_engine.specs.Progress.{Progress}
 use Rattle.bz_engine.proofs.SlotEdits.{has_run, laid_out}
 use Rattle.bz_engine.proofs.edit.edit_slot.Goals as goal
 use Rattle.bz_engine.proofs.edit.edit_slot.Goals.{else-facts-via-then-facts+else-not-script, else-facts-via-else-facts}
@@ -34,15 +35,16 @@ returns-clause-scripted c s is =
     c.in_ok-run_script.ensures.slot ∙ ap (λ r. slot_after (meaning home) r c.args.slot.now) c.indexed-passes.ensures ∙ ap (slot_after (meaning home) passes) is in
     let whole : (with_items c.progress.inside.kept new.kept).items ≡ new.kept =
     with_items_is c.progress.inside.kept new.kept (c.run_script.auto.kept ∙ c.as_mut_slice-kept.ensures.len) in
-    elim c.else-facts.branch [
+    subst (λ (p : Progress). IsLaidOut (run_of c.args.script) s c.args.progress.now p c.args.text.now.items c.put_slot.new.text.items) (sym c.in_ok-put_slot.ensures.last)
+    (elim c.else-facts.branch [
       | else-facts-via-then-facts+else-not-script w ↦
           laid_out (run_of c.args.script) s c.args.progress.now _ new.kept new.slot c.else-facts.progress-inside.last c.args.text.now.items _
           ran (ap (λ p. p.kept.items) w.progress-inside-is ∙ whole) left (ap (λ p. p.last) w.progress-inside-is ∙ ap (λ p. p.last) c.progress.view_is)
-          c.last_class-progress-inside.ensures (ap (λ p. p.line) w.progress-inside-is ∙ ap (λ p. p.line) c.progress.view_is)
-          c.in_ok-put_slot.ensures (λ ends. absurd (false≢true (sym ends ∙ w.if-not-script.false)))
+          refl (ap (λ p. p.line) w.progress-inside-is ∙ ap (λ p. p.line) c.progress.view_is)
+          c.in_ok-put_slot.ensures.text (λ ends. absurd (false≢true (sym ends ∙ w.if-not-script.false)))
       | else-facts-via-else-facts w ↦
           laid_out (run_of c.args.script) s c.args.progress.now _ new.kept new.slot c.else-facts.progress-inside.last c.args.text.now.items _
           ran (ap (λ p. p.kept.items) w.progress-inside-is ∙ whole) left (ap (λ p. p.last) w.progress-inside-is ∙ ap (λ p. p.last) c.progress.view_is)
-          c.last_class-progress-inside.ensures (ap (λ p. p.line) w.progress-inside-is ∙ ap (λ p. p.line) c.progress.view_is)
-          c.in_ok-put_slot.ensures (λ ends. w.if-facts.false)
-    ]
+          refl (ap (λ p. p.line) w.progress-inside-is ∙ ap (λ p. p.line) c.progress.view_is)
+          c.in_ok-put_slot.ensures.text (λ ends. w.if-facts.false)
+    ])
