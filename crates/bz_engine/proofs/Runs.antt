@@ -88,7 +88,6 @@ pub where_done : {T E : Type 0} {P Q : Type 0} (r : Result T E) → (P → Q) �
 where_done (Ok x) f h = f h
 where_done (Err e) f h = h
 
-
 pub ok_is_no_err : {T E : Type 0} (r : Result T E) (t : T) (e : E) → r ≡ Ok t → r ≡ Err e → ⊥
 ok_is_no_err r t e is err = false≢true (sym (ap is_ok_answer err) ∙ ap is_ok_answer is)
   where
