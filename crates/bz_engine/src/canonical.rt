@@ -174,7 +174,7 @@ fn edit_marked(
     ensures { IfOk result (EditsFound (run_of script.entry) found.now progress.old progress.new
         text.old.items text.new.items) }
 {
-    let Some(only) = marking(script, found) else {
+    let Some(only) = marking(script, *found) else {
         return Ok(false);
     };
     let env = Env {
@@ -191,7 +191,7 @@ fn edit_marked(
         put_canonical(script, found.chunk, progress, text)?;
         return Ok(true);
     }
-    edit_argument(script, only, found, progress, text)
+    edit_argument(script, only, *found, progress, text)
 }
 
 /// The one pass of the script that marks the statement of the chunk, where it has one command.
