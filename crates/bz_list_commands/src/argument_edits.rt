@@ -51,62 +51,43 @@ impl<'h, 'c, 'w> ArgumentEdit<'h, 'c, 'w> {
     }
 }
 
-// Adds the places of the argument at a place that make way for an edit of its elements. Tells where the next begins.
-fn add_strings(
-    edit: StringEdit<'_, '_, '_>,
-    argument: FirstArgument<'_>,
-    parts: &[Part<'_>],
-    at: usize,
-    places: &mut Places<'_>,
-) -> Result<usize, NoMemory>
-    requires order { (argument.nodes ≤ argument.to) × (at + argument.to ≤ length parts.now) }
-    requires ordered { AreOrdered 0 places.now.items at }
-    ensures within { IfOk result (λ next. (at + argument.entry.to ≤ next) × (next ≤ length parts.now)) }
-    ensures ordered { IfOk result (λ next. AreOrdered 0 places.new.items next) }
-    ensures edited { IfOk result (λ next. spec.HasEditedOne (spec.edited (means edit.entry) (literal_of edit.entry))
-        (spec.is_changed (means edit.entry)) (literal_parts (literal_of edit.entry))
-        argument.entry.nodes argument.entry.to (option_map (λ text. text.now) argument.entry.name)
-        (map part_view parts.now) at next places.old.items places.new.items) }
-{
-    let to = at + argument.to;
-    if argument.name.is_none() {
-        return Ok(to);
-    }
-    let value = to.min(at + argument.nodes + 2);
-    if loses_all(edit, parts, value) {
-        push(places, Place { from: at, to })?;
-        return Ok(to);
-    }
-    let end = add_places(edit, parts, value, places)?;
-    Ok(to.max(end))
-}
-
-// The same of any edit.
+// Adds the places of the argument at a place that make way for an edit of it. Tells where the next begins.
 fn add_argument(
     edit: ArgumentEdit<'_, '_, '_>,
-    parts: &[Part<'_>],
     argument: FirstArgument<'_>,
+    parts: &[Part<'_>],
     at: usize,
     places: &mut Places<'_>,
 ) -> Result<usize, NoMemory>
-    requires ordered { AreOrdered 0 places.now.items at }
     requires order { (argument.nodes ≤ argument.to) × (at + argument.to ≤ length parts.now) }
-    ensures ordered { IfOk result (λ next. AreOrdered 0 places.new.items next) }
+    requires ordered { AreOrdered 0 places.now.items at }
     ensures within { IfOk result (λ next. (at + argument.entry.to ≤ next) × (next ≤ length parts.now)) }
+    ensures ordered { IfOk result (λ next. AreOrdered 0 places.new.items next) }
     ensures edited { IfOk result (λ next. spec.HasEditedOne (spec.edit_by edit.entry) (spec.changes_by edit.entry)
         (literal_parts (spec.literal_by edit.entry))
         argument.entry.nodes argument.entry.to (option_map (λ text. text.now) argument.entry.name)
         (map part_view parts.now) at next places.old.items places.new.items) }
 {
+    let to = at + argument.to;
     match edit {
-        ArgumentEdit::Strings(strings) => add_strings(strings, argument, parts, at, places),
         ArgumentEdit::Gone(attributes) => {
-            let to = at + argument.to;
             if !goes(attributes, argument.name) {
                 return Ok(to);
             }
             push(places, Place { from: at, to })?;
             Ok(to)
+        }
+        ArgumentEdit::Strings(strings) => {
+            if argument.name.is_none() {
+                return Ok(to);
+            }
+            let value = to.min(at + argument.nodes + 2);
+            if loses_all(strings, parts, value) {
+                push(places, Place { from: at, to })?;
+                return Ok(to);
+            }
+            let end = add_places(strings, parts, value, places)?;
+            Ok(to.max(end))
         }
     }
 }
@@ -129,7 +110,7 @@ pub fn edited_places<'b>(
     let mut at = from;
     while at < parts.len() {
         let argument = first_argument(&parts[at..]);
-        let next = add_argument(edit, parts, argument, at, &mut places)?;
+        let next = add_argument(edit, argument, parts, at, &mut places)?;
         at = next;
     }
     Ok(places)
