@@ -412,17 +412,14 @@ pub fn shown(alloc: Global, text: &str) -> Result<String, Fail> {
     }
 }
 
+/// The block of the table of texts has a tree too.
 #[test]
-fn tree_of_block(rt: HostRuntime) -> Result<(), Fail> {
+fn trees_of_chunks(rt: HostRuntime) -> Result<(), Fail> {
     let alloc = rt.alloc();
+    check_table(&rt, alloc, TREES, shown)?;
     let block = BLOCK.trim_end();
     let table = format!(in alloc; "\n---\n{BLOCK}\n->\nBlock :{block} :\n")?;
     check_table(&rt, alloc, table.as_str(), shown)
-}
-
-#[test]
-fn trees_of_chunks(rt: HostRuntime) -> Result<(), Fail> {
-    check_table(&rt, rt.alloc(), TREES, shown)
 }
 
 /// What the grammar accepts, and what it refuses.
