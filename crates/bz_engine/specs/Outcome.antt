@@ -46,7 +46,7 @@ slots_of statements = map Some statements
 abbrev pub left_in : {S : Type 0} → List (Slot S) → List S
 left_in slots = filter_map (λ slot. slot) slots
 
--- The text of statements one after another: between two neighbours an empty line, where their classes ask for one.
+-- The text of statements one after another: between two neighbours the empty lines that their classes ask for.
 abbrev pub text_of : List Statement → List ℕ
 text_of [] = []
 text_of (s ∷ []) = layout_text s

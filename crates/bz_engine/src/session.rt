@@ -1,6 +1,7 @@
 //! A run, a chunk at a time. `run` (`runner.rt`) makes a session, steps it to its end and finishes it. A step finds the
 //! next chunk (`next_chunk.rt`, and bz_devices `ahead` where more is to be read), has the script run on it (`edit.rt`),
-//! and writes its text. It begins with `Stopped`: after a fault the session is of no use.
+//! and writes its text. It sets the state to `Stopped` first, and back to `Going` once the text is written: after a
+//! fault the session stays stopped, and is of no use.
 
 ghost use Rattle.bz_memory.specs.NoMemory.{no_memory};
 ghost use Rattle.std.specs.Prelude.{◌≡◌, ◌≢◌, ℕ, ◌+◌, ◌<◌, ◌≤◌, ◌^◌, false, List, [], ◌∷◌, length, take, drop, IfOk, OnOk, OnErr, IfSome, IfNone, IsTrue};
@@ -275,7 +276,7 @@ impl Session {
         Step::End
     }
 
-    /// The buffer for the text of a chunk, empty.
+    /// Takes the buffer for the text of a chunk, empty. `advance` gives it back once it is written.
     fn take_text(&mut self) -> Vec<u8>
         ensures same { self.new ≡ self.old }
         ensures empty { result.items ≡ [] }
@@ -285,8 +286,8 @@ impl Session {
         text
     }
 
-    /// The script on the next chunk; none where the input has ended. Where the bytes ahead seem to end before the
-    /// chunk, more is read first: to look at the front of a chunk would be in vain.
+    /// Runs the script on the next chunk for `advance`; none where the input has ended. Where the bytes ahead seem to
+    /// end before the chunk (`looks.rt` guesses), more is read first: to look at the front of a chunk would be in vain.
     fn edit_next<S: Source>(
         &mut self,
         source: &mut S,
@@ -301,12 +302,13 @@ impl Session {
         ensures next { IfOk result (IsNext self.old self.new text.old.items text.new.items) }
     {
         read_short(&mut self.progress, &mut self.ahead, source, self.options)?;
-        self.edit_or_find(source, text)
+        self.edit_after_one_read(source, text)
     }
 
-    /// The script on the next chunk. Most chunks end in the text ahead: then nothing is read, and the walk that finds
-    /// the end makes the tokens. Where the text ends before its chunk, more is read once, and the walk begins again.
-    fn edit_or_find<S: Source>(
+    /// Runs the script on the next chunk. Most chunks end in the text ahead: then nothing is read, and the walk that
+    /// finds the end makes the tokens. Where the text ends before its chunk, more is read once, and the walk begins
+    /// again.
+    fn edit_after_one_read<S: Source>(
         &mut self,
         source: &mut S,
         text: &mut Vec<u8>,
@@ -329,20 +331,21 @@ impl Session {
                         options: self.options,
                         line: self.progress.line,
                     };
+                    // Nothing was read: the chunk surely ends here, it is too long, or the input has ended.
                     if !read_more(&mut self.ahead, source, search)? {
-                        return self.edit_found(source, text);
+                        return self.edit_by_lines(source, text);
                     }
                     may_read = false;
                 }
-                _ => return self.edit_found(source, text),
+                _ => return self.edit_by_lines(source, text),
             }
         }
     }
 
-    /// The script on the next chunk, where it ends being found line by line; none where the input has ended.
+    /// Runs the script on the next chunk, whose end is found line by line; none where the input has ended.
     /// In the midst of a step more may be ahead than of a session that goes on (`IsReady`): so `advance` has it stopped
     /// until the chunk is taken.
-    fn edit_found<S: Source>(
+    fn edit_by_lines<S: Source>(
         &mut self,
         source: &mut S,
         text: &mut Vec<u8>,
@@ -366,7 +369,7 @@ impl Session {
         Ok(Some(NextChunk { len, edited }))
     }
 
-    /// The script on the first chunk of the text ahead.
+    /// Runs the script on the first chunk of the text ahead: it is copied (`canonical.rt`), or else read.
     fn edit_ahead(&mut self, text: &mut Vec<u8>) -> Result<First, NoMemory>
         requires stopped { self.old.stage ≡ Stopped }
         requires ready { CanTake self.old }
@@ -383,7 +386,7 @@ impl Session {
         }
     }
 
-    /// The same, where the chunk is read.
+    /// The same, where the chunk is read (`next_chunk.rt`).
     #[inline(never)]
     fn edit_read(&mut self, text: &mut Vec<u8>) -> Result<First, NoMemory>
         requires stopped { self.old.stage ≡ Stopped }
@@ -400,7 +403,7 @@ impl Session {
         edit_first(&self.ahead, script, &mut self.progress, text)
     }
 
-    /// The script on the chunk of the first bytes ahead.
+    /// Runs the script on the chunk of the first bytes ahead.
     fn edit(&mut self, len: usize, text: &mut Vec<u8>) -> Result<Edited, NoMemory>
         requires stopped { self.old.stage ≡ Stopped }
         requires within { len ≤ length self.old.ahead.bytes }

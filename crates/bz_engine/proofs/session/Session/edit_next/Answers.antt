@@ -17,7 +17,7 @@ returns-clause-finds g c =
     finds_then _ _ _ _ c.in_ok-read_short.field-0 _ _ _ _ _ _ _ g.met.S.Source.gave_more
     (subst (λ v. Finds g.S.Source.gave g.S.Source.failures v.options v.progress.line c.args.source.now c.read_short.new.source v.ahead c.read_short.new.ahead (Ok c.in_ok-read_short.field-0))
     c.self.view_is c.in_ok-read_short.ensures.finds)
-    (subst (λ v. Finds g.S.Source.gave g.S.Source.failures v.options v.progress.line c.read_short.new.source c.edit_or_find.new.source c.read_short.new.ahead c.edit_or_find.new.self.ahead c.edit_or_find.result)
+    (subst (λ v. Finds g.S.Source.gave g.S.Source.failures v.options v.progress.line c.read_short.new.source c.edit_after_one_read.new.source c.read_short.new.ahead c.edit_after_one_read.new.self.ahead c.edit_after_one_read.result)
     c.self.view_is
-    (subst (λ (p : Progress). Finds g.S.Source.gave g.S.Source.failures c.self.inside.options p.line c.read_short.new.source c.edit_or_find.new.source c.read_short.new.ahead c.edit_or_find.new.self.ahead c.edit_or_find.result)
-    c.in_ok-read_short.ensures.same c.edit_or_find.ensures.finds))
+    (subst (λ (p : Progress). Finds g.S.Source.gave g.S.Source.failures c.self.inside.options p.line c.read_short.new.source c.edit_after_one_read.new.source c.read_short.new.ahead c.edit_after_one_read.new.self.ahead c.edit_after_one_read.result)
+    c.in_ok-read_short.ensures.same c.edit_after_one_read.ensures.finds))

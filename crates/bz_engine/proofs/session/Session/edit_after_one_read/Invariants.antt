@@ -3,7 +3,7 @@ use Rattle.std.specs.Prelude.{if◌then◌else◌}
 use Rattle.bz_engine.specs.SessionValue.{SessionValue}
 use Rattle.bz_engine.specs.private.NextChunks.{CanTake}
 use Rattle.bz_engine.proofs.Finds.{Found}
-use Rattle.bz_engine.proofs.session.Session.edit_or_find.Given as goal
+use Rattle.bz_engine.proofs.session.Session.edit_after_one_read.Given as goal
 
 -- reads were made, and nothing else
 abbrev pub invariant-loop-next : goal.invariant-loop-next

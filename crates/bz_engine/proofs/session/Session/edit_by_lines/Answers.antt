@@ -11,7 +11,7 @@ use Rattle.bz_engine.specs.SessionValue.{SessionValue}
 use Rattle.bz_passes.specs.Exchange.{Fits}
 use Rattle.bz_engine.specs.private.Finds.{Finds}
 use Rattle.bz_engine.proofs.Finds.{finds_found, finds_failed, finds_memory}
-use Rattle.bz_engine.proofs.session.Session.edit_found.Goals as goal
+use Rattle.bz_engine.proofs.session.Session.edit_by_lines.Goals as goal
 
 pub returns-in_err-edited-clause-next : goal.returns-in_err-edited-clause-next
 returns-in_err-edited-clause-next g c =

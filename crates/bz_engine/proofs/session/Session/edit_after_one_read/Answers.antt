@@ -9,8 +9,8 @@ use Rattle.bz_engine.specs.SessionValue.{SessionValue}
 use Rattle.bz_engine.proofs.Finds.{finds_nothing, finds_found, finds_then, finds_failed, finds_memory}
 use Rattle.bz_engine.proofs.Kept.{take_read}
 use Rattle.bz_engine.proofs.Stages.{read_alone, passed_over}
-use Rattle.bz_engine.proofs.session.Session.edit_or_find.Goals as goal
-use Rattle.bz_engine.proofs.session.Session.edit_or_find.Goals.{in_default-via-in-Short+else-may_read, in_default-via-in_default}
+use Rattle.bz_engine.proofs.session.Session.edit_after_one_read.Goals as goal
+use Rattle.bz_engine.proofs.session.Session.edit_after_one_read.Goals.{in_default-via-in-Short+else-may_read, in_default-via-in_default}
 
 pub loop-next-init : goal.loop-next-init
 loop-next-init g c = record {
@@ -78,8 +78,8 @@ returns-then-not-branch-clause-finds g c =
     (finds_then _ _ _ _ c.in_ok-read_more-in-Short.field-0 _ _ _ _ _ _ _ g.met.S.Source.gave_more
     (subst (λ x. Finds g.S.Source.gave g.S.Source.failures x.options x.progress.line c.loop-next.source c.read_more.new.source x.ahead c.read_more.new.ahead (Ok c.in_ok-read_more-in-Short.field-0))
     is c.in_ok-read_more-in-Short.ensures.finds)
-    (subst (λ x. Finds g.S.Source.gave g.S.Source.failures x.options x.progress.line c.read_more.new.source c.edit_found.new.source c.read_more.new.ahead c.edit_found.new.self.ahead c.edit_found.result)
-    is c.edit_found.ensures.finds))
+    (subst (λ x. Finds g.S.Source.gave g.S.Source.failures x.options x.progress.line c.read_more.new.source c.edit_by_lines.new.source c.read_more.new.ahead c.edit_by_lines.new.self.ahead c.edit_by_lines.result)
+    is c.edit_by_lines.ensures.finds))
 
 pub loop-next-preserved : goal.loop-next-preserved
 loop-next-preserved g c =
@@ -116,5 +116,5 @@ returns-in_default-clause-finds g c =
     let at : Progress → SessionValue = λ p. record l { progress = p } in
     let is = c.edit_ahead.ensures.same ∙ ap at same ∙ inv.same in
     finds_then _ _ _ _ _ _ _ _ _ _ _ _ g.met.S.Source.gave_more inv.finds
-    (subst (λ x. Finds g.S.Source.gave g.S.Source.failures x.options x.progress.line c.loop-next.source c.edit_found-in_default.new.source x.ahead c.edit_found-in_default.new.self.ahead c.edit_found-in_default.result)
-    is c.edit_found-in_default.ensures.finds)
+    (subst (λ x. Finds g.S.Source.gave g.S.Source.failures x.options x.progress.line c.loop-next.source c.edit_by_lines-in_default.new.source x.ahead c.edit_by_lines-in_default.new.self.ahead c.edit_by_lines-in_default.result)
+    is c.edit_by_lines-in_default.ensures.finds)
