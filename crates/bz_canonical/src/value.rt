@@ -46,16 +46,25 @@ pub(crate) fn leaf(text: &[u8]) -> Option<&[u8]>
     }
 }
 
+/// The text, where no operator begins it.
+#[inline(always)]
+fn unjoined(rest: &[u8]) -> Option<&[u8]>
+    ensures { IfSome result (λ same. same.now ≡ rest.now) }
+{
+    match rest {
+        [b' ', ..] => None,
+        _ => Some(rest),
+    }
+}
+
 /// What follows the string here, where no operator may follow it.
 #[inline(always)]
 fn lone_string(text: &[u8]) -> Option<&[u8]>
     ensures { IfSome result (λ rest. IsTokenFront String text.now rest.now) }
 {
-    let rest = string(text)?;
-    match rest {
-        [b' ', ..] => None,
-        _ => Some(rest),
-    }
+    let end = string(text)?;
+    let rest = unjoined(end)?;
+    Some(rest)
 }
 
 /// What follows the operand or call here.
@@ -134,11 +143,9 @@ fn lone_list(text: &[u8], depth: u8) -> Option<&[u8]>
     }
     let inside = after(text, b'[')?;
     let string = simple_string(inside)?;
-    let rest = after(string.rest, b']')?;
-    match rest {
-        [b' ', ..] => None,
-        _ => Some(rest),
-    }
+    let end = after(string.rest, b']')?;
+    let rest = unjoined(end)?;
+    Some(rest)
 }
 
 /// What follows the operands here, with operators between them.
