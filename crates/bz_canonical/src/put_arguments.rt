@@ -4,7 +4,7 @@
 ghost use Rattle.std.specs.Prelude.{◌≡◌, ◌<◌, ℕ, List, Bool, length, option_map, IfOk, IfSome, true, false};
 ghost use Rattle.bz_tree.specs.declared.tree.GroupKind.TheVariants.{RuleCall};
 ghost use Rattle.bz_canonical.specs.private.Segments.{AreNotesFront, AreSegmentsFront};
-ghost use Rattle.bz_canonical.specs.private.Rewritten.{AreArgumentsRead, AreOthersRead, AreRead, IsArgumentRead, IsHeadRead, ArePlacedRead, IsPending, IsValueEnd, Puts, pending, put_ends};
+ghost use Rattle.bz_canonical.specs.private.Rewritten.{AreArgumentsRead, AreOthersRead, AreRead, IsArgumentRead, IsHeadRead, ArePlacedRead, IsPending, IsValueEnd, Puts, PutsArgument, pending, put_ends};
 
 use crate::front::{Word, after_word, before, identifier, line};
 use crate::lists::{after_value, put_list};
@@ -98,36 +98,33 @@ fn put_argument<'t>(
     written: &mut Vec<u8>,
 ) -> Told<Pending<'t>>
     requires { depth < 254 }
-    ensures { IfOk result (λ told. IfSome told (λ next. (attr : List ℕ) (named : Bool)
-        → IsHeadRead attr at.entry.rest.now value.now named
-        → Puts written.old.items (pending at.entry) written.new.items (pending next)
-        (λ begun w. IsArgumentRead depth attr at.entry.rest.now next.rest.now w named))) }
+    ensures { IfOk result (λ told. IfSome told
+        (PutsArgument depth at.entry value.now written.old.items written.new.items)) }
 {
     match value_end(value, depth) {
         Some(rest) => Ok(Some(Pending {
             from: at.from,
             rest,
         })),
-        None => put_list_argument(at, value, depth, written),
+        None => {
+            if depth == 0 {
+                return Ok(None);
+            }
+            put_list_argument(at, value, written)
+        }
     }
 }
 
-/// The same of a list of strings.
+/// The same of a list of strings, where a bracket may be open.
 #[inline(never)]
 fn put_list_argument<'t>(
     at: Pending<'t>,
     value: &'t [u8],
-    depth: u8,
     written: &mut Vec<u8>,
 ) -> Told<Pending<'t>>
-    ensures { IfOk result (λ told. IfSome told (λ next. (attr : List ℕ) (named : Bool)
-        → IsHeadRead attr at.entry.rest.now value.now named
-        → Puts written.old.items (pending at.entry) written.new.items (pending next)
-        (λ begun w. IsArgumentRead depth attr at.entry.rest.now next.rest.now w named))) }
+    ensures { IfOk result (λ told. IfSome told (λ next. (depth : ℕ) → 0 < depth
+        → PutsArgument depth at.entry value.now written.old.items written.new.items next)) }
 {
-    if depth == 0 {
-        return Ok(None);
-    }
     let Some(front) = before(at.from, value.len()) else {
         return Ok(None);
     };

@@ -286,6 +286,11 @@ pub record IsHeadRead (attr text value : List ℕ) (named : Bool) : Type 0 where
   pub front : text ≡ bytes_of (comments 1 notes) ++ (10 ∷ (indent 1 ++ (word ++ (codes " = " ++ value))))
   pub named_is : bytes_eq attr word ≡ named
 
+-- an argument whose name was read, and its value
+abbrev pub PutsArgument : ℕ → Pending → List ℕ → List ℕ → List ℕ → Pending → Type 0
+PutsArgument depth at value old new next = (attr : List ℕ) (named : Bool) → IsHeadRead attr at.rest.now value named
+    → Puts old (pending at) new (pending next) (λ begun w. IsArgumentRead depth attr at.rest.now next.rest.now w named)
+
 -- the comments above a rule, its kind and its name
 pub record IsRuleHead (text name inside rest : List ℕ) : Type 0 where
   pub notes : List (List ℕ)

@@ -1,4 +1,4 @@
-use Rattle.std.proofs.Common.{◌≡◌, ◌<◌, ◌++◌, ◌∙◌, ℕ, List, arith, ap, subst}
+use Rattle.std.proofs.Common.{◌≡◌, ◌++◌, ◌∙◌, ℕ, List, ap, subst}
 use Rattle.std.specs.Prelude.{IfSome}
 use Rattle.bz_canonical.specs.private.Rewritten.{IsListRead}
 use Rattle.bz_canonical.proofs.Pendings.{pend_list}
@@ -6,10 +6,8 @@ use Rattle.bz_canonical.proofs.PutArguments.{list_read}
 use Rattle.bz_canonical.proofs.put_arguments.put_list_argument.Goals as goal
 
 pub returns : goal.returns
-returns c = λ attr named head text begun p.
+returns c = λ depth deep attr named head text begun p.
     let at = c.args.at in
-    let depth = c.args.depth in
-    let deep : 0 < depth = omega (arith, c.if-depth-eq0.false) in
     let value = c.args.value.now in
     let end = c.in-Some-2.end.now in
     let side = c.in-Some-after_value.ensures in
