@@ -4,7 +4,7 @@
 ghost use Rattle.std.specs.Prelude.{◌≡◌, ◌<◌, ℕ, List, Bool, length, option_map, IfOk, IfSome, true, false};
 ghost use Rattle.bz_tree.specs.declared.tree.GroupKind.TheVariants.{RuleCall};
 ghost use Rattle.bz_canonical.specs.private.Segments.{AreNotesFront, AreSegmentsFront};
-ghost use Rattle.bz_canonical.specs.private.Rewritten.{AreArgumentsRead, AreOthersRead, AreRead, IsArgumentRead, IsHeadRead, ArePlacedRead, IsPending, IsValueEnd, Puts, PutsArgument, pending, put_ends};
+ghost use Rattle.bz_canonical.specs.private.Rewritten.{AreArgumentsRead, AreOthersRead, AreRead, IsHeadRead, ArePlacedRead, IsPending, IsValueEnd, Puts, PutsArgument, pending, put_ends};
 
 use crate::front::{Word, after_word, before, identifier, line};
 use crate::lists::{after_value, put_list};

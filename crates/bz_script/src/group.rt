@@ -187,22 +187,11 @@ fn passes_anew(
     if labels.is_empty() {
         return Ok(Vec::new(alloc));
     }
-    let commands = command_words(alloc, words)?;
-    passes_reading(alloc, commands.as_slice(), labels)
-}
-
-/// The same, where all words are commands.
-fn passes_reading(
-    alloc: Global,
-    commands: &[&str],
-    labels: Vec<(Package, Target)>,
-) -> Result<Script, NoMemory>
-    ensures { IfOk result (λ script. script.items
-        ≡ map (spec.pass_for (spec.commands_of (map (λ word. word.now) commands.now))) labels.items) }
-{
+    let again = command_words(alloc, words)?;
+    let kept = again.as_slice();
     let mut script = with_room_for(alloc, labels.as_slice(), 0)?;
     for (package, target) in labels {
-        let commands = read_commands(alloc, commands)?;
+        let commands = read_commands(alloc, kept)?;
         push(&mut script, (package, Pass { target, commands }))?;
     }
     Ok(script)
