@@ -136,15 +136,25 @@ pub(crate) struct SimpleString<'t> {
     pub(crate) rest: &'t [u8],
 }
 
+/// The string of so many bytes here, which this quote ends.
+#[inline(always)]
+fn closed_string(inside: &[u8], len: usize, quote: u8) -> Option<SimpleString<'_>>
+    requires { len ≤ length inside.now }
+    ensures { IfSome result (λ q. (q.inner.now ≡ take len inside.now) × (drop len inside.now ≡ quote ∷ q.rest.now)) }
+{
+    let (inner, end) = inside.split_at(len);
+    let rest = after(end, quote)?;
+    Some(SimpleString { inner, rest })
+}
+
 /// The string in double quotes here, whose value stands as it is.
 #[inline(always)]
 pub(crate) fn simple_string(text: &[u8]) -> Option<SimpleString<'_>>
     ensures { IfSome result (λ q. IsQuotedFront text.now q.inner.now q.rest.now) }
 {
     let inside = after(text, b'"')?;
-    let (inner, end) = inside.split_at(simple_len(inside));
-    let rest = after(end, b'"')?;
-    Some(SimpleString { inner, rest })
+    let string = closed_string(inside, simple_len(inside), b'"')?;
+    Some(string)
 }
 
 fn is_plain(b: u8) -> bool
@@ -165,9 +175,8 @@ pub(crate) fn single_string(text: &[u8]) -> Option<SimpleString<'_>>
     ensures { IfSome result (λ q. IsSingleFront text.now q.inner.now q.rest.now) }
 {
     let inside = after(text, b'\'')?;
-    let (inner, end) = inside.split_at(plain_len(inside));
-    let rest = after(end, b'\'')?;
-    Some(SimpleString { inner, rest })
+    let string = closed_string(inside, plain_len(inside), b'\'')?;
+    Some(string)
 }
 
 // Four spaces, looked at as one word.
