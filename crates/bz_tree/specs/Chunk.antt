@@ -3,7 +3,7 @@
 -- Of later stops: 8 `AreTokensOf`, `IsFault`, `Placed`.
 use Rattle.std.specs.Prelude.{ℕ, List, Bool, true, false, if◌then◌else◌, ◌≡◌, ◌==◌, Option, Some, None, IsSome, IsNone}
 use Rattle.bz_token.specs.declared.fault.LexFault.{LexFault}
-use Rattle.bz_token.specs.declared.fault.LexFault.TheVariants.{OutOfMemory as no_tokens}
+use Rattle.bz_token.specs.declared.fault.LexFault.TheVariants.{OutOfMemory as LexOutOfMemory}
 use Rattle.bz_token.specs.Places.{Placed}
 use Rattle.bz_token.specs.Reading.{AreTokensOf}
 use Rattle.bz_token.specs.Faults.{IsFault}
@@ -75,7 +75,7 @@ pub record HasTokenFault (first depth : ℕ) (bytes : List ℕ) (fault : ParseFa
   pub is : IsTokenFault first bytes tokens fault
 
 abbrev pub IsLexical : LexFault → Type 0
-IsLexical (no_tokens _) = ⊥
+IsLexical (LexOutOfMemory _) = ⊥
 IsLexical fault = Unit {0}
 
 -- The first fault of a chunk: lexical faults come before wrong indents, and these before the grammar. That memory was refused says

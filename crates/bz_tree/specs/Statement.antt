@@ -10,7 +10,7 @@ use Rattle.bz_tree.specs.declared.tree.GroupKind.{GroupKind}
 use Rattle.bz_tree.specs.declared.tree.GroupKind.TheVariants.{Call, RuleCall}
 use Rattle.bz_tree.specs.declared.tree.Class.{Class}
 use Rattle.bz_tree.specs.declared.tree.Class.TheVariants.{Load, Assign, Rule, Other, Comment, Block}
-use Rattle.bz_tree.specs.declared.tree.kinds.Preceding.TheVariants.{Other as Elsewhere}
+use Rattle.bz_tree.specs.declared.tree.kinds.Preceding.TheVariants.{Other as OtherPreceding}
 use Rattle.bz_tree.specs.Tree.{Item, leaf, group, Segment, Statement}
 use Rattle.bz_tree.specs.Owners.{Own, Inside, inside}
 use Rattle.bz_tree.specs.Brackets.{Elems, elems_tokens, elems_own, own_items, AreWell, end_line, without_lines}
@@ -140,8 +140,8 @@ statement_with tokens s = record { before = s.before; nodes = s.nodes; suffix = 
 pub record IsStatementOf (tokens : List Placed) (s : Statement) : Type 0 where
   pub elems : Elems
   pub tokens_are : without_lines tokens ≡ elems_tokens elems
-  pub well : AreWell Elsewhere elems  -- brackets match, no segment is empty
-  pub is : s ≡ statement_with tokens (segment_of (elems_own Elsewhere elems))
+  pub well : AreWell OtherPreceding elems  -- brackets match, no segment is empty
+  pub is : s ≡ statement_with tokens (segment_of (elems_own OtherPreceding elems))
 
 -- each token ends on a line that can be counted
 abbrev pub EndsFit : List Placed → Type 0

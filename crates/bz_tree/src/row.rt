@@ -39,6 +39,6 @@ pub struct Row<'a> {
     pub class: Class,
     /// The line of its first token, comments not counted unless the class is Comment.
     pub start: u64,
-    /// The line on which its last token ends, comments not counted unless the class is Comment.
+    /// The line on which its last token ends, comments not counted unless the class is Comment or Block.
     pub end: u64,
 }

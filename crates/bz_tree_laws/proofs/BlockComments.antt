@@ -4,6 +4,7 @@ use Rattle.std.specs.Prelude.{codes}
 use Rattle.std.specs.Str.{bytes_eq}
 use Rattle.std.proofs.lemmas.Bool.{false≢true, and_parts}
 use Rattle.std.proofs.lemmas.Bool.Decides.{nat_tests}
+use Rattle.std.specs.Option.{option_or}
 use Rattle.bz_token.specs.declared.token.Kind.{Kind}
 use Rattle.bz_token.specs.declared.token.Kind.TheVariants.{Operator, Newline, Comment}
 use Rattle.bz_token.specs.Places.{Placed, line_at}
@@ -20,7 +21,8 @@ use Rattle.bz_tree.specs.Comments.{comment_of, comments_among}
 use Rattle.bz_tree_laws.specs.BlockComments.{AreWritten, AreKept}
 use Rattle.bz_tree_laws.proofs.KeptSame.{kept_same}
 use Rattle.bz_tree.proofs.Trees.Sound.{none_is_some, some_injective}
-use Rattle.bz_tree.proofs.Trees.Standing.{or_else, last_or, none_empty, later_last}
+use Rattle.bz_tree.proofs.Trees.LastToken.{last_or}
+use Rattle.bz_tree.proofs.Trees.Standing.{none_empty, later_last}
 use Rattle.bz_token.specs.Common.{first_of}
 
 -- a gap outside brackets is one inside
@@ -167,7 +169,7 @@ to_last_token : (tokens : List Placed) (last : Placed) → last_of None (without
 to_last_token [] last is = absurd (none_is_some last is)
 to_last_token (t ∷ ts) last is = at_line (is_line (mark_of t)) (λ e. last_again t ts last (to_last_token ts last e)) is
   where
-    at_later : (l : Option Placed) → last_of None (without_lines ts) ≡ l → (last_of None (without_lines ts) ≡ Some last → ToLast (t ∷ ts) last) → or_else (Some t) l ≡ Some last → ToLast (t ∷ ts) last
+    at_later : (l : Option Placed) → last_of None (without_lines ts) ≡ l → (last_of None (without_lines ts) ≡ Some last → ToLast (t ∷ ts) last) → option_or l (Some t) ≡ Some last → ToLast (t ∷ ts) last
     at_later None found more is = record { front = []; newlines = ts; tokens_are = ap (λ x. x ∷ ts) (some_injective t last is); only = none_empty (without_lines ts) found }
     at_later (Some u) found more is = more (found ∙ is)
 

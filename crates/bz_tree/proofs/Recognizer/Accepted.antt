@@ -16,7 +16,7 @@ use Rattle.bz_tree.specs.declared.grammar.stage.Stage.TheVariants.{Refused, Want
 use Rattle.bz_tree.specs.Tree.{Item, leaf, group, Items, no_items, item, Segs, no_segs, seg}
 use Rattle.bz_tree.specs.Statement.{is_call, is_load_word}
 use Rattle.bz_tree.specs.Grammar.{token_role, leaf_role, word_role, is_prefix, is_operator, is_star, join, is_dot_role, begins_dot, IsBinOp, operator, not_in, IsTest, plain, conditional, IsChain, single, binary, IsTerm, primary, unary, IsPrimary, number, operand, AreSuffixes, no_suffix, member, suffix, IsSuffix, call, index, IsOperand, ident, text, paren, list, dict, list_comp, dict_comp, AreTests, no_test, one_test, AreArgs, no_arg, one_arg, IsArg, positional, keyword, starred, AreEntries, no_entry, one_entry, IsEntry, entry, IsElement, element, IsEntryElement, entry_element, IsFor, for, AreTargets, last_target, target, AreClauses, no_clause, for_clause, if_clause, IsIndex, at, slice, IsRange, upper, stepped, IsOptional, nothing, some}
-use Rattle.bz_tree.specs.private.Machine.{ends, is_target, in_chain, after_part, next_wanted, next_after, next, accepts, role_of, each}
+use Rattle.bz_tree.specs.private.Machine.{ends, is_target, in_chain, after_goal, next_wanted, next_after, next, accepts, role_of, each}
 
 pub join_empty : (xs : Items) → join xs no_items ≡ xs
 join_empty no_items = refl
@@ -72,7 +72,7 @@ is_test_part _ = true
 test_is_no_target : (p : Goal) → is_test_part p ≡ true → is_target p ≡ false
 test_is_no_target va vb = grind arith
 
-after_if : (p : Goal) → is_test_part p ≡ true → after_part p If ≡ Wants p true
+after_if : (p : Goal) → is_test_part p ≡ true → after_goal p If ≡ Wants p true
 after_if va vb = grind arith
 
 prefix_step : (q : Item) (r : Role) → token_role q ≡ r → is_prefix r ≡ true → (p : Goal) (c : Bool) (xs : Items) → is_target p ≡ false → accepts (Wants p c) xs ≡ true → accepts (Wants p c) (item q xs) ≡ true
@@ -210,7 +210,7 @@ mutual
   entry_element_run (entry_element {xs} {a} {b} c is t rc e) =
       rw is (test_run t EntryKey (item c b) refl (leave EntryKey false c b Colon (Wants Element false) (role_known c Colon rc refl) refl refl (element_run e)))
 
-  pub for_run : {xs : Items} → IsFor xs → (p : Goal) → after_part p For ≡ Wants Target false → Accepts p false xs
+  pub for_run : {xs : Items} → IsFor xs → (p : Goal) → after_goal p For ≡ Wants Target false → Accepts p false xs
   for_run (for {xs} {t} {c} {m} f i is rf ts ri sequence ms) p e =
       let more = chain_run sequence Clause false m refl (clauses_run ms) in
       let at_in : Accepts Target false (item i (join c m)) = leave Target false i (join c m) In (Wants Clause false) (role_known i In ri refl) refl refl more in
@@ -235,7 +235,7 @@ mutual
   range_run (stepped {xs} {a} {b} c is o rc last) = rw is (optional_run o To c b (Begins Step) refl refl rc (end_run last Step refl refl refl))
 
   -- before a colon
-  pub optional_run : {xs : Items} → IsOptional xs → (p : Goal) (c : Item) (r : Items) (s : Stage) → is_test_part p ≡ true → after_part p Colon ≡ s → token_role c ≡ Colon → accepts s r ≡ true → accepts (Begins p) (join xs (item c r)) ≡ true
+  pub optional_run : {xs : Items} → IsOptional xs → (p : Goal) (c : Item) (r : Items) (s : Stage) → is_test_part p ≡ true → after_goal p Colon ≡ s → token_role c ≡ Colon → accepts s r ≡ true → accepts (Begins p) (join xs (item c r)) ≡ true
   optional_run nothing p c r s of_test e rc h = step (Begins p) c r Colon (role_known c Colon rc refl) (ap (λ q. accepts q r) e ∙ h)
   optional_run (some {xs} t) p c r s of_test e rc h = begun p (join xs (item c r)) (test_run t p (item c r) of_test (leave p false c r Colon s (role_known c Colon rc refl) e e h))
 

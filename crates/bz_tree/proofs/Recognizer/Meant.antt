@@ -13,7 +13,7 @@ use Rattle.bz_tree.specs.declared.grammar.stage.Stage.{Stage}
 use Rattle.bz_tree.specs.declared.grammar.stage.Stage.TheVariants.{Refused, Statement, Wants, Has, HasNumber, Names, Excludes, Begins, Argument, Keyword, Loads, Text, LoadArgument, Renames, Done}
 use Rattle.bz_tree.specs.Tree.{Item, leaf, group, Items, no_items, item, Segs, no_segs, seg}
 use Rattle.bz_tree.specs.Grammar.{token_role, is_prefix, is_operator, is_star, is_assignment, join, is_dot_role, begins_dot, IsBinOp, operator, not_in, IsTest, plain, conditional, IsChain, single, binary, IsTerm, primary, unary, IsPrimary, number, operand, AreSuffixes, no_suffix, member, suffix, IsSuffix, call, index, IsOperand, ident, text, paren, list, dict, list_comp, dict_comp, AreTests, no_test, one_test, AreArgs, no_arg, one_arg, IsArg, positional, keyword, starred, AreEntries, no_entry, one_entry, IsEntry, entry, IsElement, element, IsEntryElement, entry_element, IsFor, for, AreTargets, last_target, target, AreClauses, no_clause, for_clause, if_clause, IsIndex, at, slice, IsRange, upper, stepped, IsOptional, nothing, some}
-use Rattle.bz_tree.specs.private.Machine.{ends, is_target, in_chain, after_part, next_wanted, next_after, next, accepts, role_of, each, is_whole, group_role, begin}
+use Rattle.bz_tree.specs.private.Machine.{ends, is_target, in_chain, after_goal, next_wanted, next_after, next, accepts, role_of, each, is_whole, group_role, begin}
 use Rattle.bz_tree.specs.Statement.{is_load_word}
 use Rattle.bz_tree.specs.Grammar.{leaf_role, word_role, operator_role, IsExpr, last_test, test, IsString, string, IsLoadArg, loaded, renamed, AreLoadArgs, no_load_arg, load_arg, load, IsStatement, comments, load_statement, expression, assignment}
 use Rattle.bz_tree.specs.private.Machine.{may_end, is_single, leaves, later}
@@ -308,57 +308,57 @@ condition_tail p i xs b r is second e ri third = record {
   follow = e.whole.follow;
 }
 
-left_tail : (x : Item) (xs : Items) (r : Role) → RoleMeans r x → Means (after_part Left r) xs → TestTail Left (item x xs)
+left_tail : (x : Item) (xs : Items) (r : Role) → RoleMeans r x → Means (after_goal Left r) xs → TestTail Left (item x xs)
 left_tail x xs Comma k m = tail Left (item x xs) (left_comma x refl k (sides_of xs (wanted_whole Left xs m)))
 left_tail x xs Equals k m = tail Left (item x xs) (left_operator x refl (ap is_assignment k) (expr_of xs (wanted_whole Right xs m)))
 left_tail x xs Augmented k m = tail Left (item x xs) (left_operator x refl (ap is_assignment k) (expr_of xs (wanted_whole Right xs m)))
 left_tail x xs If k m = condition_tail Left x xs m.chain m.rest m.is m.is_chain m.after k m.after.whole.is_head
 left_tail x xs _ k m = absurd m
 
-right_tail : (x : Item) (xs : Items) (r : Role) → RoleMeans r x → Means (after_part Right r) xs → TestTail Right (item x xs)
+right_tail : (x : Item) (xs : Items) (r : Role) → RoleMeans r x → Means (after_goal Right r) xs → TestTail Right (item x xs)
 right_tail x xs Comma k m = tail Right (item x xs) (right_comma x refl k (expr_of xs (wanted_whole Right xs m)))
 right_tail x xs If k m = condition_tail Right x xs m.chain m.rest m.is m.is_chain m.after k m.after.whole.is_head
 right_tail x xs _ k m = absurd m
 
-alone_tail : (x : Item) (xs : Items) (r : Role) → RoleMeans r x → Means (after_part Alone r) xs → TestTail Alone (item x xs)
+alone_tail : (x : Item) (xs : Items) (r : Role) → RoleMeans r x → Means (after_goal Alone r) xs → TestTail Alone (item x xs)
 alone_tail x xs If k m = condition_tail Alone x xs m.chain m.rest m.is m.is_chain m.after k m.after.whole.is_head
 alone_tail x xs _ k m = absurd m
 
-step_tail : (x : Item) (xs : Items) (r : Role) → RoleMeans r x → Means (after_part Step r) xs → TestTail Step (item x xs)
+step_tail : (x : Item) (xs : Items) (r : Role) → RoleMeans r x → Means (after_goal Step r) xs → TestTail Step (item x xs)
 step_tail x xs If k m = condition_tail Step x xs m.chain m.rest m.is m.is_chain m.after k m.after.whole.is_head
 step_tail x xs _ k m = absurd m
 
-key_tail : (x : Item) (xs : Items) (r : Role) → RoleMeans r x → Means (after_part Key r) xs → TestTail Key (item x xs)
+key_tail : (x : Item) (xs : Items) (r : Role) → RoleMeans r x → Means (after_goal Key r) xs → TestTail Key (item x xs)
 key_tail x xs Colon k m = tail Key (item x xs) (record { colon = x; after = xs; is = refl; role = k; means = test_of xs (wanted_whole Alone xs m) })
 key_tail x xs If k m = condition_tail Key x xs m.chain m.rest m.is m.is_chain m.after k m.after.whole.is_head
 key_tail x xs _ k m = absurd m
 
-entry_key_tail : (x : Item) (xs : Items) (r : Role) → RoleMeans r x → Means (after_part EntryKey r) xs → TestTail EntryKey (item x xs)
+entry_key_tail : (x : Item) (xs : Items) (r : Role) → RoleMeans r x → Means (after_goal EntryKey r) xs → TestTail EntryKey (item x xs)
 entry_key_tail x xs Colon k m = tail EntryKey (item x xs) (record { colon = x; after = xs; is = refl; role = k; means = element_of xs (wanted_whole Element xs m) })
 entry_key_tail x xs If k m = condition_tail EntryKey x xs m.chain m.rest m.is m.is_chain m.after k m.after.whole.is_head
 entry_key_tail x xs _ k m = absurd m
 
-from_tail : (x : Item) (xs : Items) (r : Role) → RoleMeans r x → Means (after_part From r) xs → TestTail From (item x xs)
+from_tail : (x : Item) (xs : Items) (r : Role) → RoleMeans r x → Means (after_goal From r) xs → TestTail From (item x xs)
 from_tail x xs Colon k m = tail From (item x xs) (inr (record { colon = x; after = xs; is = refl; role = k; means = m }))
 from_tail x xs If k m = condition_tail From x xs m.chain m.rest m.is m.is_chain m.after k m.after.whole.is_head
 from_tail x xs _ k m = absurd m
 
-to_tail : (x : Item) (xs : Items) (r : Role) → RoleMeans r x → Means (after_part To r) xs → TestTail To (item x xs)
+to_tail : (x : Item) (xs : Items) (r : Role) → RoleMeans r x → Means (after_goal To r) xs → TestTail To (item x xs)
 to_tail x xs Colon k m = tail To (item x xs) (inr (record { colon = x; after = xs; is = refl; role = k; means = m }))
 to_tail x xs If k m = condition_tail To x xs m.chain m.rest m.is m.is_chain m.after k m.after.whole.is_head
 to_tail x xs _ k m = absurd m
 
-element_tail : (x : Item) (xs : Items) (r : Role) → RoleMeans r x → Means (after_part Element r) xs → TestTail Element (item x xs)
+element_tail : (x : Item) (xs : Items) (r : Role) → RoleMeans r x → Means (after_goal Element r) xs → TestTail Element (item x xs)
 element_tail x xs For k m = tail Element (item x xs) (for_of x xs k (targets_of xs (wanted_whole Target xs m)))
 element_tail x xs If k m = condition_tail Element x xs m.chain m.rest m.is m.is_chain m.after k m.after.whole.is_head
 element_tail x xs _ k m = absurd m
 
-target_tail : (x : Item) (xs : Items) (r : Role) → RoleMeans r x → Means (after_part Target r) xs → FollowTarget (item x xs)
+target_tail : (x : Item) (xs : Items) (r : Role) → RoleMeans r x → Means (after_goal Target r) xs → FollowTarget (item x xs)
 target_tail x xs Comma k m = target_comma x refl k (targets_of xs (wanted_whole Target xs m))
 target_tail x xs In k m = target_in x refl k (clause_of xs (wanted_whole Clause xs m))
 target_tail x xs _ k m = absurd m
 
-clause_tail : (x : Item) (xs : Items) (r : Role) → RoleMeans r x → Means (after_part Clause r) xs → AreClauses (item x xs)
+clause_tail : (x : Item) (xs : Items) (r : Role) → RoleMeans r x → Means (after_goal Clause r) xs → AreClauses (item x xs)
 clause_tail x xs For k m = for_clause (for_of x xs k (targets_of xs (wanted_whole Target xs m)))
 clause_tail x xs If k m = let w = clause_of xs (wanted_whole Clause xs m) in if_clause x (ap (item x) w.is) k w.is_chain w.clauses
 clause_tail x xs _ k m = absurd m
@@ -497,7 +497,7 @@ excluded_means : (p : Goal) (c : Bool) (x : Item) (xs : Items) (r : Role) → Ro
 excluded_means p c x xs In k m = record { operator_text = x; after = xs; is = refl; role = k; wanted = m }
 excluded_means p c x xs _ k m = absurd m
 
-colon_begun : (p : Goal) (x : Item) (xs : Items) → token_role x ≡ Colon → Means (after_part p Colon) xs → Begun p (item x xs)
+colon_begun : (p : Goal) (x : Item) (xs : Items) → token_role x ≡ Colon → Means (after_goal p Colon) xs → Begun p (item x xs)
 colon_begun From x xs k m = slice x refl nothing k m
 colon_begun To x xs k m = stepped x refl nothing k m
 colon_begun Step x xs k m = absurd m

@@ -10,12 +10,12 @@ use Rattle.bz_tree.specs.declared.grammar.stage.Stage.TheVariants.{Statement, Wa
 use Rattle.bz_tree.specs.Tree.{Item, leaf, group, Items, no_items, item, Segs, seg}
 use Rattle.bz_tree.specs.Statement.{is_load_word}
 use Rattle.bz_tree.specs.Grammar.{token_role, leaf_role, is_assignment, join, IsExpr, last_test, test, IsString, string, IsLoadArg, loaded, renamed, AreLoadArgs, no_load_arg, load_arg, IsLoad, load, IsStatement, comments, load_statement, expression, assignment}
-use Rattle.bz_tree.specs.private.Machine.{accepts, role_of, each, after_part, next_wanted, next, is_statement}
+use Rattle.bz_tree.specs.private.Machine.{accepts, role_of, each, after_goal, next_wanted, next, is_statement}
 use Rattle.bz_tree.proofs.Recognizer.Accepted.{join_assoc, role_known, step, refused, leave, whole, Accepts, is_test_part, test_run}
 use Rattle.bz_tree.proofs.Recognizer.Meant.{statement_read}
 
 -- expressions
-expr_run : {xs : Items} → IsExpr xs → (p : Goal) (r : Items) → is_test_part p ≡ true → after_part p Comma ≡ Wants p false → Accepts p false r → accepts (Wants p false) (join xs r) ≡ true
+expr_run : {xs : Items} → IsExpr xs → (p : Goal) (r : Items) → is_test_part p ≡ true → after_goal p Comma ≡ Wants p false → Accepts p false r → accepts (Wants p false) (join xs r) ≡ true
 expr_run (last_test t) p r of_test e acc = test_run t p r of_test acc
 expr_run (test {xs} {a} {b} c is t rc more) p r of_test e acc =
     rw (is, join_assoc a (item c b) r) (test_run t p (item c (join b r)) of_test (leave p false c (join b r) Comma (Wants p false) (role_known c Comma rc refl) e e (expr_run more p r of_test e acc)))

@@ -21,38 +21,18 @@ use Rattle.bz_tree.specs.Statement.{is_aside, bare_tokens, last_of, first_token,
 use Rattle.bz_tree.specs.Rows.{IsRowOf}
 use Rattle.bz_tree.specs.RowReads.{has_row}
 use Rattle.bz_tree.specs.private.RowSteps.{row_state, row_run, row_start, row_view, is_upright}
-use Rattle.bz_tree.proofs.Trees.LastToken.{bare_append}
+use Rattle.bz_tree.proofs.Trees.LastToken.{bare_append, first_append, last_append, either_placed}
 use Rattle.bz_tree.proofs.Trees.Plain.{FitsLast, bare_fits}
 use Rattle.bz_tree.proofs.Rows.RowNone.{walk_stops}
 use Rattle.bz_tree.proofs.Rows.RowFound.{IsRowIn, upright_rows}
 use Rattle.bz_tree.proofs.Trees.Standing.{ends_fit}
 use Rattle.bz_token.specs.Common.{first_of, map_or}
 
-first_append : (xs ys : List Placed) → first_of (xs ++ ys) ≡ option_or (first_of xs) (first_of ys)
-first_append [] ys = refl
-first_append (x ∷ xs) ys = refl
-
-chosen : (o : Option Placed) (y : Placed) (found : Option Placed) → option_or o (Some y) ≡ option_or (option_or o (Some y)) found
-chosen None y found = refl
-chosen (Some z) y found = refl
-
-last_from : (found : Option Placed) (ys : List Placed) → last_of found ys ≡ option_or (last_of None ys) found
-last_from found [] = refl
-last_from found (y ∷ ys) = last_from (Some y) ys ∙ chosen (last_of None ys) y found ∙ ap (λ o. option_or o found) (sym (last_from (Some y) ys))
-
-last_append : (found : Option Placed) (xs ys : List Placed) → last_of found (xs ++ ys) ≡ option_or (last_of None ys) (last_of found xs)
-last_append found [] ys = last_from found ys
-last_append found (x ∷ xs) ys = last_append (Some x) xs ys
-
 first_more : (xs ys : List Placed) → first_token (xs ++ ys) ≡ option_or (first_token xs) (first_token ys)
 first_more xs ys = ap first_of (bare_append xs ys) ∙ first_append (bare_tokens xs) (bare_tokens ys)
 
 last_more : (xs ys : List Placed) → last_token (xs ++ ys) ≡ option_or (last_token ys) (last_token xs)
 last_more xs ys = ap (last_of None) (bare_append xs ys) ∙ last_append None (bare_tokens xs) (bare_tokens ys)
-
-either_placed : (o p : Option Token) → option_map placed (option_or o p) ≡ option_or (option_map placed o) (option_map placed p)
-either_placed None p = refl
-either_placed (Some t) p = refl
 
 -- where a token stands that is no comment, something stands
 seen_some : (ts : List Placed) → IsSome (first_token ts) → IsSome (first_seen ts)

@@ -20,7 +20,7 @@ use Rattle.bz_tree.specs.declared.row.spot.Read.{Read}
 use Rattle.bz_tree.specs.Tree.{Item, leaf, group, Segs, items_of}
 use Rattle.bz_tree.specs.Grammar.{leaf_role, operator_role, is_infix, is_assignment}
 use Rattle.bz_tree.specs.Statement.{is_ident, is_call, is_rule, is_rule_after, as_rule_call, rule_call, is_assign_operator, is_assign, is_load_word, is_kept, class_of, is_augmented}
-use Rattle.bz_tree.specs.private.Machine.{may_end, in_chain, after_part, leaves, next_wanted, next_after, next, begin, group_role, is_whole, kind_role, accepts, role_of, each}
+use Rattle.bz_tree.specs.private.Machine.{may_end, in_chain, after_goal, leaves, next_wanted, next_after, next, begin, group_role, is_whole, kind_role, accepts, role_of, each}
 use Rattle.bz_tree.specs.private.RowSteps.{named, called, is_rule_read, is_lost, is_done, read_class}
 use Rattle.bz_tree.proofs.Recognizer.Accepted.{refused}
 use Rattle.bz_tree.proofs.Recognizer.Meant.{is_apart, leaf_plain}
@@ -194,7 +194,7 @@ late_ends va vb vc = grind arith
 wanted_usual : (p : Goal) (c : Bool) (r : Role) → is_usual (next_wanted p c r) ≡ true
 wanted_usual va vb vc = grind arith
 
-part_usual : (p : Goal) (r : Role) → is_usual (after_part p r) ≡ true
+part_usual : (p : Goal) (r : Role) → is_usual (after_goal p r) ≡ true
 part_usual va vb = grind arith
 
 leaves_usual : (p : Goal) (c : Bool) (r : Role) → is_usual (leaves p c r) ≡ true

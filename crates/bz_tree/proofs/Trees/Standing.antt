@@ -1,6 +1,7 @@
 -- The tokens of a text stand in it at their places.
 use Rattle.std.proofs.Common.{◌≡◌, ℕ, ◌+◌, ◌<◌, ◌^◌, ◌==◌, List, [], ◌∷◌, ◌++◌, count_by, Bool, true, false, ◌&&◌, ◌||◌, cond, Option, Some, None, refl, sym, ap, subst, ◌∙◌, arith, append_assoc, append-nil, inl, inr}
 use Rattle.std.specs.Prelude.{codes}
+use Rattle.std.specs.Option.{option_or}
 use Rattle.std.specs.Str.{bytes_eq}
 use Rattle.std.proofs.lemmas.Bool.{false≢true, and_parts, or_cases}
 use Rattle.std.proofs.lemmas.Bool.Decides.{nat_tests}
@@ -17,6 +18,7 @@ use Rattle.bz_tree.specs.Statement.{is_aside, bare_tokens, last_of, EndsFit}
 use Rattle.bz_tree.specs.Blocks.{IsAt, is_block_word_at}
 use Rattle.bz_tree.specs.private.BlockSteps.{IsAsciiFront, AreStanding}
 use Rattle.bz_token.proofs.Progress.{newlines, newlines-append}
+use Rattle.bz_tree.proofs.Trees.LastToken.{last_or}
 use Rattle.bz_tree.proofs.Trees.Sound.{none_is_some, some_injective}
 use Rattle.bz_token.specs.Common.{first_of}
 
@@ -81,24 +83,11 @@ blank_front first (p ∷ ps) depth before lines opened bs rest reading gap none 
     let line = empty_line (is_line (kind_mark p.kind p.text)) (token_of first (before ++ p.gap) lines p) (without_lines (tokens_of first (before ++ (p.gap ++ p.text)) (line_at first (before ++ p.gap) ∷ lines) ps)) none in
     subst IsAsciiFront (sym reading.1.bytes_are) (front_of p.gap (p.text ++ reading.0) (gap_front (is_inside opened) p.gap reading.1.gap) (line_front p.kind p.text reading.0 line reading.1.token.whole))
 
--- the last of these tokens
-abbrev pub or_else : Option Placed → Option Placed → Option Placed
-or_else o None = o
-or_else o (Some u) = Some u
-
-pub last_or : (o : Option Placed) (xs : List Placed) → last_of o xs ≡ or_else o (last_of None xs)
-last_or o [] = refl
-last_or o (t ∷ ts) = last_or (Some t) ts ∙ at_last (last_of None ts) ∙ ap (or_else o) (sym (last_or (Some t) ts))
-  where
-    at_last : (l : Option Placed) → or_else (Some t) l ≡ or_else o (or_else (Some t) l)
-    at_last None = refl
-    at_last (Some u) = refl
-
 pub none_empty : (xs : List Placed) → last_of None xs ≡ None → xs ≡ []
 none_empty [] e = refl
 none_empty (t ∷ ts) e = absurd (some_last t (last_of None ts) (sym (last_or (Some t) ts) ∙ e))
   where
-    some_last : (t : Placed) (l : Option Placed) → or_else (Some t) l ≡ None → ⊥
+    some_last : (t : Placed) (l : Option Placed) → option_or l (Some t) ≡ None → ⊥
     some_last t None e = none_is_some t (sym e)
     some_last t (Some u) e = none_is_some u (sym e)
 
@@ -134,7 +123,7 @@ LastFound first ps = (depth : ℕ) (before lines opened bs rest : List ℕ) (las
 -- from a token that is no newline on
 last_from : (first : ℕ) (p : Piece) (ps : List Piece) → LastFound first ps → (depth : ℕ) (before lines opened bs rest : List ℕ) (last : Placed) → (reading : IsReading depth opened (p ∷ ps) rest bs) → is_gap false rest ≡ true
     → (l : Option Placed) → last_of None (without_lines (tokens_of first (before ++ (p.gap ++ p.text)) (line_at first (before ++ p.gap) ∷ lines) ps)) ≡ l
-    → or_else (Some (token_of first (before ++ p.gap) lines p)) l ≡ Some last → LastIn first before bs last
+    → option_or l (Some (token_of first (before ++ p.gap) lines p)) ≡ Some last → LastIn first before bs last
 last_from first p ps more depth before lines opened bs rest last reading gap None found is =
     last_here first p before lines bs reading.0 last reading.1.bytes_are (some_injective _ last is)
     (blank_front first ps depth (before ++ (p.gap ++ p.text)) (line_at first (before ++ p.gap) ∷ lines) (open_after_token opened p.text) reading.0 rest reading.2 gap (none_empty _ found))
@@ -171,7 +160,7 @@ pub later_last : (b : Bool) (t : Placed) (ts : List Placed) (header last : Place
 later_last true t ts header last some is = is
 later_last false t ts header last some is = at_last (last_of None (without_lines ts)) refl (sym (last_or (Some t) (without_lines ts)) ∙ is)
   where
-    at_last : (l : Option Placed) → last_of None (without_lines ts) ≡ l → or_else (Some t) l ≡ Some last → l ≡ Some last
+    at_last : (l : Option Placed) → last_of None (without_lines ts) ≡ l → option_or l (Some t) ≡ Some last → l ≡ Some last
     at_last None found is = absurd (none_is_some header (ap first_of (sym (bare_empty ts (none_empty (without_lines ts) found))) ∙ some))
     at_last (Some u) found is = is
 
@@ -242,7 +231,7 @@ BothFound first ps = (depth : ℕ) (before lines opened bs rest : List ℕ) (hea
 both_from : (first : ℕ) (p : Piece) (ps : List Piece) (depth : ℕ) (before lines opened bs rest : List ℕ) (header last : Placed) → (reading : IsReading depth opened (p ∷ ps) rest bs) → is_gap false rest ≡ true
     → token_of first (before ++ p.gap) lines p ≡ header
     → (l : Option Placed) → last_of None (without_lines (tokens_of first (before ++ (p.gap ++ p.text)) (line_at first (before ++ p.gap) ∷ lines) ps)) ≡ l
-    → or_else (Some (token_of first (before ++ p.gap) lines p)) l ≡ Some last → BothIn first before bs header last
+    → option_or l (Some (token_of first (before ++ p.gap) lines p)) ≡ Some last → BothIn first before bs header last
 both_from first p ps depth before lines opened bs rest header last reading gap here None found is =
     both_one first p before lines bs reading.0 header last reading.1.bytes_are here (some_injective _ last is)
     (blank_front first ps depth (before ++ (p.gap ++ p.text)) (line_at first (before ++ p.gap) ∷ lines) (open_after_token opened p.text) reading.0 rest reading.2 gap (none_empty _ found))

@@ -14,7 +14,7 @@ use Rattle.bz_tree.specs.Tree.{Item, leaf, group, Items, no_items, item, Segs, n
 use Rattle.bz_tree.specs.Statement.{is_load_word}
 use Rattle.bz_tree.specs.Grammar.{leaf_role}
 
--- where a part may end
+-- where a goal may end
 abbrev pub ends : Goal → Bool
 ends Key = false
 ends Element = false
@@ -23,8 +23,8 @@ ends Target = false
 ends _ = true
 
 abbrev pub may_end : Stage → Bool
-may_end (Has part asked) = not asked && ends part
-may_end (HasNumber part asked) = not asked && ends part
+may_end (Has goal condition) = not condition && ends goal
+may_end (HasNumber goal condition) = not condition && ends goal
 may_end (Begins To) = true
 may_end (Begins Step) = true
 may_end Statement = true
@@ -38,61 +38,61 @@ is_target _ = false
 
 -- a stage of chains: a Target has none
 abbrev pub in_chain : Goal → Stage → Stage
-in_chain part next = if is_target part then Refused else next
+in_chain goal next = if is_target goal then Refused else next
 
--- what stands after a part: after its Test, its Primary (Target), or its Chain (Clause)
-abbrev pub after_part : Goal → Role → Stage
-after_part Left Comma = Wants Left false
-after_part Left Equals = Wants Right false
-after_part Left Augmented = Wants Right false
-after_part Right Comma = Wants Right false
-after_part Key Colon = Wants Alone false
-after_part EntryKey Colon = Wants Element false
-after_part From Colon = Begins To
-after_part To Colon = Begins Step
-after_part Element For = Wants Target false
-after_part Clause For = Wants Target false
-after_part Target Comma = Wants Target false
-after_part Target In = Wants Clause false
-after_part Clause If = Wants Clause false
-after_part part If = in_chain part (Wants part true)
-after_part _ _ = Refused
+-- what stands after a goal: after its Test, its Primary (Target), or its Chain (Clause)
+abbrev pub after_goal : Goal → Role → Stage
+after_goal Left Comma = Wants Left false
+after_goal Left Equals = Wants Right false
+after_goal Left Augmented = Wants Right false
+after_goal Right Comma = Wants Right false
+after_goal Key Colon = Wants Alone false
+after_goal EntryKey Colon = Wants Element false
+after_goal From Colon = Begins To
+after_goal To Colon = Begins Step
+after_goal Element For = Wants Target false
+after_goal Clause For = Wants Target false
+after_goal Target Comma = Wants Target false
+after_goal Target In = Wants Clause false
+after_goal Clause If = Wants Clause false
+after_goal goal If = in_chain goal (Wants goal true)
+after_goal _ _ = Refused
 
 -- `true`: after the condition of a conditional
 abbrev pub leaves : Goal → Bool → Role → Stage
-leaves part false r = after_part part r
-leaves part true Else = Wants part false
-leaves part true _ = Refused
+leaves goal false r = after_goal goal r
+leaves goal true Else = Wants goal false
+leaves goal true _ = Refused
 
 abbrev pub next_wanted : Goal → Bool → Role → Stage
-next_wanted part asked Name = Has part asked
-next_wanted part asked Value = Has part asked
-next_wanted part asked Bracket = Has part asked
-next_wanted part asked Number = HasNumber part asked
-next_wanted part asked Sum = in_chain part (Wants part asked)
-next_wanted part asked Tilde = in_chain part (Wants part asked)
-next_wanted part asked Not = in_chain part (Wants part asked)
-next_wanted part asked _ = Refused
+next_wanted goal condition Name = Has goal condition
+next_wanted goal condition Value = Has goal condition
+next_wanted goal condition Bracket = Has goal condition
+next_wanted goal condition Number = HasNumber goal condition
+next_wanted goal condition Sum = in_chain goal (Wants goal condition)
+next_wanted goal condition Tilde = in_chain goal (Wants goal condition)
+next_wanted goal condition Not = in_chain goal (Wants goal condition)
+next_wanted goal condition _ = Refused
 
 abbrev pub next_after : Goal → Bool → Role → Stage
-next_after part asked Dot = Names part asked
-next_after part asked Suffix = Has part asked
-next_after part asked Sum = in_chain part (Wants part asked)
-next_after part asked Star = in_chain part (Wants part asked)
-next_after part asked Operator = in_chain part (Wants part asked)
-next_after part asked In = if is_target part then leaves part asked In else Wants part asked
-next_after part asked Not = in_chain part (Excludes part asked)
-next_after part asked r = leaves part asked r
+next_after goal condition Dot = Names goal condition
+next_after goal condition Suffix = Has goal condition
+next_after goal condition Sum = in_chain goal (Wants goal condition)
+next_after goal condition Star = in_chain goal (Wants goal condition)
+next_after goal condition Operator = in_chain goal (Wants goal condition)
+next_after goal condition In = if is_target goal then leaves goal condition In else Wants goal condition
+next_after goal condition Not = in_chain goal (Excludes goal condition)
+next_after goal condition r = leaves goal condition r
 
 abbrev pub next : Stage → Role → Stage
-next (Wants part asked) r = next_wanted part asked r
-next (Has part asked) r = next_after part asked r
-next (HasNumber part asked) Dot = Refused
-next (HasNumber part asked) r = next_after part asked r
-next (Names part asked) Name = Has part asked
-next (Excludes part asked) In = Wants part asked
-next (Begins part) Colon = after_part part Colon
-next (Begins part) r = next_wanted part false r
+next (Wants goal condition) r = next_wanted goal condition r
+next (Has goal condition) r = next_after goal condition r
+next (HasNumber goal condition) Dot = Refused
+next (HasNumber goal condition) r = next_after goal condition r
+next (Names goal condition) Name = Has goal condition
+next (Excludes goal condition) In = Wants goal condition
+next (Begins goal) Colon = after_goal goal Colon
+next (Begins goal) r = next_wanted goal false r
 next Argument Star = Wants Alone false
 next Argument Stars = Wants Alone false
 next Argument Name = Keyword

@@ -1,17 +1,17 @@
 -- For private clauses: what the walk from parts to nodes holds.
 use Rattle.std.specs.Prelude.{ℕ, List, [], ◌∷◌, Option, None, Some, map, reverse}
-use Rattle.bz_tree.specs.declared.row.from_parts.Inside.{Inside}
+use Rattle.bz_tree.specs.declared.row.from_parts.Content.{Content as RustContent}
 use Rattle.bz_tree.specs.declared.tree.GroupKind.{GroupKind}
 use Rattle.bz_tree.specs.declared.row.from_parts.Nesting.{Nesting}
 use Rattle.bz_tree.specs.View.{texts, nodes_view, segs_view}
 use Rattle.bz_tree.specs.FromParts.{Content, Outer, Nest, nothing, steps}
 use Rattle.bz_tree.specs.Rows.{RowPart, beside}
 
-abbrev pub content : Inside → Content
-content i = record { segs = segs_view i.segs.items; comments = texts i.comments.items; nodes = nodes_view i.nodes.items }
+abbrev pub content : RustContent → Content
+content c = record { segs = segs_view c.segs.items; comments = texts c.comments.items; nodes = nodes_view c.nodes.items }
 
 -- the innermost first
-abbrev pub outers : List (GroupKind × Inside) → List Outer
+abbrev pub outers : List (GroupKind × RustContent) → List Outer
 outers os = reverse (map (λ o. record { kind = o.0; content = content o.1 }) os)
 
 abbrev pub nest : Nesting → Nest

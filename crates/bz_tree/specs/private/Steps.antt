@@ -11,7 +11,7 @@ use Rattle.bz_tree.specs.declared.tree.kinds.Preceding.TheVariants.{Other}
 use Rattle.bz_tree.specs.declared.tree.owners.Before.{Before}
 use Rattle.bz_tree.specs.declared.tree.owners.Before.TheVariants.{Nothing, Node as BeforeNode, Comma as BeforeComma}
 use Rattle.bz_tree.specs.declared.tree.owners.Walk.{Walk}
-use Rattle.bz_tree.specs.declared.tree.owners.Content.{Content}
+use Rattle.bz_tree.specs.declared.tree.owners.Inside.{Inside as RustInside}
 use Rattle.bz_tree.specs.declared.tree.build.Frame.{Frame}
 use Rattle.bz_tree.specs.declared.tree.build.State.{State}
 use Rattle.bz_token.specs.Places.{Placed}
@@ -42,8 +42,8 @@ last_view (BeforeComma line) = end_of_comma line
 abbrev pub walked : Walk → Walked
 walked w = record { segs = map seg_view w.segs.items; before = texts w.here.before.items; nodes = map node_view w.here.nodes.items; suffix = option_map text_of w.here.suffix; after = texts w.after.items; last = last_view w.last; trailing = w.trailing }
 
-abbrev pub content_view : Content → Inside
-content_view c = record { segs = map seg_view c.segs.items; trailing = c.trailing; end = texts c.end.items }
+abbrev pub inside_view : RustInside → Inside
+inside_view i = record { segs = map seg_view i.segs.items; trailing = i.trailing; end = texts i.end.items }
 
 abbrev pub at_start : Walked
 at_start = record { segs = []; before = []; nodes = []; suffix = None; after = []; last = no_token; trailing = false }

@@ -62,24 +62,6 @@ fn word_role(text: &str) -> Role
     }
 }
 
-// What an operator of one byte is.
-#[inline(always)]
-fn byte_role(byte: u8) -> Role
-    ensures { result ≡ operator_role (byte ∷ []) }
-{
-    match byte {
-        b'.' => Role::Dot,
-        b',' => Role::Comma,
-        b':' => Role::Colon,
-        b'=' => Role::Equals,
-        b'~' => Role::Tilde,
-        b'*' => Role::Star,
-        b'+' | b'-' => Role::Sum,
-        b'<' | b'>' | b'|' | b'^' | b'&' | b'/' | b'%' => Role::Operator,
-        _ => Role::Stray,
-    }
-}
-
 // What an operator of more bytes is.
 fn longer_role(text: &str) -> Role
     requires { 1 < length text.now }
@@ -101,8 +83,15 @@ pub(crate) fn operator_role(text: &str) -> Role
     ensures { result ≡ operator_role text.now }
 {
     match text.as_bytes() {
-        [] => Role::Stray,
-        [byte] => byte_role(*byte),
+        [b'.'] => Role::Dot,
+        [b','] => Role::Comma,
+        [b':'] => Role::Colon,
+        [b'='] => Role::Equals,
+        [b'~'] => Role::Tilde,
+        [b'*'] => Role::Star,
+        [b'+' | b'-'] => Role::Sum,
+        [b'<' | b'>' | b'|' | b'^' | b'&' | b'/' | b'%'] => Role::Operator,
+        [] | [_] => Role::Stray,
         _ => longer_role(text),
     }
 }

@@ -2,7 +2,7 @@
 //! `rows.rt` of rows.
 
 ghost use Rattle.std.specs.Prelude.{◌≡◌, true, false};
-ghost use Rattle.bz_tree.specs.private.Machine.{ends, may_end, after_part, leaves, in_chain, next_wanted, next_after, next, begin, later, group_role};
+ghost use Rattle.bz_tree.specs.private.Machine.{ends, may_end, after_goal, in_chain, next_wanted, next_after, next, begin, later, group_role};
 
 use crate::grammar::role::Role;
 use crate::tree::GroupKind;
@@ -51,7 +51,7 @@ pub(crate) enum Stage {
     Names(Goal, bool),
     /// The `in` of `not in`.
     Excludes(Goal, bool),
-    /// The start of a part that may be empty.
+    /// The start of a goal that may be empty.
     Begins(Goal),
     /// The start of an argument.
     Argument,
@@ -69,11 +69,11 @@ pub(crate) enum Stage {
     Done,
 }
 
-fn ends(part: Goal) -> bool
-    ensures { result ≡ ends part }
+fn ends(goal: Goal) -> bool
+    ensures { result ≡ ends goal }
 {
     !matches!(
-        part,
+        goal,
         Goal::Key | Goal::Element | Goal::EntryKey | Goal::Target
     )
 }
@@ -84,19 +84,19 @@ pub(crate) fn may_end(stage: Stage) -> bool
     ensures { result ≡ may_end stage }
 {
     match stage {
-        Stage::Has(part, asked) | Stage::HasNumber(part, asked) => !asked && ends(part),
-        Stage::Begins(part) => matches!(part, Goal::To | Goal::Step),
+        Stage::Has(goal, condition) | Stage::HasNumber(goal, condition) => !condition && ends(goal),
+        Stage::Begins(Goal::To | Goal::Step) => true,
         Stage::Statement | Stage::Keyword | Stage::Done => true,
         _ => false,
     }
 }
 
-// What stands after a part: after its Test, its Primary (Target), or its Chain (Clause).
+// What stands after a goal: after its Test, its Primary (Target), or its Chain (Clause).
 #[inline(always)]
-fn after_part(part: Goal, role: Role) -> Stage
-    ensures { result ≡ after_part part role }
+fn after_goal(goal: Goal, role: Role) -> Stage
+    ensures { result ≡ after_goal goal role }
 {
-    match (part, role) {
+    match (goal, role) {
         (Goal::Left, Role::Comma) => Stage::Wants(Goal::Left, false),
         (Goal::Left, Role::Equals | Role::Augmented) => Stage::Wants(Goal::Right, false),
         (Goal::Right, Role::Comma) => Stage::Wants(Goal::Right, false),
@@ -108,75 +108,65 @@ fn after_part(part: Goal, role: Role) -> Stage
         (Goal::Target, Role::Comma) => Stage::Wants(Goal::Target, false),
         (Goal::Target, Role::In) => Stage::Wants(Goal::Clause, false),
         (Goal::Clause, Role::If) => Stage::Wants(Goal::Clause, false),
-        (_, Role::If) => in_chain(part, Stage::Wants(part, true)),
-        _ => Stage::Refused,
-    }
-}
-
-#[inline(always)]
-fn leaves(part: Goal, asked: bool, role: Role) -> Stage
-    ensures { result ≡ leaves part asked role }
-{
-    match role {
-        _ if !asked => after_part(part, role),
-        Role::Else => Stage::Wants(part, false),
+        (_, Role::If) => in_chain(goal, Stage::Wants(goal, true)),
         _ => Stage::Refused,
     }
 }
 
 // A stage of chains: a Target has none.
-fn in_chain(part: Goal, next: Stage) -> Stage
-    ensures { result ≡ in_chain part next }
+fn in_chain(goal: Goal, next: Stage) -> Stage
+    ensures { result ≡ in_chain goal next }
 {
-    match part {
+    match goal {
         Goal::Target => Stage::Refused,
         _ => next,
     }
 }
 
 #[inline(always)]
-fn next_wanted(part: Goal, asked: bool, role: Role) -> Stage
-    ensures { result ≡ next_wanted part asked role }
+fn next_wanted(goal: Goal, condition: bool, role: Role) -> Stage
+    ensures { result ≡ next_wanted goal condition role }
 {
     match role {
-        Role::Name | Role::Value | Role::Bracket => Stage::Has(part, asked),
-        Role::Number => Stage::HasNumber(part, asked),
-        Role::Sum | Role::Tilde | Role::Not => in_chain(part, Stage::Wants(part, asked)),
+        Role::Name | Role::Value | Role::Bracket => Stage::Has(goal, condition),
+        Role::Number => Stage::HasNumber(goal, condition),
+        Role::Sum | Role::Tilde | Role::Not => in_chain(goal, Stage::Wants(goal, condition)),
         _ => Stage::Refused,
     }
 }
 
 #[inline(always)]
-fn next_after(part: Goal, asked: bool, role: Role) -> Stage
-    ensures { result ≡ next_after part asked role }
+fn next_after(goal: Goal, condition: bool, role: Role) -> Stage
+    ensures { result ≡ next_after goal condition role }
 {
     match role {
-        Role::Dot => Stage::Names(part, asked),
-        Role::Suffix => Stage::Has(part, asked),
-        Role::Sum | Role::Star | Role::Operator => in_chain(part, Stage::Wants(part, asked)),
-        Role::In if matches!(part, Goal::Target) => leaves(part, asked, role),
-        Role::In => Stage::Wants(part, asked),
-        Role::Not => in_chain(part, Stage::Excludes(part, asked)),
-        _ => leaves(part, asked, role),
+        Role::Dot => Stage::Names(goal, condition),
+        Role::Suffix => Stage::Has(goal, condition),
+        Role::Sum | Role::Star | Role::Operator => in_chain(goal, Stage::Wants(goal, condition)),
+        Role::In if !matches!(goal, Goal::Target) => Stage::Wants(goal, condition),
+        Role::Not => in_chain(goal, Stage::Excludes(goal, condition)),
+        _ if !condition => after_goal(goal, role),
+        Role::Else => Stage::Wants(goal, false),
+        _ => Stage::Refused,
     }
 }
 
 /// The stage after a node of this role.
-#[inline(always)]
+#[inline(never)]
 pub(crate) fn next(stage: Stage, role: Role) -> Stage
     ensures { result ≡ next stage role }
 {
     match (stage, role) {
-        (Stage::Wants(part, asked), _) => next_wanted(part, asked, role),
+        (Stage::Wants(goal, condition), _) => next_wanted(goal, condition, role),
         (Stage::HasNumber(_, _), Role::Dot) => Stage::Refused,
-        (Stage::Has(part, asked) | Stage::HasNumber(part, asked), _) => {
-            next_after(part, asked, role)
+        (Stage::Has(goal, condition) | Stage::HasNumber(goal, condition), _) => {
+            next_after(goal, condition, role)
         }
-        (Stage::Names(part, asked), Role::Name) => Stage::Has(part, asked),
-        (Stage::Excludes(part, asked), Role::In) => Stage::Wants(part, asked),
-        (Stage::Begins(part), _) => match role {
-            Role::Colon => after_part(part, role),
-            _ => next_wanted(part, false, role),
+        (Stage::Names(goal, condition), Role::Name) => Stage::Has(goal, condition),
+        (Stage::Excludes(goal, condition), Role::In) => Stage::Wants(goal, condition),
+        (Stage::Begins(goal), _) => match role {
+            Role::Colon => after_goal(goal, role),
+            _ => next_wanted(goal, false, role),
         },
         (Stage::Argument, Role::Star | Role::Stars) => Stage::Wants(Goal::Alone, false),
         (Stage::Argument, Role::Name) => Stage::Keyword,
@@ -193,27 +183,20 @@ pub(crate) fn next(stage: Stage, role: Role) -> Stage
     }
 }
 
-#[inline(never)]
-fn advance_rarely(stage: &mut Stage, role: Role)
-    ensures { stage.new ≡ next stage.old role }
-{
-    *stage = next(*stage, role);
-}
-
 /// To the stage after a node of this role. The commonest steps come first.
 #[inline(always)]
 pub(crate) fn advance(stage: &mut Stage, role: Role)
     ensures { stage.new ≡ next stage.old role }
 {
     match (*stage, role) {
-        (Stage::Wants(part, asked), Role::Name | Role::Value | Role::Bracket) => {
-            *stage = Stage::Has(part, asked);
+        (Stage::Wants(goal, condition), Role::Name | Role::Value | Role::Bracket) => {
+            *stage = Stage::Has(goal, condition);
         }
         (Stage::Statement, Role::Name) => *stage = Stage::Has(Goal::Left, false),
         (Stage::Argument, Role::Name) => *stage = Stage::Keyword,
         (Stage::Keyword, Role::Equals) => *stage = Stage::Wants(Goal::Alone, false),
         (Stage::Has(_, _), Role::Suffix) => {}
-        _ => advance_rarely(stage, role),
+        _ => *stage = next(*stage, role),
     }
 }
 

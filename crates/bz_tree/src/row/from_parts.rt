@@ -17,7 +17,7 @@ use std::mem;
 
 // What stands in a bracket, or at the top, so far.
 #[derive(Drop)]
-pub(crate) struct Inside<'a> {
+pub(crate) struct Content<'a> {
     // The segments that have ended.
     pub(crate) segs: Vec<Seg<'a>>,
     // The comments after those.
@@ -28,17 +28,17 @@ pub(crate) struct Inside<'a> {
 
 #[derive(Drop)]
 pub(crate) struct Nesting<'a> {
-    pub(crate) here: Inside<'a>,
+    pub(crate) here: Content<'a>,
     // Of each open bracket, the innermost last, its kind and what stands before it in the one around it.
-    pub(crate) outer: Vec<(GroupKind, Inside<'a>)>,
+    pub(crate) outer: Vec<(GroupKind, Content<'a>)>,
 }
 
-impl<'a> Inside<'a> {
+impl<'a> Content<'a> {
     #[inline(always)]
-    fn new(alloc: Global) -> Inside<'a>
+    fn new(alloc: Global) -> Content<'a>
         ensures { content result ≡ nothing }
     {
-        Inside {
+        Content {
             segs: Vec::new(alloc),
             comments: Vec::new(alloc),
             nodes: Vec::new(alloc),
@@ -78,18 +78,18 @@ impl<'a> Nesting<'a> {
     fn open(&mut self, alloc: Global, kind: GroupKind) -> Result<(), NoMemory>
         ensures { OnOk result (nest self.new ≡ opened kind (nest self.old)) }
     {
-        let inside = mem::replace(&mut self.here, Inside::new(alloc));
-        push(&mut self.outer, (kind, inside))
+        let around = mem::replace(&mut self.here, Content::new(alloc));
+        push(&mut self.outer, (kind, around))
     }
 
     fn close(&mut self, one_comma: bool) -> Result<(), NoMemory>
         ensures { OnOk result (nest self.new
             ≡ closed one_comma (content self.old.here) (outers self.old.outer.items)) }
     {
-        let Some((kind, inside)) = self.outer.pop() else {
+        let Some((kind, around)) = self.outer.pop() else {
             return Ok(());
         };
-        let Inside { segs, comments, .. } = mem::replace(&mut self.here, inside);
+        let Content { segs, comments, .. } = mem::replace(&mut self.here, around);
         let group = Group {
             kind,
             segs,
@@ -118,26 +118,24 @@ impl<'a> Nesting<'a> {
 }
 
 // What the parts come to.
-fn read_parts<'a>(alloc: Global, parts: &[Part<'a>]) -> Result<Inside<'a>, NoMemory>
-    ensures { IfOk result (λ inside. content inside ≡ content_of (map part_view parts.now)) }
+fn read_parts<'a>(alloc: Global, parts: &[Part<'a>]) -> Result<Content<'a>, NoMemory>
+    ensures { IfOk result (λ c. content c ≡ content_of (map part_view parts.now)) }
 {
     let mut nesting = Nesting {
-        here: Inside::new(alloc),
+        here: Content::new(alloc),
         outer: Vec::new(alloc),
     };
     for i in 0..parts.len() {
         nesting.step(alloc, parts[i])?;
     }
-    let Nesting { here, .. } = nesting;
-    Ok(here)
+    Ok(nesting.here)
 }
 
 /// Builds the nodes whose parts these are. Each text is a slice of the same chunk. `Err`: memory was refused.
 pub fn nodes_of_parts<'a>(alloc: Global, parts: &[Part<'a>]) -> Result<Vec<Node<'a>>, NoMemory>
     ensures { IfOk result (λ nodes. nodes_view nodes.items ≡ nodes_of_parts (map part_view parts.now)) }
 {
-    let Inside { nodes, .. } = read_parts(alloc, parts)?;
-    Ok(nodes)
+    Ok(read_parts(alloc, parts)?.nodes)
 }
 
 fn beside_text<'a>(part: &Part<'a>) -> Option<&'a str>
@@ -170,14 +168,10 @@ pub fn stmt_of_parts<'a>(
     ensures { IfOk result (λ stmt. (s : Statement) → map part_view parts.now ≡ parts_of s
         → view stmt ≡ record s { class = class; start = start; end = end }) }
 {
-    let Inside {
-        comments,
-        nodes,
-        ..
-    } = read_parts(alloc, parts)?;
+    let content = read_parts(alloc, parts)?;
     Ok(Stmt {
-        before: comments,
-        nodes,
+        before: content.comments,
+        nodes: content.nodes,
         suffix: last_beside(parts),
         class,
         start,

@@ -15,7 +15,7 @@ use crate::row::rows::read_row;
 use crate::row::text_row::row_of_text;
 use crate::row::tree_parts::push_parts;
 use crate::tree::Stmt;
-use crate::tree::chunk::{Chunk, parse, parse_tokens};
+use crate::tree::chunk::{parse, parse_tokens};
 use bumpalo::Bump;
 use bz_memory::NoMemory;
 use bz_token::Token;
@@ -51,12 +51,7 @@ pub fn read_statement<'a>(
     if let Some(row) = read_row(bump, tokens)? {
         return Ok(Some(row));
     }
-    let chunk = Chunk {
-        text,
-        first_line,
-        tokens,
-    };
-    match parse_tokens(alloc, &chunk)? {
+    match parse_tokens(alloc, text, first_line, tokens)? {
         None => Ok(None),
         Some(stmt) => Ok(Some(row_of_tree(bump, &stmt)?)),
     }

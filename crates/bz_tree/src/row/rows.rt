@@ -143,20 +143,17 @@ impl<'a> RowWalk<'a> {
         }
     }
 
-    // The bracket here becomes the innermost around a new one, in which nothing stands yet. It keeps its marks, among
-    // them what its nodes are so far, so that it goes on when the new one closes.
+    // A new bracket is here, in which nothing stands yet. The one around it keeps its marks until the new one closes.
     fn open(&mut self, shape: Shape) -> Result<bool, NoMemory>
         ensures { IfOk result (λ some. then_some some (row_state self.new)
             ≡ open_next (group_kind shape self.old.top.read.at false) (row_state self.old)) }
     {
-        let kind = group_kind(shape, self.top.read.at, false);
+        let kind = group_kind(shape, self.top.read.at);
         if is_one(kind) {
             return Ok(false);
         }
-        push(
-            &mut self.parts,
-            Part::Open(shown_kind(self.top.read.naming, kind)),
-        )?;
+        let shown = shown_kind(self.top.read.naming, kind);
+        push(&mut self.parts, Part::Open(shown))?;
         push(&mut self.outer, self.top)?;
         self.top = Spot::new(Some(kind));
         Ok(true)
@@ -184,8 +181,7 @@ impl<'a> RowWalk<'a> {
         }
     }
 
-    // The last segment of the bracket here ends, and the innermost around it is here again. There the closed one is one
-    // more node, which ends on this line; its own marks are gone.
+    // The bracket here closes on this line, and is one more node of the one around it, which is here again.
     fn close(&mut self, shape: Shape, line: u64) -> Result<bool, NoMemory>
         ensures { IfOk result (λ some. then_some some (row_state self.new)
             ≡ close_next self.old.top.kind shape line (row_state self.old)) }
@@ -193,10 +189,7 @@ impl<'a> RowWalk<'a> {
         let Some(kind) = self.top.kind else {
             return Ok(false);
         };
-        if !same_shape(shape_of(kind), shape) {
-            return Ok(false);
-        }
-        if !self.end_last()? {
+        if !same_shape(shape_of(kind), shape) || !self.end_last()? {
             return Ok(false);
         }
         let one_comma = self.top.is_one_comma(kind);
@@ -264,13 +257,12 @@ impl<'a> RowWalk<'a> {
         ensures row { option_map row_view result ≡ row_run (row_state self.entry) [] }
         ensures lines { IfSome result (λ row. (row.start ≡ start) × (row.end ≡ end)) }
     {
-        let RowWalk { parts, outer, top } = self;
-        if top.kind.is_some() || !outer.is_empty() {
+        if self.top.kind.is_some() || !self.outer.is_empty() {
             return None;
         }
-        let class = top.class()?;
+        let class = self.top.class()?;
         Some(Row {
-            parts,
+            parts: self.parts,
             class,
             start,
             end,
@@ -316,11 +308,8 @@ pub fn read_row<'a>(bump: &'a Bump, tokens: &[Token<'a>]) -> Result<Option<Row<'
     let Some(end) = counted_end_of(tokens) else {
         return Ok(None);
     };
-    let mut walk = RowWalk::new(
-        bump,
-        tokens.len() + min(tokens.len() / 4, MOST_MORE),
-        tokens,
-    )?;
+    let room = tokens.len() + min(tokens.len() / 4, MOST_MORE);
+    let mut walk = RowWalk::new(bump, room, tokens)?;
     if !walk.add_tokens(tokens)? {
         return Ok(None);
     }

@@ -46,7 +46,7 @@ pub fn push_beside<'a, A: Allocator>(
 {
     match comment {
         None => Ok(()),
-        Some(text) => Ok(push(parts, Part::Beside(text))?),
+        Some(text) => push(parts, Part::Beside(text)),
     }
 }
 

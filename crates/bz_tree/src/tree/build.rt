@@ -9,14 +9,14 @@ ghost use Rattle.bz_tree.specs.Owners.{node};
 ghost use Rattle.bz_tree.specs.Brackets.{leaf_of, own_of};
 ghost use Rattle.bz_tree.specs.declared.tree.kinds.Mark.TheVariants.{Close, Comma, Comment, Plain};
 ghost use Rattle.bz_tree.specs.Statement.{one_segment};
-ghost use Rattle.bz_tree.specs.private.Steps.{content_view, level, levels, with_own, new_level, next, next_at, run, state};
+ghost use Rattle.bz_tree.specs.private.Steps.{inside_view, level, levels, with_own, new_level, next, next_at, run, state};
 
 use crate::tree::classes::with_rule_call;
 use crate::tree::kinds::{
     Mark, Preceding, Shape, as_comprehension, group_kind, is_for_at, is_one, kind_after, mark_of,
     same_shape, shape_of,
 };
-use crate::tree::owners::{Content, Walk, empty_segment};
+use crate::tree::owners::{Inside, Walk, empty_segment};
 use crate::tree::{Group, GroupKind, Leaf, Node, Seg};
 use bz_memory::{NoMemory, append, push};
 use bz_token::Token;
@@ -108,15 +108,15 @@ impl<'a> State<'a> {
             return Ok(false);
         };
         let Frame { walk, .. } = mem::replace(&mut self.top, below);
-        let Some(content) = walk.finish()? else {
+        let Some(inside) = walk.finish()? else {
             return Ok(false);
         };
-        let one_comma = kind == GroupKind::Paren && content.segs.len() == 1 && content.trailing;
+        let one_comma = kind == GroupKind::Paren && inside.segs.len() == 1 && inside.trailing;
         let group = Group {
             kind,
-            segs: content.segs,
+            segs: inside.segs,
             one_comma,
-            end: content.end,
+            end: inside.end,
         };
         self.top.add_group(group, token.line)?;
         Ok(true)
@@ -134,7 +134,7 @@ impl<'a> State<'a> {
             Mark::Comma => self.top.add_comma(alloc, token)?,
             Mark::Comment => self.top.walk.add_comment(token.line, token.text)?,
             Mark::Open(shape) => {
-                let frame = Frame::new(alloc, Some(group_kind(shape, self.top.at, false)));
+                let frame = Frame::new(alloc, Some(group_kind(shape, self.top.at)));
                 push(&mut self.outer, mem::replace(&mut self.top, frame))?;
             }
             Mark::Close(shape) => return self.close(shape, token),
@@ -144,21 +144,17 @@ impl<'a> State<'a> {
 }
 
 // At depth 0 a statement is one segment, and all comments but its suffix stand before it.
-fn one_segment<'a>(alloc: Global, content: Content<'a>) -> Result<Seg<'a>, NoMemory>
+fn one_segment<'a>(alloc: Global, inside: Inside<'a>) -> Result<Seg<'a>, NoMemory>
     ensures value { IfOk result
-        (λ s. seg_view s ≡ one_segment (content_view content.entry).segs (content_view content.entry).end) }
+        (λ s. seg_view s ≡ one_segment (inside_view inside.entry).segs (inside_view inside.entry).end) }
 {
-    let Content {
-        mut segs,
-        mut end,
-        ..
-    } = content;
-    let mut seg = if segs.is_empty() {
+    let mut inside = inside;
+    let mut seg = if inside.segs.is_empty() {
         empty_segment(alloc)
     } else {
-        segs.remove(0)
+        inside.segs.remove(0)
     };
-    append(&mut seg.before, &mut end)?;
+    append(&mut seg.before, &mut inside.end)?;
     Ok(seg)
 }
 
@@ -178,9 +174,9 @@ pub(crate) fn run<'a>(alloc: Global, tokens: &[Token<'a>]) -> Result<Option<Seg<
     if state.top.kind.is_some() || !state.outer.is_empty() {
         return Ok(None);
     }
-    let Some(content) = state.top.walk.finish()? else {
+    let Some(inside) = state.top.walk.finish()? else {
         return Ok(None);
     };
-    let seg = one_segment(alloc, content)?;
+    let seg = one_segment(alloc, inside)?;
     Ok(Some(with_rule_call(seg)))
 }

@@ -17,20 +17,11 @@ use crate::tree::build::run;
 use crate::tree::classes::class_of;
 use crate::tree::kept::kept_text;
 use crate::tree::span::{counted_end_of, end_line, first_seen, first_token, last_seen, start_of};
-use crate::tree::{Class, Leaf, Node, Seg, Stmt};
+use crate::tree::{Class, Leaf, Node, Stmt};
 use bumpalo::Bump;
 use bz_memory::{NoMemory, with_capacity};
 use bz_token::{Kind, LexFault, Token, tokens};
 use std::alloc::Global;
-
-/// A chunk whose tokens are there.
-#[derive(Clone, Copy)]
-pub(crate) struct Chunk<'a, 't> {
-    pub(crate) text: &'a str,
-    /// The number of its first line.
-    pub(crate) first_line: u64,
-    pub(crate) tokens: &'t [Token<'a>],
-}
 
 // The statement of the tokens, which are no block. None: they have none.
 fn plain_statement<'a>(alloc: Global, tokens: &[Token<'a>]) -> Result<Option<Stmt<'a>>, NoMemory>
@@ -49,15 +40,10 @@ fn plain_statement<'a>(alloc: Global, tokens: &[Token<'a>]) -> Result<Option<Stm
         return Ok(None);
     };
     let class = class_of(&seg.nodes);
-    let Seg {
-        before,
-        nodes,
-        suffix,
-    } = seg;
     Ok(Some(Stmt {
-        before,
-        nodes,
-        suffix,
+        before: seg.before,
+        nodes: seg.nodes,
+        suffix: seg.suffix,
         class,
         start: start_of(tokens),
         end,
@@ -65,32 +51,37 @@ fn plain_statement<'a>(alloc: Global, tokens: &[Token<'a>]) -> Result<Option<Stm
 }
 
 // The statement of a chunk's tokens, a block or not. None: they have none.
-fn chunk_statement<'a>(alloc: Global, chunk: &Chunk<'a, '_>) -> Result<Option<Stmt<'a>>, NoMemory>
-    requires lines { chunk.now.first_line + count_by (λ b. b == 10) chunk.now.text.now < 2 ^ 64 }
-    requires ends { EndsFit (map placed chunk.now.tokens.now) }
-    requires standing { AreStanding chunk.now.first_line chunk.now.text.now (map placed chunk.now.tokens.now) }
+fn chunk_statement<'a>(
+    alloc: Global,
+    text: &'a str,
+    first_line: u64,
+    tokens: &[Token<'a>],
+) -> Result<Option<Stmt<'a>>, NoMemory>
+    requires lines { first_line + count_by (λ b. b == 10) text.now < 2 ^ 64 }
+    requires ends { EndsFit (map placed tokens.now) }
+    requires standing { AreStanding first_line text.now (map placed tokens.now) }
     ensures statement { IfOk result
-        (λ o. IfSome o (λ s. IsChunkOf chunk.now.first_line chunk.now.text.now (map placed chunk.now.tokens.now) (view s))) }
+        (λ o. IfSome o (λ s. IsChunkOf first_line text.now (map placed tokens.now) (view s))) }
     ensures none { IfOk result (λ o. IfNone o ((t : Statement)
-        → IsChunkOf chunk.now.first_line chunk.now.text.now (map placed chunk.now.tokens.now) t → ⊥)) }
+        → IsChunkOf first_line text.now (map placed tokens.now) t → ⊥)) }
 {
-    let header = match first_token(chunk.tokens) {
+    let header = match first_token(tokens) {
         Some(token) if is_block_word(&token) => token,
-        _ => return plain_statement(alloc, chunk.tokens),
+        _ => return plain_statement(alloc, tokens),
     };
-    if !is_block(chunk.tokens) {
+    if !is_block(tokens) {
         return Ok(None);
     }
-    let Some(last) = last_seen(chunk.tokens) else {
+    let Some(last) = last_seen(tokens) else {
         return Ok(None);
     };
-    let before = comments_above(alloc, chunk.tokens)?;
-    let text = kept_text(chunk.text, chunk.first_line, &header, &last);
-    let mut nodes = with_capacity(alloc, 1)?;
-    nodes.push_reserved(Node::Token(Leaf {
+    let before = comments_above(alloc, tokens)?;
+    let kept = Leaf {
         kind: Kind::Kept,
-        text,
-    }));
+        text: kept_text(text, first_line, &header, &last),
+    };
+    let mut nodes = with_capacity(alloc, 1)?;
+    nodes.push_reserved(Node::Token(kept));
     Ok(Some(Stmt {
         before,
         nodes,
@@ -113,34 +104,33 @@ fn indent_fault(alloc: Global, tokens: &[Token<'_>]) -> Result<Option<u64>, NoMe
     }
 }
 
-/// The statement of a chunk. None: the chunk is blank. Every text of the statement is borrowed from the chunk. The rules
-/// are those of `parse`.
+/// What `parse` gives for a chunk with these tokens.
 pub(crate) fn parse_tokens<'a>(
     alloc: Global,
-    chunk: &Chunk<'a, '_>,
+    text: &'a str,
+    first_line: u64,
+    tokens: &[Token<'a>],
 ) -> Result<Option<Stmt<'a>>, ParseFault>
-    requires lines { chunk.now.first_line + count_by (λ b. b == 10) chunk.now.text.now < 2 ^ 64 }
-    requires tokens { (depth : ℕ) × AreTokensOf chunk.now.first_line depth chunk.now.text.now (map placed chunk.now.tokens.now) }
+    requires lines { first_line + count_by (λ b. b == 10) text.now < 2 ^ 64 }
+    requires tokens { (depth : ℕ) × AreTokensOf first_line depth text.now (map placed tokens.now) }
     ensures statement { IfOk result (λ o. IfSome o (λ s. (depth : ℕ)
-        → AreTokensOf chunk.now.first_line depth chunk.now.text.now (map placed chunk.now.tokens.now)
-        → IsStatementIn chunk.now.first_line depth chunk.now.text.now (view s))) }
+        → AreTokensOf first_line depth text.now (map placed tokens.now)
+        → IsStatementIn first_line depth text.now (view s))) }
     ensures blank { IfOk result (λ o. IfNone o ((depth : ℕ)
-        → AreTokensOf chunk.now.first_line depth chunk.now.text.now (map placed chunk.now.tokens.now)
-        → IsBlank chunk.now.first_line depth chunk.now.text.now)) }
+        → AreTokensOf first_line depth text.now (map placed tokens.now) → IsBlank first_line depth text.now)) }
     ensures fault { IfErr result (λ fault. (depth : ℕ)
-        → AreTokensOf chunk.now.first_line depth chunk.now.text.now (map placed chunk.now.tokens.now)
-        → IsFaultIn chunk.now.first_line depth chunk.now.text.now fault) }
+        → AreTokensOf first_line depth text.now (map placed tokens.now) → IsFaultIn first_line depth text.now fault) }
 {
-    if first_seen(chunk.tokens).is_none() {
+    if first_seen(tokens).is_none() {
         return Ok(None);
     }
-    if let Some(line) = indent_fault(alloc, chunk.tokens)? {
+    if let Some(line) = indent_fault(alloc, tokens)? {
         return Err(ParseFault::Indented { line });
     }
-    match chunk_statement(alloc, chunk)? {
+    match chunk_statement(alloc, text, first_line, tokens)? {
         Some(stmt) => Ok(Some(stmt)),
         None => Err(ParseFault::NotAStatement {
-            line: start_of(chunk.tokens),
+            line: start_of(tokens),
         }),
     }
 }
@@ -161,14 +151,7 @@ pub fn parse<'a>(
 {
     let bump = Bump::new(alloc);
     match tokens(&bump, text, first_line, max_depth) {
-        Ok(tokens) => {
-            let chunk = Chunk {
-                text,
-                first_line,
-                tokens,
-            };
-            parse_tokens(alloc, &chunk)
-        }
+        Ok(tokens) => parse_tokens(alloc, text, first_line, tokens),
         Err(LexFault::OutOfMemory(why)) => Err(ParseFault::OutOfMemory(why)),
         Err(fault) => Err(ParseFault::Lex(fault)),
     }

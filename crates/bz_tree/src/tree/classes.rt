@@ -1,9 +1,8 @@
 //! What a statement is to the layout and to the commands.
 
-ghost use Rattle.std.specs.Prelude.{◌≡◌, codes};
+ghost use Rattle.std.specs.Prelude.{◌≡◌};
 ghost use Rattle.bz_tree.specs.View.{node_view, nodes_view, seg_view};
 ghost use Rattle.bz_tree.specs.Statement.{is_rule, is_call, rule_call, with_rule_call, is_assign, class_of};
-ghost use Rattle.bz_tree.specs.Kinds.{is_operator_at};
 ghost use Rattle.std.specs.List.{list_any};
 ghost use Rattle.bz_tree.specs.private.RowSteps.{named, called};
 
@@ -33,7 +32,7 @@ pub(crate) fn named(naming: Naming, kind: Kind, text: &str) -> Naming
 {
     match naming {
         Naming::Name if kind == Kind::Identifier => Naming::Join,
-        Naming::Join if is_dot(kind, text) => Naming::Name,
+        Naming::Join if kind == Kind::Operator && text == "." => Naming::Name,
         Naming::End | Naming::Lost => Naming::Lost,
         _ => Naming::Never,
     }
@@ -62,14 +61,6 @@ fn is_rule(nodes: &[Node<'_>]) -> bool
         };
     }
     matches!(naming, Naming::End)
-}
-
-// The token between two names.
-#[inline(always)]
-fn is_dot(kind: Kind, text: &str) -> bool
-    ensures { result ≡ is_operator_at (codes ".") kind text.now }
-{
-    kind == Kind::Operator && text == "."
 }
 
 pub(crate) fn is_call(kind: GroupKind) -> bool

@@ -1,6 +1,6 @@
 //! What a token is to the brackets, and what kind of group a bracket is.
 
-ghost use Rattle.std.specs.Prelude.{◌≡◌, Some};
+ghost use Rattle.std.specs.Prelude.{◌≡◌, false, Some};
 ghost use Rattle.bz_token.specs.Places.{placed};
 ghost use Rattle.bz_tree.specs.Kinds.{mark_of, operator_mark, kind_after, is_for_at, group_kind, is_one, same_shape};
 ghost use Rattle.bz_tree.specs.private.Steps.{shape_of, as_comprehension};
@@ -53,18 +53,14 @@ pub(crate) fn mark_of(token: &Token<'_>) -> Mark
 pub(crate) fn operator_mark(text: &str) -> Mark
     ensures { result ≡ operator_mark text.now }
 {
-    let bytes = text.as_bytes();
-    if bytes.len() != 1 {
-        return Mark::Plain;
-    }
-    match bytes[0] {
-        b'(' => Mark::Open(Shape::Round),
-        b'[' => Mark::Open(Shape::Square),
-        b'{' => Mark::Open(Shape::Curly),
-        b')' => Mark::Close(Shape::Round),
-        b']' => Mark::Close(Shape::Square),
-        b'}' => Mark::Close(Shape::Curly),
-        b',' => Mark::Comma,
+    match text.as_bytes() {
+        [b'('] => Mark::Open(Shape::Round),
+        [b'['] => Mark::Open(Shape::Square),
+        [b'{'] => Mark::Open(Shape::Curly),
+        [b')'] => Mark::Close(Shape::Round),
+        [b']'] => Mark::Close(Shape::Square),
+        [b'}'] => Mark::Close(Shape::Curly),
+        [b','] => Mark::Comma,
         _ => Mark::Plain,
     }
 }
@@ -118,17 +114,16 @@ pub(crate) fn is_for_at(kind: Kind, text: &str) -> bool
     kind == Kind::Keyword && text == "for"
 }
 
-pub(crate) fn group_kind(shape: Shape, at: Preceding, comprehension: bool) -> GroupKind
-    ensures { result ≡ group_kind shape at comprehension }
+/// What a bracket is as long as no `for` stands in it.
+pub(crate) fn group_kind(shape: Shape, at: Preceding) -> GroupKind
+    ensures { result ≡ group_kind shape at false }
 {
     match (shape, at) {
         (Shape::Round, Preceding::Operand) => GroupKind::Call,
         (Shape::Round, Preceding::LoadWord) => GroupKind::Load,
         (Shape::Round, Preceding::Other) => GroupKind::Paren,
         (Shape::Square, Preceding::Operand) => GroupKind::Index,
-        (Shape::Square, _) if comprehension => GroupKind::ListComp,
         (Shape::Square, _) => GroupKind::List,
-        (Shape::Curly, _) if comprehension => GroupKind::DictComp,
         (Shape::Curly, _) => GroupKind::Dict,
     }
 }

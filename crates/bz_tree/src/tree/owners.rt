@@ -2,7 +2,7 @@
 
 ghost use Rattle.std.specs.Prelude.{◌≡◌, ◌+◌, ◌==◌, true, false, map, count_by, IfOk, OnOk, Some, None, [], option_map, option_and_then};
 ghost use Rattle.bz_tree.specs.View.{node_view, seg_view};
-ghost use Rattle.bz_tree.specs.private.Steps.{walked, so_far, is_in_first, content_view, at_start, after_node, after_comma, after_comment, done, to_last};
+ghost use Rattle.bz_tree.specs.private.Steps.{walked, so_far, is_in_first, inside_view, at_start, after_node, after_comma, after_comment, done, to_last};
 
 use crate::tree::span::newlines;
 use crate::tree::{Node, Seg};
@@ -33,7 +33,7 @@ pub(crate) struct Walk<'a> {
 }
 
 #[derive(Drop)]
-pub(crate) struct Content<'a> {
+pub(crate) struct Inside<'a> {
     pub(crate) segs: Vec<Seg<'a>>,
     pub(crate) trailing: bool,
     pub(crate) end: Vec<&'a str>,
@@ -129,10 +129,8 @@ impl<'a> Walk<'a> {
             return Ok(());
         }
         append(&mut self.here.before, &mut self.after)?;
-        push(
-            &mut self.segs,
-            mem::replace(&mut self.here, empty_segment(alloc)),
-        )?;
+        let seg = mem::replace(&mut self.here, empty_segment(alloc));
+        push(&mut self.segs, seg)?;
         self.last = Before::Comma(line);
         self.trailing = true;
         Ok(())
@@ -157,26 +155,21 @@ impl<'a> Walk<'a> {
 
     // None: a segment is empty.
     #[inline(always)]
-    pub(crate) fn finish(self) -> Result<Option<Content<'a>>, NoMemory>
-        ensures value { IfOk result (λ o. option_map content_view o ≡ option_map done (so_far self.entry)) }
+    pub(crate) fn finish(self) -> Result<Option<Inside<'a>>, NoMemory>
+        ensures value { IfOk result (λ o. option_map inside_view o ≡ option_map done (so_far self.entry)) }
     {
         if !self.whole {
             return Ok(None);
         }
-        let Walk {
-            mut segs,
-            here,
-            after,
-            trailing,
-            ..
-        } = self;
+        let here = self.here;
+        let mut segs = self.segs;
         if !here.nodes.is_empty() {
             push(&mut segs, here)?;
         }
-        Ok(Some(Content {
+        Ok(Some(Inside {
             segs,
-            trailing,
-            end: after,
+            trailing: self.trailing,
+            end: self.after,
         }))
     }
 }

@@ -27,52 +27,32 @@ fn is_line(token: &Token<'_>) -> bool
 pub(crate) fn first_token<'a>(tokens: &[Token<'a>]) -> Option<Token<'a>>
     ensures { option_map placed result ≡ first_token (map placed tokens.now) }
 {
-    for token in tokens {
-        if !is_aside(token.kind) {
-            return Some(*token);
-        }
-    }
-    None
+    tokens.iter().find(|token| !is_aside(token.kind)).copied()
 }
 
 /// The first token that is no newline.
 pub(crate) fn first_seen<'a>(tokens: &[Token<'a>]) -> Option<Token<'a>>
     ensures { option_map placed result ≡ first_seen (map placed tokens.now) }
 {
-    for token in tokens {
-        if !is_line(token) {
-            return Some(*token);
-        }
-    }
-    None
+    tokens.iter().find(|token| !is_line(token)).copied()
 }
 
 /// The last token that is no comment and no newline.
 pub(crate) fn last_token<'a>(tokens: &[Token<'a>]) -> Option<Token<'a>>
     ensures { option_map placed result ≡ last_token (map placed tokens.now) }
 {
-    let mut left = tokens.len();
-    while left > 0 {
-        left -= 1;
-        let token = &tokens[left];
-        if !is_aside(token.kind) {
-            return Some(*token);
-        }
-    }
-    None
+    tokens
+        .iter()
+        .rev()
+        .find(|token| !is_aside(token.kind))
+        .copied()
 }
 
 /// The last token that is no newline.
 pub(crate) fn last_seen<'a>(tokens: &[Token<'a>]) -> Option<Token<'a>>
     ensures { option_map placed result ≡ last_seen (map placed tokens.now) }
 {
-    let mut last = None;
-    for token in tokens {
-        if !is_line(token) {
-            last = Some(*token);
-        }
-    }
-    last
+    tokens.iter().rev().find(|token| !is_line(token)).copied()
 }
 
 /// The line of the first token, comments not counted where something else is there.
@@ -101,25 +81,14 @@ pub(crate) fn end_line(token: &Token<'_>) -> u64
     token.line + newlines(token.text)
 }
 
-// None: the line cannot be counted.
-fn counted_end_line(token: &Token<'_>) -> Option<u64>
-    ensures end { IfSome result (λ end. end ≡ end_line (placed token.now)) }
-    ensures none { IfNone result (2 ^ 64 ≤ end_line (placed token.now)) }
-{
-    token.line.checked_add(newlines(token.text))
-}
-
 /// The line on which the last token ends, comments not counted where something else is there. None: it cannot be
 /// counted.
 pub(crate) fn counted_end_of(tokens: &[Token<'_>]) -> Option<u64>
     ensures end { IfSome result (λ end. end ≡ end_of (map placed tokens.now)) }
     ensures none { IfNone result (2 ^ 64 ≤ end_of (map placed tokens.now)) }
 {
-    match last_token(tokens) {
-        Some(token) => counted_end_line(&token),
-        None => match last_seen(tokens) {
-            Some(token) => counted_end_line(&token),
-            None => Some(0),
-        },
+    match last_token(tokens).or(last_seen(tokens)) {
+        Some(token) => token.line.checked_add(newlines(token.text)),
+        None => Some(0),
     }
 }

@@ -11,4 +11,4 @@ wanted p Colon h = absurd (h refl)
 wanted p _ h = refl
 
 pub returns-in_default-role : goal.returns-in_default-role
-returns-in_default-role c = c.next_wanted-in_default-role.ensures ∙ (wanted c.in-Begins-default.part c.args.role c.in_default-role.not-Colon ∙ ap (λ s. next s c.args.role) (sym c.in-Begins-default.is-0))
+returns-in_default-role c = c.next_wanted-in_default-role.ensures ∙ (wanted c.in-Begins-default.goal c.args.role c.in_default-role.not-Colon ∙ ap (λ s. next s c.args.role) (sym c.in-Begins-default.is-0))

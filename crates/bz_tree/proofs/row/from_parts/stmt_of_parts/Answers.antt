@@ -6,4 +6,4 @@ use Rattle.bz_tree.proofs.row.from_parts.stmt_of_parts.Goals as goal
 
 pub returns : goal.returns
 returns c s parts =
-    statement_of_parts s (map part_view c.args.parts.now) (content c.in_ok-comments.field-0) _ c.args.class c.args.start c.args.end parts c.in_ok-comments.ensures c.last_beside.ensures
+    statement_of_parts s (map part_view c.args.parts.now) (content c.in_ok-content.content) _ c.args.class c.args.start c.args.end parts c.in_ok-content.ensures c.last_beside.ensures

@@ -1,12 +1,12 @@
-use Rattle.std.proofs.Common.{arith, ◌-◌, ◌≤◌, length, sym, ◌∙◌}
-use Rattle.bz_tree.proofs.Trees.LastToken.{last_here, last_before}
+use Rattle.std.proofs.Common.{rules, tests, ap, ◌∙◌, option_map}
+use Rattle.std.proofs.lemmas.Iterator.Adapters.{YieldsList-from_rev_slice}
+use Rattle.std.proofs.lemmas.Iterator.Search.{find_from_yields_List}
+use Rattle.bz_token.specs.Places.{placed}
+use Rattle.bz_tree.specs.Statement.{is_aside}
+use Rattle.bz_tree.proofs.Trees.LastToken.{counts, last_token_found}
 use Rattle.bz_tree.proofs.tree.span.last_token.Goals as goal
 
-pub returns-then-not-is_aside : goal.returns-then-not-is_aside
-returns-then-not-is_aside c =
-    last_here c.args.tokens.now c.loop-left.left _ c.loop-left-test.true c.loop-left.invariant.0 (sym c.is_aside.ensures ∙ c.if-not-is_aside.true) ∙ c.loop-left.invariant.1
-
-pub loop-left-preserved : goal.loop-left-preserved
-loop-left-preserved c =
-    let less : c.loop-left.left - 1 ≤ length c.args.tokens.now = omega (arith, c.loop-left.invariant.0) in
-    (less, last_before c.args.tokens.now c.loop-left.left _ c.loop-left-test.true c.loop-left.invariant.0 (sym c.is_aside.ensures ∙ c.if-not-is_aside.false) ∙ c.loop-left.invariant.1)
+pub returns : goal.returns
+returns c =
+    ap (option_map placed) (c.copied.ensures ∙ find_from_yields_List (counts (λ t. is_aside t.kind)) _ _ c.find.result c.find.ensures.ran (YieldsList-from_rev_slice c.args.tokens.now (search rules)) (λ x b q k. search (rules, tests)))
+    ∙ last_token_found c.args.tokens.now
