@@ -59,12 +59,6 @@ abbrev pub arguments_end : List RowPart → ℕ
 arguments_end [] = 0
 arguments_end (p ∷ ps) = if list_any is_stop ps then 1 + arguments_end ps else (if is_stop p then 1 + besides ps else 0)
 
--- how many parts there are up to the first bracket that opens, with it
-abbrev pub arguments_begin : List RowPart → ℕ
-arguments_begin [] = 0
-arguments_begin (opening kind ∷ ps) = 1
-arguments_begin (p ∷ ps) = suc (arguments_begin ps)
-
 -- the parts after the comments above them
 abbrev pub after_comments : List RowPart → List RowPart
 after_comments ps = drop (above_len ps) ps

@@ -6,7 +6,7 @@ use Rattle.bz_token.specs.declared.token.Kind.TheVariants.{String}
 use Rattle.bz_tree.specs.Tree.{Item, leaf, Segment, items_of}
 use Rattle.bz_tree.specs.Rows.{RowPart, a_token, beside, closing, opening, segment_end, item_parts, items_parts}
 use Rattle.bz_command.specs.Labels.{Package}
-use Rattle.bz_attribute.specs.Elements.{IsElementOf, ListRest, edited_rest, elements_left, found_rest, rest_parts, value_parts}
+use Rattle.bz_attribute.specs.Elements.{ForRest, IsElementOf, ListRest, edited_rest, elements_left, found_rest, rest_parts, value_parts}
 use Rattle.bz_attribute.specs.Lists as lists
 
 abbrev pub is_open : RowPart → Bool
@@ -77,4 +77,4 @@ pub record IsSought (home : Package) (word : List ℕ) (l : ListRest) (after ps 
       → take from ps ++ rest_parts (found_rest (lists.equals home word) f l) after ≡ take at ps ++ rest_parts (found_rest (lists.equals home word) f left) after
 
 abbrev pub HasSought : Package → List ℕ → List RowPart → ℕ → ℕ → Type 0
-HasSought home word ps from at = (l : ListRest) (after : List RowPart) → drop from ps ≡ rest_parts l after → IsSought home word l after ps from at
+HasSought home word ps from at = ForRest ps from (λ l after ps. IsSought home word l after ps from at)
