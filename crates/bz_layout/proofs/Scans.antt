@@ -10,7 +10,7 @@ use Rattle.bz_layout.specs.declared.marks.BracketForm.{BracketForm}
 use Rattle.bz_layout.specs.declared.marks.Contents.{Contents}
 use Rattle.bz_layout.specs.Broken.{count, have_comments, breaks_by_count, is_broken, holds_broken, items_hold, segs_hold}
 use Rattle.bz_layout.specs.Layout.{has_commas}
-use Rattle.bz_layout.specs.private.RowLayout.{Scan, closed, mark_of, holding, below, opened_back, scan}
+use Rattle.bz_layout.specs.private.RowLayout.{Scan, closed, mark_of, below, opened_back, scan}
 use Rattle.bz_token.specs.Common.{is_filled}
 use Rattle.bz_tree.proofs.Rows.FromParts.{segs_joined, seg_joined}
 
@@ -30,6 +30,9 @@ abbrev mutual
   pub segs_marks : Segs → List BracketForm
   segs_marks no_segs = []
   segs_marks (seg before nodes suffix ss) = items_marks nodes ++ segs_marks ss
+
+abbrev holding : Bool → Contents → Contents
+holding holds i = record i { holds = holds || i.holds }
 
 -- what an item adds to what stands after it, and what segments add
 abbrev found : List BracketForm → Bool → Scan → Scan

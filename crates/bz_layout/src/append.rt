@@ -3,7 +3,7 @@
 ghost use Rattle.std.specs.Prelude.{ℕ, List, string_bytes};
 ghost use Rattle.bz_layout.specs.Pieces.{gap_bytes};
 ghost use Rattle.bz_layout.specs.declared.spacing.Gap.TheVariants.{Line};
-ghost use Rattle.bz_layout.specs.private.Kept.{Puts};
+ghost use Rattle.bz_layout.specs.private.RowLayout.{Puts};
 
 use crate::write::put_new_line;
 use bz_memory::{NoMemory, extend_from_slice, push, push_str};

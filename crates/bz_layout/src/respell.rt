@@ -4,7 +4,7 @@ ghost use Rattle.std.specs.Prelude.{◌≡◌, ◌++◌, ◌∷◌, [], List, �
 ghost use Rattle.std.specs.List.{list_all};
 ghost use Rattle.bz_token.specs.declared.token.Kind.TheVariants.{String};
 ghost use Rattle.bz_layout.specs.Respell.{is_plain, respell};
-ghost use Rattle.bz_layout.specs.private.Kept.{Puts};
+ghost use Rattle.bz_layout.specs.private.RowLayout.{Puts};
 
 use crate::append::Append;
 use bz_memory::NoMemory;

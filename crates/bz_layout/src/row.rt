@@ -6,8 +6,7 @@ ghost use Rattle.bz_tree.specs.View.{view};
 ghost use Rattle.bz_tree.specs.Rows.{IsRowOf, part_view, parts_of};
 ghost use Rattle.bz_layout.specs.Pieces.{bytes_of, comment_lines};
 ghost use Rattle.bz_layout.specs.Layout.{is_comment, layout_text};
-ghost use Rattle.bz_layout.specs.private.Kept.{IsBegunBy, Puts};
-ghost use Rattle.bz_layout.specs.private.RowLayout.{leading, lines_text};
+ghost use Rattle.bz_layout.specs.private.RowLayout.{IsBegunBy, Puts, leading, lines_text};
 
 use crate::append::Append;
 use crate::marks::marks_of;

@@ -4,10 +4,9 @@
 ghost use Rattle.std.specs.Prelude.{◌≡◌, ◌<◌, ◌^◌, ◌+◌, ◌++◌, ℕ, List, IfOk, map, reverse};
 ghost use Rattle.bz_tree.specs.Rows.{part_view};
 ghost use Rattle.bz_layout.specs.declared.spacing.Edge.TheVariants.{Start};
-ghost use Rattle.bz_layout.specs.private.Kept.{Puts};
 ghost use Rattle.bz_layout.specs.Pieces.{gap_bytes};
 ghost use Rattle.bz_layout.specs.Spacing.{gap_for};
-ghost use Rattle.bz_layout.specs.private.RowLayout.{Lays, due, top, first_gap, start, with_token, opened, closed_by, ended, step, run, laid};
+ghost use Rattle.bz_layout.specs.private.RowLayout.{Puts, Lays, due, top, first_gap, start, with_token, opened, closed_by, ended, step, run, laid};
 
 use crate::append::NewLine;
 use crate::marks::BracketForm;

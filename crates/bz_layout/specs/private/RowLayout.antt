@@ -1,6 +1,5 @@
--- For private clauses: the two walks over the parts of a statement.
-use Rattle.std.specs.Prelude.{codes, ℕ, ◌+◌, ◌-◌, List, [], ◌∷◌, ◌++◌, reverse, drop, get_or, Bool, true, false, not, ◌||◌, ◌&&◌, if◌then◌else◌, nat_le, nat_lt, Option, is_some, ◌≡◌, Result, OnOk}
-use Rattle.std.specs.Prelude.Option.{Some, None}
+-- For private clauses: what is appended, and the two walks over the parts of a statement.
+use Rattle.std.specs.Prelude.{codes, ℕ, ◌+◌, ◌-◌, List, [], ◌∷◌, ◌++◌, reverse, drop, get_or, Bool, true, false, not, ◌||◌, ◌&&◌, if◌then◌else◌, nat_le, nat_lt, Option, Some, None, is_some, ◌≡◌, Result, OnOk}
 use Rattle.bz_token.specs.declared.token.Kind.{Kind}
 use Rattle.bz_token.specs.Common.{map_or}
 use Rattle.bz_tree.specs.declared.tree.GroupKind.{GroupKind}
@@ -20,7 +19,16 @@ use Rattle.bz_layout.specs.Spacing.{closes_up, hugs, edge_after, gap_for}
 use Rattle.bz_layout.specs.Broken.{breaks_by_count}
 use Rattle.bz_layout.specs.Pieces.{gap_bytes, bytes_of, comment_lines}
 use Rattle.bz_layout.specs.Layout.{has_commas, opening as opening_text, closing as closing_text}
-use Rattle.bz_layout.specs.private.Kept.{IsBegunBy}
+
+-- bytes that stay, whether memory was refused or not
+pub record IsBegunBy (old new : List ℕ) : Type 0 where
+  pub more : List ℕ
+  pub is : new ≡ old ++ more
+
+-- a text is appended; where memory was refused, some of it may be
+pub record Puts {A E : Type 0} (result : Result A E) (old new text : List ℕ) : Type 0 where
+  pub put : OnOk result (new ≡ old ++ text)
+  pub begun : IsBegunBy old new
 
 -- The walk backwards: marks of the brackets after it, the first one first, and what stands in the brackets that it is in, the innermost first.
 pub record Scan : Type 0 where
@@ -34,13 +42,11 @@ closed one_comma = record { one_comma = one_comma; comments = false; holds = fal
 abbrev pub mark_of : GroupKind → Contents → BracketForm
 mark_of kind i = record { broken = i.comments || breaks_by_count kind i.segs || (nat_le 2 i.segs && i.holds); comma = has_commas kind i.one_comma i.segs }
 
-abbrev pub holding : Bool → Contents → Contents
-holding holds i = record i { holds = holds || i.holds }
-
 -- before the bracket, below it
 abbrev pub below : BracketForm → Bool → List BracketForm → List Contents → Scan
-below mark holds marks [] = record { marks = mark ∷ marks; here = holding holds (closed false); outer = [] }
-below mark holds marks (i ∷ outer) = record { marks = mark ∷ marks; here = holding holds i; outer = outer }
+below mark holds marks outer =
+    let i = get_or outer 0 (closed false) in
+    record { marks = mark ∷ marks; here = record i { holds = holds || i.holds }; outer = drop 1 outer }
 
 abbrev pub opened_back : GroupKind → Scan → Scan
 opened_back kind s = below (mark_of kind s.here) ((mark_of kind s.here).broken || s.here.holds) s.marks s.outer
