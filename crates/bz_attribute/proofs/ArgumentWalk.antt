@@ -8,8 +8,7 @@ use Rattle.bz_tree.specs.Rows.{RowPart, above, beside_part, closing, segs_parts}
 use Rattle.bz_attribute.specs.Effects.{has}
 use Rattle.bz_attribute.specs.RowPlaces.{AreArguments, arguments_begin, before_args, IsArgumentAmong, IsRuleRow}
 use Rattle.bz_attribute.specs.Rules.{Rule, is_named, is_text}
-use Rattle.bz_attribute.specs.private.Ends.{above_len, flat_name, segment_len}
-use Rattle.bz_attribute.specs.private.ListParts.{ends_list}
+use Rattle.bz_attribute.specs.private.Parts.{above_len, ends_list, flat_name, segment_len}
 use Rattle.bz_attribute.proofs.EditedAt.{segs_join}
 use Rattle.bz_attribute.proofs.FoundArgs.{named}
 use Rattle.bz_attribute.proofs.ListElements.{IsSegmentAt, none_of, segment_there}
@@ -63,47 +62,33 @@ never_past name ps at w past = λ before args h.
     let u = w before args h in
     absurd (omega (arith, past, ap length u.left, length-drop at ps, length-append (segs_parts (segs_of u.others)) (map above h.end ++ closing h.one_comma ∷ h.after), length-append (map above h.end) (closing h.one_comma ∷ h.after)))
 
--- an argument is left, and its name
-record IsNext (name : List ℕ) (ss : List Segment) (last ps : List RowPart) (at token to : ℕ) : Type 0 where
-  it : IsSegmentAt ss last ps at token to
-  told : is_text name (flat_name (drop token ps)) ≡ is_named name it.segment
-
-next : (name : List ℕ) (ss : List Segment) (end : List (List ℕ)) (one_comma : Bool) (after ps : List RowPart) (at token to : ℕ) → drop at ps ≡ segs_parts (segs_of ss) ++ (map above end ++ closing one_comma ∷ after)
-    → token ≡ at + above_len (drop at ps) → ends_list (drop token ps) ≡ false → to ≡ token + segment_len (drop token ps) → IsNext name ss (map above end ++ closing one_comma ∷ after) ps at token to
-next name ss end one_comma after ps at token to read is more to_is =
-    let it = segment_there ss end one_comma after ps at token to read is more to_is in
-    let told = ap flat_name it.nodes ∙ named it.segment.nodes (beside_part it.segment.suffix ++ (segs_parts (segs_of it.others) ++ (map above end ++ closing one_comma ∷ after))) in
-    record { it = it; told = ap (is_text name) told }
+-- an argument is left: its name
+told : (name : List ℕ) (ss : List Segment) (last ps : List RowPart) (at token to : ℕ) → (it : IsSegmentAt ss last ps at token to) → is_text name (flat_name (drop token ps)) ≡ is_named name it.segment
+told name ss last ps at token to it = ap (is_text name) (ap flat_name it.nodes ∙ named it.segment.nodes (beside_part it.segment.suffix ++ (segs_parts (segs_of it.others) ++ last)))
 
 -- it has the name
 pub one_named : (name : List ℕ) (ps : List RowPart) (at token : ℕ) → AreUnnamed name ps at → token ≡ at + above_len (drop at ps) → ends_list (drop token ps) ≡ false → is_text name (flat_name (drop token ps)) ≡ true
     → (before : List RowPart) (args : List Segment) → AreArguments before args ps → IsArgumentAmong name before args token
 one_named name ps at token w is more same = λ before args h.
     let u = w before args h in
-    let n = next name u.others h.end h.one_comma h.after ps at token (token + segment_len (drop token ps)) u.left is more refl in
-    record {
-      front = u.front;
-      arg = n.it.segment;
-      back = n.it.others;
-      are = u.are ∙ ap (λ (ss : List Segment). u.front ++ ss) n.it.are;
-      none = u.none;
-      is = sym n.told ∙ same;
-      begins = omega (arith, n.it.begins, u.place, length-map n.it.segment.before above, length-append before (segs_parts (segs_of u.front)));
-    }
+    let it = segment_there u.others h.end h.one_comma h.after ps at token (token + segment_len (drop token ps)) u.left is more refl in
+    let begins : token ≡ length (before ++ segs_parts (segs_of u.front)) + length (map above it.segment.before) =
+    omega (arith, it.begins, u.place, length-map it.segment.before above, length-append before (segs_parts (segs_of u.front))) in
+    record { front = u.front; arg = it.segment; back = it.others; are = u.are ∙ ap (λ (ss : List Segment). u.front ++ ss) it.are; none = u.none; is = sym (told name u.others _ ps at token _ it) ∙ same; begins = begins }
 
 -- it has another
 pub one_unnamed : (name : List ℕ) (ps : List RowPart) (at token to : ℕ) → AreUnnamed name ps at → token ≡ at + above_len (drop at ps) → ends_list (drop token ps) ≡ false → is_text name (flat_name (drop token ps)) ≡ false
     → to ≡ token + segment_len (drop token ps) → AreUnnamed name ps to
 one_unnamed name ps at token to w is more other_name to_is = λ before args h.
     let u = w before args h in
-    let n = next name u.others h.end h.one_comma h.after ps at token to u.left is more to_is in
-    let a : List Segment = n.it.segment ∷ [] in
-    let other : is_named name n.it.segment ≡ false = sym n.told ∙ other_name in
+    let it = segment_there u.others h.end h.one_comma h.after ps at token to u.left is more to_is in
+    let a : List Segment = it.segment ∷ [] in
+    let other : is_named name it.segment ≡ false = sym (told name u.others _ ps at token to it) ∙ other_name in
     record {
       front = u.front ++ a;
-      others = n.it.others;
-      are = u.are ∙ ap (λ (ss : List Segment). u.front ++ ss) n.it.are ∙ sym (append_assoc u.front a n.it.others);
+      others = it.others;
+      are = u.are ∙ ap (λ (ss : List Segment). u.front ++ ss) it.are ∙ sym (append_assoc u.front a it.others);
       none = list_any-append (is_named name) u.front a ∙ (λ i. u.none i || (other i || false));
-      place = omega (arith, n.it.ends, u.place, ap length (segs_join u.front a), length-append (segs_parts (segs_of u.front)) (segs_parts (segs_of a)));
-      left = n.it.left;
+      place = omega (arith, it.ends, u.place, ap length (segs_join u.front a), length-append (segs_parts (segs_of u.front)) (segs_parts (segs_of a)));
+      left = it.left;
     }

@@ -13,8 +13,7 @@ use Rattle.bz_attribute.specs.Effects.{edit_first, has, with_args, nodes_after, 
 use Rattle.bz_attribute.specs.Lists.{with_value}
 use Rattle.bz_attribute.specs.RowPlaces.{IsArgumentAt, IsRuleRow}
 use Rattle.bz_attribute.specs.Rules.{Rule, first_named, is_named, is_text, name_in, name_of, only_text, string_value, value}
-use Rattle.bz_attribute.specs.private.Ends.{above_len, end_len, parts_len, plain_len, segment_len}
-use Rattle.bz_attribute.specs.private.ListParts.{bare_string, ends_list, string_in}
+use Rattle.bz_attribute.specs.private.Parts.{above_len, bare_string, end_len, ends_list, parts_len, plain_len, segment_len, string_in}
 use Rattle.bz_command.specs.Values.{value_of}
 use Rattle.bz_attribute.proofs.EditedAt.{edited_at, first_at, none_first, segs_join}
 use Rattle.bz_attribute.proofs.EndsBack.{argument_long, plain_elements, no_beside_argument, no_beside_end, segment_long}
@@ -113,16 +112,7 @@ pub element_there : (rest : ListRest) (after ps : List RowPart) (at token to : �
     → to ≡ token + segment_len (drop token ps) → string ≡ string_in (drop token ps) → IsElementOf rest after ps at token to string
 element_there rest after ps at token to string read is more to_is string_is =
     let e = segment_there rest.elements rest.end rest.one_comma (value_parts rest.items after) ps at token to read is more to_is in
-    record {
-      element = e.segment;
-      others = e.others;
-      are = e.are;
-      begins = e.begins;
-      ends = e.ends;
-      own = e.own;
-      read = e.left;
-      text = string_is ∙ ap string_in e.nodes ∙ text_told e.segment.nodes (beside_part e.segment.suffix ++ (segs_parts (segs_of e.others) ++ tail rest.end rest.one_comma rest.items after));
-    }
+    record { element = e.segment; others = e.others; are = e.are; begins = e.begins; ends = e.ends; own = e.own; read = e.left; text = string_is ∙ ap string_in e.nodes ∙ text_told e.segment.nodes (beside_part e.segment.suffix ++ (segs_parts (segs_of e.others) ++ tail rest.end rest.one_comma rest.items after)) }
 
 -- the element that begins at a place in a list part ends there
 abbrev pub HasElement : List RowPart → ℕ → ℕ → ℕ → Option (List ℕ) → Type 0

@@ -48,20 +48,16 @@ ForRest ps at P = (rest : ListRest) (after : List RowPart) → drop at ps ≡ re
 
 -- The elements of each list part of a value (`whole`), or of what comes after a list part of it.
 abbrev pub lists_in : Bool → List Item → List (List Segment)
-lists_in true nodes = parts nodes
-lists_in false nodes = parts_from false nodes
+lists_in whole nodes = if whole then parts nodes else parts_from false nodes
 
 abbrev pub edit_in : Bool → (List Segment → List Segment) → List Item → List Item
-edit_in true f nodes = edit_parts f nodes
-edit_in false f nodes = edit_from f false nodes
+edit_in whole f nodes = if whole then edit_parts f nodes else edit_from f false nodes
 
 abbrev pub edit_one_in : Bool → (List Segment → List Segment) → List Item → List Item
-edit_one_in true f nodes = edit_first_part f nodes
-edit_one_in false f nodes = edit_one_from f false nodes
+edit_one_in whole f nodes = if whole then edit_first_part f nodes else edit_one_from f false nodes
 
 abbrev pub edit_element_in : Bool → (Segment → Bool) → (Segment → Segment) → List Item → List Item
-edit_element_in true p f nodes = edit_element p f nodes
-edit_element_in false p f nodes = edit_element_from p f false nodes
+edit_element_in whole p f nodes = if whole then edit_element p f nodes else edit_element_from p f false nodes
 
 -- what is left of a value, where its first element that passes is edited
 abbrev pub found_rest : (Segment → Bool) → (Segment → Segment) → ListRest → ListRest

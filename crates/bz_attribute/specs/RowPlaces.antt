@@ -34,7 +34,6 @@ abbrev pub HasArgumentAmong : List ℕ → List RowPart → List Segment → Opt
 HasArgumentAmong name before args None = has name args ≡ false
 HasArgumentAmong name before args (Some at) = IsArgumentAmong name before args at
 
--- of a rule
 abbrev pub IsArgumentAt : List ℕ → Statement → Rule → ℕ → Type 0
 IsArgumentAt name s r at = IsArgumentAmong name (before_args s r) r.args at
 

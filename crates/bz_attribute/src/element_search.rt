@@ -5,7 +5,7 @@ ghost use Rattle.std.specs.List.{list_any};
 ghost use Rattle.bz_tree.specs.Rows.{part_view};
 ghost use Rattle.bz_attribute.specs.Elements.{ForRest, IsFirstEqual, elements_left};
 ghost use Rattle.bz_attribute.specs.Lists.{equals, same};
-ghost use Rattle.bz_attribute.specs.private.ListParts.{HasSought};
+ghost use Rattle.bz_attribute.specs.private.Parts.{HasSought};
 ghost use Rattle.bz_command.specs.Labels as labels;
 ghost use Rattle.bz_command.specs.Values.{value_of};
 ghost use Rattle.bz_token.specs.Common.{map_or};

@@ -6,7 +6,7 @@ ghost use Rattle.bz_tree.specs.Rows.{part_view};
 ghost use Rattle.bz_attribute.specs.Elements.{AreElementsTo, ForRest, ForValue, HasNoList, IsElementOf, IsListIn, IsNextElement, IsValueAt, elements_left};
 ghost use Rattle.bz_attribute.specs.Effects.{has};
 ghost use Rattle.bz_attribute.specs.RowPlaces.{ForRule};
-ghost use Rattle.bz_attribute.specs.private.ListParts as spec;
+ghost use Rattle.bz_attribute.specs.private.Parts as spec;
 ghost use Rattle.bz_attribute.specs.Lists as lists;
 
 use crate::finder::find_argument;

@@ -5,7 +5,7 @@ ghost use Rattle.bz_tree.specs.Tree.{Segment};
 ghost use Rattle.bz_tree.specs.Rows.{RowPart, part_view};
 ghost use Rattle.bz_attribute.specs.RowPlaces.{AreArguments, ForRule, HasArgument, HasArgumentAmong, IsFirstArgument, argument_parts, arguments_begin};
 ghost use Rattle.bz_attribute.specs.Rules.{is_text};
-ghost use Rattle.bz_attribute.specs.private.Ends as spec;
+ghost use Rattle.bz_attribute.specs.private.Parts as spec;
 
 use crate::elements::ends_list;
 use crate::place::{arguments_begin, comments_len, segment_len};

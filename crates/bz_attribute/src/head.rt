@@ -10,7 +10,7 @@ ghost use Rattle.bz_attribute.specs.Marks as marks;
 ghost use Rattle.bz_attribute.specs.RowPlaces.{ForRule};
 ghost use Rattle.bz_attribute.specs.Rules.{name_in};
 ghost use Rattle.bz_attribute.specs.Texts.{shown_text};
-ghost use Rattle.bz_attribute.specs.private.Ends as spec;
+ghost use Rattle.bz_attribute.specs.private.Parts as spec;
 ghost use Rattle.bz_command.specs.Values.{value_of};
 
 use crate::elements::{string_in, value_place};

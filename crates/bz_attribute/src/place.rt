@@ -4,7 +4,7 @@ ghost use Rattle.std.specs.Prelude.{◌≡◌, ◌≤◌, ℕ, List, false, map,
 ghost use Rattle.bz_tree.specs.Rows.{part_view};
 ghost use Rattle.bz_attribute.specs.Effects.{has};
 ghost use Rattle.bz_attribute.specs.RowPlaces.{ForRule, IsKindPlace, IsPlaceOf, IsPlaceOfAll, arguments_begin};
-ghost use Rattle.bz_attribute.specs.private.Ends as spec;
+ghost use Rattle.bz_attribute.specs.private.Parts as spec;
 
 use crate::finder::find_argument;
 use bz_tree::Part;

@@ -52,7 +52,10 @@ pub fn only_text<'n>(nodes: &'n [Node<'_>]) -> Option<&'n str>
     ensures { option_map (λ text. text.now) result ≡ spec.only_text (nodes_view nodes.now) }
 {
     match nodes {
-        [Node::Token(leaf)] if matches!(leaf.kind, Kind::String) => Some(leaf.text),
+        [node] => match node {
+            Node::Token(leaf) if matches!(leaf.kind, Kind::String) => Some(leaf.text),
+            _ => None,
+        },
         _ => None,
     }
 }

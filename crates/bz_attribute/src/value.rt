@@ -4,7 +4,7 @@ ghost use Rattle.std.specs.Prelude.{◌≡◌, ◌<◌, ◌≤◌, ◌∷◌, If
 ghost use Rattle.bz_tree.specs.Rows.{part_view, segment_end};
 ghost use Rattle.bz_attribute.specs.Elements.{ForValue, OnlyList};
 ghost use Rattle.bz_attribute.specs.Lists as lists;
-ghost use Rattle.bz_attribute.specs.private.ListParts as spec;
+ghost use Rattle.bz_attribute.specs.private.Parts as spec;
 
 use crate::elements::item_end;
 use crate::place::parts_len;

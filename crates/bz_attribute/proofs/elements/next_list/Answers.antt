@@ -3,7 +3,7 @@ use Rattle.std.proofs.lemmas.Bool.{false≢true}
 use Rattle.std.proofs.lemmas.List.{length-map}
 use Rattle.bz_tree.specs.Rows.{part_view}
 use Rattle.bz_attribute.specs.Elements.{IsListIn}
-use Rattle.bz_attribute.specs.private.Ends.{above_len}
+use Rattle.bz_attribute.specs.private.Parts.{above_len}
 use Rattle.bz_attribute.proofs.ListElements.{closed_there}
 use Rattle.bz_attribute.proofs.ListWalk.{none_as, some_as}
 use Rattle.bz_attribute.proofs.Slices.{rest_seen}

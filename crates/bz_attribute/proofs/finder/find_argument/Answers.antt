@@ -2,8 +2,7 @@ use Rattle.std.proofs.Common.{◌≡◌, ℕ, ◌+◌, List, Bool, map, drop, ap
 use Rattle.bz_tree.specs.Rows.{RowPart, part_view}
 use Rattle.bz_attribute.specs.RowPlaces.{before_args}
 use Rattle.bz_attribute.specs.Rules.{is_text}
-use Rattle.bz_attribute.specs.private.Ends.{above_len, flat_name, segment_len}
-use Rattle.bz_attribute.specs.private.ListParts.{ends_list}
+use Rattle.bz_attribute.specs.private.Parts.{above_len, ends_list, flat_name, segment_len}
 use Rattle.bz_attribute.proofs.ArgumentWalk.{never_past, none_named, none_passed, one_named, one_unnamed, rule_arguments}
 use Rattle.bz_attribute.proofs.Slices.{rest_seen}
 use Rattle.std.proofs.lemmas.List.{length-map}

@@ -6,6 +6,5 @@ use Rattle.bz_attribute.proofs.place.all_arguments.Goals as goal
 
 pub returns-clause-place : goal.returns-clause-place
 returns-clause-place c s r h =
-    let ps = map part_view c.args.parts.now in
     let begin = c.arguments_begin-from.ensures.begin in
-    place_all s r ps _ _ h begin (omega (arith, c.max-to.ensures, begin, c.arguments_end.ensures.end, all_ordered s r ps h))
+    place_all s r _ _ _ h begin (omega (arith, c.max-to.ensures, begin, c.arguments_end.ensures.end, all_ordered s r (map part_view c.args.parts.now) h))
