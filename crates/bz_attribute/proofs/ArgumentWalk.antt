@@ -72,9 +72,7 @@ pub one_named : (name : List ℕ) (ps : List RowPart) (at token : ℕ) → AreUn
 one_named name ps at token w is more same = λ before args h.
     let u = w before args h in
     let it = segment_there u.others h.end h.one_comma h.after ps at token (token + segment_len (drop token ps)) u.left is more refl in
-    let begins : token ≡ length (before ++ segs_parts (segs_of u.front)) + length (map above it.segment.before) =
-    omega (arith, it.begins, u.place, length-map it.segment.before above, length-append before (segs_parts (segs_of u.front))) in
-    record { front = u.front; arg = it.segment; back = it.others; are = u.are ∙ ap (λ (ss : List Segment). u.front ++ ss) it.are; none = u.none; is = sym (told name u.others _ ps at token _ it) ∙ same; begins = begins }
+    record { front = u.front; arg = it.segment; back = it.others; are = u.are ∙ ap (λ (ss : List Segment). u.front ++ ss) it.are; none = u.none; is = sym (told name u.others _ ps at token _ it) ∙ same; begins = omega (arith, it.begins, u.place, length-map it.segment.before above, length-append before (segs_parts (segs_of u.front))) }
 
 -- it has another
 pub one_unnamed : (name : List ℕ) (ps : List RowPart) (at token to : ℕ) → AreUnnamed name ps at → token ≡ at + above_len (drop at ps) → ends_list (drop token ps) ≡ false → is_text name (flat_name (drop token ps)) ≡ false

@@ -17,9 +17,8 @@ loop-at-init c = record {
 
 pub returns-then-ends_list-clause-first : goal.returns-then-ends_list-clause-first
 returns-then-ends_list-clause-first c =
-    let ps : List RowPart = map part_view c.args.parts.now in
     let at : ℕ = c.loop-at.at in
-    none_named c.args.name.now ps at (at + c.comments_len.result) c.loop-at.invariant.unnamed
+    none_named c.args.name.now _ at (at + c.comments_len.result) c.loop-at.invariant.unnamed
     (ap (λ (n : ℕ). at + n) (c.comments_len.ensures.len ∙ ap above_len (rest_seen c.args.parts.now at)))
     (ap ends_list (sym (rest_seen c.args.parts.now (at + c.comments_len.result))) ∙ sym c.ends_list.ensures ∙ c.if-ends_list.true)
 
