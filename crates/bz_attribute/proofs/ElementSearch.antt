@@ -7,7 +7,7 @@ use Rattle.bz_tree.specs.Tree.{Segment}
 use Rattle.bz_tree.specs.Rows.{RowPart}
 use Rattle.bz_attribute.specs.Elements.{IsFirstEqual, IsNextElement, ListRest, elements_left, rest_parts}
 use Rattle.bz_attribute.specs.Lists.{equals, same}
-use Rattle.bz_attribute.specs.private.ListParts.{HasSought}
+use Rattle.bz_attribute.specs.private.Parts.{HasSought}
 use Rattle.bz_attribute.proofs.LabelSets.{any_joined}
 use Rattle.bz_command.specs.Values.{value_of}
 use Rattle.bz_token.specs.Common.{map_or}

@@ -7,7 +7,7 @@ use Rattle.bz_tree.specs.declared.tree.GroupKind.TheVariants.{RuleCall}
 use Rattle.bz_tree.specs.Tree.{Items, no_items, item, leaf, group, Segment, Statement, items_of, segs_of}
 use Rattle.bz_tree.specs.Rows.{RowPart, part_view, opening, closing, segment_end, above, beside, beside_part, items_parts, segs_parts}
 use Rattle.bz_attribute.specs.Rules.{Rule}
-use Rattle.bz_attribute.specs.private.Ends.{arguments_end, besides, end_len, is_above, is_stop, parts_len, plain_len, segment_len}
+use Rattle.bz_attribute.specs.private.Parts.{arguments_end, besides, end_len, is_above, is_stop, parts_len, plain_len, segment_len}
 use Rattle.bz_attribute.proofs.Lengths.{nodes_ended}
 use Rattle.bz_attribute.specs.RowPlaces.{before_args}
 use Rattle.bz_attribute.proofs.RuleParts.{after_args}

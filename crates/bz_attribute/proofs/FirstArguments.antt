@@ -5,7 +5,7 @@ use Rattle.std.proofs.Math.Seq.{drop-append_seam}
 use Rattle.bz_tree.specs.Tree.{Segment, items_of, segs_of}
 use Rattle.bz_tree.specs.Rows.{RowPart, segment_end, above, beside_part, items_parts, segs_parts}
 use Rattle.bz_attribute.specs.RowPlaces.{IsFirstArgument, argument_parts}
-use Rattle.bz_attribute.specs.private.Ends.{above_len, end_len, flat_name, segment_len}
+use Rattle.bz_attribute.specs.private.Parts.{above_len, end_len, flat_name, segment_len}
 use Rattle.bz_attribute.proofs.EndsBack.{argument_long, no_beside_argument, segment_long}
 use Rattle.bz_attribute.proofs.FoundArgs.{named}
 use Rattle.bz_attribute.proofs.Lengths.{above_passed, no_more_above}

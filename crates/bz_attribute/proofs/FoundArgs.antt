@@ -6,16 +6,15 @@ use Rattle.bz_tree.specs.Tree.{Item, leaf, group, Segs, Segment, items_of, segs_
 use Rattle.bz_tree.specs.Rows.{RowPart, opening, closing, segment_end, above, beside_part, items_parts, segs_parts}
 use Rattle.bz_attribute.specs.Rules.{name_of, is_operator_item}
 use Rattle.bz_token.specs.declared.token.Kind.TheVariants.{Identifier, Operator}
-use Rattle.bz_attribute.specs.private.Ends.{flat_name}
+use Rattle.bz_attribute.specs.private.Parts.{flat_name}
 
-pub group_name : (k : GroupKind) (segs : Segs) (one_comma : Bool) (end : List (List ℕ)) (y : Item) (xs : List Item) → name_of (group k segs one_comma end ∷ y ∷ xs) ≡ None
-group_name k segs one_comma end y xs =
-    elim (is_operator_item (codes "=") y) as (λ b. (if◌then◌else◌ {A = Option (List ℕ)} b None None) ≡ None) [ true ↦ refl | false ↦ refl ]
-
--- the name of an argument is that of its parts
 no_name : (y : Item) → (if◌then◌else◌ {A = Option (List ℕ)} (is_operator_item (codes "=") y) None None) ≡ None
 no_name y = elim (is_operator_item (codes "=") y) as (λ b. (if◌then◌else◌ {A = Option (List ℕ)} b None None) ≡ None) [ true ↦ refl | false ↦ refl ]
 
+pub group_name : (k : GroupKind) (segs : Segs) (one_comma : Bool) (end : List (List ℕ)) (y : Item) (xs : List Item) → name_of (group k segs one_comma end ∷ y ∷ xs) ≡ None
+group_name k segs one_comma end y xs = no_name y
+
+-- the name of an argument is that of its parts
 pub named : (xs : List Item) (more : List RowPart) → flat_name (items_parts (items_of xs) ++ segment_end ∷ more) ≡ name_of xs
 named [] more = refl
 named (leaf Identifier text ∷ []) more = refl

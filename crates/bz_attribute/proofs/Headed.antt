@@ -10,7 +10,7 @@ use Rattle.bz_tree.specs.Tree.{Item, leaf, group, Segs, Statement, items_of, seg
 use Rattle.bz_tree.specs.Statement.{class_of, is_assign_operator, is_rule, is_rule_after, is_kept, is_load_word, is_call as is_call_kind, is_assign}
 use Rattle.bz_tree.specs.Rows.{RowPart, opening, closing, above, beside_part, item_parts, items_parts, segs_parts, parts_of}
 use Rattle.bz_attribute.specs.Rules.{Rule, rule_of, call_at, kind_text, dotted}
-use Rattle.bz_attribute.specs.private.Ends.{above_len, after_comments, after_tokens, opens_call, token_texts}
+use Rattle.bz_attribute.specs.private.Parts.{above_len, opens_call, token_texts, tokens_len}
 use Rattle.bz_attribute.proofs.Calls.{rule_from_end, no_call, is_rule_call}
 use Rattle.bz_attribute.proofs.RuleNodes.{rule_nodes}
 use Rattle.bz_attribute.proofs.Lengths.{above_passed, none_above}
@@ -109,6 +109,14 @@ texts_joined : (kind : List Item) (k : GroupKind) (rest : List RowPart) → AreT
 texts_joined [] k rest h = refl
 texts_joined (leaf kind text ∷ xs) k rest h = ap (λ (ts : List ℕ). text ++ ts) (texts_joined xs k rest h)
 texts_joined (group l segs one_comma end ∷ xs) k rest h = absurd h
+
+-- the parts after the comments above them
+abbrev pub after_comments : List RowPart → List RowPart
+after_comments ps = drop (above_len ps) ps
+
+-- the parts after the tokens with which they begin
+abbrev pub after_tokens : List RowPart → List RowPart
+after_tokens ps = drop (tokens_len ps) ps
 
 comments_dropped : (texts : List (List ℕ)) (kind : List Item) (k : GroupKind) (rest : List RowPart) → after_comments (map above texts ++ (items_parts (items_of kind) ++ opening k ∷ rest)) ≡ items_parts (items_of kind) ++ opening k ∷ rest
 comments_dropped texts kind k rest =

@@ -11,8 +11,7 @@ use Rattle.bz_tree.specs.Tree.{Item, leaf, group, Segs, items_of, segs_of, segme
 use Rattle.bz_tree.specs.Rows.{RowPart, part_view, a_token, opening, closing, segment_end, above, item_parts, items_parts, segs_parts}
 use Rattle.bz_attribute.specs.Elements.{ListRest, rest_parts, value_parts}
 use Rattle.bz_attribute.specs.Lists as lists
-use Rattle.bz_attribute.specs.private.Ends.{parts_len}
-use Rattle.bz_attribute.specs.private.ListParts.{is_end, ItemEnds, ends_piece, is_joint, is_open, is_plus, opens_list}
+use Rattle.bz_attribute.specs.private.Parts.{ItemEnds, ends_piece, is_end, is_joint, is_open, is_plus, opens_list, parts_len}
 use Rattle.bz_attribute.proofs.Lengths.{segs_ended}
 use Rattle.bz_tree.proofs.Rows.FromParts.{segs_back}
 

@@ -8,7 +8,7 @@ use Rattle.bz_tree.specs.Rows.{RowPart, opening, above, items_parts, segs_parts,
 use Rattle.bz_attribute.specs.RowPlaces.{IsKindPlace, IsRuleRow}
 use Rattle.bz_attribute.specs.Rules.{Rule}
 use Rattle.bz_attribute.specs.Effects.{nodes_of}
-use Rattle.bz_attribute.specs.private.Ends.{above_len, tokens_len}
+use Rattle.bz_attribute.specs.private.Parts.{above_len, tokens_len}
 use Rattle.bz_attribute.proofs.Lengths.{above_passed, none_above}
 use Rattle.bz_attribute.proofs.RuleNodes.{rule_nodes}
 use Rattle.bz_attribute.proofs.RuleParts.{after_args, parts_cut, rule_dotted, tokens, tokens_long}

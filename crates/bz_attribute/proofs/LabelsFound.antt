@@ -20,8 +20,7 @@ use Rattle.bz_token.specs.Common.{map_or}
 
 -- a value that is kept is the same label as the text
 abbrev is_kept : Package → List ℕ → Option (List ℕ) → Bool
-is_kept home text None = false
-is_kept home text (Some value) = same home value text
+is_kept home text value = map_or false (λ v. same home v text) value
 
 abbrev chosen_value : Package → Moved → Option (List ℕ) → Bool
 chosen_value home All value = true

@@ -3,7 +3,7 @@ use Rattle.std.proofs.Common.{◌≡◌, ℕ, zero, suc, ◌+◌, List, [], ◌�
 use Rattle.bz_tree.specs.declared.tree.GroupKind.{GroupKind}
 use Rattle.bz_tree.specs.Tree.{Item, leaf, group, Items, no_items, item, Segs, no_segs, seg, items_of}
 use Rattle.bz_tree.specs.Rows.{RowPart, opening, closing, segment_end, above, beside_part, item_parts, items_parts, segs_parts}
-use Rattle.bz_attribute.specs.private.Ends.{above_len, parts_len}
+use Rattle.bz_attribute.specs.private.Parts.{above_len, parts_len}
 
 abbrev IsPassed : Bool → ℕ → ℕ → List RowPart → List RowPart → Type 0
 IsPassed b d e ps rest = parts_len b d (ps ++ rest) ≡ length ps + parts_len b e rest

@@ -13,8 +13,7 @@ use Rattle.bz_attribute.specs.Effects.{edit_first, has, with_args, nodes_after, 
 use Rattle.bz_attribute.specs.Lists.{with_value}
 use Rattle.bz_attribute.specs.RowPlaces.{IsArgumentAt, IsRuleRow}
 use Rattle.bz_attribute.specs.Rules.{Rule, first_named, is_named, is_text, name_in, name_of, only_text, string_value, value}
-use Rattle.bz_attribute.specs.private.Ends.{above_len, end_len, parts_len, plain_len, segment_len}
-use Rattle.bz_attribute.specs.private.ListParts.{bare_string, ends_list, string_in}
+use Rattle.bz_attribute.specs.private.Parts.{above_len, bare_string, end_len, ends_list, parts_len, plain_len, segment_len, string_in}
 use Rattle.bz_command.specs.Values.{value_of}
 use Rattle.bz_attribute.proofs.EditedAt.{edited_at, first_at, none_first, segs_join}
 use Rattle.bz_attribute.proofs.EndsBack.{argument_long, plain_elements, no_beside_argument, no_beside_end, segment_long}
@@ -84,40 +83,36 @@ text_told (leaf String text ∷ group k segs one_comma end ∷ xs) qs = refl
 text_told (leaf _ text ∷ xs) qs = refl
 text_told (group kind segs one_comma end ∷ xs) qs = refl
 
-element_of : (s : Segment) (ss : List Segment) (end : List (List ℕ)) (one_comma : Bool) (items : List Item) (after ps : List RowPart) (at token to : ℕ) (string : Option (List ℕ))
-    → drop at ps ≡ segs_parts (segs_of (s ∷ ss)) ++ tail end one_comma items after → token ≡ at + above_len (drop at ps) → to ≡ token + segment_len (drop token ps) → string ≡ string_in (drop token ps)
-    → IsElementOf (record { elements = s ∷ ss; end = end; one_comma = one_comma; items = items }) after ps at token to string
-element_of s ss end one_comma items after ps at token to string read is to_is string_is =
-    let last : List RowPart = tail end one_comma items after in
+-- the segment that begins at a place: its nodes, its end, and what is left
+pub record IsSegmentAt (ss : List Segment) (last ps : List RowPart) (at token to : ℕ) : Type 0 where
+  pub segment : Segment
+  pub others : List Segment
+  pub are : ss ≡ segment ∷ others
+  pub begins : token ≡ at + length segment.before
+  pub nodes : drop token ps ≡ items_parts (items_of segment.nodes) ++ segment_end ∷ (beside_part segment.suffix ++ (segs_parts (segs_of others) ++ last))
+  pub ends : to ≡ at + length (segs_parts (segs_of (segment ∷ [])))
+  pub own : drop at ps ≡ segs_parts (segs_of (segment ∷ [])) ++ drop to ps
+  pub left : drop to ps ≡ segs_parts (segs_of others) ++ last
+
+pub segment_there : (ss : List Segment) (end : List (List ℕ)) (one_comma : Bool) (after ps : List RowPart) (at token to : ℕ) → drop at ps ≡ segs_parts (segs_of ss) ++ (map above end ++ closing one_comma ∷ after)
+    → token ≡ at + above_len (drop at ps) → ends_list (drop token ps) ≡ false → to ≡ token + segment_len (drop token ps) → IsSegmentAt ss (map above end ++ closing one_comma ∷ after) ps at token to
+segment_there [] end one_comma after ps at token to read is more to_is = absurd (false≢true (sym more ∙ ap ends_list (at_close end one_comma after ps at token read is)))
+segment_there (s ∷ ss) end one_comma after ps at token to read is more to_is =
+    let last : List RowPart = map above end ++ closing one_comma ∷ after in
     let own : List RowPart = segs_parts (segs_of (s ∷ [])) in
     let n = at_nodes s ss last ps at token read is in
     let long : segment_len (drop token ps) ≡ length (items_parts (items_of s.nodes)) + (1 + length (beside_part s.suffix)) =
-    ap segment_len n.read ∙ segment_long s (segs_parts (segs_of ss) ++ last) (beside_none ss end one_comma (value_parts items after)) in
-    let both : segs_parts (segs_of (s ∷ ss)) ≡ own ++ segs_parts (segs_of ss) = segs_join (s ∷ []) ss in
-    let cut : drop at ps ≡ own ++ (segs_parts (segs_of ss) ++ last) = read ∙ ap (λ (qs : List RowPart). qs ++ last) both ∙ append_assoc own (segs_parts (segs_of ss)) last in
+    ap segment_len n.read ∙ segment_long s (segs_parts (segs_of ss) ++ last) (beside_none ss end one_comma after) in
+    let cut : drop at ps ≡ own ++ (segs_parts (segs_of ss) ++ last) = read ∙ ap (λ (qs : List RowPart). qs ++ last) (segs_join (s ∷ []) ss) ∙ append_assoc own (segs_parts (segs_of ss)) last in
     let place : to ≡ at + length own = omega (arith, to_is, long, argument_long s, length-map s.before above, n.begins) in
-    let after_it : drop to ps ≡ segs_parts (segs_of ss) ++ last = ap (λ (k : ℕ). drop k ps) place ∙ sym (drop-drop (length own) at ps) ∙ ap (drop (length own)) cut ∙ drop-append_seam own (segs_parts (segs_of ss) ++ last) in
-    record {
-      element = s;
-      others = ss;
-      are = refl;
-      begins = n.begins;
-      ends = place;
-      own = cut ∙ ap (λ (qs : List RowPart). own ++ qs) (sym after_it);
-      read = after_it;
-      text = string_is ∙ ap string_in n.read ∙ text_told s.nodes (beside_part s.suffix ++ (segs_parts (segs_of ss) ++ last));
-    }
-
-element_in : (ss : List Segment) (end : List (List ℕ)) (one_comma : Bool) (items : List Item) (after ps : List RowPart) (at token to : ℕ) (string : Option (List ℕ))
-    → drop at ps ≡ segs_parts (segs_of ss) ++ tail end one_comma items after → token ≡ at + above_len (drop at ps) → ends_list (drop token ps) ≡ false → to ≡ token + segment_len (drop token ps) → string ≡ string_in (drop token ps)
-    → IsElementOf (record { elements = ss; end = end; one_comma = one_comma; items = items }) after ps at token to string
-element_in [] end one_comma items after ps at token to string read is more to_is string_is =
-    absurd (false≢true (sym more ∙ ap ends_list (at_close end one_comma (value_parts items after) ps at token read is)))
-element_in (s ∷ ss) end one_comma items after ps at token to string read is more to_is string_is = element_of s ss end one_comma items after ps at token to string read is to_is string_is
+    let left : drop to ps ≡ segs_parts (segs_of ss) ++ last = ap (λ (k : ℕ). drop k ps) place ∙ sym (drop-drop (length own) at ps) ∙ ap (drop (length own)) cut ∙ drop-append_seam own (segs_parts (segs_of ss) ++ last) in
+    record { segment = s; others = ss; are = refl; begins = n.begins; nodes = n.read; ends = place; own = cut ∙ ap (λ (qs : List RowPart). own ++ qs) (sym left); left = left }
 
 pub element_there : (rest : ListRest) (after ps : List RowPart) (at token to : ℕ) (string : Option (List ℕ)) → drop at ps ≡ rest_parts rest after → token ≡ at + above_len (drop at ps) → ends_list (drop token ps) ≡ false
     → to ≡ token + segment_len (drop token ps) → string ≡ string_in (drop token ps) → IsElementOf rest after ps at token to string
-element_there rest after ps at token to string read is more to_is string_is = element_in rest.elements rest.end rest.one_comma rest.items after ps at token to string read is more to_is string_is
+element_there rest after ps at token to string read is more to_is string_is =
+    let e = segment_there rest.elements rest.end rest.one_comma (value_parts rest.items after) ps at token to read is more to_is in
+    record { element = e.segment; others = e.others; are = e.are; begins = e.begins; ends = e.ends; own = e.own; read = e.left; text = string_is ∙ ap string_in e.nodes ∙ text_told e.segment.nodes (beside_part e.segment.suffix ++ (segs_parts (segs_of e.others) ++ tail rest.end rest.one_comma rest.items after)) }
 
 -- the element that begins at a place in a list part ends there
 abbrev pub HasElement : List RowPart → ℕ → ℕ → ℕ → Option (List ℕ) → Type 0

@@ -10,7 +10,7 @@ use Rattle.bz_attribute.specs.Effects.{edit_first, edit_element_from}
 use Rattle.bz_attribute.specs.Elements.{HasNoList, IsListIn, ListRest, edit_element_in, edit_in, edit_one_in, found_rest, list_item, lists_in, value_parts}
 use Rattle.bz_attribute.specs.Lists.{edit_from, edit_list, edit_one_from, is_list, parts_from}
 use Rattle.bz_attribute.specs.Lists as lists
-use Rattle.bz_attribute.specs.private.ListParts.{is_end, ItemEnds, ends_piece, is_joint, is_plus, opens_list}
+use Rattle.bz_attribute.specs.private.Parts.{is_end, ItemEnds, ends_piece, is_joint, is_plus, opens_list}
 use Rattle.bz_attribute.proofs.ItemParts.{item_at, none_after, none_at, opened, piece_told, rest_of}
 use Rattle.bz_tree.proofs.Rows.FromParts.{segs_back}
 

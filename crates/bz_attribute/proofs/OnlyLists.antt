@@ -10,8 +10,7 @@ use Rattle.bz_tree.specs.Tree.{Item, leaf, group, Segs, items_of}
 use Rattle.bz_tree.specs.Rows.{RowPart, part_view, segment_end, item_parts, items_parts}
 use Rattle.bz_attribute.specs.Elements.{IsOnlyList, value_parts}
 use Rattle.bz_attribute.specs.Lists.{is_list, is_only}
-use Rattle.bz_attribute.specs.private.Ends.{parts_len}
-use Rattle.bz_attribute.specs.private.ListParts.{ItemEnds, begins_list, ends_value}
+use Rattle.bz_attribute.specs.private.Parts.{ItemEnds, begins_list, ends_value, parts_len}
 use Rattle.bz_attribute.proofs.ItemParts.{opened, rest_of}
 use Rattle.bz_attribute.proofs.Lengths.{nodes_ended}
 use Rattle.bz_tree.proofs.Rows.FromParts.{listed_back, nodes_back, segs_back}

@@ -9,8 +9,8 @@ use Rattle.bz_tree.specs.Tree.{Item, leaf, group, Segment, Statement, items_of, 
 use Rattle.bz_tree.specs.Rows.{RowPart, opening, segment_end, above, beside_part, items_parts, segs_parts, parts_of}
 use Rattle.bz_attribute.specs.Rules.{Rule, rule_of, is_named, first_named, dotted}
 use Rattle.bz_attribute.specs.Effects.{edit_first, has, with_args, nodes_after, nodes_of}
-use Rattle.bz_attribute.specs.RowPlaces.{alone, before_args, IsArgumentAt, IsLocal, IsPlaceOf, IsPlaceOfAll, IsRuleRow}
-use Rattle.bz_attribute.specs.private.Ends.{arguments_begin, arguments_end, plain_len, segment_len}
+use Rattle.bz_attribute.specs.RowPlaces.{alone, arguments_begin, before_args, IsArgumentAt, IsLocal, IsPlaceOf, IsPlaceOfAll, IsRuleRow}
+use Rattle.bz_attribute.specs.private.Parts.{arguments_end, plain_len, segment_len}
 use Rattle.bz_attribute.proofs.RuleNodes.{rule_nodes}
 use Rattle.bz_attribute.proofs.EditedAt.{edited_at, first_at, none_first, segs_join}
 use Rattle.bz_attribute.proofs.EndsBack.{argument_long, args_end, comments_at, end_alone, segment_long}

@@ -9,7 +9,7 @@ use Rattle.bz_tree.specs.Rows.{RowPart, a_token, opening, closing, above, beside
 use Rattle.bz_attribute.specs.Rules.{Rule, rule_of, rule_from, call_at, dotted}
 use Rattle.bz_attribute.specs.Effects.{nodes_of}
 use Rattle.bz_attribute.specs.RowPlaces.{before_args}
-use Rattle.bz_attribute.specs.private.Ends.{tokens_len}
+use Rattle.bz_attribute.specs.private.Parts.{tokens_len}
 
 abbrev pub after_args : Statement → Rule → List RowPart
 after_args s r = (map above r.end ++ closing r.one_comma ∷ []) ++ beside_part s.suffix

@@ -64,7 +64,7 @@ edited_list f l after ps at to none read n =
     ∙ ap (λ (xs : List Item). map above l.end ++ closing l.one_comma ∷ value_parts xs after) (n.edit (flat_map f)) ∙ ended l.end l.one_comma n.front (edited_rest (flat_map f) n.list) after)
 
 abbrev HasNext : List RowPart → ℕ → ℕ → Type 0
-HasNext ps end from = (rest : ListRest) (after : List RowPart) → rest.elements ≡ [] → drop end ps ≡ rest_parts rest after → IsListIn false rest.items after ps (end + length rest.end + 1) from
+HasNext ps end from = (rest : ListRest) (after : List RowPart) → drop end ps ≡ rest_parts rest after → rest.elements ≡ [] → IsListIn false rest.items after ps (end + length rest.end + 1) from
 
 next_left : (l m : ListRest) (lists : List (List Segment)) → l.elements ≡ [] → parts_from false l.items ≡ m.elements ∷ parts_from false m.items → elements_left l ≡ elements_left m
 next_left l m lists none are = (λ i. none i ++ flat_map (λ ss. ss) (are i))
@@ -72,7 +72,7 @@ next_left l m lists none are = (λ i. none i ++ flat_map (λ ss. ss) (are i))
 pub next_emptied : (ps : List RowPart) (at end from : ℕ) → HasEmptied ps at end → HasNext ps end from → ((rest : ListRest) (after : List RowPart) → drop from ps ≡ rest_parts rest after → rest.elements ≡ []) → HasEmptied ps at from
 next_emptied ps at end from emptied next none = λ l after read.
     let m = emptied l after read in
-    let n = next m.left after m.none m.read in
+    let n = next m.left after m.read m.none in
     record {
       left = n.list;
       none = none n.list after n.read;
@@ -165,7 +165,7 @@ pub next_later : (ps : List RowPart) (at end list from token to : ℕ) (string :
     → IsNextElement l after ps at from token to string
 next_later ps at end list from token to string l after order begins emptied next element read =
     let m = emptied l after read in
-    let n = next m.left after m.none m.read in
+    let n = next m.left after m.read m.none in
     let e = element_next n.list after ps list from token to string begins n.read (element n.list after n.read) in
     let found : (p : Segment → Bool) (f : Segment → Segment) → take at ps ++ rest_parts (found_rest p f l) after ≡ take list ps ++ rest_parts (found_rest p f n.list) after =
     λ p f. m.found p f ∙ found_list p f m.left after ps end list m.none m.read n in

@@ -13,6 +13,10 @@ use Rattle.bz_attribute.specs.Effects.{edit_first, with_args, edit_element, edit
 abbrev pub value_parts : List Item → List RowPart → List RowPart
 value_parts nodes after = items_parts (items_of nodes) ++ segment_end ∷ after
 
+-- of each value that stands there, and the parts after it
+abbrev pub ForValue : List RowPart → ℕ → (List Item → List RowPart → List RowPart → Type 0) → Type 0
+ForValue ps at P = (nodes : List Item) (after : List RowPart) → drop at ps ≡ value_parts nodes after → P nodes after ps
+
 -- the value of the first argument of a name stands there
 pub record IsValueAt (name : List ℕ) (s : Statement) (r : Rule) (ps : List RowPart) (at : ℕ) : Type 0 where
   pub arg : Segment
@@ -38,22 +42,22 @@ list_item l = group ListKind (segs_of l.elements) l.one_comma l.end
 abbrev pub rest_parts : ListRest → List RowPart → List RowPart
 rest_parts l after = segs_parts (segs_of l.elements) ++ (map above l.end ++ closing l.one_comma ∷ value_parts l.items after)
 
+-- of each rest of a value that stands there, and the parts after it
+abbrev pub ForRest : List RowPart → ℕ → (ListRest → List RowPart → List RowPart → Type 0) → Type 0
+ForRest ps at P = (rest : ListRest) (after : List RowPart) → drop at ps ≡ rest_parts rest after → P rest after ps
+
 -- The elements of each list part of a value (`whole`), or of what comes after a list part of it.
 abbrev pub lists_in : Bool → List Item → List (List Segment)
-lists_in true nodes = parts nodes
-lists_in false nodes = parts_from false nodes
+lists_in whole nodes = if whole then parts nodes else parts_from false nodes
 
 abbrev pub edit_in : Bool → (List Segment → List Segment) → List Item → List Item
-edit_in true f nodes = edit_parts f nodes
-edit_in false f nodes = edit_from f false nodes
+edit_in whole f nodes = if whole then edit_parts f nodes else edit_from f false nodes
 
 abbrev pub edit_one_in : Bool → (List Segment → List Segment) → List Item → List Item
-edit_one_in true f nodes = edit_first_part f nodes
-edit_one_in false f nodes = edit_one_from f false nodes
+edit_one_in whole f nodes = if whole then edit_first_part f nodes else edit_one_from f false nodes
 
 abbrev pub edit_element_in : Bool → (Segment → Bool) → (Segment → Segment) → List Item → List Item
-edit_element_in true p f nodes = edit_element p f nodes
-edit_element_in false p f nodes = edit_element_from p f false nodes
+edit_element_in whole p f nodes = if whole then edit_element p f nodes else edit_element_from p f false nodes
 
 -- what is left of a value, where its first element that passes is edited
 abbrev pub found_rest : (Segment → Bool) → (Segment → Segment) → ListRest → ListRest

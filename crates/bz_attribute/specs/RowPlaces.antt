@@ -1,8 +1,8 @@
 -- Where the kind and the arguments of a rule stand among its parts, and what becomes of the rule where others are written there.
-use Rattle.std.specs.Prelude.{◌≡◌, ℕ, ◌+◌, ◌-◌, ◌≤◌, List, [], ◌∷◌, ◌++◌, Option, None, Some, true, false, length, map, take, drop, option_to_list}
+use Rattle.std.specs.Prelude.{◌≡◌, ℕ, suc, Bool, ◌+◌, ◌-◌, ◌≤◌, List, [], ◌∷◌, ◌++◌, Option, None, Some, true, false, length, map, take, drop, option_to_list}
 use Rattle.bz_tree.specs.declared.tree.GroupKind.TheVariants.{RuleCall}
 use Rattle.bz_tree.specs.Tree.{Item, Segment, Statement, items_of, segs_of}
-use Rattle.bz_tree.specs.Rows.{RowPart, above, beside_part, items_parts, opening, parts_of, segment_end, segs_parts}
+use Rattle.bz_tree.specs.Rows.{RowPart, above, beside_part, closing, items_parts, opening, parts_of, segment_end, segs_parts}
 use Rattle.bz_attribute.specs.Rules.{Rule, rule_of, first_named, is_named, name_of}
 use Rattle.bz_attribute.specs.Effects.{edit_first, has, nodes_of, with_args}
 
@@ -11,24 +11,48 @@ pub record IsRuleRow (s : Statement) (r : Rule) (ps : List RowPart) : Type 0 whe
   pub are : ps ≡ parts_of s
   pub rule : rule_of s.nodes ≡ Some r
 
+-- of each rule that has these parts
+abbrev pub ForRule : List RowPart → (Statement → Rule → List RowPart → Type 0) → Type 0
+ForRule ps P = (s : Statement) (r : Rule) → IsRuleRow s r ps → P s r ps
+
 -- the parts before the arguments
 abbrev pub before_args : Statement → Rule → List RowPart
 before_args s r = map above s.before ++ (items_parts (items_of r.kind) ++ opening RuleCall ∷ [])
 
--- the nodes of the first argument of a name begin there
-pub record IsArgumentAt (name : List ℕ) (s : Statement) (r : Rule) (at : ℕ) : Type 0 where
+-- the nodes of the first argument of a name begin there, where the arguments come after other parts
+pub record IsArgumentAmong (name : List ℕ) (before : List RowPart) (args : List Segment) (at : ℕ) : Type 0 where
   pub front : List Segment
   pub arg : Segment
   pub back : List Segment
-  pub are : r.args ≡ front ++ arg ∷ back
+  pub are : args ≡ front ++ arg ∷ back
   pub none : has name front ≡ false
   pub is : is_named name arg ≡ true
-  pub begins : at ≡ length (before_args s r ++ segs_parts (segs_of front)) + length (map above arg.before)
+  pub begins : at ≡ length (before ++ segs_parts (segs_of front)) + length (map above arg.before)
 
 -- there may be none
+abbrev pub HasArgumentAmong : List ℕ → List RowPart → List Segment → Option ℕ → Type 0
+HasArgumentAmong name before args None = has name args ≡ false
+HasArgumentAmong name before args (Some at) = IsArgumentAmong name before args at
+
+abbrev pub IsArgumentAt : List ℕ → Statement → Rule → ℕ → Type 0
+IsArgumentAt name s r at = IsArgumentAmong name (before_args s r) r.args at
+
 abbrev pub HasArgument : List ℕ → Statement → Rule → Option ℕ → Type 0
-HasArgument name s r None = has name r.args ≡ false
-HasArgument name s r (Some at) = IsArgumentAt name s r at
+HasArgument name s r found = HasArgumentAmong name (before_args s r) r.args found
+
+-- how many parts there are up to the first bracket that opens, with it
+abbrev pub arguments_begin : List RowPart → ℕ
+arguments_begin [] = 0
+arguments_begin (opening kind ∷ ps) = 1
+arguments_begin (p ∷ ps) = suc (arguments_begin ps)
+
+-- what stands in that bracket, and the parts before
+pub record AreArguments (before : List RowPart) (args : List Segment) (ps : List RowPart) : Type 0 where
+  pub end : List (List ℕ)
+  pub one_comma : Bool
+  pub after : List RowPart
+  pub are : ps ≡ before ++ (segs_parts (segs_of args) ++ (map above end ++ closing one_comma ∷ after))
+  pub begin : length before ≡ arguments_begin ps
 
 -- An edit of arguments that looks at the first one of a name alone: others stay, and what is new where none has the name comes after all.
 pub record IsLocal (name : List ℕ) (f : List Segment → List Segment) : Type 0 where

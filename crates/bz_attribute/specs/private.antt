@@ -1,3 +1,2 @@
 pub mod ElementSets
-pub mod Ends
-pub mod ListParts
+pub mod Parts

@@ -6,8 +6,7 @@ ghost use Rattle.bz_attribute.specs.Effects as effects;
 use crate::done::Done;
 use crate::place::Place;
 
-/// What a command makes of the parts of a rule: where `done.changed`, those of the place make way for the ones that it
-/// wrote.
+/// Where `done.changed`, the parts of a rule at the place make way for those that the command wrote.
 #[derive(Drop)]
 pub struct Edit {
     pub done: Done,

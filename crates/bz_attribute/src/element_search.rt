@@ -1,11 +1,11 @@
 //! The first element of a value that equals a word.
 
-ghost use Rattle.std.specs.Prelude.{◌≡◌, ◌≤◌, List, false, drop, map, length, option_map, IfNone, IfSome, option_and_then};
+ghost use Rattle.std.specs.Prelude.{◌≡◌, ◌≤◌, false, map, length, option_map, IfNone, IfSome, option_and_then};
 ghost use Rattle.std.specs.List.{list_any};
-ghost use Rattle.bz_tree.specs.Rows.{RowPart, part_view};
-ghost use Rattle.bz_attribute.specs.Elements.{IsFirstEqual, ListRest, elements_left, rest_parts};
+ghost use Rattle.bz_tree.specs.Rows.{part_view};
+ghost use Rattle.bz_attribute.specs.Elements.{ForRest, IsFirstEqual, elements_left};
 ghost use Rattle.bz_attribute.specs.Lists.{equals, same};
-ghost use Rattle.bz_attribute.specs.private.ListParts.{HasSought};
+ghost use Rattle.bz_attribute.specs.private.Parts.{HasSought};
 ghost use Rattle.bz_command.specs.Labels as labels;
 ghost use Rattle.bz_command.specs.Values.{value_of};
 ghost use Rattle.bz_token.specs.Common.{map_or};
@@ -36,12 +36,10 @@ fn pass_apart(word: &str, parts: &[Part<'_>], from: usize) -> usize
 /// Where the nodes of the first element of a value begin that equals a word, from a place in a list part of it on.
 pub fn first_equal(home: &Package, word: &str, parts: &[Part<'_>], from: usize) -> Option<usize>
     requires { from ≤ length parts.now }
-    ensures some { IfSome result (λ at. (rest : ListRest) (after : List RowPart)
-        → drop from (map part_view parts.now) ≡ rest_parts rest after
-        → IsFirstEqual home.now word.now rest after (map part_view parts.now) from at) }
-    ensures none { IfNone result ((rest : ListRest) (after : List RowPart)
-        → drop from (map part_view parts.now) ≡ rest_parts rest after
-        → list_any (equals home.now word.now) (elements_left rest) ≡ false) }
+    ensures some { IfSome result (λ at. ForRest (map part_view parts.now) from
+        (λ rest after ps. IsFirstEqual home.now word.now rest after ps from at)) }
+    ensures none { IfNone result (ForRest (map part_view parts.now) from
+        (λ rest after ps. list_any (equals home.now word.now) (elements_left rest) ≡ false)) }
     ensures within { IfSome result (λ at. at ≤ length parts.now) }
 {
     // Most elements are passed at once.
@@ -58,8 +56,5 @@ pub fn first_equal(home: &Package, word: &str, parts: &[Part<'_>], from: usize) 
 fn is_word(home: &Package, word: &str, string: Option<&str>) -> bool
     ensures { result ≡ map_or false (λ value. same home.now value word.now) (option_and_then value_of (option_map (λ text. text.now) string.entry)) }
 {
-    match string {
-        None => false,
-        Some(text) => text_equals(home, text, word),
-    }
+    string.is_some_and(|text| text_equals(home, text, word))
 }

@@ -1,15 +1,12 @@
 //! The list parts of a value and the elements of each, walked over among the parts of a rule: no tree and no memory.
-//! The commands on lists call these (bz_list_commands), and `set` and `comment` (bz_attribute_commands).
 
-ghost use Rattle.std.specs.Prelude.{◌≡◌, ◌≤◌, ◌<◌, ◌+◌, List, [], ◌&&◌, ◌||◌, true, false, drop, map, length, option_map, IfNone, IfSome};
+ghost use Rattle.std.specs.Prelude.{◌≡◌, ◌≤◌, ◌<◌, ◌+◌, [], ◌&&◌, ◌||◌, true, false, map, length, option_map, IfNone, IfSome};
 ghost use Rattle.std.specs.List.{list_all};
-ghost use Rattle.bz_tree.specs.Tree.{Item, Statement};
-ghost use Rattle.bz_tree.specs.Rows.{RowPart, part_view};
-ghost use Rattle.bz_attribute.specs.Elements.{AreElementsTo, HasNoList, IsElementOf, IsListIn, IsNextElement, IsValueAt, ListRest, elements_left, rest_parts, value_parts};
+ghost use Rattle.bz_tree.specs.Rows.{part_view};
+ghost use Rattle.bz_attribute.specs.Elements.{AreElementsTo, ForRest, ForValue, HasNoList, IsElementOf, IsListIn, IsNextElement, IsValueAt, elements_left};
 ghost use Rattle.bz_attribute.specs.Effects.{has};
-ghost use Rattle.bz_attribute.specs.Rules.{Rule};
-ghost use Rattle.bz_attribute.specs.RowPlaces.{IsRuleRow};
-ghost use Rattle.bz_attribute.specs.private.ListParts as spec;
+ghost use Rattle.bz_attribute.specs.RowPlaces.{ForRule};
+ghost use Rattle.bz_attribute.specs.private.Parts as spec;
 ghost use Rattle.bz_attribute.specs.Lists as lists;
 
 use crate::finder::find_argument;
@@ -32,10 +29,8 @@ pub struct Element<'a> {
 
 /// Where the value of the first argument of a name begins.
 pub fn value_place(parts: &[Part<'_>], name: &str) -> Option<usize>
-    ensures some { IfSome result (λ at. (s : Statement) (r : Rule) → IsRuleRow s r (map part_view parts.now)
-        → IsValueAt name.now s r (map part_view parts.now) at) }
-    ensures none { IfNone result ((s : Statement) (r : Rule) → IsRuleRow s r (map part_view parts.now)
-        → has name.now r.args ≡ false) }
+    ensures some { IfSome result (λ at. ForRule (map part_view parts.now) (λ s r ps. IsValueAt name.now s r ps at)) }
+    ensures none { IfNone result (ForRule (map part_view parts.now) (λ s r ps. has name.now r.args ≡ false)) }
     ensures within { IfSome result (λ at. at ≤ length parts.now) }
 {
     let at = find_argument(parts, name)?;
@@ -109,8 +104,7 @@ fn ends_piece(parts: &[Part<'_>]) -> bool
 #[tactic(auto, using(crate::proofs::ListWalk::all_joints, crate::proofs::ListWalk::joints_pass, crate::proofs::ListWalk::no_joint))]
 fn are_joints(parts: &[Part<'_>], from: usize) -> bool
     requires { from ≤ length parts.now }
-    ensures { (nodes : List Item) (after : List RowPart)
-        → drop from (map part_view parts.now) ≡ value_parts nodes after → result ≡ list_all lists.is_joint nodes }
+    ensures { ForValue (map part_view parts.now) from (λ nodes after ps. result ≡ list_all lists.is_joint nodes) }
 {
     let mut at = from;
     while at < parts.len() && !is_end(&parts[at]) {
@@ -126,13 +120,10 @@ fn are_joints(parts: &[Part<'_>], from: usize) -> bool
 // a list part of it.
 fn list_from(parts: &[Part<'_>], from: usize, whole: bool) -> Option<usize>
     requires { from ≤ length parts.now }
-    ensures some { IfSome result (λ to. (nodes : List Item) (after : List RowPart)
-        → drop from (map part_view parts.now) ≡ value_parts nodes after
-        → (whole ≡ true → list_all lists.is_joint nodes ≡ true)
-        → IsListIn whole nodes after (map part_view parts.now) from to) }
-    ensures none { IfNone result ((nodes : List Item) (after : List RowPart)
-        → drop from (map part_view parts.now) ≡ value_parts nodes after
-        → (whole ≡ true → list_all lists.is_joint nodes ≡ true) → HasNoList whole nodes) }
+    ensures some { IfSome result (λ to. ForValue (map part_view parts.now) from (λ nodes after ps.
+        (whole ≡ true → list_all lists.is_joint nodes ≡ true) → IsListIn whole nodes after ps from to)) }
+    ensures none { IfNone result (ForValue (map part_view parts.now) from (λ nodes after ps.
+        (whole ≡ true → list_all lists.is_joint nodes ≡ true) → HasNoList whole nodes)) }
     ensures within { IfSome result (λ to. (from < to) × (to ≤ length parts.now)) }
 {
     let mut at = from;
@@ -151,11 +142,9 @@ fn list_from(parts: &[Part<'_>], from: usize, whole: bool) -> Option<usize>
 /// Where the elements of the first list part of a value begin.
 pub fn first_list(parts: &[Part<'_>], value: usize) -> Option<usize>
     requires { value ≤ length parts.now }
-    ensures some { IfSome result (λ to. (nodes : List Item) (after : List RowPart)
-        → drop value (map part_view parts.now) ≡ value_parts nodes after
-        → IsListIn true nodes after (map part_view parts.now) value to) }
-    ensures none { IfNone result ((nodes : List Item) (after : List RowPart)
-        → drop value (map part_view parts.now) ≡ value_parts nodes after → HasNoList true nodes) }
+    ensures some { IfSome result (λ to. ForValue (map part_view parts.now) value
+        (λ nodes after ps. IsListIn true nodes after ps value to)) }
+    ensures none { IfNone result (ForValue (map part_view parts.now) value (λ nodes after ps. HasNoList true nodes)) }
     ensures within { IfSome result (λ to. (value < to) × (to ≤ length parts.now)) }
 {
     if !are_joints(parts, value) {
@@ -167,11 +156,10 @@ pub fn first_list(parts: &[Part<'_>], value: usize) -> Option<usize>
 /// Where the elements of the next list part begin, after one whose elements end at a place.
 pub fn next_list(parts: &[Part<'_>], at: usize) -> Option<usize>
     requires { at ≤ length parts.now }
-    ensures some { IfSome result (λ to. (rest : ListRest) (after : List RowPart) → rest.elements ≡ []
-        → drop at (map part_view parts.now) ≡ rest_parts rest after
-        → IsListIn false rest.items after (map part_view parts.now) (at + length rest.end + 1) to) }
-    ensures none { IfNone result ((rest : ListRest) (after : List RowPart) → rest.elements ≡ []
-        → drop at (map part_view parts.now) ≡ rest_parts rest after → HasNoList false rest.items) }
+    ensures some { IfSome result (λ to. ForRest (map part_view parts.now) at (λ rest after ps.
+        rest.elements ≡ [] → IsListIn false rest.items after ps (at + length rest.end + 1) to)) }
+    ensures none { IfNone result (ForRest (map part_view parts.now) at
+        (λ rest after ps. rest.elements ≡ [] → HasNoList false rest.items)) }
     ensures within { IfSome result (λ to. (at < to) × (to ≤ length parts.now)) }
 {
     let close = at + comments_len(&parts[at..]);
@@ -204,11 +192,9 @@ pub(crate) fn string_in<'a>(parts: &[Part<'a>]) -> Option<&'a str>
 #[tactic(auto, using(crate::proofs::ListElements::none_left, crate::proofs::ListElements::element_there, crate::proofs::Slices::rest_seen))]
 pub fn next_element<'a>(parts: &[Part<'a>], at: usize) -> Option<Element<'a>>
     requires { at ≤ length parts.now }
-    ensures some { IfSome result (λ e. (rest : ListRest) (after : List RowPart)
-        → drop at (map part_view parts.now) ≡ rest_parts rest after → IsElementOf rest after (map part_view parts.now)
-        at e.token e.to (option_map (λ text. text.now) e.string)) }
-    ensures none { IfNone result ((rest : ListRest) (after : List RowPart)
-        → drop at (map part_view parts.now) ≡ rest_parts rest after → rest.elements ≡ []) }
+    ensures some { IfSome result (λ e. ForRest (map part_view parts.now) at (λ rest after ps.
+        IsElementOf rest after ps at e.token e.to (option_map (λ text. text.now) e.string))) }
+    ensures none { IfNone result (ForRest (map part_view parts.now) at (λ rest after ps. rest.elements ≡ [])) }
     ensures from { IfSome result (λ e. e.from ≡ at) }
     ensures within { IfSome result (λ e. (at ≤ e.token) × ((e.token < e.to) × (e.to ≤ length parts.now))) }
 {
@@ -243,9 +229,7 @@ pub(crate) fn bare_string<'a>(parts: &[Part<'a>]) -> Option<&'a str>
 /// Where the elements of a list part end, which begin at a place.
 pub fn elements_end(parts: &[Part<'_>], from: usize) -> usize
     requires { from ≤ length parts.now }
-    ensures elements { (rest : ListRest) (after : List RowPart)
-        → drop from (map part_view parts.now) ≡ rest_parts rest after
-        → AreElementsTo rest (map part_view parts.now) from result }
+    ensures elements { ForRest (map part_view parts.now) from (λ rest after ps. AreElementsTo rest ps from result) }
     ensures within { (from ≤ result) × (result ≤ length parts.now) }
 {
     let rest = &parts[from..];
@@ -257,11 +241,9 @@ pub fn elements_end(parts: &[Part<'_>], from: usize) -> usize
 #[tactic(auto, using(crate::proofs::ValueElements::next_here))]
 pub fn next_of_value<'a>(parts: &[Part<'a>], at: usize) -> Option<Element<'a>>
     requires { at ≤ length parts.now }
-    ensures some { IfSome result (λ e. (rest : ListRest) (after : List RowPart)
-        → drop at (map part_view parts.now) ≡ rest_parts rest after → IsNextElement rest after
-        (map part_view parts.now) at e.from e.token e.to (option_map (λ text. text.now) e.string)) }
-    ensures none { IfNone result ((rest : ListRest) (after : List RowPart)
-        → drop at (map part_view parts.now) ≡ rest_parts rest after → elements_left rest ≡ []) }
+    ensures some { IfSome result (λ e. ForRest (map part_view parts.now) at (λ rest after ps.
+        IsNextElement rest after ps at e.from e.token e.to (option_map (λ text. text.now) e.string))) }
+    ensures none { IfNone result (ForRest (map part_view parts.now) at (λ rest after ps. elements_left rest ≡ [])) }
     ensures within { IfSome result (λ e. (at ≤ e.from) × ((e.from ≤ e.token) × ((e.token < e.to) × (e.to ≤ length parts.now)))) }
 {
     let element = next_element(parts, at);

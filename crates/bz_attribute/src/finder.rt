@@ -1,11 +1,11 @@
 //! The arguments of a rule by their parts: the first one of a name, and the one with which some begin.
 
 ghost use Rattle.std.specs.Prelude.{◌≡◌, ◌<◌, ◌≤◌, List, map, option_map, IfSome, length};
-ghost use Rattle.bz_tree.specs.Tree.{Segment, Statement};
-ghost use Rattle.bz_tree.specs.Rows.{part_view};
-ghost use Rattle.bz_attribute.specs.RowPlaces.{HasArgument, IsFirstArgument, IsRuleRow, argument_parts};
-ghost use Rattle.bz_attribute.specs.Rules.{Rule, is_text};
-ghost use Rattle.bz_attribute.specs.private.Ends as spec;
+ghost use Rattle.bz_tree.specs.Tree.{Segment};
+ghost use Rattle.bz_tree.specs.Rows.{RowPart, part_view};
+ghost use Rattle.bz_attribute.specs.RowPlaces.{AreArguments, ForRule, HasArgument, HasArgumentAmong, IsFirstArgument, argument_parts, arguments_begin};
+ghost use Rattle.bz_attribute.specs.Rules.{is_text};
+ghost use Rattle.bz_attribute.specs.private.Parts as spec;
 
 use crate::elements::ends_list;
 use crate::place::{arguments_begin, comments_len, segment_len};
@@ -32,10 +32,13 @@ fn begins_with(parts: &[Part<'_>], name: &str) -> bool
     name_in(parts).is_some_and(|other| other == name)
 }
 
-/// Where the first argument of a name begins among the parts of a rule, after the comments above it.
+/// Where the first argument of a name begins among the parts of a rule, after the comments above it. Of other parts, the
+/// arguments are what stands in the bracket that opens first.
 pub fn find_argument(parts: &[Part<'_>], name: &str) -> Option<usize>
-    ensures found { (s : Statement) (r : Rule) → IsRuleRow s r (map part_view parts.now)
-        → HasArgument name.now s r result }
+    ensures found { ForRule (map part_view parts.now) (λ s r ps. HasArgument name.now s r result) }
+    ensures first { (before : List RowPart) (args : List Segment) → AreArguments before args (map part_view parts.now)
+        → HasArgumentAmong name.now before args result }
+    ensures begun { IfSome result (λ at. arguments_begin (map part_view parts.now) ≤ at) }
     ensures within { IfSome result (λ at. at < length parts.now) }
 {
     let mut at = arguments_begin(parts);

@@ -7,10 +7,10 @@ ghost use Rattle.bz_tree.specs.Rows.{IsRowOf, part_view, parts_of};
 ghost use Rattle.bz_tree.specs.declared.tree.Class.TheVariants.{Rule as RuleClass};
 ghost use Rattle.bz_attribute.specs.Heads.{HasHead, IsHeadOf};
 ghost use Rattle.bz_attribute.specs.Marks as marks;
-ghost use Rattle.bz_attribute.specs.RowPlaces.{IsRuleRow};
-ghost use Rattle.bz_attribute.specs.Rules.{Rule, name_in};
+ghost use Rattle.bz_attribute.specs.RowPlaces.{ForRule};
+ghost use Rattle.bz_attribute.specs.Rules.{name_in};
 ghost use Rattle.bz_attribute.specs.Texts.{shown_text};
-ghost use Rattle.bz_attribute.specs.private.Ends as spec;
+ghost use Rattle.bz_attribute.specs.private.Parts as spec;
 ghost use Rattle.bz_command.specs.Values.{value_of};
 
 use crate::elements::{string_in, value_place};
@@ -141,8 +141,8 @@ fn joined_tokens<'a>(alloc: Global, bump: &'a Bump, parts: &[Part<'a>]) -> Resul
 // The string that the first argument `name` of a rule is, where it is one.
 #[tactic(auto, using(crate::proofs::ListElements::none_told))]
 fn name_text<'a>(parts: &[Part<'a>]) -> Option<&'a str>
-    ensures { (s : Statement) (r : Rule) → IsRuleRow s r (map part_view parts.now)
-        → option_and_then value_of (option_map (λ text. text.now) result) ≡ name_in r.args }
+    ensures { ForRule (map part_view parts.now)
+        (λ s r ps. option_and_then value_of (option_map (λ text. text.now) result) ≡ name_in r.args) }
 {
     let value = value_place(parts, "name")?;
     string_in(&parts[value..])

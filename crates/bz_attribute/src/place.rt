@@ -1,12 +1,10 @@
 //! Where the kind of a rule, the argument of a name and all arguments stand among its parts, and where a new one goes.
 
 ghost use Rattle.std.specs.Prelude.{◌≡◌, ◌≤◌, ℕ, List, false, map, length};
-ghost use Rattle.bz_tree.specs.Tree.{Statement};
 ghost use Rattle.bz_tree.specs.Rows.{part_view};
 ghost use Rattle.bz_attribute.specs.Effects.{has};
-ghost use Rattle.bz_attribute.specs.Rules.{Rule};
-ghost use Rattle.bz_attribute.specs.RowPlaces.{IsKindPlace, IsPlaceOf, IsPlaceOfAll, IsRuleRow};
-ghost use Rattle.bz_attribute.specs.private.Ends as spec;
+ghost use Rattle.bz_attribute.specs.RowPlaces.{ForRule, IsKindPlace, IsPlaceOf, IsPlaceOfAll, arguments_begin};
+ghost use Rattle.bz_attribute.specs.private.Parts as spec;
 
 use crate::finder::find_argument;
 use bz_tree::Part;
@@ -19,8 +17,7 @@ pub struct Place {
     pub to: usize,
 }
 
-// How many parts stand before the bracket that closes, or where `at_end` before the end of the segment that they begin
-// with.
+// How many parts stand before the bracket that closes, or where `at_end` before the end of the first segment.
 pub(crate) fn parts_len(parts: &[Part<'_>], at_end: bool) -> usize
     ensures len { result ≡ spec.parts_len at_end 0 (map part_view parts.now) }
     ensures within { result ≤ length parts.now }
@@ -145,8 +142,8 @@ fn arguments_end(parts: &[Part<'_>]) -> usize
 /// Where an argument goes whose name no argument of the rule has: after the last one.
 pub fn new_place(parts: &[Part<'_>]) -> Place
     ensures within { (result.from ≤ result.to) × (result.to ≤ length parts.now) }
-    ensures place { (name : List ℕ) (s : Statement) (r : Rule) → IsRuleRow s r (map part_view parts.now)
-        → has name r.args ≡ false → IsPlaceOf name s r (map part_view parts.now) result.from result.to }
+    ensures place { (name : List ℕ) → ForRule (map part_view parts.now)
+        (λ s r ps. has name r.args ≡ false → IsPlaceOf name s r ps result.from result.to) }
 {
     let end = arguments_end(parts);
     Place { from: end, to: end }
@@ -156,8 +153,7 @@ pub fn new_place(parts: &[Part<'_>]) -> Place
 /// it. Where none has the name, it is an empty place after the last argument.
 pub fn place_of(parts: &[Part<'_>], name: &str) -> Place
     ensures within { (result.from ≤ result.to) × (result.to ≤ length parts.now) }
-    ensures place { (s : Statement) (r : Rule) → IsRuleRow s r (map part_view parts.now)
-        → IsPlaceOf name.now s r (map part_view parts.now) result.from result.to }
+    ensures place { ForRule (map part_view parts.now) (λ s r ps. IsPlaceOf name.now s r ps result.from result.to) }
 {
     match find_argument(parts, name) {
         Some(at) => Place {
@@ -170,7 +166,7 @@ pub fn place_of(parts: &[Part<'_>], name: &str) -> Place
 
 // How many parts there are up to the first bracket that opens, with it.
 pub(crate) fn arguments_begin(parts: &[Part<'_>]) -> usize
-    ensures begin { result ≡ spec.arguments_begin (map part_view parts.now) }
+    ensures begin { result ≡ arguments_begin (map part_view parts.now) }
     ensures within { result ≤ length parts.now }
 {
     for i in 0..parts.len() {
@@ -182,17 +178,12 @@ pub(crate) fn arguments_begin(parts: &[Part<'_>]) -> usize
 }
 
 /// Where all arguments of a rule stand among its parts.
-#[tactic(auto, using(crate::proofs::PlaceFound::all_ordered))]
 pub fn all_arguments(parts: &[Part<'_>]) -> Place
     ensures within { (result.from ≤ result.to) × (result.to ≤ length parts.now) }
-    ensures place { (s : Statement) (r : Rule) → IsRuleRow s r (map part_view parts.now)
-        → IsPlaceOfAll s r (map part_view parts.now) result.from result.to }
+    ensures place { ForRule (map part_view parts.now) (λ s r ps. IsPlaceOfAll s r ps result.from result.to) }
 {
     let from = arguments_begin(parts);
-    let to = arguments_end(parts);
-    if to < from {
-        return Place { from, to: from };
-    }
+    let to = from.max(arguments_end(parts));
     Place { from, to }
 }
 
@@ -211,8 +202,7 @@ pub(crate) fn tokens_len(parts: &[Part<'_>]) -> usize
 /// Where the tokens of the kind stand among the parts of a rule: after the comments above it.
 pub fn kind_place(parts: &[Part<'_>]) -> Place
     ensures within { (result.from ≤ result.to) × (result.to ≤ length parts.now) }
-    ensures place { (s : Statement) (r : Rule) → IsRuleRow s r (map part_view parts.now)
-        → IsKindPlace s r (map part_view parts.now) result.from result.to }
+    ensures place { ForRule (map part_view parts.now) (λ s r ps. IsKindPlace s r ps result.from result.to) }
 {
     let from = comments_len(parts);
     Place {

@@ -1,6 +1,6 @@
 //! The view of a statement as a rule: reading only, no memory.
 
-ghost use Rattle.std.specs.Prelude.{◌≡◌, ◌∷◌, [], is_some, option_map, true};
+ghost use Rattle.std.specs.Prelude.{◌≡◌, is_some, option_map, true};
 ghost use Rattle.bz_tree.specs.View.{node_view, nodes_view};
 ghost use Rattle.bz_attribute.specs.Rules as spec;
 
@@ -27,15 +27,12 @@ fn are_dotted(kind: &[Node<'_>]) -> bool
 {
     let mut left = kind;
     while let [name, dot, rest @ ..] = left {
-        if ident_of(name).is_none() || !is_operator_item(dot, ".") {
+        if !is_identifier_item(name) || !is_operator_item(dot, ".") {
             return false;
         }
         left = rest;
     }
-    match left {
-        [name] => ident_of(name).is_some(),
-        _ => false,
-    }
+    matches!(left, [name] if is_identifier_item(name))
 }
 
 fn is_operator_item(node: &Node<'_>, operator: &str) -> bool
@@ -44,13 +41,10 @@ fn is_operator_item(node: &Node<'_>, operator: &str) -> bool
     matches!(node, Node::Token(leaf) if matches!(leaf.kind, Kind::Operator) && leaf.text == operator)
 }
 
-fn ident_of<'n>(node: &'n Node<'_>) -> Option<&'n str>
-    ensures { option_map (λ text. text.now) result ≡ spec.ident_of (node_view node.now) }
+fn is_identifier_item(node: &Node<'_>) -> bool
+    ensures { result ≡ is_some (spec.ident_of (node_view node.now)) }
 {
-    match node {
-        Node::Token(leaf) if matches!(leaf.kind, Kind::Identifier) => Some(leaf.text),
-        _ => None,
-    }
+    matches!(node, Node::Token(leaf) if matches!(leaf.kind, Kind::Identifier))
 }
 
 /// The text of what is one string token.
@@ -58,17 +52,10 @@ pub fn only_text<'n>(nodes: &'n [Node<'_>]) -> Option<&'n str>
     ensures { option_map (λ text. text.now) result ≡ spec.only_text (nodes_view nodes.now) }
 {
     match nodes {
-        [node] => text_of(node),
-        _ => None,
-    }
-}
-
-#[inline(always)]
-fn text_of<'n>(node: &'n Node<'_>) -> Option<&'n str>
-    ensures { option_map (λ text. text.now) result ≡ spec.only_text (node_view node.now ∷ []) }
-{
-    match node {
-        Node::Token(leaf) if matches!(leaf.kind, Kind::String) => Some(leaf.text),
+        [node] => match node {
+            Node::Token(leaf) if matches!(leaf.kind, Kind::String) => Some(leaf.text),
+            _ => None,
+        },
         _ => None,
     }
 }

@@ -1,11 +1,10 @@
 //! The value of an argument as a whole, by its parts: where it ends, and whether it is one list.
 
-ghost use Rattle.std.specs.Prelude.{◌≡◌, ◌<◌, ◌≤◌, ◌∷◌, List, IfSome, true, drop, map, length};
-ghost use Rattle.bz_tree.specs.Tree.{Item};
-ghost use Rattle.bz_tree.specs.Rows.{RowPart, part_view, segment_end};
-ghost use Rattle.bz_attribute.specs.Elements.{OnlyList, value_parts};
+ghost use Rattle.std.specs.Prelude.{◌≡◌, ◌<◌, ◌≤◌, ◌∷◌, IfSome, true, drop, map, length};
+ghost use Rattle.bz_tree.specs.Rows.{part_view, segment_end};
+ghost use Rattle.bz_attribute.specs.Elements.{ForValue, OnlyList};
 ghost use Rattle.bz_attribute.specs.Lists as lists;
-ghost use Rattle.bz_attribute.specs.private.ListParts as spec;
+ghost use Rattle.bz_attribute.specs.private.Parts as spec;
 
 use crate::elements::item_end;
 use crate::place::parts_len;
@@ -15,9 +14,7 @@ use bz_tree::{GroupKind, Part};
 #[tactic(auto, using(crate::proofs::OnlyLists::value_ended, crate::proofs::Slices::rest_seen))]
 pub fn value_end(parts: &[Part<'_>], value: usize) -> usize
     requires { value ≤ length parts.now }
-    ensures end { (nodes : List Item) (after : List RowPart)
-        → drop value (map part_view parts.now) ≡ value_parts nodes after
-        → drop result (map part_view parts.now) ≡ segment_end ∷ after }
+    ensures end { ForValue (map part_view parts.now) value (λ nodes after ps. drop result ps ≡ segment_end ∷ after) }
     ensures within { (value ≤ result) × (result ≤ length parts.now) }
 {
     value + parts_len(&parts[value..], true)
@@ -37,8 +34,7 @@ fn ends_value(parts: &[Part<'_>]) -> bool
 
 // The value that they begin with is one list.
 fn is_one_list(parts: &[Part<'_>]) -> bool
-    ensures told { (nodes : List Item) (after : List RowPart) → map part_view parts.now ≡ value_parts nodes after
-        → result ≡ lists.is_only lists.is_list nodes }
+    ensures told { ForValue (map part_view parts.now) 0 (λ nodes after ps. result ≡ lists.is_only lists.is_list nodes) }
     ensures some { result ≡ true → 0 < length parts.now }
 {
     begins_list(parts) && ends_value(&parts[item_end(parts, 0)..])
@@ -48,9 +44,7 @@ fn is_one_list(parts: &[Part<'_>]) -> bool
 #[tactic(auto, using(crate::proofs::OnlyLists::only_there, crate::proofs::Slices::rest_seen))]
 pub fn only_list(parts: &[Part<'_>], value: usize) -> Option<usize>
     requires { value ≤ length parts.now }
-    ensures list { (nodes : List Item) (after : List RowPart)
-        → drop value (map part_view parts.now) ≡ value_parts nodes after
-        → OnlyList nodes after (map part_view parts.now) result }
+    ensures list { ForValue (map part_view parts.now) value (λ nodes after ps. OnlyList nodes after ps result) }
     ensures within { IfSome result (λ list. list ≤ length parts.now) }
 {
     if !is_one_list(&parts[value..]) {

@@ -17,7 +17,7 @@ use Rattle.bz_layout.specs.Broken.{count, is_broken, segs_hold}
 use Rattle.bz_layout.specs.Spacing.{edge_after, operator_edge, is_prefix, begins_argument, is_index_colon, gap_before, gap_for, hugs}
 use Rattle.bz_layout.specs.Pieces.{Piece, piece, gap_bytes, bytes_of, comma_if, comments, suffix_piece}
 use Rattle.bz_layout.specs.Layout.{breaks, has_commas, item_pieces, items_pieces, broken_segs, flat_segs, opening as opening_text, closing as closing_text}
-use Rattle.bz_layout.specs.private.RowLayout.{Laid, run, whole, top, comma_bytes, due, is_start, first_gap}
+use Rattle.bz_layout.specs.private.RowLayout.{Laid, run, top, comma_bytes, due, is_start, first_gap}
 use Rattle.bz_layout.proofs.Pieces.{bytes_append}
 use Rattle.bz_layout.proofs.Scans.{mark_as, item_marks, items_marks, segs_marks}
 use Rattle.bz_tree.proofs.Rows.FromParts.{segs_joined, seg_joined}
@@ -45,7 +45,7 @@ supply Flat ms = []
 supply Broken ms = ms
 
 abbrev mark_in : Style → BracketForm → BracketForm
-mark_in Flat m = whole
+mark_in Flat m = (top None).mark
 mark_in Broken m = m
 
 abbrev level_in : BracketForm → ℕ → ℕ

@@ -10,7 +10,7 @@ use Rattle.bz_layout.specs.declared.marks.BracketForm.{BracketForm}
 use Rattle.bz_layout.specs.declared.marks.Contents.{Contents}
 use Rattle.bz_layout.specs.Broken.{count, have_comments, breaks_by_count, is_broken, holds_broken, items_hold, segs_hold}
 use Rattle.bz_layout.specs.Layout.{has_commas}
-use Rattle.bz_layout.specs.private.RowLayout.{Scan, closed, mark_of, holding, below, opened_back, scan}
+use Rattle.bz_layout.specs.private.RowLayout.{Scan, closed, mark_of, below, opened_back, scan}
 use Rattle.bz_token.specs.Common.{is_filled}
 use Rattle.bz_tree.proofs.Rows.FromParts.{segs_joined, seg_joined}
 
@@ -33,7 +33,7 @@ abbrev mutual
 
 -- what an item adds to what stands after it, and what segments add
 abbrev found : List BracketForm → Bool → Scan → Scan
-found ms b s = record { marks = ms ++ s.marks; here = holding b s.here; outer = s.outer }
+found ms b s = record { marks = ms ++ s.marks; here = record s.here { holds = b || s.here.holds }; outer = s.outer }
 
 abbrev one_more : ℕ → ℕ
 one_more n = if nat_lt n 2 then n + 1 else n
@@ -107,7 +107,7 @@ group_found kind segs one end s =
 seg_seen : (before : List (List ℕ)) (nodes : Items) (suffix : Option (List ℕ)) (ss : Segs) (s : Scan) →
     record {
       marks = items_marks nodes ++ (segs_marks ss ++ s.marks);
-      here = in_segs (is_filled before) false (one_more (add ss s.here.segs)) (holding (items_hold nodes) (in_segs (is_some suffix) false (one_more (add ss s.here.segs)) (in_segs (have_comments ss) (segs_hold ss) (add ss s.here.segs) s.here)));
+      here = in_segs (is_filled before) (items_hold nodes) (one_more (add ss s.here.segs)) (in_segs (is_some suffix) false (one_more (add ss s.here.segs)) (in_segs (have_comments ss) (segs_hold ss) (add ss s.here.segs) s.here));
       outer = s.outer;
     } ≡ seen (seg before nodes suffix ss) s
 seg_seen before nodes suffix ss s = rw (append_assoc (items_marks nodes) (segs_marks ss) s.marks, ← or_assoc (is_filled before) (is_some suffix) (have_comments ss || s.here.comments), ← or_assoc (is_filled before || is_some suffix) (have_comments ss) s.here.comments, ← or_assoc (items_hold nodes) (segs_hold ss) s.here.holds) refl

@@ -1,9 +1,9 @@
 //! What a text is appended to.
 
-ghost use Rattle.std.specs.Prelude.{◌≡◌, ℕ, List, ◌++◌, OnOk, string_bytes};
+ghost use Rattle.std.specs.Prelude.{ℕ, List, string_bytes};
 ghost use Rattle.bz_layout.specs.Pieces.{gap_bytes};
 ghost use Rattle.bz_layout.specs.declared.spacing.Gap.TheVariants.{Line};
-ghost use Rattle.bz_layout.specs.private.Kept.{IsBegunBy};
+ghost use Rattle.bz_layout.specs.private.RowLayout.{Puts};
 
 use crate::write::put_new_line;
 use bz_memory::{NoMemory, extend_from_slice, push, push_str};
@@ -19,21 +19,24 @@ pub(crate) trait Append {
 
     /// Appends a text. `Err`: memory was refused.
     fn put(&mut self, text: &str) -> Result<(), NoMemory>
-        ensures put { OnOk result (bytes self.new ≡ bytes self.old ++ text.now) }
-        ensures begun { IsBegunBy (bytes self.old) (bytes self.new) };
+        ensures { Puts result (bytes self.old) (bytes self.new) text.now };
 
     /// The same of a text that is mostly a byte.
     fn put_short(&mut self, text: &str) -> Result<(), NoMemory>
-        ensures put { OnOk result (bytes self.new ≡ bytes self.old ++ text.now) }
-        ensures begun { IsBegunBy (bytes self.old) (bytes self.new) };
+        ensures { Puts result (bytes self.old) (bytes self.new) text.now }
+    {
+        self.put(text)
+    }
 }
 
 /// Where lines are begun.
 pub(crate) trait NewLine: Append {
     /// Appends a newline and the indent of a level. `Err`: memory was refused.
     fn new_line(&mut self, level: usize) -> Result<(), NoMemory>
-        ensures put { OnOk result (Self.bytes self.new ≡ Self.bytes self.old ++ gap_bytes (Line level)) }
-        ensures begun { IsBegunBy (Self.bytes self.old) (Self.bytes self.new) };
+        ensures { Puts result (Self.bytes self.old) (Self.bytes self.new) (gap_bytes (Line level)) }
+    {
+        put_new_line(level, self)
+    }
 }
 
 impl Append for Vec<u8> {
@@ -74,15 +77,6 @@ impl Append for String {
     fn put(&mut self, text: &str) -> Result<(), NoMemory> {
         push_str(self, text)
     }
-
-    #[inline(always)]
-    fn put_short(&mut self, text: &str) -> Result<(), NoMemory> {
-        push_str(self, text)
-    }
 }
 
-impl NewLine for String {
-    fn new_line(&mut self, level: usize) -> Result<(), NoMemory> {
-        put_new_line(level, self)
-    }
-}
+impl NewLine for String {}

@@ -6,9 +6,8 @@ ghost use Rattle.bz_layout.specs.Gaps.{lines_before, gap_text};
 use bz_memory::{NoMemory, extend_from_slice};
 use bz_tree::Class;
 
-/// Writes what stands before a statement of class `after`. `before` is the class of the statement before it, or `None`
-/// for the first statement. An empty line stands between any two statements but two loads and two assignments, and none
-/// before the first (this project's own rule).
+/// Writes what stands before a statement of class `after`: an empty line, but nothing between two loads, between two
+/// assignments, and before the first statement, where `before` is `None` (this project's own rule).
 pub fn put_gap(before: Option<Class>, after: Class, text: &mut Vec<u8>) -> Result<(), NoMemory>
     ensures gap { text.new.items
         ≡ (if is_ok result then text.old.items ++ gap_text (lines_before before after) else text.old.items) }

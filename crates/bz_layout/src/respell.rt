@@ -1,10 +1,10 @@
 //! How a string is written.
 
-ghost use Rattle.std.specs.Prelude.{◌≡◌, ◌++◌, ◌∷◌, [], List, ℕ, true, false, IfSome, IfNone, OnOk};
+ghost use Rattle.std.specs.Prelude.{◌≡◌, ◌++◌, ◌∷◌, [], List, ℕ, true, false, IfSome, IfNone};
 ghost use Rattle.std.specs.List.{list_all};
 ghost use Rattle.bz_token.specs.declared.token.Kind.TheVariants.{String};
 ghost use Rattle.bz_layout.specs.Respell.{is_plain, respell};
-ghost use Rattle.bz_layout.specs.private.Kept.{IsBegunBy};
+ghost use Rattle.bz_layout.specs.private.RowLayout.{Puts};
 
 use crate::append::Append;
 use bz_memory::NoMemory;
@@ -37,8 +37,7 @@ fn stripped(text: &str) -> Option<&str>
 // Appends the written form of a string that begins with a single quote.
 #[inline(never)]
 fn put_single<T: Append>(text: &str, out: &mut T) -> Result<(), NoMemory>
-    ensures ok { OnOk result (T.bytes out.new ≡ T.bytes out.old ++ respell String text.now) }
-    ensures begun { IsBegunBy (T.bytes out.old) (T.bytes out.new) }
+    ensures { Puts result (T.bytes out.old) (T.bytes out.new) (respell String text.now) }
 {
     match stripped(text) {
         Some(inner) => {
@@ -53,8 +52,7 @@ fn put_single<T: Append>(text: &str, out: &mut T) -> Result<(), NoMemory>
 // Appends the written form of a token.
 #[inline(always)]
 pub(crate) fn put_written<T: Append>(kind: Kind, text: &str, out: &mut T) -> Result<(), NoMemory>
-    ensures ok { OnOk result (T.bytes out.new ≡ T.bytes out.old ++ respell kind text.now) }
-    ensures begun { IsBegunBy (T.bytes out.old) (T.bytes out.new) }
+    ensures { Puts result (T.bytes out.old) (T.bytes out.new) (respell kind text.now) }
 {
     match (kind, text.as_bytes()) {
         (Kind::String, [b'\'', ..]) => put_single(text, out),

@@ -6,8 +6,7 @@ ghost use Rattle.bz_tree.specs.View.{view};
 ghost use Rattle.bz_tree.specs.Rows.{IsRowOf, part_view, parts_of};
 ghost use Rattle.bz_layout.specs.Pieces.{bytes_of, comment_lines};
 ghost use Rattle.bz_layout.specs.Layout.{is_comment, layout_text};
-ghost use Rattle.bz_layout.specs.private.Kept.{IsBegunBy};
-ghost use Rattle.bz_layout.specs.private.RowLayout.{leading, lines_text};
+ghost use Rattle.bz_layout.specs.private.RowLayout.{IsBegunBy, Puts, leading, lines_text};
 
 use crate::append::Append;
 use crate::marks::marks_of;
@@ -18,9 +17,7 @@ use std::alloc::Global;
 
 // The comments above the statement, each with its newline.
 fn put_leading(parts: &[Part<'_>], out: &mut Vec<u8>) -> Result<(), NoMemory>
-    ensures text { OnOk result
-        (out.new.items ≡ out.old.items ++ bytes_of (comment_lines (leading (map part_view parts.now)))) }
-    ensures begun { IsBegunBy out.old.items out.new.items }
+    ensures { Puts result out.old.items out.new.items (bytes_of (comment_lines (leading (map part_view parts.now)))) }
 {
     for part in parts {
         let Part::Above(comment) = part else {
@@ -78,8 +75,7 @@ pub fn put_stmt(alloc: Global, stmt: &Stmt<'_>, out: &mut Vec<u8>) -> Result<(),
     put_parts(alloc, &parts, stmt.class, out)
 }
 
-/// Appends the canonical text of a row's statement, with its last newline. `Err`: memory was refused, and `out` is as
-/// it was.
+/// Appends the text of a row's statement, as `put_stmt` does. `Err`: memory was refused, and `out` is as it was.
 pub fn put_row(alloc: Global, row: &Row<'_>, out: &mut Vec<u8>) -> Result<(), NoMemory>
     ensures appended { OnOk result
         ((s : Statement) → IsRowOf s row.now → out.new.items ≡ out.old.items ++ layout_text s) }

@@ -1,13 +1,12 @@
 //! The walk forwards over the parts of a statement, which writes them: on lines for `row.rt`, on one line for
 //! `flat_text.rt`.
 
-ghost use Rattle.std.specs.Prelude.{◌≡◌, ◌<◌, ◌^◌, ◌+◌, ◌++◌, ℕ, List, IfOk, OnOk, map, reverse};
+ghost use Rattle.std.specs.Prelude.{◌≡◌, ◌<◌, ◌^◌, ◌+◌, ◌++◌, ℕ, List, IfOk, map, reverse};
 ghost use Rattle.bz_tree.specs.Rows.{part_view};
 ghost use Rattle.bz_layout.specs.declared.spacing.Edge.TheVariants.{Start};
-ghost use Rattle.bz_layout.specs.private.Kept.{IsBegunBy};
 ghost use Rattle.bz_layout.specs.Pieces.{gap_bytes};
 ghost use Rattle.bz_layout.specs.Spacing.{gap_for};
-ghost use Rattle.bz_layout.specs.private.RowLayout.{due, top, first_gap, start, with_token, opened, closed_by, ended, step, run, laid};
+ghost use Rattle.bz_layout.specs.private.RowLayout.{Puts, Lays, due, top, first_gap, start, with_token, opened, closed_by, ended, step, run, laid};
 
 use crate::append::NewLine;
 use crate::marks::BracketForm;
@@ -83,10 +82,8 @@ impl RowWriter {
     // The gap before what closes up or does not, after the comma that is due.
     #[inline(always)]
     fn put_gap<T: NewLine>(&self, closes: bool, out: &mut T) -> Result<(), NoMemory>
-        ensures ok { OnOk result (T.bytes out.new ≡ T.bytes out.old
-            ++ (due self.now.here self.now.left
-            ++ gap_bytes (gap_for (first_gap self.now.here self.now.level) self.now.left closes))) }
-        ensures begun { IsBegunBy (T.bytes out.old) (T.bytes out.new) }
+        ensures { Puts result (T.bytes out.old) (T.bytes out.new) (due self.now.here self.now.left
+            ++ gap_bytes (gap_for (first_gap self.now.here self.now.level) self.now.left closes)) }
     {
         match self.left {
             Edge::Start if self.here.mark.broken => out.new_line(self.level),
@@ -98,9 +95,7 @@ impl RowWriter {
 
     #[inline(always)]
     fn put_token<T: NewLine>(&mut self, kind: Kind, text: &str, out: &mut T) -> Result<(), NoMemory>
-        ensures laid { OnOk result
-            (laid self.new (T.bytes out.new) ≡ with_token kind text.now (laid self.old (T.bytes out.old))) }
-        ensures begun { IsBegunBy (T.bytes out.old) (T.bytes out.new) }
+        ensures { Lays result (with_token kind text.now) self.old (T.bytes out.old) self.new (T.bytes out.new) }
     {
         self.put_gap(token_closes_up(kind, text), out)?;
         put_written(kind, text, out)?;
@@ -110,9 +105,7 @@ impl RowWriter {
 
     #[inline(never)]
     fn put_rarer<T: NewLine>(&mut self, kind: Kind, text: &str, out: &mut T) -> Result<(), NoMemory>
-        ensures laid { OnOk result
-            (laid self.new (T.bytes out.new) ≡ with_token kind text.now (laid self.old (T.bytes out.old))) }
-        ensures begun { IsBegunBy (T.bytes out.old) (T.bytes out.new) }
+        ensures { Lays result (with_token kind text.now) self.old (T.bytes out.old) self.new (T.bytes out.new) }
     {
         self.put_token(kind, text, out)
     }
@@ -120,9 +113,7 @@ impl RowWriter {
     // The tokens that most statements are made of are told apart once. The code for a text that is known is short.
     #[inline(always)]
     fn token<T: NewLine>(&mut self, kind: Kind, text: &str, out: &mut T) -> Result<(), NoMemory>
-        ensures laid { OnOk result
-            (laid self.new (T.bytes out.new) ≡ with_token kind text.now (laid self.old (T.bytes out.old))) }
-        ensures begun { IsBegunBy (T.bytes out.old) (T.bytes out.new) }
+        ensures { Lays result (with_token kind text.now) self.old (T.bytes out.old) self.new (T.bytes out.new) }
     {
         match kind {
             Kind::Identifier => self.put_token(Kind::Identifier, text, out),
@@ -136,8 +127,7 @@ impl RowWriter {
 
     fn open<T: NewLine>(&mut self, kind: GroupKind, out: &mut T) -> Result<(), NoMemory>
         requires { self.old.level + 1 < 2 ^ 64 }
-        ensures laid { OnOk result (laid self.new (T.bytes out.new) ≡ opened kind (laid self.old (T.bytes out.old))) }
-        ensures begun { IsBegunBy (T.bytes out.old) (T.bytes out.new) }
+        ensures { Lays result (opened kind) self.old (T.bytes out.old) self.new (T.bytes out.new) }
     {
         self.put_gap(hugs(kind), out)?;
         out.put_short(brackets(kind).0)?;
@@ -156,9 +146,7 @@ impl RowWriter {
     }
 
     fn close<T: NewLine>(&mut self, one_comma: bool, out: &mut T) -> Result<(), NoMemory>
-        ensures laid { OnOk result
-            (laid self.new (T.bytes out.new) ≡ closed_by one_comma (laid self.old (T.bytes out.old))) }
-        ensures begun { IsBegunBy (T.bytes out.old) (T.bytes out.new) }
+        ensures { Lays result (closed_by one_comma) self.old (T.bytes out.old) self.new (T.bytes out.new) }
     {
         if self.here.mark.broken {
             self.level = self.level.saturating_sub(1);
@@ -177,8 +165,7 @@ impl RowWriter {
     // A segment ends. One without nodes has not written the comma that is due.
     #[inline(always)]
     fn end<T: NewLine>(&mut self, out: &mut T) -> Result<(), NoMemory>
-        ensures laid { OnOk result (laid self.new (T.bytes out.new) ≡ ended (laid self.old (T.bytes out.old))) }
-        ensures begun { IsBegunBy (T.bytes out.old) (T.bytes out.new) }
+        ensures { Lays result ended self.old (T.bytes out.old) self.new (T.bytes out.new) }
     {
         if self.here.mark.broken {
             if self.here.mark.comma {
@@ -197,9 +184,7 @@ impl RowWriter {
     #[inline(always)]
     fn step<T: NewLine>(&mut self, part: &Part<'_>, out: &mut T) -> Result<(), NoMemory>
         requires { self.old.level + 1 < 2 ^ 64 }
-        ensures laid { OnOk result
-            (laid self.new (T.bytes out.new) ≡ step (part_view part.now) (laid self.old (T.bytes out.old))) }
-        ensures begun { IsBegunBy (T.bytes out.old) (T.bytes out.new) }
+        ensures { Lays result (step (part_view part.now)) self.old (T.bytes out.old) self.new (T.bytes out.new) }
     {
         match *part {
             Part::Token(kind, text) => self.token(kind, text, out),
@@ -222,9 +207,7 @@ impl RowWriter {
         out: &mut T,
     ) -> Result<(), NoMemory>
         requires { self.old.level ≡ 0 }
-        ensures laid { OnOk result
-            (laid self.new (T.bytes out.new) ≡ run (map part_view parts.now) (laid self.old (T.bytes out.old))) }
-        ensures begun { IsBegunBy (T.bytes out.old) (T.bytes out.new) }
+        ensures { Lays result (run (map part_view parts.now)) self.old (T.bytes out.old) self.new (T.bytes out.new) }
     {
         for part in parts {
             self.step(part, out)?;

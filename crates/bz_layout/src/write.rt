@@ -1,10 +1,10 @@
 //! Gaps and brackets, appended to a text.
 
-ghost use Rattle.std.specs.Prelude.{◌≡◌, ◌++◌, OnOk};
+ghost use Rattle.std.specs.Prelude.{◌≡◌, ◌++◌};
 ghost use Rattle.bz_layout.specs.Pieces.{indent, gap_bytes};
 ghost use Rattle.bz_layout.specs.declared.spacing.Gap.TheVariants.{Line};
 ghost use Rattle.bz_layout.specs.Layout.{opening, closing, has_commas};
-ghost use Rattle.bz_layout.specs.private.Kept.{IsBegunBy};
+ghost use Rattle.bz_layout.specs.private.RowLayout.{Puts};
 
 use crate::append::Append;
 use crate::spacing::Gap;
@@ -36,8 +36,7 @@ pub(crate) fn has_commas(kind: GroupKind, one_comma: bool, n: usize) -> bool
 }
 
 fn put_indent<T: Append>(level: usize, out: &mut T) -> Result<(), NoMemory>
-    ensures ok { OnOk result (T.bytes out.new ≡ T.bytes out.old ++ indent level) }
-    ensures begun { IsBegunBy (T.bytes out.old) (T.bytes out.new) }
+    ensures { Puts result (T.bytes out.old) (T.bytes out.new) (indent level) }
 {
     for _ in 0..level {
         out.put("    ")?;
@@ -48,8 +47,7 @@ fn put_indent<T: Append>(level: usize, out: &mut T) -> Result<(), NoMemory>
 // Few lines are so deep that they begin here (`append.rt`).
 #[inline(never)]
 pub(crate) fn put_new_line<T: Append>(level: usize, out: &mut T) -> Result<(), NoMemory>
-    ensures ok { OnOk result (T.bytes out.new ≡ T.bytes out.old ++ gap_bytes (Line level)) }
-    ensures begun { IsBegunBy (T.bytes out.old) (T.bytes out.new) }
+    ensures { Puts result (T.bytes out.old) (T.bytes out.new) (gap_bytes (Line level)) }
 {
     out.put("\n")?;
     put_indent(level, out)
@@ -58,8 +56,7 @@ pub(crate) fn put_new_line<T: Append>(level: usize, out: &mut T) -> Result<(), N
 // Few parts are comments.
 #[inline(never)]
 pub(crate) fn put<T: Append>(gap: Gap, text: &str, out: &mut T) -> Result<(), NoMemory>
-    ensures ok { OnOk result (T.bytes out.new ≡ T.bytes out.old ++ (gap_bytes gap ++ text.now)) }
-    ensures begun { IsBegunBy (T.bytes out.old) (T.bytes out.new) }
+    ensures { Puts result (T.bytes out.old) (T.bytes out.new) (gap_bytes gap ++ text.now) }
 {
     match gap {
         Gap::Closed => {}

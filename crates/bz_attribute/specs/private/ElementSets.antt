@@ -1,5 +1,5 @@
 -- For private clauses alone: whether a label is among those of chosen elements.
-use Rattle.std.specs.Prelude.{ℕ, List, [], ◌∷◌, Bool, true, ◌&&◌, if◌then◌else◌, Option, None, Some}
+use Rattle.std.specs.Prelude.{ℕ, List, [], ◌∷◌, Bool, true, ◌&&◌, if◌then◌else◌, Option, None, Some, option_and_then}
 use Rattle.std.specs.List.{list_any}
 use Rattle.std.specs.Borrow.{Bor}
 use Rattle.bz_tree.specs.Tree.{Segment}
@@ -30,5 +30,4 @@ chooses home (Values words) value = list_any (same home value) words
 
 -- a value, where it is chosen
 abbrev pub kept : Package → Moved → Option (List ℕ) → Option (List ℕ)
-kept home choice None = None
-kept home choice (Some value) = if chooses home choice value then Some value else None
+kept home choice value = option_and_then (λ v. if chooses home choice v then Some v else None) value

@@ -1,6 +1,5 @@
--- For private clauses: the two walks over the parts of a statement.
-use Rattle.std.specs.Prelude.{codes, ℕ, ◌+◌, ◌-◌, List, [], ◌∷◌, ◌++◌, reverse, drop, get_or, Bool, true, false, not, ◌||◌, ◌&&◌, if◌then◌else◌, nat_le, nat_lt, Option, is_some}
-use Rattle.std.specs.Prelude.Option.{Some, None}
+-- For private clauses: what is appended, and the two walks over the parts of a statement.
+use Rattle.std.specs.Prelude.{codes, ℕ, ◌+◌, ◌-◌, List, [], ◌∷◌, ◌++◌, reverse, drop, get_or, Bool, true, false, not, ◌||◌, ◌&&◌, if◌then◌else◌, nat_le, nat_lt, Option, Some, None, is_some, ◌≡◌, Result, OnOk}
 use Rattle.bz_token.specs.declared.token.Kind.{Kind}
 use Rattle.bz_token.specs.Common.{map_or}
 use Rattle.bz_tree.specs.declared.tree.GroupKind.{GroupKind}
@@ -21,6 +20,16 @@ use Rattle.bz_layout.specs.Broken.{breaks_by_count}
 use Rattle.bz_layout.specs.Pieces.{gap_bytes, bytes_of, comment_lines}
 use Rattle.bz_layout.specs.Layout.{has_commas, opening as opening_text, closing as closing_text}
 
+-- bytes that stay, whether memory was refused or not
+pub record IsBegunBy (old new : List ℕ) : Type 0 where
+  pub more : List ℕ
+  pub is : new ≡ old ++ more
+
+-- a text is appended; where memory was refused, some of it may be
+pub record Puts {A E : Type 0} (result : Result A E) (old new text : List ℕ) : Type 0 where
+  pub put : OnOk result (new ≡ old ++ text)
+  pub begun : IsBegunBy old new
+
 -- The walk backwards: marks of the brackets after it, the first one first, and what stands in the brackets that it is in, the innermost first.
 pub record Scan : Type 0 where
   pub marks : List BracketForm
@@ -33,13 +42,11 @@ closed one_comma = record { one_comma = one_comma; comments = false; holds = fal
 abbrev pub mark_of : GroupKind → Contents → BracketForm
 mark_of kind i = record { broken = i.comments || breaks_by_count kind i.segs || (nat_le 2 i.segs && i.holds); comma = has_commas kind i.one_comma i.segs }
 
-abbrev pub holding : Bool → Contents → Contents
-holding holds i = record i { holds = holds || i.holds }
-
 -- before the bracket, below it
 abbrev pub below : BracketForm → Bool → List BracketForm → List Contents → Scan
-below mark holds marks [] = record { marks = mark ∷ marks; here = holding holds (closed false); outer = [] }
-below mark holds marks (i ∷ outer) = record { marks = mark ∷ marks; here = holding holds i; outer = outer }
+below mark holds marks outer =
+    let i = get_or outer 0 (closed false) in
+    record { marks = mark ∷ marks; here = record i { holds = holds || i.holds }; outer = drop 1 outer }
 
 abbrev pub opened_back : GroupKind → Scan → Scan
 opened_back kind s = below (mark_of kind s.here) ((mark_of kind s.here).broken || s.here.holds) s.marks s.outer
@@ -49,8 +56,7 @@ back (a_token kind text) s = s
 back (opening kind) s = opened_back kind s
 back (closing one_comma) s = record s { here = closed one_comma; outer = s.here ∷ s.outer }
 back segment_end s = record s { here = record s.here { segs = if nat_lt s.here.segs 2 then s.here.segs + 1 else s.here.segs } }
-back (above text) s = record s { here = record s.here { comments = true } }
-back (beside text) s = record s { here = record s.here { comments = true } }
+back _ s = record s { here = record s.here { comments = true } }
 
 -- the walk over some parts, ahead of what it read of those after them
 abbrev pub scan_onto : List RowPart → Scan → Scan
@@ -72,11 +78,8 @@ pub record Laid : Type 0 where
   pub left : Edge
   pub level : ℕ
 
-abbrev pub whole : BracketForm
-whole = record { broken = false; comma = false }
-
 abbrev pub top : Option GroupKind → OpenBracket
-top within = record { within = within; mark = whole; later = false }
+top within = record { within = within; mark = record { broken = false; comma = false }; later = false }
 
 -- the gap before the first node of a segment
 abbrev pub first_gap : OpenBracket → ℕ → Gap
@@ -99,6 +102,11 @@ start text marks within = record { text = text; marks = marks; outer = []; here 
 abbrev pub laid : RowWriter → List ℕ → Laid
 laid w text = record { text = text; marks = reverse w.marks.items; outer = reverse w.outer.items; here = w.here; left = w.left; level = w.level }
 
+-- a step is made, and its text appended; where memory was refused, some of that may be
+pub record Lays {A E : Type 0} (result : Result A E) (step : Laid → Laid) (old : RowWriter) (before : List ℕ) (new : RowWriter) (after : List ℕ) : Type 0 where
+  pub ok : OnOk result (laid new after ≡ step (laid old before))
+  pub begun : IsBegunBy before after
+
 abbrev pub put_comment : Bool → Gap → List ℕ → Laid → Laid
 put_comment has gap text s = record s { text = s.text ++ (if has then gap_bytes gap ++ text else []) }
 
@@ -113,9 +121,9 @@ opened kind s = record {
   text = s.text ++ (due s.here s.left ++ (gap_bytes (gap_for (first_gap s.here s.level) s.left (hugs kind)) ++ opening_text kind));
   marks = drop 1 s.marks;
   outer = s.here ∷ s.outer;
-  here = record { within = Some kind; mark = get_or s.marks 0 whole; later = false };
+  here = record { within = Some kind; mark = get_or s.marks 0 (top None).mark; later = false };
   left = Start;
-  level = if (get_or s.marks 0 whole).broken then s.level + 1 else s.level;
+  level = if (get_or s.marks 0 (top None).mark).broken then s.level + 1 else s.level;
 }
 
 abbrev pub closed_by : Bool → Laid → Laid

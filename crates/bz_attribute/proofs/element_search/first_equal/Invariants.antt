@@ -1,6 +1,6 @@
 use Rattle.std.proofs.Common.{◌-◌, ◌≤◌, length, map}
 use Rattle.bz_tree.specs.Rows.{part_view}
-use Rattle.bz_attribute.specs.private.ListParts.{HasSought}
+use Rattle.bz_attribute.specs.private.Parts.{HasSought}
 use Rattle.bz_attribute.proofs.element_search.first_equal.Given as goal
 
 abbrev pub invariant-loop-element : goal.invariant-loop-element

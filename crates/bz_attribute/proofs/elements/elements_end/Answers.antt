@@ -1,6 +1,6 @@
 use Rattle.std.proofs.Common.{false, ℕ, ◌+◌, map, take, ap, ◌∙◌}
 use Rattle.bz_tree.specs.Rows.{part_view}
-use Rattle.bz_attribute.specs.private.Ends.{parts_len, plain_len}
+use Rattle.bz_attribute.specs.private.Parts.{parts_len, plain_len}
 use Rattle.bz_attribute.proofs.ListElements.{elements_told}
 use Rattle.bz_attribute.proofs.Slices.{front_seen, rest_seen}
 use Rattle.bz_attribute.proofs.elements.elements_end.Goals as goal

@@ -1,6 +1,6 @@
 use Rattle.std.proofs.Common.{rules, refl, ℕ, ◌&&◌, Bool, ap, drop, map, sym, ◌∙◌}
 use Rattle.bz_tree.specs.Rows.{part_view}
-use Rattle.bz_attribute.specs.private.ListParts.{ends_piece}
+use Rattle.bz_attribute.specs.private.Parts.{ends_piece}
 use Rattle.bz_attribute.proofs.ListWalk.{list_here, no_walk_after, walk_ends, walk_passes}
 use Rattle.bz_attribute.proofs.Slices.{rest_seen}
 use Rattle.bz_attribute.proofs.elements.list_from.Goals as goal

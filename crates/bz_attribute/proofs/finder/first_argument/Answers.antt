@@ -1,6 +1,6 @@
 use Rattle.std.proofs.Common.{ℕ, ◌+◌, map, ap, ◌∙◌}
 use Rattle.bz_tree.specs.Rows.{part_view}
-use Rattle.bz_attribute.specs.private.Ends.{flat_name, segment_len}
+use Rattle.bz_attribute.specs.private.Parts.{flat_name, segment_len}
 use Rattle.bz_attribute.proofs.FirstArguments.{is_first}
 use Rattle.bz_attribute.proofs.Slices.{rest_seen}
 use Rattle.bz_attribute.proofs.finder.first_argument.Goals as goal

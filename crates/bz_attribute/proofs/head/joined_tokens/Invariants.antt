@@ -1,6 +1,6 @@
 use Rattle.std.proofs.Common.{◌≡◌, ◌++◌, map, length, string_bytes}
 use Rattle.bz_tree.specs.Rows.{part_view}
-use Rattle.bz_attribute.specs.private.Ends.{token_texts}
+use Rattle.bz_attribute.specs.private.Parts.{token_texts}
 use Rattle.bz_attribute.proofs.head.joined_tokens.Given as goal
 
 -- the texts so far and those of the parts that are left

@@ -1,7 +1,7 @@
 use Rattle.std.proofs.Common.{◌≡◌, ◌≤◌, false, length, drop, map}
 use Rattle.std.specs.List.{list_any}
 use Rattle.bz_tree.specs.Rows.{part_view}
-use Rattle.bz_attribute.specs.private.Ends.{is_stop}
+use Rattle.bz_attribute.specs.private.Parts.{is_stop}
 use Rattle.bz_attribute.proofs.place.arguments_end.Given as goal
 
 abbrev pub invariant-loop-at : goal.invariant-loop-at

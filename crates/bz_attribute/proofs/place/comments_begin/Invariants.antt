@@ -1,7 +1,7 @@
 use Rattle.std.proofs.Common.{◌≡◌, ◌≤◌, true, length, drop, map}
 use Rattle.std.specs.List.{list_all}
 use Rattle.bz_tree.specs.Rows.{part_view}
-use Rattle.bz_attribute.specs.private.Ends.{is_above}
+use Rattle.bz_attribute.specs.private.Parts.{is_above}
 use Rattle.bz_attribute.proofs.place.comments_begin.Given as goal
 
 abbrev pub invariant-loop-at : goal.invariant-loop-at

@@ -1,6 +1,6 @@
 use Rattle.std.proofs.Common.{◌+◌, ℕ, ap, ◌∙◌, map}
 use Rattle.bz_tree.specs.Rows.{part_view}
-use Rattle.bz_attribute.specs.private.Ends.{tokens_len}
+use Rattle.bz_attribute.specs.private.Parts.{tokens_len}
 use Rattle.bz_attribute.proofs.KindPlaced.{kind_at}
 use Rattle.bz_attribute.proofs.Slices.{rest_seen}
 use Rattle.bz_attribute.proofs.place.kind_place.Goals as goal

@@ -1,6 +1,6 @@
 use Rattle.std.proofs.Common.{◌≡◌, ◌+◌, ◌-◌, ◌≤◌, length, drop, map}
 use Rattle.bz_tree.specs.Rows.{part_view}
-use Rattle.bz_attribute.specs.private.Ends as spec
+use Rattle.bz_attribute.specs.private.Parts as spec
 use Rattle.bz_attribute.proofs.place.parts_len.Given as goal
 
 abbrev pub invariant-loop-count : goal.invariant-loop-count

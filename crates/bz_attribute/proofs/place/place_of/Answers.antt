@@ -1,7 +1,7 @@
 use Rattle.std.proofs.Common.{ℕ, ◌+◌, map, ap, subst, ◌∙◌}
 use Rattle.bz_tree.specs.Rows.{part_view}
 use Rattle.bz_attribute.specs.RowPlaces.{HasArgument}
-use Rattle.bz_attribute.specs.private.Ends.{plain_len, segment_len}
+use Rattle.bz_attribute.specs.private.Parts.{plain_len, segment_len}
 use Rattle.bz_attribute.proofs.PlaceFound.{place_there}
 use Rattle.bz_attribute.proofs.Slices.{front_seen, rest_seen}
 use Rattle.bz_attribute.proofs.place.place_of.Goals as goal

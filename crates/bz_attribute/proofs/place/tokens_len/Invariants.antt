@@ -1,6 +1,6 @@
 use Rattle.std.proofs.Common.{◌≡◌, ◌+◌, ◌≤◌, length, map}
 use Rattle.bz_tree.specs.Rows.{part_view}
-use Rattle.bz_attribute.specs.private.Ends as spec
+use Rattle.bz_attribute.specs.private.Parts as spec
 use Rattle.bz_attribute.proofs.place.tokens_len.Given as goal
 
 abbrev pub invariant-loop-rest : goal.invariant-loop-rest

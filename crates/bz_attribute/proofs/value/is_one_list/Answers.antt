@@ -1,6 +1,6 @@
 use Rattle.std.proofs.Common.{◌&&◌, ap, map, sym, ◌∙◌}
 use Rattle.bz_tree.specs.Rows.{part_view}
-use Rattle.bz_attribute.specs.private.ListParts.{ends_value}
+use Rattle.bz_attribute.specs.private.Parts.{ends_value}
 use Rattle.bz_attribute.proofs.OnlyLists.{only_told}
 use Rattle.bz_attribute.proofs.Slices.{rest_seen}
 use Rattle.bz_attribute.proofs.value.is_one_list.Goals as goal

@@ -3,8 +3,8 @@ use Rattle.std.proofs.lemmas.Grind.{common_steps}
 use Rattle.bz_layout.proofs.Quotes.{respell_some}
 use Rattle.bz_layout.proofs.respell.put_single.Goals as goal
 
-pub returns-in_ok-put-in-Some-2-clause-ok : goal.returns-in_ok-put-in-Some-2-clause-ok
-returns-in_ok-put-in-Some-2-clause-ok g c =
+pub returns-in_ok-put-in-Some-2 : goal.returns-in_ok-put-in-Some-2
+returns-in_ok-put-in-Some-2 g c =
     let some = c.in-Some.ensures.some in
     let e = respell_some c.args.text.now c.in-Some.inner.now some.0 some.1 in
-    grind (arith, common_steps, e)
+    record { put = grind (arith, common_steps, e); begun = grind (arith, common_steps) }

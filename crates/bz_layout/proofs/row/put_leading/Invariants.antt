@@ -1,8 +1,7 @@
 use Rattle.std.proofs.Common.{◌≡◌, ◌++◌, drop, map}
 use Rattle.bz_tree.specs.Rows.{part_view}
 use Rattle.bz_layout.specs.Pieces.{bytes_of, comment_lines}
-use Rattle.bz_layout.specs.private.Kept.{IsBegunBy}
-use Rattle.bz_layout.specs.private.RowLayout.{leading}
+use Rattle.bz_layout.specs.private.RowLayout.{IsBegunBy, leading}
 use Rattle.bz_layout.proofs.row.put_leading.Given as goal
 
 abbrev pub invariant-loop-part : goal.invariant-loop-part

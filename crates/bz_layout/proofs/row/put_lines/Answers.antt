@@ -8,6 +8,6 @@ use Rattle.bz_layout.proofs.row.put_lines.Goals as goal
 pub returns-clause-text : goal.returns-clause-text
 returns-clause-text c =
     on_ok_weaker c.put.result
-    (line_row _ _ _ (map part_view c.args.parts.now) _ _ (laid c.run.new.self c.run.new.out.items) c.in_ok-put_leading.ensures.text c.in_ok-marks.ensures
-    (c.in_ok-walk.ensures.laid c.put_leading.new.out.items) c.in_ok-run.ensures.laid)
+    (line_row _ _ _ (map part_view c.args.parts.now) _ _ (laid c.run.new.self c.run.new.out.items) c.in_ok-put_leading.ensures.put c.in_ok-marks.ensures
+    (c.in_ok-walk.ensures.laid c.put_leading.new.out.items) c.in_ok-run.ensures.ok)
     c.put.ensures.put

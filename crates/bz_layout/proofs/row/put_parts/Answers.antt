@@ -15,6 +15,6 @@ other _ h = refl
 pub returns-else-is_err-clause-appended : goal.returns-else-is_err-clause-appended
 returns-else-is_err-clause-appended c =
     elim c.match-class.branch [
-      | in-Comment w ↦ rw (w.put-is, w.out-is) (on_ok_weaker w.put_leading-put.result (λ text s. comments_laid _ _ s (map part_view c.args.parts.now) c.args.class (ap is_comment w.in-Comment.is) text) w.put_leading-put.ensures.text)
+      | in-Comment w ↦ rw (w.put-is, w.out-is) (on_ok_weaker w.put_leading-put.result (λ text s. comments_laid _ _ s (map part_view c.args.parts.now) c.args.class (ap is_comment w.in-Comment.is) text) w.put_leading-put.ensures.put)
       | in_default w ↦ rw (w.put-is, w.out-is) (on_ok_weaker w.put_lines-put.result (λ text s. lines_laid _ _ s (map part_view c.args.parts.now) c.args.class (other c.args.class w.in_default.not-Comment) text) w.put_lines-put.ensures.text)
     ]

@@ -1,6 +1,6 @@
 use Rattle.std.proofs.Common.{◌≡◌, ◌-◌, ◌++◌}
 use Rattle.bz_layout.specs.Pieces.{indent}
-use Rattle.bz_layout.specs.private.Kept.{IsBegunBy}
+use Rattle.bz_layout.specs.private.RowLayout.{IsBegunBy}
 use Rattle.bz_layout.proofs.write.put_indent.Given as goal
 
 abbrev pub invariant-loop : goal.invariant-loop

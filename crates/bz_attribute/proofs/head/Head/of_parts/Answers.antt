@@ -2,8 +2,8 @@ use Rattle.std.proofs.Common.{◌≡◌, ◌-◌, ℕ, Bool, List, length, map, 
 use Rattle.bz_tree.specs.declared.row.Part.{Part}
 use Rattle.bz_tree.specs.Rows.{RowPart, part_view, parts_of}
 use Rattle.bz_tree.specs.Tree.{Statement}
-use Rattle.bz_attribute.specs.private.Ends.{above_len, after_comments, after_tokens, opens_call, token_texts, tokens_len}
-use Rattle.bz_attribute.proofs.Headed.{headed, no_head}
+use Rattle.bz_attribute.specs.private.Parts.{above_len, opens_call, token_texts, tokens_len}
+use Rattle.bz_attribute.proofs.Headed.{after_comments, after_tokens, headed, no_head}
 use Rattle.bz_attribute.proofs.Slices.{rest_seen}
 use Rattle.bz_attribute.proofs.head.Head.of_parts.Goals as goal
 

@@ -1,7 +1,6 @@
 use Rattle.std.proofs.Common.{◌≡◌, ◌≤◌, drop, map}
 use Rattle.bz_tree.specs.Rows.{part_view}
-use Rattle.bz_layout.specs.private.Kept.{IsBegunBy}
-use Rattle.bz_layout.specs.private.RowLayout.{run, laid}
+use Rattle.bz_layout.specs.private.RowLayout.{IsBegunBy, run, laid}
 use Rattle.bz_layout.proofs.walk.RowWriter.run.Given as goal
 
 abbrev pub invariant-loop-part : goal.invariant-loop-part
