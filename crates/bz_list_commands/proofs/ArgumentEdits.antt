@@ -1,5 +1,5 @@
 -- The arguments of a rule, edited one by one among their parts.
-use Rattle.std.proofs.Common.{◌≡◌, ℕ, ◌+◌, ◌≤◌, ◌<◌, List, [], ◌∷◌, ◌++◌, Bool, true, false, ◌||◌, ◌&&◌, not, if◌then◌else◌, Option, Some, None, is_some, option_map, length, map, take, drop, refl, ap, sym, subst, ◌∙◌, arith, append_assoc, append-nil, length-append, length-drop}
+use Rattle.std.proofs.Common.{◌≡◌, ℕ, ◌+◌, ◌≤◌, ◌<◌, List, [], ◌∷◌, ◌++◌, Bool, true, false, ◌||◌, ◌&&◌, not, if◌then◌else◌, Option, Some, None, is_some, option_map, length, map, take, drop, refl, ap, sym, ◌∙◌, arith, append_assoc, append-nil, length-append, length-drop}
 use Rattle.std.specs.List.{flat_map, list_any}
 use Rattle.std.proofs.lemmas.Bool.{false≢true}
 use Rattle.std.proofs.lemmas.Grind.{flat_map-append}
@@ -18,10 +18,10 @@ use Rattle.bz_attribute.proofs.EditedAt.{segs_join}
 use Rattle.bz_attribute.proofs.ListElements.{IsKeyword, is_keyword}
 use Rattle.std.proofs.Math.Bool.{or-false}
 use Rattle.bz_attribute.specs.declared.place.Place.{Place}
-use Rattle.bz_list_commands.specs.private.ArgumentEdits.{edited, HasEdited, HasEditedAll, HasEditedSome, HasEditedValue, is_changed}
-use Rattle.bz_list_commands.specs.private.StringEdits.{become_all, changes, is_meant, IsWritten, literal_parts}
-use Rattle.bz_list_commands.proofs.ElementEdits.{after_them, and_them, none_more, some_more}
-use Rattle.bz_list_commands.proofs.WrittenParts.{passed, put}
+use Rattle.bz_list_commands.specs.private.ArgumentEdits.{edited, HasEdited, HasEditedOne, HasEditedValue, is_changed}
+use Rattle.bz_list_commands.specs.private.StringEdits.{become_all, changes, HasMadeWay, is_meant, IsUpTo, written_to}
+use Rattle.bz_list_commands.proofs.ElementEdits.{after_them, and_them}
+use Rattle.bz_list_commands.proofs.WrittenParts.{is_made, none_more, passed, put, some_more}
 use Rattle.bz_token.specs.Common.{is_empty}
 
 -- the parts of an argument, and what stands after it
@@ -36,25 +36,24 @@ mapped_some f None = refl
 mapped_some f (Some x) = refl
 
 -- an argument that stays
-pub stays : (f : Segment → List Segment) (t : Segment → Bool) (new : List RowPart) (a : Segment) (others : List Segment) (at nodes to : ℕ) (name : Option (List ℕ)) (ps : List RowPart) (places : List Place) → drop at ps ≡ argument_parts a others → IsFirstArgument a nodes to name
-    → f a ≡ a ∷ [] → t a ≡ false → HasEdited f t new a others ps at (at + to) places places
-stays f t new a others at nodes to name ps places are first same none =
-    let size : at + to ≡ at + length (segs_parts (segs_of (a ∷ []))) = ap (λ (k : ℕ). at + k) first.ends in
+pub stays : (f : Segment → List Segment) (t : Segment → Bool) (a : Segment) (others : List Segment) (at nodes to : ℕ) (name : Option (List ℕ)) (ps : List RowPart) (written : Option Place) (out : List RowPart) (was : Bool) → IsUpTo written at → drop at ps ≡ argument_parts a others → IsFirstArgument a nodes to name
+    → f a ≡ a ∷ [] → t a ≡ false → HasEdited f t a others (drop (at + to) ps) was was (written_to written out ps at) (written_to written out ps (at + to))
+stays f t a others at nodes to name ps written out was h are first same none =
+    let own : List RowPart = segs_parts (segs_of (a ∷ [])) in
+    let size : at + to ≡ at + length own = ap (λ (k : ℕ). at + k) first.ends in
     record {
       read = after_argument a others ps at (at + to) are size;
-      changed = none_more places (t a) none;
-      written = λ target h.
-          subst (λ (ss : List Segment). IsWritten new ps places (at + to) (target ++ segs_parts (segs_of ss))) (sym same)
-          (passed new ps target (segs_parts (segs_of (a ∷ []))) places at (at + to) h (and_them ps (segs_parts (segs_of (a ∷ []))) (segs_parts (segs_of others)) at (at + to) (are ∙ apart a others) size) size);
+      changed = none_more was (t a) none;
+      written = passed written out ps own at (at + to) h (and_them ps own (segs_parts (segs_of others)) at (at + to) (are ∙ apart a others) size) size ∙ ap (λ (ss : List Segment). written_to written out ps at ++ segs_parts (segs_of ss)) (sym same);
     }
 
 -- one that goes
-pub goes_away : (f : Segment → List Segment) (t : Segment → Bool) (a : Segment) (others : List Segment) (at nodes to : ℕ) (name : Option (List ℕ)) (ps : List RowPart) (places more : List Place) → more ≡ places ++ record { from = at; to = at + to } ∷ []
-    → drop at ps ≡ argument_parts a others → IsFirstArgument a nodes to name → f a ≡ [] → t a ≡ true → HasEdited f t [] a others ps at (at + to) places more
-goes_away f t a others at nodes to name ps places more made are first gone is = record {
+pub goes_away : (f : Segment → List Segment) (t : Segment → Bool) (a : Segment) (others : List Segment) (at nodes to : ℕ) (name : Option (List ℕ)) (ps : List RowPart) (written : Option Place) (out before : List RowPart) (was : Bool) → HasMadeWay before ps out (record { from = at; to = at + to }) written
+    → drop at ps ≡ argument_parts a others → IsFirstArgument a nodes to name → f a ≡ [] → t a ≡ true → HasEdited f t a others (drop (at + to) ps) was (is_some written) before (written_to written out ps (at + to))
+goes_away f t a others at nodes to name ps written out before was made are first gone is = record {
   read = after_argument a others ps at (at + to) are (ap (λ (k : ℕ). at + k) first.ends);
-  changed = some_more places more (record { from = at; to = at + to }) (t a) made is;
-  written = λ target h. subst (λ (ss : List Segment). IsWritten [] ps more (at + to) (target ++ segs_parts (segs_of ss))) (sym gone) (put [] ps target places more (record { from = at; to = at + to }) made (omega arith) h);
+  changed = some_more was (is_some written) (t a) (is_made made) is;
+  written = put before ps out out [] (record { from = at; to = at + to }) written made (sym (append-nil out)) ∙ ap (λ (ss : List Segment). before ++ segs_parts (segs_of ss)) (sym gone);
 }
 
 -- where the value of a keyword argument begins
@@ -115,23 +114,22 @@ never_lost p literal (x ∷ y ∷ xs) = refl
 never_lost p literal (x ∷ []) =
     elim (is_list x) as (λ b. (b && not (is_empty (elements x)) && is_empty (become_all p (Some literal) (elements x))) ≡ false) [ true ↦ never_nil p literal (elements x) | false ↦ refl ]
 
-pub lost : (p : Option (List ℕ) → Bool) (literal : Option (List ℕ)) (a : Segment) (others : List Segment) (at nodes to : ℕ) (name : Option (List ℕ)) (ps : List RowPart) (places more : List Place) → more ≡ places ++ record { from = at; to = at + to } ∷ []
-    → drop at ps ≡ argument_parts a others → IsFirstArgument a nodes to name → loses_all (become_all p literal) (value a) ≡ true → HasEdited (filtered (become_all p literal)) (changes p) (literal_parts literal) a others ps at (at + to) places more
-lost p None a others at nodes to name ps places more made are first all =
-    goes_away (filtered (become_all p None)) (changes p) a others at nodes to name ps places more made are first (gone_value (become_all p None) a all) (lost_changes p (value a) all)
-lost p (Some literal) a others at nodes to name ps places more made are first all = absurd (false≢true (sym (never_lost p literal (value a)) ∙ all))
+pub lost : (p : Option (List ℕ) → Bool) (literal : Option (List ℕ)) (a : Segment) (others : List Segment) (at nodes to : ℕ) (name : Option (List ℕ)) (ps : List RowPart) (written : Option Place) (out before : List RowPart) (was : Bool) → HasMadeWay before ps out (record { from = at; to = at + to }) written
+    → drop at ps ≡ argument_parts a others → IsFirstArgument a nodes to name → loses_all (become_all p literal) (value a) ≡ true → HasEdited (filtered (become_all p literal)) (changes p) a others (drop (at + to) ps) was (is_some written) before (written_to written out ps (at + to))
+lost p None a others at nodes to name ps written out before was made are first all =
+    goes_away (filtered (become_all p None)) (changes p) a others at nodes to name ps written out before was made are first (gone_value (become_all p None) a all) (lost_changes p (value a) all)
+lost p (Some literal) a others at nodes to name ps written out before was made are first all = absurd (false≢true (sym (never_lost p literal (value a)) ∙ all))
 
 -- where something is left
 all_together : (target comments done rest beside : List RowPart) (x y e : RowPart) → ((target ++ (comments ++ x ∷ y ∷ [])) ++ done) ++ (rest ++ e ∷ beside) ≡ target ++ (comments ++ ((x ∷ y ∷ (done ++ rest)) ++ (e ∷ beside)))
 all_together target comments done rest beside x y e = simp append_assoc
 
-pub left : (p : Option (List ℕ) → Bool) (literal : Option (List ℕ)) (a : Segment) (others : List Segment) (at v end nodes to k : ℕ) (name : Option (List ℕ)) (ps : List RowPart) (places more : List Place) → (h : is_attribute a ≡ true)
+pub left : (p : Option (List ℕ) → Bool) (literal : Option (List ℕ)) (a : Segment) (others : List Segment) (at v end nodes to k : ℕ) (name : Option (List ℕ)) (ps out1 out2 : List RowPart) (written1 written2 : Option Place) (was is : Bool) → (h : is_attribute a ≡ true) → IsUpTo written1 at → IsUpTo written2 end
     → drop at ps ≡ argument_parts a others → IsFirstArgument a nodes to name → v ≡ at + nodes + 2 → at + to ≤ length ps → end ≤ length ps → (end ≤ at + to → k ≡ at + to)
-    → HasEditedValue p literal (value a) (after_value a others) ps v end places more → loses_all (become_all p literal) (value a) ≡ false
-    → HasEdited (filtered (become_all p literal)) (changes p) (literal_parts literal) a others ps at k places more
-left p literal a others at v end nodes to k name ps places more h are first v_is fits fits2 k_is made some =
+    → HasEditedValue p literal (value a) (after_value a others) (drop end ps) was is (written_to written1 out1 ps v) (written_to written2 out2 ps end) → loses_all (become_all p literal) (value a) ≡ false
+    → HasEdited (filtered (become_all p literal)) (changes p) a others (drop k ps) was is (written_to written1 out1 ps at) (written_to written2 out2 ps k)
+left p literal a others at v end nodes to k name ps out1 out2 written1 written2 was is h before until are first v_is fits fits2 k_is made some =
     let f : List Segment → List Segment = become_all p literal in
-    let new : List RowPart = literal_parts literal in
     let kw : IsKeyword a.nodes = is_keyword a.nodes h in
     let pre : List RowPart = name_parts a h in
     let beside : List RowPart = beside_part a.suffix in
@@ -142,6 +140,7 @@ left p literal a others at v end nodes to k name ps places more h are first v_is
     let size : at + to ≡ end + length last =
     omega (arith, fits, fits2, ap length ends, ap length rest_is, length-drop (at + to) ps, length-drop end ps, length-append last tail) in
     let k_size : k ≡ at + to = k_is (omega (arith, size)) in
+    let reads : drop k ps ≡ tail = ap (λ (m : ℕ). drop m ps) k_size ∙ ends in
     let v_size : v ≡ at + length pre = omega (arith, v_is, first.begins, name_long a h) in
     let all : filtered f a ≡ with_value (edit_parts f (value a)) a ∷ [] = ap (λ (b : Bool). if b then [] else with_value (edit_parts f (value a)) a ∷ []) some in
     let taken : take 2 a.nodes ≡ kw.name ∷ kw.operator ∷ [] = ap (take 2) kw.are in
@@ -150,30 +149,40 @@ left p literal a others at v end nodes to k name ps places more h are first v_is
     ∙ ap (λ (ns : List Item). map above a.before ++ (items_parts (items_of (ns ++ edit_parts f (value a))) ++ (segment_end ∷ (beside ++ [])))) taken
     ∙ ap (λ (qs : List RowPart). map above a.before ++ (qs ++ (segment_end ∷ (beside ++ [])))) (kw.parts (edit_parts f (value a)))
     ∙ (λ i. map above a.before ++ ((kw.first ∷ kw.second ∷ sym made.total i) ++ (segment_end ∷ append-nil beside i))) in
+    let target : List RowPart = written_to written1 out1 ps at in
+    let at_value = passed written1 out1 ps pre at v before (and_them ps pre (value_parts (value a) (after_value a others)) at v (are ∙ cut_name a h (segment_end ∷ after_value a others)) v_size) v_size in
+    let at_end = passed written2 out2 ps last end k until (rest_is ∙ ap (λ (qs : List RowPart). last ++ qs) (sym reads)) (k_size ∙ size) in
     record {
-      read = ap (λ (m : ℕ). drop m ps) k_size ∙ ends;
+      read = reads;
       changed = made.changed;
-      written = λ target t.
-          let at_value = passed new ps target pre places at v t (and_them ps pre (value_parts (value a) (after_value a others)) at v (are ∙ cut_name a h (segment_end ∷ after_value a others)) v_size) v_size in
-          let at_end = passed new ps ((target ++ pre) ++ made.made) last more end k (made.written (target ++ pre) at_value) (rest_is ∙ ap (λ (qs : List RowPart). last ++ qs) (sym (ap (λ (m : ℕ). drop m ps) k_size ∙ ends))) (k_size ∙ size) in
-          subst (λ (qs : List RowPart). IsWritten new ps more k qs) (all_together target (map above a.before) made.made made.rest beside kw.first kw.second segment_end ∙ ap (λ (qs : List RowPart). target ++ qs) (sym own)) at_end;
+      written = at_end ∙ ap (λ (qs : List RowPart). qs ++ last) (made.written ∙ ap (λ (qs : List RowPart). qs ++ made.made) at_value)
+          ∙ all_together target (map above a.before) made.made made.rest beside kw.first kw.second segment_end ∙ ap (λ (qs : List RowPart). target ++ qs) (sym own);
     }
 
+-- some of the arguments from a place on were edited, and others are left
+pub record HasEditedSome (f : Segment → List Segment) (t : Segment → Bool) (args : List Segment) (ps : List RowPart) (from at : ℕ) (is : Bool) (now : List RowPart) : Type 0 where
+  pub front : List Segment
+  pub others : List Segment
+  pub are : args ≡ front ++ others
+  pub read : drop at ps ≡ segs_parts (segs_of others)
+  pub changed : is ≡ list_any t front
+  pub written : now ≡ take from ps ++ segs_parts (segs_of (flat_map f front))
+
 -- the walk over the arguments
-pub none_edited : (f : Segment → List Segment) (t : Segment → Bool) (new : List RowPart) (args : List Segment) (ps : List RowPart) (from : ℕ) (places : List Place) → places ≡ [] → drop from ps ≡ segs_parts (segs_of args) → HasEditedSome f t new args ps from from places
-none_edited f t new args ps from places none are = rw none (record {
+pub none_edited : (f : Segment → List Segment) (t : Segment → Bool) (args : List Segment) (ps : List RowPart) (from : ℕ) → drop from ps ≡ segs_parts (segs_of args) → HasEditedSome f t args ps from from false (take from ps)
+none_edited f t args ps from are = record {
   front = [];
   others = args;
   are = refl;
   read = are;
   changed = refl;
-  written = record { ordered = omega arith; are = ap (λ (k : ℕ). take k ps) (omega arith) ∙ sym (append-nil (take from ps)) };
-})
+  written = sym (append-nil (take from ps));
+}
 
-one_at : (f : Segment → List Segment) (t : Segment → Bool) (new : List RowPart) (args front others : List Segment) (ps : List RowPart) (from at next : ℕ) (places more : List Place) → args ≡ front ++ others → drop at ps ≡ segs_parts (segs_of others) → not (is_empty places) ≡ list_any t front
-    → IsWritten new ps places at (take from ps ++ segs_parts (segs_of (flat_map f front))) → at < length ps → ((a : Segment) (later : List Segment) → drop at ps ≡ argument_parts a later → HasEdited f t new a later ps at next places more) → HasEditedSome f t new args ps from next more
-one_at f t new args front [] ps from at next places more are read changed written some edits = absurd (omega (arith, some, ap length read, length-drop at ps))
-one_at f t new args front (a ∷ later) ps from at next places more are read changed written some edits =
+one_at : (f : Segment → List Segment) (t : Segment → Bool) (args front others : List Segment) (ps : List RowPart) (from at next : ℕ) (is more : Bool) (now more_now : List RowPart) → args ≡ front ++ others → drop at ps ≡ segs_parts (segs_of others) → is ≡ list_any t front
+    → now ≡ take from ps ++ segs_parts (segs_of (flat_map f front)) → at < length ps → HasEditedOne f t ps at next is more now more_now → HasEditedSome f t args ps from next more more_now
+one_at f t args front [] ps from at next is more now more_now are read changed written some edits = absurd (omega (arith, some, ap length read, length-drop at ps))
+one_at f t args front (a ∷ later) ps from at next is more now more_now are read changed written some edits =
     let made = edits a later read in
     record {
       front = front ++ a ∷ [];
@@ -181,15 +190,14 @@ one_at f t new args front (a ∷ later) ps from at next places more are read cha
       are = are ∙ sym (append_assoc front (a ∷ []) later);
       read = made.read;
       changed = made.changed ∙ ap (λ (b : Bool). b || t a) changed ∙ sym (list_any-append t front (a ∷ []) ∙ ap (λ (b : Bool). list_any t front || b) (or-false (t a)));
-      written = subst (λ (qs : List RowPart). IsWritten new ps more next qs)
-          (append_assoc (take from ps) (segs_parts (segs_of (flat_map f front))) (segs_parts (segs_of (f a)))
-          ∙ ap (λ (qs : List RowPart). take from ps ++ qs) (sym (segs_join (flat_map f front) (f a)) ∙ ap (λ (ss : List Segment). segs_parts (segs_of ss)) (sym (flat_map-append f front (a ∷ []) ∙ ap (λ (ss : List Segment). flat_map f front ++ ss) (append-nil (f a))))))
-          (made.written (take from ps ++ segs_parts (segs_of (flat_map f front))) written);
+      written = made.written ∙ ap (λ (qs : List RowPart). qs ++ segs_parts (segs_of (f a))) written
+          ∙ append_assoc (take from ps) (segs_parts (segs_of (flat_map f front))) (segs_parts (segs_of (f a)))
+          ∙ ap (λ (qs : List RowPart). take from ps ++ qs) (sym (segs_join (flat_map f front) (f a)) ∙ ap (λ (ss : List Segment). segs_parts (segs_of ss)) (sym (flat_map-append f front (a ∷ []) ∙ ap (λ (ss : List Segment). flat_map f front ++ ss) (append-nil (f a)))));
     }
 
-pub one_edited : (f : Segment → List Segment) (t : Segment → Bool) (new : List RowPart) (args : List Segment) (ps : List RowPart) (from at next : ℕ) (places more : List Place) → HasEditedSome f t new args ps from at places → at < length ps
-    → ((a : Segment) (later : List Segment) → drop at ps ≡ argument_parts a later → HasEdited f t new a later ps at next places more) → HasEditedSome f t new args ps from next more
-one_edited f t new args ps from at next places more s some edits = one_at f t new args s.front s.others ps from at next places more s.are s.read s.changed s.written some edits
+pub one_edited : (f : Segment → List Segment) (t : Segment → Bool) (args : List Segment) (ps : List RowPart) (from at next : ℕ) (is more : Bool) (now more_now : List RowPart) → HasEditedSome f t args ps from at is now → at < length ps → HasEditedOne f t ps at next is more now more_now
+    → HasEditedSome f t args ps from next more more_now
+one_edited f t args ps from at next is more now more_now s some edits = one_at f t args s.front s.others ps from at next is more now more_now s.are s.read s.changed s.written some edits
 
 no_others : (others : List Segment) → length (segs_parts (segs_of others)) ≡ 0 → others ≡ []
 no_others [] h = refl
@@ -197,20 +205,15 @@ no_others (a ∷ others) h =
     let rest : List RowPart = segment_end ∷ (beside_part a.suffix ++ segs_parts (segs_of others)) in
     absurd (omega (arith, h, length-append (map above a.before) (items_parts (items_of a.nodes) ++ rest), length-append (items_parts (items_of a.nodes)) rest))
 
-pub all_edited : (f : Segment → List Segment) (t : Segment → Bool) (new : List RowPart) (args : List Segment) (ps : List RowPart) (from at : ℕ) (places : List Place) → HasEditedSome f t new args ps from at places → at ≡ length ps → HasEditedAll f t new args ps from places
-all_edited f t new args ps from at places s ends =
-    let none : s.others ≡ [] = no_others s.others (omega (arith, ap length s.read, length-drop at ps, ends)) in
-    let all : args ≡ s.front = s.are ∙ ap (λ (zs : List Segment). s.front ++ zs) none ∙ append-nil s.front in
-    record {
-      changed = s.changed ∙ ap (list_any t) (sym all);
-      written = rw (sym ends) (subst (λ (zs : List Segment). IsWritten new ps places at (take from ps ++ segs_parts (segs_of (flat_map f zs)))) (sym all) s.written);
-    }
+pub all_edited : (f : Segment → List Segment) (t : Segment → Bool) (args : List Segment) (ps : List RowPart) (from at : ℕ) (is : Bool) (now : List RowPart) → (s : HasEditedSome f t args ps from at is now) → at ≡ length ps → s.front ≡ args
+all_edited f t args ps from at is now s ends =
+    sym (s.are ∙ ap (λ (zs : List Segment). s.front ++ zs) (no_others s.others (omega (arith, ap length s.read, length-drop at ps, ends))) ∙ append-nil s.front)
 
 -- a keyword argument, and any
-pub of_keyword : (p : Option (List ℕ) → Bool) (literal : Option (List ℕ)) (a : Segment) (others : List Segment) (ps : List RowPart) (at next : ℕ) (places more : List Place) → is_attribute a ≡ true
-    → HasEdited (filtered (become_all p literal)) (changes p) (literal_parts literal) a others ps at next places more → HasEdited (edited p literal) (is_changed p) (literal_parts literal) a others ps at next places more
-of_keyword p literal a others ps at next places more is h = record {
+pub of_keyword : (p : Option (List ℕ) → Bool) (literal : Option (List ℕ)) (a : Segment) (others : List Segment) (left : List RowPart) (was is : Bool) (old now : List RowPart) → is_attribute a ≡ true
+    → HasEdited (filtered (become_all p literal)) (changes p) a others left was is old now → HasEdited (edited p literal) (is_changed p) a others left was is old now
+of_keyword p literal a others left was is old now keyword h = record {
   read = h.read;
-  changed = h.changed ∙ ap (λ (b : Bool). not (is_empty places) || (b && changes p a)) (sym is);
-  written = λ target t. subst (λ (ss : List Segment). IsWritten (literal_parts literal) ps more next (target ++ segs_parts (segs_of ss))) (ap (λ (b : Bool). if b then filtered (become_all p literal) a else a ∷ []) (sym is)) (h.written target t);
+  changed = h.changed ∙ ap (λ (b : Bool). was || (b && changes p a)) (sym keyword);
+  written = h.written ∙ ap (λ (b : Bool). old ++ segs_parts (segs_of (if b then filtered (become_all p literal) a else a ∷ []))) (sym keyword);
 }

@@ -1,12 +1,11 @@
 -- The elements of a value, edited one by one among its parts.
-use Rattle.std.proofs.Common.{◌≡◌, ℕ, ◌+◌, ◌-◌, ◌≤◌, List, [], ◌∷◌, ◌++◌, Bool, true, false, ◌||◌, not, if◌then◌else◌, Option, Some, None, length, map, take, drop, refl, ap, sym, subst, ◌∙◌, arith, append_assoc, append-nil, length-append, length-drop, length-take-le, drop-drop, take-append-drop}
+use Rattle.std.proofs.Common.{◌≡◌, ℕ, ◌+◌, ◌-◌, ◌<◌, ◌≤◌, List, [], ◌∷◌, ◌++◌, Bool, true, false, ◌||◌, if◌then◌else◌, Option, Some, None, length, map, take, drop, refl, ap, sym, ◌∙◌, arith, append_assoc, append-nil, length-append, length-drop, length-take-le, drop-drop, take-append-drop}
 use Rattle.std.specs.List.{list_any, flat_map}
 use Rattle.std.proofs.lemmas.Bool.{false≢true}
 use Rattle.std.proofs.lemmas.List.{append_cancel_right, length-map}
 use Rattle.std.proofs.lemmas.List.Folds.{list_any-append}
 use Rattle.std.proofs.Math.Seq.{drop-append_seam}
 use Rattle.std.proofs.Math.Bool.{or-false, or_assoc}
-use Rattle.bz_token.specs.Common.{is_empty}
 use Rattle.bz_token.specs.declared.token.Kind.TheVariants.{String}
 use Rattle.bz_tree.specs.Tree.{Item, leaf, group, Segment, items_of, no_segs, seg, segs_of}
 use Rattle.bz_tree.specs.Rows.{RowPart, a_token, above, beside_part, closing, segment_end, items_parts, segs_parts}
@@ -17,11 +16,11 @@ use Rattle.bz_attribute.specs.Lists.{edit_from, edit_list, edit_parts, is_part, 
 use Rattle.bz_attribute.specs.declared.place.Place.{Place}
 use Rattle.bz_attribute.proofs.LabelSets.{any_joined}
 use Rattle.bz_attribute.proofs.ListEdits.{list_cut, long_opened, opened}
-use Rattle.bz_list_commands.specs.private.StringEdits.{become, become_all, in_place, is_meant, IsWritten, literal_in, literal_parts, means_in, place_in}
+use Rattle.bz_list_commands.specs.private.StringEdits.{become, become_all, HasMadeWay, in_place, is_meant, IsUpTo, literal_in, literal_parts, means_in, place_in, written_to}
 use Rattle.bz_list_commands.specs.declared.string_edit.Meant.{Meant}
 use Rattle.bz_list_commands.specs.declared.string_edit.Meant.TheVariants.{Any, Unlike, Word, Words}
 use Rattle.bz_list_commands.specs.private.ArgumentEdits.{HasEditedValue}
-use Rattle.bz_list_commands.proofs.WrittenParts.{between, passed, passed_to, put}
+use Rattle.bz_list_commands.proofs.WrittenParts.{between, later, passed, passed_to, put, up_to_made}
 
 -- what stands after some parts
 pub after_them : (ps xs ys : List RowPart) (at k : ℕ) → drop at ps ≡ xs ++ ys → k ≡ at + length xs → drop k ps ≡ ys
@@ -51,110 +50,104 @@ strings_only home (Word word) literal h = refl
 strings_only home (Words set) literal h = refl
 strings_only home (Unlike old new) literal h = refl
 
--- places are not none, where one more is among them
-pub some_more : (places more : List Place) (place : Place) (b : Bool) → more ≡ places ++ place ∷ [] → b ≡ true → not (is_empty more) ≡ (not (is_empty places) || b)
-some_more [] more place b is true_is = rw (is, true_is) refl
-some_more (first ∷ places) more place b is true_is = rw is refl
-
-pub none_more : (places : List Place) (b : Bool) → b ≡ false → not (is_empty places) ≡ (not (is_empty places) || b)
-none_more places b none = sym (ap (λ (c : Bool). not (is_empty places) || c) none ∙ or-false (not (is_empty places)))
-
 -- what comes of the next element, and of what stands before it
-abbrev up_to : (Option (List ℕ) → Bool) → Option (List ℕ) → List RowPart → ℕ → ℕ → Segment → List RowPart
-up_to p literal ps at from s = take (from - at) (drop at ps) ++ segs_parts (segs_of (become p literal s))
-
-abbrev IsOn : (Option (List ℕ) → Bool) → Option (List ℕ) → List RowPart → ℕ → ℕ → ℕ → List Place → List Place → Segment → Type 0
-IsOn p literal ps at from to places more s =
-    (target : List RowPart) → IsWritten (literal_parts literal) ps places at target → IsWritten (literal_parts literal) ps more to (target ++ up_to p literal ps at from s)
+abbrev pub piece : (Option (List ℕ) → Bool) → Option (List ℕ) → List RowPart → ℕ → ℕ → Segment → List RowPart
+piece p literal ps at from s = take (from - at) (drop at ps) ++ segs_parts (segs_of (become p literal s))
 
 -- an element that is not meant stays
-pub element_stays : (p : Option (List ℕ) → Bool) (literal : Option (List ℕ)) (l : ListRest) (after ps : List RowPart) (at from token to : ℕ) (string : Option (List ℕ)) (places : List Place) → at ≤ from → from ≤ to → (n : IsNextElement l after ps at from token to string) → p string ≡ false
-    → IsOn p literal ps at from to places places n.element
-element_stays p literal l after ps at from token to string places first second n none target h =
+pub element_stays : (p : Option (List ℕ) → Bool) (literal : Option (List ℕ)) (l : ListRest) (after ps : List RowPart) (at from token to : ℕ) (string : Option (List ℕ)) (written : Option Place) (out : List RowPart) → IsUpTo written at → at ≤ from → from ≤ to → (n : IsNextElement l after ps at from token to string)
+    → p string ≡ false → written_to written out ps to ≡ written_to written out ps at ++ piece p literal ps at from n.element
+element_stays p literal l after ps at from token to string written out h first second n none =
     let s : Segment = n.element in
     let stays : become p literal s ≡ s ∷ [] = ap (λ (o : Option (List ℕ)). if p o then in_place literal s else s ∷ []) (sym n.text) ∙ ap (λ (b : Bool). if b then in_place literal s else s ∷ []) none in
-    let own : take (to - at) (drop at ps) ≡ up_to p literal ps at from s =
-    between ps at from to first second ∙ ap (λ (qs : List RowPart). take (from - at) (drop at ps) ++ qs) (n.own ∙ ap (λ (ss : List Segment). segs_parts (segs_of ss)) (sym stays)) in
-    subst (λ (qs : List RowPart). IsWritten (literal_parts literal) ps places to (target ++ qs)) own (passed_to (literal_parts literal) ps target places at to (omega (arith, first, second)) h)
+    passed_to written out ps at to h (omega (arith, first, second))
+    ∙ ap (λ (qs : List RowPart). written_to written out ps at ++ qs) (between ps at from to first second ∙ ap (λ (qs : List RowPart). take (from - at) (drop at ps) ++ qs) (n.own ∙ ap (λ (ss : List Segment). segs_parts (segs_of ss)) (sym stays)))
+
+pub place_early : (literal : Option (List ℕ)) (from token to : ℕ) → token < to → (place_in literal from token to).to ≤ to
+place_early None from token to h = omega arith
+place_early (Some literal) from token to h = omega (arith, h)
 
 joined : (a b c d e : List RowPart) → (((a ++ b) ++ c) ++ d) ++ e ≡ a ++ (b ++ (c ++ (d ++ e)))
 joined a b c d e = simp append_assoc
 
 -- one that is meant makes way, or its string does
-pub element_put : (p : Option (List ℕ) → Bool) (literal : Option (List ℕ)) (l : ListRest) (after ps : List RowPart) (at from token to : ℕ) (string : Option (List ℕ)) (places more : List Place) → at ≤ from → from ≤ to → to ≤ length ps
-    → ((new : List ℕ) → literal ≡ Some new → p None ≡ false) → (n : IsNextElement l after ps at from token to string) → p string ≡ true → more ≡ places ++ place_in literal from token to ∷ [] → IsOn p literal ps at from to places more n.element
-element_put p None l after ps at from token to string places more first second fits strings n is made target h =
+pub element_put : (p : Option (List ℕ) → Bool) (literal : Option (List ℕ)) (l : ListRest) (after ps : List RowPart) (at from token to : ℕ) (string : Option (List ℕ)) (was is : Option Place) (out one two : List RowPart) → IsUpTo was at → at ≤ from → from ≤ to → to ≤ length ps
+    → ((new : List ℕ) → literal ≡ Some new → p None ≡ false) → (n : IsNextElement l after ps at from token to string) → p string ≡ true
+    → HasMadeWay (written_to was out ps (place_in literal from token to).from) ps one (place_in literal from token to) is → two ≡ one ++ literal_parts literal
+    → written_to is two ps to ≡ written_to was out ps at ++ piece p literal ps at from n.element
+element_put p None l after ps at from token to string was is out one two h first second fits strings n meant made pushed =
     let s : Segment = n.element in
     let before : List RowPart = take (from - at) (drop at ps) in
-    let goes : become p None s ≡ [] = ap (λ (b : Bool). if b then [] else s ∷ []) (ap p (sym n.text) ∙ is) in
-    subst (λ (qs : List RowPart). IsWritten [] ps more to qs) (append_assoc target before [] ∙ ap (λ (ss : List Segment). target ++ (before ++ segs_parts (segs_of ss))) (sym goes))
-    (put [] ps (target ++ before) places more (record { from = from; to = to }) made second (passed_to [] ps target places at from first h))
-element_put p (Some literal) l after ps at from token to string places more first second fits strings n is made target h =
+    let goes : become p None s ≡ [] = ap (λ (b : Bool). if b then [] else s ∷ []) (ap p (sym n.text) ∙ meant) in
+    put _ ps one two [] (record { from = from; to = to }) is made pushed ∙ ap (λ (qs : List RowPart). qs ++ []) (passed_to was out ps at from h first)
+    ∙ append_assoc (written_to was out ps at) before [] ∙ ap (λ (ss : List Segment). written_to was out ps at ++ (before ++ segs_parts (segs_of ss))) (sym goes)
+element_put p (Some literal) l after ps at from token to string was is out one two h first second fits strings n meant made pushed =
     let s : Segment = n.element in
     let new : List RowPart = a_token String literal ∷ [] in
-    let one : IsString s.nodes = is_string s.nodes p (strings literal refl) (ap p (sym n.text) ∙ is) in
+    let text : IsString s.nodes = is_string s.nodes p (strings literal refl) (ap p (sym n.text) ∙ meant) in
     let before : List RowPart = take (from - at) (drop at ps) in
     let comments : List RowPart = map above s.before in
     let last : List RowPart = segment_end ∷ (beside_part s.suffix ++ []) in
-    let all : take (to - from) (drop from ps) ≡ comments ++ (a_token String one.text ∷ last) = n.own ∙ ap (λ (nodes : List Item). comments ++ (items_parts (items_of nodes) ++ last)) one.are in
+    let all : take (to - from) (drop from ps) ≡ comments ++ (a_token String text.text ∷ last) = n.own ∙ ap (λ (nodes : List Item). comments ++ (items_parts (items_of nodes) ++ last)) text.are in
     let back : from + (to - from) ≡ to = omega (arith, second) in
-    let own : drop from ps ≡ comments ++ (a_token String one.text ∷ (last ++ drop to ps)) =
-    sym (take-append-drop (to - from) (drop from ps)) ∙ (λ i. all i ++ drop (to - from) (drop from ps)) ∙ append_assoc comments (a_token String one.text ∷ last) (drop (to - from) (drop from ps))
-    ∙ ap (λ (qs : List RowPart). comments ++ (a_token String one.text ∷ (last ++ qs))) (drop-drop (to - from) from ps ∙ ap (λ (k : ℕ). drop k ps) back) in
+    let own : drop from ps ≡ comments ++ (a_token String text.text ∷ (last ++ drop to ps)) =
+    sym (take-append-drop (to - from) (drop from ps)) ∙ (λ i. all i ++ drop (to - from) (drop from ps)) ∙ append_assoc comments (a_token String text.text ∷ last) (drop (to - from) (drop from ps))
+    ∙ ap (λ (qs : List RowPart). comments ++ (a_token String text.text ∷ (last ++ qs))) (drop-drop (to - from) from ps ∙ ap (λ (k : ℕ). drop k ps) back) in
     let long : length (take (to - from) (drop from ps)) ≡ to - from = length-take-le (to - from) (drop from ps) (omega (arith, length-drop from ps, fits, second)) in
     let begins : token ≡ from + length comments = omega (arith, n.begins, length-map s.before above) in
-    let at_token : drop token ps ≡ a_token String one.text ∷ (last ++ drop to ps) = after_them ps comments (a_token String one.text ∷ (last ++ drop to ps)) from token own begins in
-    let at_last : drop (token + 1) ps ≡ last ++ drop to ps = after_them ps (a_token String one.text ∷ []) (last ++ drop to ps) token (token + 1) at_token refl in
-    let ends : to ≡ token + 1 + length last = omega (arith, begins, second, long, ap length all, length-append comments (a_token String one.text ∷ last)) in
-    let at_from = passed_to new ps target places at from first h in
-    let string_at = passed new ps (target ++ before) comments places from token at_from (and_them ps comments (a_token String one.text ∷ (last ++ drop to ps)) from token own begins) begins in
-    let after_string = put new ps ((target ++ before) ++ comments) places more (record { from = token; to = token + 1 }) made (omega arith) string_at in
-    let whole = passed new ps (((target ++ before) ++ comments) ++ new) last more (token + 1) to after_string at_last ends in
-    let goes : become p (Some literal) s ≡ in_place (Some literal) s = ap (λ (b : Bool). if b then in_place (Some literal) s else s ∷ []) (ap p (sym n.text) ∙ is) in
-    subst (λ (qs : List RowPart). IsWritten new ps more to qs) (joined target before comments new last ∙ ap (λ (ss : List Segment). target ++ (before ++ segs_parts (segs_of ss))) (sym goes)) whole
+    let at_token : drop token ps ≡ a_token String text.text ∷ (last ++ drop to ps) = after_them ps comments (a_token String text.text ∷ (last ++ drop to ps)) from token own begins in
+    let at_last : drop (token + 1) ps ≡ last ++ drop to ps = after_them ps (a_token String text.text ∷ []) (last ++ drop to ps) token (token + 1) at_token refl in
+    let ends : to ≡ token + 1 + length last = omega (arith, begins, second, long, ap length all, length-append comments (a_token String text.text ∷ last)) in
+    let at_string = passed_to was out ps at from h first in
+    let string_at = passed was out ps comments from token (later was at from h first) (and_them ps comments (a_token String text.text ∷ (last ++ drop to ps)) from token own begins) begins in
+    let after_string = put _ ps one two new (record { from = token; to = token + 1 }) is made pushed in
+    let whole = passed is two ps last (token + 1) to (up_to_made made) at_last ends in
+    let goes : become p (Some literal) s ≡ in_place (Some literal) s = ap (λ (b : Bool). if b then in_place (Some literal) s else s ∷ []) (ap p (sym n.text) ∙ meant) in
+    whole ∙ ap (λ (qs : List RowPart). qs ++ last) (after_string ∙ ap (λ (qs : List RowPart). qs ++ new) (string_at ∙ ap (λ (qs : List RowPart). qs ++ comments) at_string))
+    ∙ joined (written_to was out ps at) before comments new last ∙ ap (λ (ss : List Segment). written_to was out ps at ++ (before ++ segs_parts (segs_of ss))) (sym goes)
 
--- of a value that begins at `from`, those before `at` were: `old` are the places of what was edited before
-pub record HasEditedFront (p : Option (List ℕ) → Bool) (literal : Option (List ℕ)) (nodes : List Item) (after ps : List RowPart) (from at : ℕ) (old places : List Place) : Type 0 where
+-- of a value, the elements before `at` were
+pub record HasEditedFront (p : Option (List ℕ) → Bool) (literal : Option (List ℕ)) (nodes : List Item) (after ps : List RowPart) (at : ℕ) (was is : Bool) (old now : List RowPart) : Type 0 where
   pub left : ListRest
   pub made : List RowPart
   pub read : drop at ps ≡ rest_parts left after
-  pub changed : (not (is_empty places) || list_any (is_meant p) (elements_left left)) ≡ (not (is_empty old) || list_any (list_any (is_meant p)) (parts nodes))
+  pub changed : (is || list_any (is_meant p) (elements_left left)) ≡ (was || list_any (list_any (is_meant p)) (parts nodes))
   pub total : made ++ rest_parts (edited_rest (become_all p literal) left) after ≡ value_parts (edit_parts (become_all p literal) nodes) after
-  pub written : (target : List RowPart) → IsWritten (literal_parts literal) ps old from target → IsWritten (literal_parts literal) ps places at (target ++ made)
+  pub written : now ≡ old ++ made
 
 -- the walk over the elements
-pub none_edited : (p : Option (List ℕ) → Bool) (literal : Option (List ℕ)) (nodes : List Item) (after ps : List RowPart) (from to : ℕ) (places : List Place) → drop from ps ≡ value_parts nodes after → IsListIn true nodes after ps from to → HasEditedFront p literal nodes after ps from to places places
-none_edited p literal nodes after ps from to places read l =
+pub none_edited : (p : Option (List ℕ) → Bool) (literal : Option (List ℕ)) (nodes : List Item) (after ps : List RowPart) (from to : ℕ) (written : Option Place) (out : List RowPart) (was : Bool) → IsUpTo written from → drop from ps ≡ value_parts nodes after → IsListIn true nodes after ps from to
+    → HasEditedFront p literal nodes after ps to was was (written_to written out ps from) (written_to written out ps to)
+none_edited p literal nodes after ps from to written out was h read l =
     let some : List (List Segment) = parts_from false l.list.items in
     let cut : drop from ps ≡ opened l.front ++ rest_parts l.list after = read ∙ ap (λ (xs : List Item). value_parts xs after) l.are ∙ list_cut l.front l.list after in
     record {
       left = l.list;
       made = opened l.front;
       read = l.read;
-      changed = ap (λ (b : Bool). not (is_empty places) || b)
+      changed = ap (λ (b : Bool). was || b)
           (list_any-append (is_meant p) l.list.elements (flat_map (λ ss. ss) some) ∙ ap (λ (b : Bool). list_any (is_meant p) l.list.elements || b) (any_joined (is_meant p) some)
           ∙ ap (list_any (list_any (is_meant p))) (sym l.lists));
       total = sym (ap (λ (xs : List Item). value_parts xs after) (l.edit (become_all p literal)) ∙ list_cut l.front (edited_rest (become_all p literal) l.list) after);
-      written = λ target h.
-          passed (literal_parts literal) ps target (opened l.front) places from to h (cut ∙ ap (λ (qs : List RowPart). opened l.front ++ qs) (sym l.read)) (omega (arith, l.begins, long_opened l.front));
+      written = passed written out ps (opened l.front) from to h (cut ∙ ap (λ (qs : List RowPart). opened l.front ++ qs) (sym l.read)) (omega (arith, l.begins, long_opened l.front));
     }
 
 grouped : (a b c d : List RowPart) → (a ++ (b ++ c)) ++ d ≡ a ++ (b ++ (c ++ d))
 grouped a b c d = simp append_assoc
 
-pub one_edited : (p : Option (List ℕ) → Bool) (literal : Option (List ℕ)) (nodes : List Item) (after ps : List RowPart) (start at from token to : ℕ) (string : Option (List ℕ)) (old places more : List Place) → (f : HasEditedFront p literal nodes after ps start at old places)
-    → (n : IsNextElement f.left after ps at from token to string) → not (is_empty more) ≡ (not (is_empty places) || p string) → IsOn p literal ps at from to places more n.element → HasEditedFront p literal nodes after ps start to old more
-one_edited p literal nodes after ps start at from token to string old places more f n changed on =
+pub one_edited : (p : Option (List ℕ) → Bool) (literal : Option (List ℕ)) (nodes : List Item) (after ps : List RowPart) (at from token to : ℕ) (string : Option (List ℕ)) (was is more : Bool) (old now next : List RowPart) → (f : HasEditedFront p literal nodes after ps at was is old now)
+    → (n : IsNextElement f.left after ps at from token to string) → more ≡ (is || p string) → next ≡ now ++ piece p literal ps at from n.element → HasEditedFront p literal nodes after ps to was more old next
+one_edited p literal nodes after ps at from token to string was is more old now next f n changed on =
     let own : List RowPart = segs_parts (segs_of (become p literal n.element)) in
-    let later : List Segment = elements_left n.left in
+    let others : List Segment = elements_left n.left in
     record {
       left = n.left;
-      made = f.made ++ up_to p literal ps at from n.element;
+      made = f.made ++ piece p literal ps at from n.element;
       read = n.read;
-      changed = ap (λ (b : Bool). b || list_any (is_meant p) later) changed ∙ or_assoc (not (is_empty places)) (p string) (list_any (is_meant p) later)
-          ∙ (λ i. not (is_empty places) || (p (n.text i) || list_any (is_meant p) later)) ∙ ap (λ (ss : List Segment). not (is_empty places) || list_any (is_meant p) ss) (sym n.are) ∙ f.changed;
+      changed = ap (λ (b : Bool). b || list_any (is_meant p) others) changed ∙ or_assoc is (p string) (list_any (is_meant p) others)
+          ∙ (λ i. is || (p (n.text i) || list_any (is_meant p) others)) ∙ ap (λ (ss : List Segment). is || list_any (is_meant p) ss) (sym n.are) ∙ f.changed;
       total = grouped f.made (take (from - at) (drop at ps)) own (rest_parts (edited_rest (become_all p literal) n.left) after) ∙ ap (λ (qs : List RowPart). f.made ++ qs) (sym (n.edited (become p literal))) ∙ f.total;
-      written = λ target h. subst (λ (qs : List RowPart). IsWritten (literal_parts literal) ps more to qs) (append_assoc target f.made (up_to p literal ps at from n.element)) (on (target ++ f.made) (f.written target h));
+      written = on ∙ ap (λ (qs : List RowPart). qs ++ piece p literal ps at from n.element) f.written ∙ append_assoc old f.made (piece p literal ps at from n.element);
     }
 
 -- where no element is left, nothing is edited
@@ -173,9 +166,9 @@ rest_stays g start (x ∷ xs) h =
     elim (is_part start x xs) as (λ b. flat_map (λ ss. ss) ((if b then elements x ∷ [] else []) ++ parts_from (is_plus x) xs) ≡ [] → (if b then edit_list (flat_map g) x else x) ∷ edit_from (flat_map g) (is_plus x) xs ≡ x ∷ xs)
     [ true ↦ λ k. let both = nil_both (elements x) (flat_map (λ ss. ss) (parts_from (is_plus x) xs)) k in (λ i. empty_stays g x both.0 i ∷ rest_stays g (is_plus x) xs both.1 i) | false ↦ λ k. ap (λ (ys : List Item). x ∷ ys) (rest_stays g (is_plus x) xs k) ] h
 
-pub all_edited : (p : Option (List ℕ) → Bool) (literal : Option (List ℕ)) (nodes : List Item) (after ps : List RowPart) (start at : ℕ) (old places : List Place) → (f : HasEditedFront p literal nodes after ps start at old places) → elements_left f.left ≡ []
-    → HasEditedValue p literal nodes after ps start at old places
-all_edited p literal nodes after ps start at old places f none =
+pub all_edited : (p : Option (List ℕ) → Bool) (literal : Option (List ℕ)) (nodes : List Item) (after ps : List RowPart) (at : ℕ) (was is : Bool) (old now : List RowPart) → (f : HasEditedFront p literal nodes after ps at was is old now) → elements_left f.left ≡ []
+    → HasEditedValue p literal nodes after (drop at ps) was is old now
+all_edited p literal nodes after ps at was is old now f none =
     let l : ListRest = f.left in
     let both = nil_both l.elements (flat_map (λ ss. ss) (parts_from false l.items)) none in
     let rest : List RowPart = map above l.end ++ closing l.one_comma ∷ items_parts (items_of l.items) in
@@ -186,18 +179,18 @@ all_edited p literal nodes after ps start at old places f none =
       rest = rest;
       made = f.made;
       read = f.read ∙ ap (λ (ss : List Segment). rest_parts (record l { elements = ss }) after) both.0 ∙ ends;
-      changed = sym (or-false (not (is_empty places))) ∙ ap (λ (ss : List Segment). not (is_empty places) || list_any (is_meant p) ss) (sym none) ∙ f.changed;
+      changed = sym (or-false is) ∙ ap (λ (ss : List Segment). is || list_any (is_meant p) ss) (sym none) ∙ f.changed;
       total = append_cancel_right (f.made ++ rest) _ (segment_end ∷ after) (append_assoc f.made rest (segment_end ∷ after) ∙ ap (λ (qs : List RowPart). f.made ++ qs) (sym stays) ∙ f.total);
       written = f.written;
     }
 
 -- a value without list part
-pub no_list_there : (p : Option (List ℕ) → Bool) (literal : Option (List ℕ)) (nodes : List Item) (after ps : List RowPart) (from : ℕ) (places : List Place) → drop from ps ≡ value_parts nodes after → HasNoList true nodes → HasEditedValue p literal nodes after ps from from places places
-no_list_there p literal nodes after ps from places read lack = record {
+pub no_list_there : (p : Option (List ℕ) → Bool) (literal : Option (List ℕ)) (nodes : List Item) (after left : List RowPart) (was : Bool) (old : List RowPart) → left ≡ value_parts nodes after → HasNoList true nodes → HasEditedValue p literal nodes after left was was old old
+no_list_there p literal nodes after left was old read lack = record {
   rest = items_parts (items_of nodes);
   made = [];
   read = read;
-  changed = sym (or-false (not (is_empty places))) ∙ ap (λ (zs : List (List Segment)). not (is_empty places) || list_any (list_any (is_meant p)) zs) (sym lack.none);
+  changed = sym (or-false was) ∙ ap (λ (zs : List (List Segment)). was || list_any (list_any (is_meant p)) zs) (sym lack.none);
   total = ap (λ (xs : List Item). items_parts (items_of xs)) (sym (lack.same (become_all p literal)));
-  written = λ target h. subst (λ (qs : List RowPart). IsWritten (literal_parts literal) ps places from qs) (sym (append-nil target)) h;
+  written = sym (append-nil old);
 }

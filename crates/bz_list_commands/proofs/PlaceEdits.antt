@@ -1,5 +1,5 @@
 -- The edit of the arguments in a place among the parts of a rule is the edit of the rule.
-use Rattle.std.proofs.Common.{false, ◌≡◌, ℕ, ◌-◌, ◌≤◌, List, [], ◌∷◌, ◌++◌, Bool, true, not, ◌&&◌, if◌then◌else◌, Option, Some, None, is_some, length, take, drop, refl, ap, sym, ◌∙◌, arith, append_assoc, append-nil, length-take-le, take-append-drop}
+use Rattle.std.proofs.Common.{◌≡◌, ℕ, ◌-◌, ◌≤◌, List, [], ◌∷◌, ◌++◌, Bool, true, false, ◌&&◌, if◌then◌else◌, Option, Some, None, is_some, length, take, drop, refl, ap, sym, ◌∙◌, arith, append_assoc, append-nil, length-take-le, take-append-drop}
 use Rattle.std.specs.Prelude.{option_to_list}
 use Rattle.std.specs.List.{flat_map, list_any}
 use Rattle.bz_tree.specs.Tree.{Segment, Statement, segs_of}
@@ -12,36 +12,55 @@ use Rattle.bz_attribute.specs.declared.edit.Edit.{Edit}
 use Rattle.bz_attribute.specs.declared.place.Place.{Place}
 use Rattle.std.proofs.Math.Bool.{or-false}
 use Rattle.bz_attribute.proofs.Locals.{edit_local, is_first_named}
-use Rattle.bz_list_commands.specs.private.ArgumentEdits.{AreThere, edited, HasEditedAll, is_changed, IsPlaceEdit}
-use Rattle.bz_list_commands.specs.private.StringEdits.{become_all, changes, written}
-use Rattle.std.proofs.lemmas.List.{drop-append-le, drop-take, take-append-le}
-use Rattle.bz_token.specs.Common.{map_or, is_empty}
-
-regrouped : (a b c d : List RowPart) → a ++ (b ++ (c ++ d)) ≡ (a ++ (b ++ c)) ++ d
-regrouped a b c d = simp append_assoc
+use Rattle.bz_list_commands.specs.private.ArgumentEdits.{AreThere, edited, is_changed, IsPlaceEdit}
+use Rattle.bz_list_commands.proofs.ArgumentEdits.{HasEditedSome, all_edited}
+use Rattle.bz_list_commands.proofs.WrittenParts.{regroup}
+use Rattle.bz_list_commands.specs.private.StringEdits.{become_all, changes, IsUpTo, written_to}
+use Rattle.std.proofs.lemmas.Bool.{false≢true}
+use Rattle.std.proofs.lemmas.List.{drop-append-le, drop-take, take-append-le, take_rest}
+use Rattle.bz_token.specs.Common.{map_or}
 
 -- what was written comes to stand in the place of what it changes
-pub written_place : (f : Segment → List Segment) (t : Segment → Bool) (new : List RowPart) (place : Place) (ps out : List RowPart) (places seen : List Place) (e : Edit) → place.from ≤ place.to → place.to ≤ length ps
-    → e.place.from ≤ e.place.to → e.place.to ≤ place.to → seen ≡ places → replaced_at e.place out (take place.to ps) ≡ written new (take place.to ps) 0 seen place.to → e.done ≡ done None (not (is_empty seen))
-    → ((args : List Segment) → drop place.from (take place.to ps) ≡ segs_parts (segs_of args) → HasEditedAll f t new args (take place.to ps) place.from places) → IsPlaceEdit f t place ps out e
-written_place f t new place ps out places seen e order long order2 long2 same is told edits =
-    let own : List RowPart = take place.to ps in
+abbrev pub edit_of : Option Place → Edit
+edit_of None = record { done = done None false; place = record { from = 0; to = 0 } }
+edit_of (Some place) = record { done = done None true; place = place }
+
+record IsEdited (f : Segment → List Segment) (t : Segment → Bool) (place : Place) (ps : List RowPart) (args : List Segment) (is : Bool) (now : List RowPart) : Type 0 where
+  changed : is ≡ list_any t args
+  written : now ≡ take place.from (take place.to ps) ++ segs_parts (segs_of (flat_map f args))
+
+edited_there : (f : Segment → List Segment) (t : Segment → Bool) (place : Place) (ps own : List RowPart) (args : List Segment) (at : ℕ) (is : Bool) (now : List RowPart) → place.from ≤ place.to → place.to ≤ length ps → own ≡ take place.to ps → at ≡ place.to → AreThere place ps args
+    → ((args : List Segment) → drop place.from own ≡ segs_parts (segs_of args) → HasEditedSome f t args own place.from at is now) → IsEdited f t place ps args is now
+edited_there f t place ps own args at is now order long seen ends h edits =
+    let there : drop place.from own ≡ segs_parts (segs_of args) = ap (drop place.from) seen ∙ ap (λ (k : ℕ). drop place.from (take k ps)) (omega (arith, order)) ∙ drop-take place.from (place.to - place.from) ps ∙ h in
+    let s = edits args there in
+    let all : s.front ≡ args = all_edited f t args own place.from at is now s (ends ∙ sym (ap length seen ∙ length-take-le place.to ps long)) in
+    record { changed = s.changed ∙ ap (list_any t) all; written = s.written ∙ (λ i. take place.from (seen i) ++ segs_parts (segs_of (flat_map f (all i)))) }
+
+pub placed : (f : Segment → List Segment) (t : Segment → Bool) (place : Place) (ps out own : List RowPart) (at : ℕ) (written : Option Place) (e : Edit) → place.from ≤ place.to → place.to ≤ length ps → own ≡ take place.to ps → at ≡ place.to → IsUpTo written at → e ≡ edit_of written
+    → ((args : List Segment) → drop place.from own ≡ segs_parts (segs_of args) → HasEditedSome f t args own place.from at (is_some written) (written_to written out own at)) → IsPlaceEdit f t place ps out e
+placed f t place ps out own at None e order long seen ends h is edits = record {
+  within = rw is (omega arith, omega arith);
+  parts = λ args there c. absurd (false≢true (sym (ap (λ (x : Edit). x.done.changed) is) ∙ c));
+  done = λ args there. ap (λ (x : Edit). x.done) is ∙ ap (done None) (edited_there f t place ps own args at false _ order long seen ends there edits).changed;
+}
+placed f t place ps out own at (Some q) e order long seen ends h is edits =
     let after : List RowPart = drop place.to ps in
-    let size : length own ≡ place.to = length-take-le place.to ps long in
-    let whole : own ++ after ≡ ps = take-append-drop place.to ps in
-    let front : (k : ℕ) → k ≤ place.to → take k ps ≡ take k own = λ k h. ap (take k) (sym whole) ∙ take-append-le k own after (omega (arith, size, h)) in
-    let there : (args : List Segment) → AreThere place ps args → drop place.from own ≡ segs_parts (segs_of args) =
-    λ args h. ap (λ (k : ℕ). drop place.from (take k ps)) (omega (arith, order)) ∙ drop-take place.from (place.to - place.from) ps ∙ h in
+    let size : length own ≡ at = ap length seen ∙ length-take-le place.to ps long ∙ sym ends in
+    let whole : own ++ after ≡ ps = ap (λ (qs : List RowPart). qs ++ after) seen ∙ take-append-drop place.to ps in
+    let front : (k : ℕ) → k ≤ at → take k ps ≡ take k own = λ k early. ap (take k) (sym whole) ∙ take-append-le k own after (omega (arith, size, early)) in
+    let rest : drop q.to ps ≡ take (at - q.to) (drop q.to own) ++ after =
+    ap (drop q.to) (sym whole) ∙ drop-append-le q.to own after (omega (arith, size, h.1)) ∙ ap (λ (qs : List RowPart). qs ++ after) (sym (ap (λ (k : ℕ). take (k - q.to) (drop q.to own)) (sym size) ∙ take_rest own q.to)) in
     record {
-      within = (order2, omega (arith, long, long2));
-      parts = λ args h c.
-          let all = edits args (there args h) in
-          (λ i. front e.place.from (omega (arith, order2, long2)) i ++ (out ++ (ap (drop e.place.to) (sym whole) ∙ drop-append-le e.place.to own after (omega (arith, size, long2))) i))
-          ∙ regrouped (take e.place.from own) out (drop e.place.to own) after
-          ∙ ap (λ (qs : List RowPart). qs ++ after) (is ∙ (λ i. written new own 0 (same i) (sym size i)) ∙ all.written.are)
-          ∙ append_assoc (take place.from own) (segs_parts (segs_of (flat_map f args))) after
-          ∙ ap (λ (qs : List RowPart). qs ++ (segs_parts (segs_of (flat_map f args)) ++ after)) (sym (front place.from order));
-      done = λ args h. told ∙ ap (done None) ((λ i. not (is_empty (same i))) ∙ (edits args (there args h)).changed);
+      within = rw is (h.0, omega (arith, long, ends, h.1));
+      parts = λ args there c.
+          ap (λ (x : Edit). replaced_at x.place out ps) is
+          ∙ (λ i. front q.from (omega (arith, h.0, h.1)) i ++ (out ++ rest i))
+          ∙ regroup (take q.from own) out (take (at - q.to) (drop q.to own)) after
+          ∙ ap (λ (qs : List RowPart). qs ++ after) (edited_there f t place ps own args at true _ order long seen ends there edits).written
+          ∙ append_assoc (take place.from (take place.to ps)) (segs_parts (segs_of (flat_map f args))) after
+          ∙ ap (λ (qs : List RowPart). qs ++ (segs_parts (segs_of (flat_map f args)) ++ after)) (ap (take place.from) (sym seen) ∙ sym (front place.from (omega (arith, order, ends))));
+      done = λ args there. ap (λ (x : Edit). x.done) is ∙ ap (done None) (edited_there f t place ps own args at true _ order long seen ends there edits).changed;
     }
 
 -- all arguments

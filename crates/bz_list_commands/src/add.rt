@@ -1,25 +1,20 @@
 //! `add`: values that are missing go to the end of a list.
 
-ghost use Rattle.std.specs.Prelude.{◌≡◌, ◌≤◌, ◌++◌, ◌∷◌, [], List, drop, map, length, option_map, IfOk, IfSome, OnOk, false, option_and_then};
-ghost use Rattle.std.specs.List.{list_any};
-ghost use Rattle.bz_tree.specs.Tree.{Segment, segs_of};
-ghost use Rattle.bz_tree.specs.Rows.{RowPart, part_view, segs_parts};
-ghost use Rattle.bz_attribute.specs.Elements.{AreLists, ListRest, elements_left, rest_parts};
-ghost use Rattle.bz_attribute.specs.Lists.{equals, same};
+ghost use Rattle.std.specs.Prelude.{◌≤◌, ◌∷◌, [], map, length, IfOk, IfSome, OnOk};
+ghost use Rattle.bz_tree.specs.Rows.{part_view};
 ghost use Rattle.bz_attribute.specs.RowEdits.{IsRowEdit};
 ghost use Rattle.bz_attribute.specs.Rules.{first_named};
 ghost use Rattle.bz_list_commands.specs.private.ListPlaces.{HaveWritten};
 ghost use Rattle.bz_list_commands.specs.Add as spec;
 ghost use Rattle.bz_attribute.specs.Effects as effects;
-ghost use Rattle.bz_command.specs.Values.{value_of};
-ghost use Rattle.bz_token.specs.Common.{map_or};
 
+use crate::list_place::{ListPlace, list_place};
 use crate::new_attribute::{close_attribute, open_attribute};
 use bz_attribute::{
-    Done, Edit, Env, Parts, Place, WordSet, elements_end, first_equal, first_list, labels_of,
-    new_place, push_element, value_place,
+    Done, Edit, Env, Parts, Place, WordSet, elements_end, first_equal, labels_of, new_place,
+    push_element,
 };
-use bz_command::{Bytes, Package, Text};
+use bz_command::{Bytes, Text};
 use bz_memory::NoMemory;
 use bz_tree::Part;
 
@@ -38,35 +33,23 @@ pub fn add<'a>(
         (map part_view parts.now) (map part_view written.new.items)) }
 {
     written.clear();
-    let Some(value) = value_place(parts, attr) else {
-        write_attribute(env, attr, values, written)?;
-        return Ok(Edit::at(new_place(parts)));
-    };
-    let Some(list) = first_list(parts, value) else {
-        return Ok(Edit::none(Done::not_a_list(env.alloc, attr)?));
-    };
-    write_missing(env, values, parts, Some(list), written)?;
-    if written.is_empty() {
-        return Ok(Edit::none(Done::quiet(false)));
+    match list_place(parts, attr) {
+        ListPlace::Absent => {
+            open_attribute(attr, written)?;
+            write_missing(env, values, &[], None, written)?;
+            close_attribute(written)?;
+            Ok(Edit::at(new_place(parts)))
+        }
+        ListPlace::NoList => Ok(Edit::none(Done::not_a_list(env.alloc, attr)?)),
+        ListPlace::At(list) => {
+            write_missing(env, values, parts, Some(list), written)?;
+            if written.is_empty() {
+                return Ok(Edit::none(Done::quiet(false)));
+            }
+            let end = elements_end(parts, list);
+            Ok(Edit::at(Place { from: end, to: end }))
+        }
     }
-    let end = elements_end(parts, list);
-    Ok(Edit::at(Place { from: end, to: end }))
-}
-
-// A new argument whose value is a list of the values.
-fn write_attribute(
-    env: Env<'_>,
-    attr: &str,
-    values: &[Text],
-    written: &mut Parts<'_>,
-) -> Result<(), NoMemory>
-    ensures { OnOk result (map part_view written.new.items ≡ map part_view written.old.items
-        ++ segs_parts (segs_of (effects.argument attr.now
-        (effects.list_item (spec.new_elements env.entry.home.now [] values.now) ∷ []) ∷ []))) }
-{
-    open_attribute(attr, written)?;
-    write_missing(env, values, &[], None, written)?;
-    close_attribute(written)
 }
 
 // The elements for the values that are missing in some list parts. Each is looked up in a set of the values before it and

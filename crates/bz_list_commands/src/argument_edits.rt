@@ -1,19 +1,18 @@
-//! Edits of the arguments of a rule: which places of its parts make way.
+//! Edits of the arguments in a place among the parts of a rule.
 
-ghost use Rattle.std.specs.Prelude.{◌≡◌, ◌≤◌, ◌+◌, List, map, length, drop, option_map, IfOk};
-ghost use Rattle.bz_tree.specs.Tree.{Segment, segs_of};
-ghost use Rattle.bz_tree.specs.Rows.{part_view, segs_parts};
-ghost use Rattle.bz_command.specs.Values.{quoted};
-ghost use Rattle.bz_list_commands.specs.private.StringEdits.{AreOrdered, literal_of, literal_parts, means};
+ghost use Rattle.std.specs.Prelude.{◌≡◌, ◌≤◌, ◌<◌, None as Nothing, is_some, map, length, option_map, IfOk};
+ghost use Rattle.bz_tree.specs.Rows.{part_view};
+ghost use Rattle.bz_attribute.specs.Effects.{done};
+ghost use Rattle.bz_attribute.specs.RowEdits.{IsRowEdit};
+ghost use Rattle.bz_list_commands.specs.private.StringEdits.{IsUpTo, literal_of, means, written_to};
 ghost use Rattle.bz_list_commands.specs.private.ArgumentEdits as spec;
 
-use crate::element_edits::{add_places, loses_all};
-use crate::rewriting::Places;
+use crate::element_edits::{edit_value, loses_all};
+use crate::rewriting::make_way;
 use crate::string_edit::StringEdit;
-use bumpalo::Bump;
-use bz_attribute::{FirstArgument, Place, first_argument};
+use bz_attribute::{Done, Edit, Parts, Place, all_arguments, first_argument, place_of};
 use bz_command::Attributes;
-use bz_memory::{NoMemory, push};
+use bz_memory::NoMemory;
 use bz_tree::Part;
 
 /// What becomes of the arguments of a rule.
@@ -39,42 +38,30 @@ fn goes(attributes: &Attributes, name: Option<&str>) -> bool
     }
 }
 
-impl<'h, 'c, 'w> ArgumentEdit<'h, 'c, 'w> {
-    /// What elements become.
-    pub fn new(self) -> Option<&'c str>
-        ensures { option_map (λ value. quoted value.now) result ≡ spec.literal_by self.entry }
-    {
-        match self {
-            ArgumentEdit::Gone(_) => None,
-            ArgumentEdit::Strings(edit) => edit.new(),
-        }
-    }
-}
-
-// Adds the places of the argument at a place that make way for an edit of it. Tells where the next begins.
-fn add_argument(
+// Edits the argument at a place. Tells where the next begins.
+fn edit_argument<'a>(
     edit: ArgumentEdit<'_, '_, '_>,
-    argument: FirstArgument<'_>,
-    parts: &[Part<'_>],
+    parts: &[Part<'a>],
     at: usize,
-    places: &mut Places<'_>,
+    written: &mut Option<Place>,
+    out: &mut Parts<'a>,
 ) -> Result<usize, NoMemory>
-    requires order { (argument.nodes ≤ argument.to) × (at + argument.to ≤ length parts.now) }
-    requires ordered { AreOrdered 0 places.now.items at }
-    ensures within { IfOk result (λ next. (at + argument.entry.to ≤ next) × (next ≤ length parts.now)) }
-    ensures ordered { IfOk result (λ next. AreOrdered 0 places.new.items next) }
+    requires { (at < length parts.now) × IsUpTo written.now at }
+    ensures within { IfOk result (λ next. (at < next) × (next ≤ length parts.now)) }
+    ensures up_to { IfOk result (λ next. IsUpTo written.new next) }
     ensures edited { IfOk result (λ next. spec.HasEditedOne (spec.edit_by edit.entry) (spec.changes_by edit.entry)
-        (literal_parts (spec.literal_by edit.entry))
-        argument.entry.nodes argument.entry.to (option_map (λ text. text.now) argument.entry.name)
-        (map part_view parts.now) at next places.old.items places.new.items) }
+        (map part_view parts.now) at next (is_some written.old) (is_some written.new)
+        (written_to written.old (map part_view out.old.items) (map part_view parts.now) at)
+        (written_to written.new (map part_view out.new.items) (map part_view parts.now) next)) }
 {
+    let argument = first_argument(&parts[at..]);
     let to = at + argument.to;
     match edit {
         ArgumentEdit::Gone(attributes) => {
             if !goes(attributes, argument.name) {
                 return Ok(to);
             }
-            push(places, Place { from: at, to })?;
+            make_way(parts, Place { from: at, to }, written, out)?;
             Ok(to)
         }
         ArgumentEdit::Strings(strings) => {
@@ -83,35 +70,53 @@ fn add_argument(
             }
             let value = to.min(at + argument.nodes + 2);
             if loses_all(strings, parts, value) {
-                push(places, Place { from: at, to })?;
+                make_way(parts, Place { from: at, to }, written, out)?;
                 return Ok(to);
             }
-            let end = add_places(strings, parts, value, places)?;
+            let end = edit_value(strings, parts, value, written, out)?;
             Ok(to.max(end))
         }
     }
 }
 
-/// The places that make way for an edit of the arguments that begin at one.
-pub fn edited_places<'b>(
-    bump: &'b Bump,
+/// The arguments in a place of a rule are edited.
+pub fn edit_in<'a>(
     edit: ArgumentEdit<'_, '_, '_>,
-    parts: &[Part<'_>],
-    from: usize,
-) -> Result<Places<'b>, NoMemory>
-    requires { from ≤ length parts.now }
-    ensures ordered { IfOk result (λ places. AreOrdered 0 places.items (length parts.now)) }
-    ensures edited { IfOk result (λ places. (args : List Segment)
-        → drop from (map part_view parts.now) ≡ segs_parts (segs_of args)
-        → spec.HasEditedAll (spec.edit_by edit.entry) (spec.changes_by edit.entry)
-        (literal_parts (spec.literal_by edit.entry)) args (map part_view parts.now) from places.items) }
+    parts: &[Part<'a>],
+    place: Place,
+    new: &mut Parts<'a>,
+) -> Result<Edit, NoMemory>
+    requires { (place.from ≤ place.to) × (place.to ≤ length parts.now) }
+    ensures { IfOk result (λ e. spec.IsPlaceEdit (spec.edit_by edit.entry) (spec.changes_by edit.entry) place
+        (map part_view parts.now) (map part_view new.new.items) e) }
 {
-    let mut places = Vec::new(bump);
-    let mut at = from;
-    while at < parts.len() {
-        let argument = first_argument(&parts[at..]);
-        let next = add_argument(edit, argument, parts, at, &mut places)?;
+    let front = &parts[..place.to];
+    let mut at = place.from;
+    let mut written = None;
+    while at < front.len() {
+        let next = edit_argument(edit, front, at, &mut written, new)?;
         at = next;
     }
-    Ok(places)
+    match written {
+        None => Ok(Edit::none(Done::quiet(false))),
+        Some(place) => Ok(Edit::at(place)),
+    }
+}
+
+/// Elements of the first argument of a name go or become another, or elements of all arguments.
+pub fn edit_strings<'a>(
+    edit: StringEdit<'_, '_, '_>,
+    attributes: &Attributes,
+    parts: &[Part<'a>],
+    new: &mut Parts<'a>,
+) -> Result<Edit, NoMemory>
+    ensures { IfOk result (IsRowEdit (spec.edited_in (means edit.entry) (literal_of edit.entry) attributes.now)
+        (λ args. done Nothing (spec.changes_in (means edit.entry) attributes.now args))
+        (map part_view parts.now) (map part_view new.new.items)) }
+{
+    let edit = ArgumentEdit::Strings(edit);
+    match attributes {
+        Attributes::Every => edit_in(edit, parts, all_arguments(parts), new),
+        Attributes::Named(attr) => edit_in(edit, parts, place_of(parts, attr.as_str()), new),
+    }
 }

@@ -9,7 +9,6 @@ ghost use Rattle.bz_attribute.specs.Lists.{same};
 ghost use Rattle.bz_command.specs.Values.{value_of};
 ghost use Rattle.bz_token.specs.Common.{map_or};
 
-use crate::rewriting::Places;
 use crate::string_edit::StringEdit;
 use bumpalo::Bump;
 use bz_attribute::{Element, Env, Place, labels_of, next_of_value};
@@ -59,7 +58,7 @@ pub fn arrivals<'s, 'b>(
     edit: StringEdit<'s, '_, '_>,
     lists: Lists,
     parts: &[Part<'s>],
-) -> Result<Places<'b>, NoMemory>
+) -> Result<Vec<Place, &'b Bump>, NoMemory>
     requires from { lists.from ≤ length parts.now }
     requires to { IfSome lists.to (λ to. to ≤ length parts.now) }
     ensures within { IfOk result (λ places. AreWithin places.items (length parts.now)) }

@@ -1,17 +1,19 @@
-//! Elements of a value that go or become another: where they stand among the parts, and whether all go.
+//! Elements of a value that go or become another, and whether all go.
 
-ghost use Rattle.std.specs.Prelude.{◌≡◌, ◌≤◌, ◌<◌, List, None as Nothing, map, length, drop, IfOk};
+ghost use Rattle.std.specs.Prelude.{◌≡◌, ◌≤◌, ◌<◌, ◌++◌, List, is_some, map, length, drop, IfOk, OnOk};
 ghost use Rattle.bz_tree.specs.Tree.{Item};
 ghost use Rattle.bz_tree.specs.Rows.{RowPart, part_view};
 ghost use Rattle.bz_attribute.specs.Effects.{loses_all};
 ghost use Rattle.bz_attribute.specs.Elements.{value_parts};
-ghost use Rattle.bz_list_commands.specs.private.StringEdits.{AreOrdered, become_all, literal_of, means, place_in};
+ghost use Rattle.bz_list_commands.specs.private.StringEdits.{IsUpTo, become_all, literal_of, literal_parts, means, place_in, written_to};
 ghost use Rattle.bz_list_commands.specs.private.ArgumentEdits as spec;
 
-use crate::rewriting::Places;
+use crate::rewriting::make_way;
 use crate::string_edit::StringEdit;
-use bz_attribute::{Element, Place, first_list, next_element, next_of_value, only_list};
-use bz_memory::{NoMemory, push};
+use bz_attribute::{
+    Element, Parts, Place, first_list, next_element, next_of_value, only_list, push_string,
+};
+use bz_memory::NoMemory;
 use bz_tree::Part;
 
 // What makes way: an element that goes, or its string, which becomes another.
@@ -31,22 +33,35 @@ fn place_in(edit: StringEdit<'_, '_, '_>, element: Element<'_>) -> Place
     }
 }
 
-/// Adds the places of a value that make way for an edit of its elements. Tells how far the value was read.
+// What it becomes.
+fn push_literal(edit: StringEdit<'_, '_, '_>, out: &mut Parts<'_>) -> Result<(), NoMemory>
+    ensures { OnOk result (map part_view out.new.items ≡ map part_view out.old.items
+        ++ literal_parts (literal_of edit.entry)) }
+{
+    match edit.new() {
+        None => Ok(()),
+        Some(value) => push_string(edit.env.alloc, value, out),
+    }
+}
+
+/// Edits the elements of a value. Tells how far the value was read.
 #[tactic(auto, using(crate::proofs::ElementEdits::no_list_there))]
-pub fn add_places(
+pub fn edit_value<'a>(
     edit: StringEdit<'_, '_, '_>,
-    parts: &[Part<'_>],
+    parts: &[Part<'a>],
     value: usize,
-    places: &mut Places<'_>,
+    written: &mut Option<Place>,
+    out: &mut Parts<'a>,
 ) -> Result<usize, NoMemory>
-    requires within { value ≤ length parts.now }
-    requires ordered { AreOrdered 0 places.now.items value }
+    requires { (value ≤ length parts.now) × IsUpTo written.now value }
     ensures within { IfOk result (λ at. at ≤ length parts.now) }
-    ensures ordered { IfOk result (λ at. AreOrdered 0 places.new.items at) }
+    ensures up_to { IfOk result (λ at. IsUpTo written.new at) }
     ensures edited { IfOk result (λ at. (nodes : List Item) (after : List RowPart)
         → drop value (map part_view parts.now) ≡ value_parts nodes after
-        → spec.HasEditedValue (means edit.entry) (literal_of edit.entry) nodes after
-        (map part_view parts.now) value at places.old.items places.new.items) }
+        → spec.HasEditedValue (means edit.entry) (literal_of edit.entry) nodes after (drop at (map part_view parts.now))
+        (is_some written.old) (is_some written.new)
+        (written_to written.old (map part_view out.old.items) (map part_view parts.now) value)
+        (written_to written.new (map part_view out.new.items) (map part_view parts.now) at)) }
 {
     let Some(list) = first_list(parts, value) else {
         return Ok(value);
@@ -54,7 +69,8 @@ pub fn add_places(
     let mut at = list;
     while let Some(element) = next_of_value(parts, at) {
         if edit.means(element.string) {
-            push(places, place_in(edit, element))?;
+            make_way(parts, place_in(edit, element), written, out)?;
+            push_literal(edit, out)?;
         }
         at = element.to;
     }

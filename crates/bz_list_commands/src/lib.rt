@@ -8,7 +8,6 @@ mod element_edits;
 mod list_place;
 pub mod moving;
 mod new_attribute;
-mod place_edits;
 pub mod remove;
 pub mod replace;
 mod rewriting;

@@ -9,11 +9,10 @@ ghost use Rattle.bz_list_commands.specs.Move as spec;
 ghost use Rattle.bz_list_commands.specs.private.ListPlaces.{AreFound, AreWithin, HasPut, parts_at};
 ghost use Rattle.bz_list_commands.specs.private.StringEdits.{is_meant, literal_of, means};
 
-use crate::argument_edits::ArgumentEdit;
+use crate::argument_edits::{ArgumentEdit, edit_in};
 use crate::arrivals::{Lists, arrivals};
 use crate::list_place::{ListPlace, list_place};
 use crate::new_attribute::{close_attribute, open_attribute};
-use crate::place_edits::edit_in;
 use crate::string_edit::{Meant, StringEdit};
 use bumpalo::Bump;
 use bz_attribute::{Done, Edit, Env, Parts, Place, WordSet, elements_end, new_place, place_of};
@@ -104,7 +103,7 @@ fn move_meant<'a>(
 {
     let old = place_of(parts, change.old);
     let strings = ArgumentEdit::Strings(edit);
-    let gone = edit_in(edit.env.alloc, strings, parts, old, written)?;
+    let gone = edit_in(strings, parts, old, written)?;
     if !gone.done.changed {
         return Ok(Edit::none(Done::quiet(false)));
     }

@@ -6,8 +6,7 @@ ghost use Rattle.bz_attribute.specs.RowEdits.{IsRowEdit};
 ghost use Rattle.bz_list_commands.specs.Remove as spec;
 ghost use Rattle.bz_attribute.specs.Effects as effects;
 
-use crate::argument_edits::ArgumentEdit;
-use crate::place_edits::{edit_in, edit_strings};
+use crate::argument_edits::{ArgumentEdit, edit_in, edit_strings};
 use crate::string_edit::{Meant, StringEdit};
 use bz_attribute::{Edit, Env, Parts, WordSet, all_arguments};
 use bz_command::{Attributes, Text};
@@ -30,7 +29,7 @@ pub fn remove<'a>(
     match values {
         [] => {
             let edit = ArgumentEdit::Gone(attributes);
-            edit_in(env.alloc, edit, parts, all_arguments(parts), new)
+            edit_in(edit, parts, all_arguments(parts), new)
         }
         [word] => {
             let meant = Meant::Word(word.as_str());

@@ -6,7 +6,7 @@ ghost use Rattle.bz_attribute.specs.RowEdits.{IsRowEdit};
 ghost use Rattle.bz_list_commands.specs.Replace as spec;
 ghost use Rattle.bz_attribute.specs.Effects as effects;
 
-use crate::place_edits::edit_strings;
+use crate::argument_edits::edit_strings;
 use crate::string_edit::{Meant, StringEdit};
 use bz_attribute::{Edit, Env, Parts};
 use bz_command::Attributes;

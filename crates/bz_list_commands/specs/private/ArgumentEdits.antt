@@ -1,31 +1,32 @@
 -- For private clauses alone: how far the elements of a value and the arguments of a rule were edited, and the edit of those in a place
 -- among its parts.
-use Rattle.std.specs.Prelude.{◌≡◌, ℕ, List, ◌∷◌, ◌++◌, Bool, ◌||◌, not, Option, drop, [], ◌&&◌, if◌then◌else◌, None, is_some, codes, length, take, ◌-◌, true, false}
+use Rattle.std.specs.Prelude.{◌≡◌, ℕ, List, ◌∷◌, ◌++◌, Bool, ◌||◌, not, Option, drop, [], ◌&&◌, if◌then◌else◌, None, is_some, codes, take, ◌-◌, true, false}
 use Rattle.std.specs.List.{flat_map, list_any}
-use Rattle.bz_token.specs.Common.{is_empty, map_or}
+use Rattle.bz_token.specs.Common.{map_or}
 use Rattle.bz_tree.specs.Tree.{Item, items_of, Segment, segs_of}
 use Rattle.bz_tree.specs.Rows.{items_parts, RowPart, segment_end, segs_parts}
 use Rattle.bz_attribute.specs.Lists.{edit_parts, is_attribute, parts}
 use Rattle.bz_attribute.specs.declared.place.Place.{Place}
-use Rattle.bz_list_commands.specs.private.StringEdits.{become_all, changes, is_meant, IsWritten, literal_of, literal_parts, means}
+use Rattle.bz_list_commands.specs.private.StringEdits.{become_all, changes, is_meant, literal_of, means}
 use Rattle.bz_command.specs.declared.arguments.Attributes.{Attributes}
 use Rattle.bz_command.specs.declared.arguments.Attributes.TheVariants.{Every, Named}
 use Rattle.bz_attribute.specs.Rules.{first_named, is_named, is_text, name_of}
 use Rattle.bz_attribute.specs.Effects.{done, edit_first, filtered}
-use Rattle.bz_attribute.specs.RowPlaces.{IsFirstArgument, argument_parts}
+use Rattle.bz_attribute.specs.RowPlaces.{argument_parts}
 use Rattle.bz_list_commands.specs.declared.argument_edits.ArgumentEdit.{ArgumentEdit}
 use Rattle.bz_list_commands.specs.declared.argument_edits.ArgumentEdit.TheVariants.{Gone, Strings}
 use Rattle.bz_attribute.specs.RowEdits.{IsWithin, replaced_at}
 use Rattle.bz_attribute.specs.declared.edit.Edit.{Edit}
 
--- The elements of a value that begins at `from` were: `old` are the places of what was edited before. The rest of the value stays.
-pub record HasEditedValue (p : Option (List ℕ) → Bool) (literal : Option (List ℕ)) (nodes : List Item) (after ps : List RowPart) (from at : ℕ) (old places : List Place) : Type 0 where
+-- The elements of a value were edited: the parts `left` come next, and before them stands `now`, where `old` stood before the value. `was` and
+-- `is` tell whether anything had changed.
+pub record HasEditedValue (p : Option (List ℕ) → Bool) (literal : Option (List ℕ)) (nodes : List Item) (after left : List RowPart) (was is : Bool) (old now : List RowPart) : Type 0 where
   pub rest : List RowPart
   pub made : List RowPart
-  pub read : drop at ps ≡ rest ++ segment_end ∷ after
-  pub changed : not (is_empty places) ≡ (not (is_empty old) || list_any (list_any (is_meant p)) (parts nodes))
+  pub read : left ≡ rest ++ segment_end ∷ after
+  pub changed : is ≡ (was || list_any (list_any (is_meant p)) (parts nodes))
   pub total : made ++ rest ≡ items_parts (items_of (edit_parts (become_all p literal) nodes))
-  pub written : (target : List RowPart) → IsWritten (literal_parts literal) ps old from target → IsWritten (literal_parts literal) ps places at (target ++ made)
+  pub written : now ≡ old ++ made
 
 -- an argument of this name goes: each of a name, or each keyword argument but `name`
 abbrev pub goes : Attributes → Option (List ℕ) → Bool
@@ -54,33 +55,14 @@ abbrev pub changes_by : ArgumentEdit → Segment → Bool
 changes_by (Gone attributes) a = goes_by attributes.now a
 changes_by (Strings e) a = is_changed (means e) a
 
-abbrev pub literal_by : ArgumentEdit → Option (List ℕ)
-literal_by (Gone attributes) = None
-literal_by (Strings e) = literal_of e
-
 -- The argument that stands next was edited, whatever comes after it.
-pub record HasEdited (f : Segment → List Segment) (t : Segment → Bool) (new : List RowPart) (a : Segment) (others : List Segment) (ps : List RowPart) (from at : ℕ) (old places : List Place) : Type 0 where
-  pub read : drop at ps ≡ segs_parts (segs_of others)
-  pub changed : not (is_empty places) ≡ (not (is_empty old) || t a)
-  pub written : (target : List RowPart) → IsWritten new ps old from target → IsWritten new ps places at (target ++ segs_parts (segs_of (f a)))
+pub record HasEdited (f : Segment → List Segment) (t : Segment → Bool) (a : Segment) (others : List Segment) (left : List RowPart) (was is : Bool) (old now : List RowPart) : Type 0 where
+  pub read : left ≡ segs_parts (segs_of others)
+  pub changed : is ≡ (was || t a)
+  pub written : now ≡ old ++ segs_parts (segs_of (f a))
 
-abbrev pub HasEditedOne : (Segment → List Segment) → (Segment → Bool) → List RowPart → ℕ → ℕ → Option (List ℕ) → List RowPart → ℕ → ℕ → List Place → List Place → Type 0
-HasEditedOne f t new nodes to name ps from at old places =
-    (a : Segment) (others : List Segment) → drop from ps ≡ argument_parts a others → IsFirstArgument a nodes to name → HasEdited f t new a others ps from at old places
-
--- some of those from a place on were, and others are left
-pub record HasEditedSome (f : Segment → List Segment) (t : Segment → Bool) (new : List RowPart) (args : List Segment) (ps : List RowPart) (from at : ℕ) (places : List Place) : Type 0 where
-  pub front : List Segment
-  pub others : List Segment
-  pub are : args ≡ front ++ others
-  pub read : drop at ps ≡ segs_parts (segs_of others)
-  pub changed : not (is_empty places) ≡ list_any t front
-  pub written : IsWritten new ps places at (take from ps ++ segs_parts (segs_of (flat_map f front)))
-
--- all
-pub record HasEditedAll (f : Segment → List Segment) (t : Segment → Bool) (new : List RowPart) (args : List Segment) (ps : List RowPart) (from : ℕ) (places : List Place) : Type 0 where
-  pub changed : not (is_empty places) ≡ list_any t args
-  pub written : IsWritten new ps places (length ps) (take from ps ++ segs_parts (segs_of (flat_map f args)))
+abbrev pub HasEditedOne : (Segment → List Segment) → (Segment → Bool) → List RowPart → ℕ → ℕ → Bool → Bool → List RowPart → List RowPart → Type 0
+HasEditedOne f t ps from at was is old now = (a : Segment) (others : List Segment) → drop from ps ≡ argument_parts a others → HasEdited f t a others (drop at ps) was is old now
 
 -- these arguments stand there
 abbrev pub AreThere : Place → List RowPart → List Segment → Type 0

@@ -1,6 +1,6 @@
 -- For private clauses alone: what becomes of the elements that are strings which a command means, and parts that are written anew,
--- where some places of them make way for others.
-use Rattle.std.specs.Prelude.{ℕ, ◌+◌, List, [], ◌∷◌, Bool, true, false, ◌&&◌, not, if◌then◌else◌, Option, None, Some, ◌≡◌, ◌-◌, ◌≤◌, ◌++◌, take, drop}
+-- where some places of them make way.
+use Rattle.std.specs.Prelude.{ℕ, ◌+◌, List, [], ◌∷◌, Bool, true, false, ◌&&◌, not, if◌then◌else◌, Option, None, Some, ◌≡◌, ◌-◌, ◌≤◌, ◌++◌, take, drop, IfSome}
 use Rattle.std.specs.List.{flat_map, list_any}
 use Rattle.bz_token.specs.declared.token.Kind.TheVariants.{String}
 use Rattle.bz_tree.specs.Tree.{leaf, Segment}
@@ -66,20 +66,21 @@ become_all p literal ss = flat_map (become p literal) ss
 abbrev pub changes : (Option (List ℕ) → Bool) → Segment → Bool
 changes p a = list_any (list_any (is_meant p)) (parts (value a))
 
--- the places come one after another, between two others
-abbrev pub AreOrdered : ℕ → List Place → ℕ → Type 0
-AreOrdered from [] to = from ≤ to
-AreOrdered from (place ∷ places) to = (from ≤ place.from) × ((place.from ≤ place.to) × AreOrdered place.to places to)
+-- where others stand in place of some parts: it ends at a place, or before it
+abbrev pub IsUpTo : Option Place → ℕ → Type 0
+IsUpTo written at = IfSome written (λ place. (place.from ≤ place.to) × (place.to ≤ at))
 
--- what stands between the two, where each place makes way
-abbrev pub written : List RowPart → List RowPart → ℕ → List Place → ℕ → List RowPart
-written new ps from [] to = take (to - from) (drop from ps)
-written new ps from (place ∷ places) to = take (place.from - from) (drop from ps) ++ (new ++ written new ps place.to places to)
+-- what stands before a place of the parts, with `out` where it was written
+abbrev pub written_to : Option Place → List RowPart → List RowPart → ℕ → List RowPart
+written_to None out ps at = take at ps
+written_to (Some place) out ps at = take place.from ps ++ (out ++ take (at - place.to) (drop place.to ps))
 
--- up to a place that is the target
-pub record IsWritten (new ps : List RowPart) (places : List Place) (at : ℕ) (target : List RowPart) : Type 0 where
-  pub ordered : AreOrdered 0 places at
-  pub are : written new ps 0 places at ≡ target
+-- a place made way after what stood before it
+pub record HasMadeWay (before ps out : List RowPart) (place : Place) (written : Option Place) : Type 0 where
+  pub from : ℕ
+  pub order : from ≤ place.to
+  pub is : written ≡ Some (record { from = from; to = place.to })
+  pub are : take from ps ++ out ≡ before
 
 abbrev pub literal_parts : Option (List ℕ) → List RowPart
 literal_parts None = []

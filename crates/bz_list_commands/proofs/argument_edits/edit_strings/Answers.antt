@@ -4,7 +4,7 @@ use Rattle.bz_list_commands.specs.private.ArgumentEdits.{edited, is_changed}
 use Rattle.bz_list_commands.specs.private.StringEdits.{literal_of, means}
 use Rattle.bz_list_commands.proofs.PlaceEdits.{every_row, named_row}
 use Rattle.bz_list_commands.proofs.WrittenParts.{ok_as}
-use Rattle.bz_list_commands.proofs.place_edits.edit_strings.Goals as goal
+use Rattle.bz_list_commands.proofs.argument_edits.edit_strings.Goals as goal
 
 pub returns-in-Every : goal.returns-in-Every
 returns-in-Every c =
