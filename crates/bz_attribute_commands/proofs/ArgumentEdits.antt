@@ -1,9 +1,9 @@
 -- The first argument of a name among the parts of its rule, also with one comment line more.
-use Rattle.std.proofs.Common.{◌≡◌, ℕ, List, [], ◌∷◌, ◌++◌, Bool, true, false, if◌then◌else◌, Option, Some, None, is_some, length, map, take, drop, ap, sym, ◌∙◌, arith, append_assoc, length-append}
+use Rattle.std.proofs.Common.{◌≡◌, ℕ, List, [], ◌∷◌, ◌++◌, Bool, true, if◌then◌else◌, Option, Some, None, is_some, length, map, take, drop, ap, sym, ◌∙◌, arith, append_assoc, length-append}
 use Rattle.std.proofs.lemmas.List.{map-append}
 use Rattle.std.proofs.Math.Seq.{drop-append_seam, take-append_seam}
-use Rattle.bz_tree.specs.Tree.{Segment, Statement, items_of, segs_of}
-use Rattle.bz_tree.specs.Rows.{RowPart, segment_end, above, beside_part, items_parts, segs_parts, parts_of}
+use Rattle.bz_tree.specs.Tree.{Segment, Statement, items_of}
+use Rattle.bz_tree.specs.Rows.{RowPart, segment_end, above, beside_part, items_parts, parts_of}
 use Rattle.bz_attribute.specs.Rules.{Rule, first_named, is_named}
 use Rattle.bz_attribute.specs.Effects.{edit_first, has, nodes_after, with_args, with_comment}
 use Rattle.bz_attribute_commands.specs.Comment.{comment_attribute, comment_line}

@@ -1,6 +1,6 @@
 -- What is printed of the head and the parts of a rule is what is printed of it.
 use Rattle.std.proofs.Common.{◌≡◌, ℕ, List, [], ◌∷◌, ◌++◌, ◌<◌, ◌≤◌, false, Option, Some, None, option_map, is_some, length, refl, sym, ◌∙◌, ap, arith, append_assoc, if◌then◌else◌}
-use Rattle.std.specs.Prelude.{codes, option_to_list}
+use Rattle.std.specs.Prelude.{codes}
 use Rattle.bz_tree.specs.Tree.{Segment, Statement}
 use Rattle.bz_tree.specs.Rows.{RowPart}
 use Rattle.bz_command.specs.Labels.{Package}

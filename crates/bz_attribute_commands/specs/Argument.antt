@@ -1,5 +1,5 @@
 -- The text of a new argument of a rule, on lines of its own.
-use Rattle.std.specs.Prelude.{ℕ, List, [], ◌∷◌, ◌++◌, true, codes, None}
+use Rattle.std.specs.Prelude.{ℕ, List, [], ◌∷◌, true, None}
 use Rattle.bz_tree.specs.declared.tree.GroupKind.TheVariants.{RuleCall}
 use Rattle.bz_tree.specs.Tree.{Segment, segs_of}
 use Rattle.bz_layout.specs.declared.broken.Style.TheVariants.{Broken}

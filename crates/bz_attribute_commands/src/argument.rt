@@ -23,12 +23,10 @@ pub fn put_argument(
     match new_of(attr, words, false) {
         New::Number(word) | New::Constant(word) => put_line(attr, "", word, "", out)?,
         New::String(word) => put_line(attr, "", quote(alloc, word)?.as_str(), "", out)?,
-        New::Strings(words) => {
-            let [word] = words else {
-                return Ok(false);
-            };
-            put_line(attr, "[", quote(alloc, word.as_str())?.as_str(), "]", out)?;
+        New::Strings([word]) => {
+            put_line(attr, "[", quote(alloc, word.as_str())?.as_str(), "]", out)?
         }
+        New::Strings(_) => return Ok(false),
     }
     Ok(true)
 }

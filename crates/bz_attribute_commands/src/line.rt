@@ -1,6 +1,6 @@
 //! `comment` above a rule, an argument or an element: a line more among the parts of the rule.
 
-ghost use Rattle.std.specs.Prelude.{◌≡◌, ◌∷◌, [], IfOk, None, OnOk, map, true};
+ghost use Rattle.std.specs.Prelude.{◌≡◌, ◌∷◌, [], IfOk, None, map, true};
 ghost use Rattle.bz_tree.specs.Tree.{Statement};
 ghost use Rattle.bz_tree.specs.Rows.{above, part_view, parts_of};
 ghost use Rattle.bz_attribute_commands.specs.Comment as spec;
@@ -31,8 +31,7 @@ pub fn comment_rule<'a>(
         ≡ parts_of (spec.comment_rule text.now s)) }
     ensures done { IfOk result (λ e. e.done ≡ done None true) }
 {
-    write_line(alloc, text, new)?;
-    Ok(insertion(kind_place(parts).from))
+    insert_line(alloc, text, kind_place(parts).from, new)
 }
 
 /// Adds a comment line above an argument, or an element of one, of the rule that has these parts; for one above the rule
@@ -53,8 +52,7 @@ pub fn comment<'a>(
             let Some(at) = find_argument(parts, attr.as_str()) else {
                 return Ok(Edit::none(Done::no_attribute(env.alloc, attr.as_str())?));
             };
-            write_line(env.alloc, text, new)?;
-            Ok(insertion(at))
+            insert_line(env.alloc, text, at, new)
         }
         Commented::Value(attr, value) => {
             let (attr, value) = (attr.as_str(), value.as_str());
@@ -67,26 +65,20 @@ pub fn comment<'a>(
             let Some(token) = first_equal(env.home, value, parts, list) else {
                 return Ok(Edit::none(Done::no_value(env.alloc, attr, value)?));
             };
-            write_line(env.alloc, text, new)?;
-            Ok(insertion(token))
+            insert_line(env.alloc, text, token, new)
         }
     }
 }
 
-// What is written comes to stand before a part.
-fn insertion(at: usize) -> Edit
-    ensures { result ≡ record { done = done None true; place = record { from = at; to = at } } }
-{
-    Edit::at(Place { from: at, to: at })
-}
-
-// Writes the comment line of a text.
-fn write_line<'a>(alloc: Global, text: &str, new: &mut Parts<'a>) -> Result<(), NoMemory>
-    ensures { OnOk result (map part_view new.new.items ≡ above (spec.comment_line text.now) ∷ []) }
+// Writes the comment line of a text, which comes to stand before a part.
+fn insert_line(alloc: Global, text: &str, at: usize, new: &mut Parts<'_>) -> Result<Edit, NoMemory>
+    ensures { IfOk result (λ e. (e ≡ record { done = done None true; place = record { from = at; to = at } })
+        × (map part_view new.new.items ≡ above (spec.comment_line text.now) ∷ [])) }
 {
     let line = comment_line(alloc, text)?;
     let bump = *new.allocator();
     let line = alloc_str(bump, line.as_str())?;
     new.clear();
-    push(new, Part::Above(line))
+    push(new, Part::Above(line))?;
+    Ok(Edit::at(Place { from: at, to: at }))
 }

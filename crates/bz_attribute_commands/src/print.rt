@@ -216,8 +216,7 @@ fn push_word(alloc: Global, text: &mut String, word: &str) -> Result<(), NoMemor
     if is_plain(word.as_bytes()) {
         return push_str(text, word);
     }
-    let literal = quote(alloc, word)?;
-    push_str(text, literal.as_str())
+    push_str(text, quote(alloc, word)?.as_str())
 }
 
 fn is_plain(word: &[u8]) -> bool

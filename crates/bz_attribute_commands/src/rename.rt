@@ -6,14 +6,13 @@ ghost use Rattle.bz_attribute.specs.Effects.{done};
 ghost use Rattle.bz_attribute_commands.specs.Rename as spec;
 ghost use Rattle.bz_attribute.specs.RowEdits.{IsRowEdit};
 
-use bz_attribute::{Done, Edit, Parts, Place, find_argument};
-use bz_memory::{NoMemory, alloc_str, push};
+use bz_attribute::{Done, Edit, Parts, Place, find_argument, push_token};
+use bz_memory::NoMemory;
 use bz_token::Kind;
 use bz_tree::Part;
 use std::alloc::Global;
 
-/// Renames the first argument named `old` of the rule that has these parts, where none is named `new`. Its name goes into
-/// `written`.
+/// Renames the first argument named `old` of the rule of these parts where none is named `new`: it goes into `written`.
 pub fn rename<'a>(
     alloc: Global,
     old: &str,
@@ -31,10 +30,8 @@ pub fn rename<'a>(
     if find_argument(parts, new).is_some() {
         return Ok(Edit::none(Done::attribute_exists(alloc, new)?));
     }
-    let bump = *written.allocator();
-    let name = alloc_str(bump, new)?;
     written.clear();
-    push(written, Part::Token(Kind::Identifier, name))?;
+    push_token(Kind::Identifier, new, written)?;
     Ok(Edit::at(Place {
         from: at,
         to: at + 1,

@@ -25,13 +25,11 @@ pub fn is_value(new: New<'_>, parts: &[Part<'_>], value: usize, list: Option<usi
         → drop value (map part_view parts.now) ≡ value_parts nodes after
         → OnlyList nodes after (map part_view parts.now) list → result ≡ spec.is_value (new_view new.entry) nodes }
 {
-    let New::Strings(words) = new else {
-        return is_token(new, &parts[value..]);
-    };
-    let Some(from) = list else {
-        return false;
-    };
-    are_strings(words, parts, from)
+    match (new, list) {
+        (New::Strings(words), Some(from)) => are_strings(words, parts, from),
+        (New::Strings(_), None) => false,
+        _ => is_token(new, &parts[value..]),
+    }
 }
 
 // The value is one token, which is the new one.

@@ -4,7 +4,6 @@ ghost use Rattle.std.specs.Prelude.{◌≡◌, None, false, not, map, IfOk};
 ghost use Rattle.bz_tree.specs.Rows.{part_view};
 ghost use Rattle.bz_attribute.specs.Effects.{done, has};
 ghost use Rattle.bz_attribute.specs.RowEdits.{IsRowEdit};
-ghost use Rattle.bz_attribute.specs.Rules.{first_named};
 ghost use Rattle.bz_attribute.specs.Lists as lists;
 ghost use Rattle.bz_attribute.specs.Rules as rules;
 ghost use Rattle.bz_attribute_commands.specs.Set as spec;
@@ -43,7 +42,7 @@ pub fn set<'a>(
     written: &mut Parts<'a>,
 ) -> Result<Edit, NoMemory>
     ensures { IfOk result (IsRowEdit (spec.set attr.now words.now)
-        (λ args. done None (spec.sets attr.now words.now (first_named attr.now args)))
+        (λ args. done None (spec.sets attr.now words.now (rules.first_named attr.now args)))
         (map part_view parts.now) (map part_view written.new.items)) }
 {
     let Some(value) = value_place(parts, attr) else {

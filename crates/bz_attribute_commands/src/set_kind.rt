@@ -8,9 +8,9 @@ ghost use Rattle.bz_attribute.specs.RowPlaces.{IsRuleRow};
 ghost use Rattle.bz_attribute.specs.Rules.{Rule, kind_text};
 ghost use Rattle.bz_attribute_commands.specs.Set as spec;
 
-use bz_attribute::{Done, Edit, Parts, kind_place};
+use bz_attribute::{Done, Edit, Parts, kind_place, push_token};
 use bz_command::cut;
-use bz_memory::{NoMemory, alloc_str, push};
+use bz_memory::{NoMemory, push};
 use bz_token::Kind;
 use bz_tree::Part;
 
@@ -33,22 +33,20 @@ pub fn set_kind<'a>(
     if old_kind == kind {
         return Ok(Edit::none(Done::quiet(false)));
     }
-    let bump = *new.allocator();
-    let kind = alloc_str(bump, kind)?;
     new.clear();
     push_kind(kind, new)?;
     Ok(Edit::at(kind_place(parts)))
 }
 
 // Appends the tokens of a kind.
-fn push_kind<'a>(mut kind: &'a str, out: &mut Parts<'a>) -> Result<(), NoMemory>
+fn push_kind(mut kind: &str, out: &mut Parts<'_>) -> Result<(), NoMemory>
     ensures { OnOk result (map part_view out.new.items
         ≡ map part_view out.old.items ++ items_parts (items_of (spec.kind_items kind.now))) }
 {
     while let Some((name, rest)) = cut(kind, '.') {
-        push(out, Part::Token(Kind::Identifier, name))?;
+        push_token(Kind::Identifier, name, out)?;
         push(out, Part::Token(Kind::Operator, "."))?;
         kind = rest;
     }
-    push(out, Part::Token(Kind::Identifier, kind))
+    push_token(Kind::Identifier, kind, out)
 }

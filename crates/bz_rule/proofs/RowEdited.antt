@@ -1,5 +1,5 @@
 -- What a command makes of the row of a rule.
-use Rattle.std.proofs.Common.{Result, Ok, Err, IfOk, ◌≡◌, ◌≤◌, ◌+◌, ◌∷◌, [], ℕ, List, length, length-append, arith, true, false, Option, None, Some, is_some, refl, ap, sym, ◌∙◌, if◌then◌else◌, not, ◌++◌}
+use Rattle.std.proofs.Common.{Result, Ok, Err, IfOk, ◌≡◌, ◌≤◌, ◌+◌, ◌∷◌, [], ℕ, List, length, length-append, arith, true, false, Option, None, Some, is_some, refl, ap, sym, ◌∙◌, if◌then◌else◌, ◌++◌}
 use Rattle.std.specs.Prelude.{bytes_eq}
 use Rattle.std.proofs.lemmas.Bool.{false≢true}
 use Rattle.bz_tree.specs.Tree.{Segment, Statement, segs_of}
@@ -11,9 +11,8 @@ use Rattle.bz_command.specs.declared.arguments.Commented.TheVariants.{Rule as Ab
 use Rattle.bz_command.specs.declared.arguments.Setting.TheVariants.{ToKind}
 use Rattle.bz_attribute_commands.specs.Comment.{comment_line, comment_rule}
 use Rattle.bz_attribute.specs.Rules.{Rule, rule_of, kind_text}
-use Rattle.bz_attribute.specs.Effects.{done, holds_rule, nodes_of, slot_done, with_args}
-use Rattle.bz_attribute.specs.declared.done.Done.{Done}
-use Rattle.bz_attribute_commands.specs.Set.{kind_after, kind_items, sets_kind_of, with_kind}
+use Rattle.bz_attribute.specs.Effects.{done, holds_rule, nodes_of, with_args}
+use Rattle.bz_attribute_commands.specs.Set.{kind_after, kind_items, with_kind}
 use Rattle.bz_rule.specs.Commands.{Command, after, args_after, args_done, done_of}
 use Rattle.bz_rule.specs.declared.command.Action.TheVariants.{Comment, Delete, Print, Set}
 use Rattle.bz_attribute.specs.RowEdits.{IsRowEdit, IsWithin, replaced_at}
@@ -23,8 +22,6 @@ use Rattle.bz_attribute.specs.RowPlaces.{IsRuleRow}
 use Rattle.bz_memory.specs.declared.no_memory.NoMemory.{NoMemory}
 use Rattle.bz_attribute.specs.declared.edit.Edit.{Edit}
 use Rattle.bz_rule.specs.private.RowEdits.{edits_arguments, is_edit, rule_after}
-use Rattle.bz_command.specs.declared.arguments.Field.{Field}
-use Rattle.bz_attribute_commands.specs.Print.{prints, fields_of, printed}
 use Rattle.bz_rule.proofs.Commands.{lawful}
 use Rattle.bz_rule.proofs.RuleClass.{class_after, kind_dotted}
 use Rattle.bz_token.specs.Common.{map_or}
@@ -60,25 +57,18 @@ next_of c home s r ps is are = next_args (args_after c home) s r ps is are
 pub edit_stays : (c : Command) (home : Package) (s : Statement) → is_edit c ≡ true → (done_of c home (Some s)).changed ≡ false → Some s ≡ after c home (Some s)
 edit_stays c home s h quiet = sym ((lawful c home).stays (Some s) quiet)
 
+pub no_rule : (o : Option Rule) → is_some o ≡ false → o ≡ None
+no_rule None h = refl
+no_rule (Some r) h = absurd cc
+
 -- of what is no rule nothing is told
-told_args : (g : List Segment → Done) (slot : Option Statement) → holds_rule slot ≡ false → slot_done g slot ≡ done None false
-told_args g None h = refl
-told_args g (Some s) h = elim (rule_of s.nodes) as (λ o. is_some o ≡ false → map_or (done None false) (λ r. g r.args) o ≡ done None false) [ None ↦ λ k. refl | Some r ↦ λ k. absurd (false≢true (sym k)) ] h
-
-told_kind : (kind : List ℕ) (slot : Option Statement) → holds_rule slot ≡ false → sets_kind_of kind slot ≡ done None false
-told_kind kind None h = refl
-told_kind kind (Some s) h = elim (rule_of s.nodes) as (λ o. is_some o ≡ false → (map_or (done None false) (λ r. done None (not (bytes_eq (kind_text r.kind) kind))) o) ≡ done None false) [ None ↦ λ k. refl | Some r ↦ λ k. absurd (false≢true (sym k)) ] h
-
-pub told_print : (home : Package) (fields : List Field) (slot : Option Statement) → holds_rule slot ≡ false → prints home fields slot ≡ done None false
-told_print home fields None h = refl
-told_print home fields (Some s) h = elim (rule_of s.nodes) as (λ o. is_some o ≡ false → map_or (done None false) (λ r. printed home s r (fields_of fields)) o ≡ done None false) [ None ↦ λ k. refl | Some r ↦ λ k. absurd (false≢true (sym k)) ] h
-
 pub told_of_none : (c : Command) (home : Package) (slot : Option Statement) → holds_rule slot ≡ false → done_of c home slot ≡ done None false
-told_of_none (Set (ToKind kind)) home slot h = told_kind kind slot h
-told_of_none Delete home slot h = ap (done None) h
-told_of_none (Comment Above text) home slot h = ap (done None) h
-told_of_none (Print fields) home slot h = told_print home fields slot h
-told_of_none c home slot h = told_args (args_done c home) slot h
+told_of_none (Set (ToKind kind)) home (Some s) h = rw (no_rule (rule_of s.nodes) h) refl
+told_of_none (Comment Above text) home (Some s) h = rw (no_rule (rule_of s.nodes) h) refl
+told_of_none c home (Some s) h = rw (no_rule (rule_of s.nodes) h) refl
+told_of_none (Set (ToKind kind)) home None h = refl
+told_of_none (Comment Above text) home None h = refl
+told_of_none c home None h = refl
 
 pub some_rule : (o : Option Rule) → is_some o ≡ true → (r : Rule) × (o ≡ Some r)
 some_rule None h = absurd (false≢true h)

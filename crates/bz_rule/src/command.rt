@@ -1,6 +1,5 @@
 //! The commands on one rule: what each is, how its words are read, and what it makes of the arguments of a rule.
-//! `reader.rt` calls `read_named`, and `row_edit.rt` calls `edit_arguments`. bz_engine asks for `one_attribute` and
-//! `is_print`.
+//! `reader.rt` calls `read_named`, `row_edit.rt` `edit_arguments`, and bz_engine `one_attribute` and `is_print`.
 
 ghost use Rattle.bz_memory.specs.NoMemory.{no_memory};
 ghost use Rattle.std.specs.Prelude.{◌≡◌, ◌≢◌, Err, IfOk, IfSome, Some, map, true};
@@ -62,8 +61,7 @@ commands (words are separated by spaces; \"\\ \" is a space inside a word):
   print [FIELD..]              prints attributes, or label, kind, startline, endline
 ";
 
-/// The commands of Bazel's own buildozer (its README, "Edit commands" and "Print commands") that this program does not
-/// have.
+/// The commands of Bazel's own buildozer (README, "Edit commands" and "Print commands") that this program does not have.
 pub const LEFT_OUT: [&str; 23] = [
     "copy",
     "copy_no_overwrite",
@@ -254,10 +252,8 @@ fn read_print(alloc: Global, words: Vec<Text>) -> Result<Action, CommandFault>
 {
     let mut fields = with_room_for(alloc, words.as_slice(), 0)?;
     for word in words {
-        push(
-            &mut fields,
-            read_field(word).ok_or(CommandFault::BadAttribute)?,
-        )?;
+        let field = read_field(word).ok_or(CommandFault::BadAttribute)?;
+        push(&mut fields, field)?;
     }
     Ok(Action::Print(Seq::from_vec(fields)))
 }
@@ -282,46 +278,36 @@ pub(crate) fn edit_arguments<'a>(
     env: Env<'_>,
     action: &Action,
     parts: &[Part<'a>],
-    new: &mut Parts<'a>,
+    written: &mut Parts<'a>,
 ) -> Result<Edit, NoMemory>
     requires { edits_arguments action.now ≡ true }
     ensures { IfOk result (IsRowEdit (spec.args_after action.now env.entry.home.now)
-        (spec.args_done action.now env.entry.home.now) (map part_view parts.now) (map part_view new.new.items)) }
+        (spec.args_done action.now env.entry.home.now) (map part_view parts.now) (map part_view written.new.items)) }
 {
     match action {
-        Action::Add(attr, values) => add(env, attr.as_str(), values.as_slice(), parts, new),
+        Action::Add(attr, values) => add(env, attr.as_str(), values.as_slice(), parts, written),
         Action::Remove(attributes, values) => {
-            remove(env, attributes, values.as_slice(), parts, new)
+            remove(env, attributes, values.as_slice(), parts, written)
         }
-        Action::Replace(attributes, old, value) => {
-            let change = Change {
-                old: old.as_str(),
-                new: value.as_str(),
-            };
-            replace(env, attributes, change, parts, new)
+        Action::Replace(attributes, old, new) => {
+            let (old, new) = (old.as_str(), new.as_str());
+            replace(env, attributes, Change { old, new }, parts, written)
         }
-        Action::Move(old, to, moved) => {
-            let change = Move {
-                old: old.as_str(),
-                new: to.as_str(),
-                moved,
-            };
-            move_elements(env, change, parts, new)
+        Action::Move(old, new, moved) => {
+            let (old, new) = (old.as_str(), new.as_str());
+            move_elements(env, Move { old, new, moved }, parts, written)
         }
-        Action::Rename(old, to) => {
-            let change = Change {
-                old: old.as_str(),
-                new: to.as_str(),
-            };
-            rename_argument(env, change, parts, new)
+        Action::Rename(old, new) => {
+            let (old, new) = (old.as_str(), new.as_str());
+            rename_argument(env, Change { old, new }, parts, written)
         }
         Action::Set(Setting::ToValues(attr, words)) => {
-            set(env.alloc, attr.as_str(), words.as_slice(), parts, new)
+            set(env.alloc, attr.as_str(), words.as_slice(), parts, written)
         }
         Action::SetIfAbsent(attr, words) => {
-            set_if_absent(env.alloc, attr.as_str(), words.as_slice(), parts, new)
+            set_if_absent(env.alloc, attr.as_str(), words.as_slice(), parts, written)
         }
-        Action::Comment(commented, text) => comment(env, commented, text.as_str(), parts, new),
+        Action::Comment(commented, text) => comment(env, commented, text.as_str(), parts, written),
         _ => Ok(Edit::none(Done::quiet(false))),
     }
 }

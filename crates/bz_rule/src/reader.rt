@@ -22,11 +22,10 @@ pub fn read_command(alloc: Global, text: &str) -> Result<Option<Command>, Comman
     let Ok(name) = next_word(&mut words) else {
         return Ok(None);
     };
-    let action = read_named(alloc, name.as_str(), words)?;
-    let Some(action) = action else {
-        return Ok(None);
-    };
-    Ok(Some(Command { action }))
+    match read_named(alloc, name.as_str(), words)? {
+        None => Ok(None),
+        Some(action) => Ok(Some(Command { action })),
+    }
 }
 
 /// One star means all elements.

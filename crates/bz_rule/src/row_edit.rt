@@ -35,25 +35,21 @@ pub(crate) fn edit_rule<'a>(
         None => "",
         Some(head) => head.kind,
     };
-    let edit = match &command.action {
+    let mut edit = match &command.action {
         Action::Set(Setting::ToKind(new_kind)) => set_kind(new_kind.as_str(), kind, parts, new),
         Action::Comment(Commented::Rule, text) => {
             comment_rule(env.alloc, text.as_str(), parts, new)
         }
         _ => edit_arguments(env, &command.action, parts, new),
     }?;
-    let place = Place {
+    edit.place = Place {
         from: comments + edit.place.from,
         to: comments + edit.place.to,
     };
-    Ok(Edit {
-        done: edit.done,
-        place,
-    })
+    Ok(edit)
 }
 
-/// How many comments more the rule has above it after the command, at least, where it has the head that it had: its kind,
-/// its name and its lines.
+/// How many comments more the rule has above it after the command, at least, where it keeps its head.
 pub(crate) fn kept_head(command: &Command) -> Option<usize>
     ensures { IfSome result (λ more. (home : labels.Package) (s : Statement) (r : Rule) → rule_of s.nodes ≡ Some r
         → KeepsHead more s (rule_after command.now home s)) }

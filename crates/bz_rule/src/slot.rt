@@ -13,9 +13,7 @@ use bz_command::Package;
 use bz_tree::Stmt;
 use std::alloc::Global;
 
-/// Applies a command to what a slot holds, in the package of its file. A slot that holds no rule stays as it is, and so
-/// does each statement where the answer has a note that is a failure. An `Err` leaves the slot as it was. Parts and new
-/// texts stand in the arena.
+/// Applies a command to what a slot holds, in the package of its file. Parts and new texts stand in the arena.
 pub fn apply<'a>(
     alloc: Global,
     bump: &'a Bump,
@@ -40,10 +38,9 @@ pub fn apply<'a>(
     }
     let mut row = Some(StatementRow::of_stmt(alloc, bump, stmt)?);
     let done = execute(Env { alloc, home }, command, &mut row)?;
-    let left = match row {
+    *slot = match row {
         None => None,
         Some(row) => Some(row.tree(alloc)?),
     };
-    *slot = left;
     Ok(done)
 }

@@ -149,8 +149,7 @@ impl<'a> StatementRow<'a> {
         }
     }
 
-    /// Appends the canonical text of the statement, with its last newline. `Err`: memory was refused, and `out` is as
-    /// it was.
+    /// Appends the canonical text of the statement, with its last newline. An `Err` leaves `out` as it was.
     pub fn put(&self, alloc: Global, out: &mut Vec<u8>) -> Result<(), NoMemory>
         ensures appended { OnOk result (out.new.items ≡ out.old.items ++ layout_text self.now) }
         ensures unchanged { OnErr result (out.new.items ≡ out.old.items) }

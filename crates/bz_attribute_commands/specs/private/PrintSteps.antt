@@ -1,5 +1,5 @@
 -- For private clauses alone: what is printed of the rule of a head and parts.
-use Rattle.std.specs.Prelude.{◌≡◌, ℕ, List, ◌++◌, Option, Some}
+use Rattle.std.specs.Prelude.{◌≡◌, ℕ, List, ◌++◌, Option}
 use Rattle.bz_tree.specs.Tree.{Statement}
 use Rattle.bz_tree.specs.Rows.{RowPart}
 use Rattle.bz_command.specs.Labels.{Package}
@@ -8,8 +8,8 @@ use Rattle.bz_attribute.specs.declared.head.Head.{Head}
 use Rattle.bz_attribute.specs.declared.done.Note.{Note}
 use Rattle.bz_attribute.specs.Heads.{IsHeadOf}
 use Rattle.bz_attribute.specs.RowPlaces.{IsRuleRow}
-use Rattle.bz_attribute.specs.Rules.{Rule, name_in}
-use Rattle.bz_attribute_commands.specs.Print.{field_text, line_of, missing}
+use Rattle.bz_attribute.specs.Rules.{Rule}
+use Rattle.bz_attribute_commands.specs.Print.{line_of, missing}
 
 -- a rule of this head and these parts
 pub record IsRuleOf (known : Head) (ps : List RowPart) (s : Statement) (r : Rule) : Type 0 where

@@ -1,8 +1,7 @@
 -- What is owed of `print`, which changes nothing.
-use Rattle.std.proofs.Common.{◌≡◌, ℕ, List, [], ◌∷◌, true, false, Option, Some, None, map, refl, sym, ◌∙◌, Ok, inl, inr}
-use Rattle.std.specs.Prelude.{bytes_eq, codes}
+use Rattle.std.proofs.Common.{◌≡◌, ℕ, List, [], ◌∷◌, true, false, Option, Some, None, map, refl, sym, ◌∙◌, Ok, rules}
 use Rattle.std.specs.List.{list_all}
-use Rattle.std.proofs.lemmas.Bool.{cases_Bool, and_parts}
+use Rattle.std.proofs.lemmas.Bool.{and_parts}
 use Rattle.bz_tree.specs.Tree.{Statement}
 use Rattle.bz_command.specs.Labels.{Package}
 use Rattle.bz_command.specs.declared.arguments.Field.{Field}
@@ -32,19 +31,7 @@ print_lawful home fields = record {
 
 -- What is read of words that are UTF-8 can be read, and its words are UTF-8.
 named_field : (word : List ℕ) → is_field word ≡ true → is_named_field (field_of word) ≡ true
-named_field word h = elim (cases_Bool (bytes_eq word (codes "label"))) [
-  | inl is ↦ rw is refl
-  | inr label ↦ elim (cases_Bool (bytes_eq word (codes "kind"))) [
-    | inl is ↦ rw (label, is) refl
-    | inr kind ↦ elim (cases_Bool (bytes_eq word (codes "startline"))) [
-      | inl is ↦ rw (label, kind, is) refl
-      | inr start ↦ elim (cases_Bool (bytes_eq word (codes "endline"))) [
-        | inl is ↦ rw (label, kind, start, is) refl
-        | inr end ↦ rw (label, kind, start, end) h
-      ]
-    ]
-  ]
-]
+named_field word h = search (rules, h)
 
 named_fields : (words : List (List ℕ)) → list_all is_field words ≡ true → list_all is_named_field (map field_of words) ≡ true
 named_fields [] h = refl

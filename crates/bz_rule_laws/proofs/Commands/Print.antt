@@ -1,5 +1,5 @@
 -- What `print` keeps: it looks at the arguments that it mentions alone.
-use Rattle.std.proofs.Common.{◌≡◌, ℕ, List, [], ◌∷◌, ◌++◌, true, false, ◌||◌, if◌then◌else◌, Option, Some, None, is_some, map, option_map, refl, ap, sym, ◌∙◌}
+use Rattle.std.proofs.Common.{◌≡◌, ℕ, List, [], ◌∷◌, true, false, ◌||◌, if◌then◌else◌, Option, Some, None, is_some, map, option_map, refl, ap, sym, ◌∙◌}
 use Rattle.std.specs.Prelude.{bytes_eq, codes}
 use Rattle.std.specs.List.{list_any, join_with_byte}
 use Rattle.std.proofs.lemmas.Bool.{or_right}
@@ -7,12 +7,11 @@ use Rattle.std.proofs.lemmas.Slice.Eq.{bytes_eq-Decides}
 use Rattle.bz_tree.specs.Tree.{Item, Segment, Statement}
 use Rattle.bz_command.specs.Labels.{Package}
 use Rattle.bz_command.specs.declared.arguments.Field.{Field}
-use Rattle.bz_command.specs.declared.arguments.Field.TheVariants.{EndLine, Kind, Label, StartLine, ValueOf}
+use Rattle.bz_command.specs.declared.arguments.Field.TheVariants.{ValueOf}
 use Rattle.bz_rule.specs.declared.command.Action.TheVariants.{Print}
 use Rattle.bz_command.specs.Arguments.{field_mentions}
 use Rattle.bz_attribute.specs.Rules.{Rule, rule_of, value}
 use Rattle.bz_attribute.specs.Effects.{with_args, done}
-use Rattle.bz_attribute.specs.Texts.{home_text}
 use Rattle.bz_attribute.specs.declared.done.Note.TheVariants.{Missing}
 use Rattle.bz_attribute_commands.specs.Print.{field_name, field_text, fields_of, missing, printed, prints, value_text}
 use Rattle.bz_rule_laws.specs.Aside.{IsAside}
@@ -31,12 +30,10 @@ LeavesShown fields g = (attr : List ℕ) → list_any (field_mentions attr) fiel
 field_kept : (g : Segment → Segment) → KeepsEach g → Leaves (codes "name") g → (home : Package) (s : Statement) (nodes : List Item) (r : Rule) (field : Field)
     → ((attr : List ℕ) → field_mentions attr field ≡ true → Leaves attr g)
     → field_text home (record s { nodes = nodes }) (rule_with (map g) r) field ≡ field_text home s r field
-field_kept g names name home s nodes r Label leaves = ap (option_map (λ (text : List ℕ). home_text home ++ text)) (name_kept g names name r.args)
-field_kept g names name home s nodes r Kind leaves = refl
-field_kept g names name home s nodes r StartLine leaves = refl
-field_kept g names name home s nodes r EndLine leaves = refl
 field_kept g names name home s nodes r (ValueOf attr) leaves =
     ap (option_map (λ (a : Segment). value_text (value a))) (first_kept g names attr (leaves attr ((bytes_eq-Decides attr attr).1 refl)) r.args)
+-- of the others the name alone is an argument's
+field_kept g names name home s nodes r field leaves = cc (name_kept g names name r.args)
 
 head_shown : (g : Segment → Segment) (field : Field) (fields : List Field) → LeavesShown (field ∷ fields) g → (attr : List ℕ) → field_mentions attr field ≡ true → Leaves attr g
 head_shown g field fields leaves attr h = leaves attr (rw h refl)

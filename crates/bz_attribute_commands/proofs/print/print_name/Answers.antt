@@ -1,10 +1,10 @@
-use Rattle.std.proofs.Common.{◌≡◌, ◌≤◌, ◌<◌, ◌∷◌, [], ◌++◌, ◌∙◌, ℕ, List, Option, None, Some, option_and_then, option_map, length, get_or, string_bytes, false, ap, refl, sym, arith, rules}
+use Rattle.std.proofs.Common.{◌≡◌, ◌≤◌, ◌<◌, ◌∷◌, [], ◌++◌, ◌∙◌, ℕ, List, Option, None, Some, option_and_then, option_map, length, get_or, false, ap, refl, sym, arith, rules}
 use Rattle.std.specs.Prelude.{codes}
 use Rattle.bz_token.specs.Common.{map_or}
 use Rattle.bz_tree.specs.Tree.{Segment, Statement}
 use Rattle.bz_command.specs.Labels.{Package}
 use Rattle.bz_command.specs.declared.arguments.Field.{Field}
-use Rattle.bz_command.specs.declared.arguments.Field.TheVariants.{Label, ValueOf}
+use Rattle.bz_command.specs.declared.arguments.Field.TheVariants.{ValueOf}
 use Rattle.bz_attribute.specs.Rules.{Rule, first_named, name_in, rule_of, string_value, value}
 use Rattle.bz_attribute.specs.Texts.{home_text}
 use Rattle.bz_attribute.specs.declared.done.Done.{Done}

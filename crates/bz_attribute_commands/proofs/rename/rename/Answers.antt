@@ -1,4 +1,4 @@
-use Rattle.std.proofs.Common.{◌≡◌, ◌+◌, ◌∷◌, ◌++◌, ◌≤◌, [], ◌∙◌, List, true, Some, is_some, length, map, take, drop, drop-drop, ap, sym, refl, false, ℕ, subst, arith}
+use Rattle.std.proofs.Common.{◌≡◌, ◌+◌, ◌∷◌, ◌++◌, ◌≤◌, [], ◌∙◌, List, true, is_some, length, map, take, drop, drop-drop, ap, sym, refl, false, ℕ, subst, arith}
 use Rattle.std.proofs.lemmas.Bool.{false≢true}
 use Rattle.std.proofs.lemmas.List.{length-map}
 use Rattle.bz_token.specs.declared.token.Kind.TheVariants.{Identifier}
@@ -59,8 +59,8 @@ returns c =
     let ps : List RowPart = map part_view parts in
     let at : ℕ = c.in-Some.at in
     let free = λ (s : Statement) (r : Rule) (h : IsRuleRow s r ps). has_found c.args.new.now s r ps c.find_argument-2.result h (c.find_argument-2.ensures.found s r h) ∙ sym c.is_some.ensures ∙ c.if-is_some.false in
-    let name : map part_view c.push.new.list.items ≡ a_token Identifier c.args.new.now ∷ [] =
-    ap (map part_view) (c.in_ok-push.ensures.items ∙ ap (λ (qs : List Part). qs ++ Part.Token Identifier c.in_ok-name.name ∷ []) c.clear.ensures.items) ∙ ap (λ (text : List ℕ). a_token Identifier text ∷ []) c.in_ok-name.ensures in
+    let name : map part_view c.push_token.new.written.items ≡ a_token Identifier c.args.new.now ∷ [] =
+    c.in_ok-push_token.ensures ∙ ap (λ (qs : List Part). map part_view qs ++ a_token Identifier c.args.new.now ∷ []) c.clear.ensures.items in
     let within : at + 1 ≤ length parts = grind (arith, c.in-Some.is, c.find_argument.ensures.within) in
     changed _ _ ps _ _ _ c.at.ensures (omega arith, omega (arith, within, length-map parts part_view))
     (λ s r h. ap (λ (new : List RowPart). replaced_at (record { from = at; to = at + 1 }) new ps) name

@@ -46,12 +46,13 @@ no_list_told words (x ∷ y ∷ xs) h = refl
 
 pub returns-in_default : goal.returns-in_default
 returns-in_default c = λ nodes after read list.
-    c.is_token.ensures ∙ ap (λ (ps : List RowPart). is_value (new_view c.args.new) (one_token ps)) (rest_seen c.args.parts.now c.args.value ∙ read) ∙ token_told c.args.new nodes after c.in_default.not-Strings
+    c.is_token.ensures ∙ ap (λ (ps : List RowPart). is_value (new_view c.args.new) (one_token ps)) (rest_seen c.args.parts.now c.args.value ∙ read) ∙ token_told c.args.new nodes after c.in_default.not-Strings-0
 
-pub returns : goal.returns
-returns c = λ nodes after read list.
-    in_list c.in-Strings.words.now nodes after (map part_view c.args.parts.now) c.in-Some.from _ (subst (λ (o : Option ℕ). OnlyList nodes after (map part_view c.args.parts.now) o) c.in-Some.is list) c.are_strings.ensures
-    ∙ ap (λ (new : New). is_value (new_view new) nodes) (sym c.in-Strings.is)
+pub returns-in-Strings-Some : goal.returns-in-Strings-Some
+returns-in-Strings-Some c = λ nodes after read list.
+    in_list c.in-Strings-Some.words.now nodes after (map part_view c.args.parts.now) c.in-Strings-Some.from _ (subst (λ (o : Option ℕ). OnlyList nodes after (map part_view c.args.parts.now) o) c.in-Strings-Some.is-1 list) c.are_strings.ensures
+    ∙ ap (λ (new : New). is_value (new_view new) nodes) (sym c.in-Strings-Some.is-0)
 
-pub returns-in_default-list : goal.returns-in_default-list
-returns-in_default-list c = λ nodes after read list. no_list_told c.in-Strings.words.now nodes (subst (λ (o : Option ℕ). OnlyList nodes after (map part_view c.args.parts.now) o) c.in_default-list.is list) ∙ ap (λ (new : New). is_value (new_view new) nodes) (sym c.in-Strings.is)
+pub returns-in-Strings-None : goal.returns-in-Strings-None
+returns-in-Strings-None c = λ nodes after read list.
+    no_list_told c.in-Strings-None.field-0-0.now nodes (subst (λ (o : Option ℕ). OnlyList nodes after (map part_view c.args.parts.now) o) c.in-Strings-None.is-1 list) ∙ ap (λ (new : New). is_value (new_view new) nodes) (sym c.in-Strings-None.is-0)

@@ -24,7 +24,7 @@ pub loop-name-preserved : goal.loop-name-preserved
 loop-name-preserved c =
     let old = c.loop-name.out.items in
     let parts : slice_split (λ b. b == 46) c.loop-name.kind.now ≡ c.in-Some.name.now ∷ slice_split (λ b. b == 46) c.in-Some.rest.now = search rules in
-    let made = one_more _ _ _ c.in_ok-push-2.ensures.items ∙ ap (λ (ps : List RowPart). ps ++ a_token Operator (codes ".") ∷ []) (one_more _ _ _ c.in_ok-push.ensures.items) in
+    let made = one_more _ _ _ c.in_ok-push.ensures.items ∙ ap (λ (ps : List RowPart). ps ++ a_token Operator (codes ".") ∷ []) c.in_ok-push_token.ensures in
     record {
       utf8 = search rules;
       made = ap (λ (ps : List RowPart). ps ++ items_parts (items_of (kind_items c.in-Some.rest.now))) made ∙ name_written (map part_view old) c.loop-name.kind.now c.in-Some.name.now c.in-Some.rest.now parts ∙ c.loop-name.invariant.made;

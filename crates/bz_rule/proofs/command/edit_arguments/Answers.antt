@@ -7,10 +7,10 @@ pub returns-in-Remove : goal.returns-in-Remove
 returns-in-Remove c = rw c.in-Remove.is (rw (c.as_slice-in-Remove.ensures) at c.remove.ensures)
 
 pub returns-in-Replace : goal.returns-in-Replace
-returns-in-Replace c = rw c.in-Replace.is (rw (c.as_str-in-Replace.ensures, c.as_str-in-Replace-2.ensures) at c.replace.ensures)
+returns-in-Replace c = rw c.in-Replace.is (rw (c.as_str-old.ensures, c.as_str-new.ensures) at c.replace.ensures)
 
 pub returns-in-Move : goal.returns-in-Move
-returns-in-Move c = rw c.in-Move.is (rw (c.as_str-in-Move.ensures, c.as_str-in-Move-2.ensures) at c.move_elements.ensures)
+returns-in-Move c = rw c.in-Move.is (rw (c.as_str-old-in-Move.ensures, c.as_str-new-in-Move.ensures) at c.move_elements.ensures)
 
 pub returns-in-SetIfAbsent : goal.returns-in-SetIfAbsent
 returns-in-SetIfAbsent c = rw c.in-SetIfAbsent.is (rw (c.as_str-in-SetIfAbsent.ensures, c.as_slice-in-SetIfAbsent.ensures) at c.set_if_absent.ensures)

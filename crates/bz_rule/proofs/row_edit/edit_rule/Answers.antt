@@ -1,4 +1,4 @@
-use Rattle.std.proofs.Common.{◌≡◌, ◌-◌, ◌+◌, ◌∙◌, ◌++◌, ◌≤◌, [], ℕ, List, true, length, map, take, drop, ap, refl, sym, subst, IfOk, arith, rules}
+use Rattle.std.proofs.Common.{◌≡◌, ◌-◌, ◌+◌, ◌∙◌, ◌++◌, ◌≤◌, [], ℕ, List, true, length, map, take, drop, ap, refl, sym, subst, IfOk, rules}
 use Rattle.std.proofs.lemmas.Result.{IfOk-weaker}
 use Rattle.bz_tree.specs.Tree.{Statement}
 use Rattle.bz_tree.specs.Rows.{RowPart, above, part_view, parts_of}
@@ -48,7 +48,7 @@ returns-clause-edit c =
             | in_default-via-in_default v ↦ search rules
           ] in
           rw (w.branch'-is, w.new-is) (IfOk-weaker w.edit_arguments.result _ _
-          (λ e h. arguments_edited command home kind rest (map part_view w.edit_arguments.new.new.items) e edits h) (rw c.command.view_is at w.edit_arguments.ensures))
+          (λ e h. arguments_edited command home kind rest (map part_view w.edit_arguments.new.written.items) e edits h) (rw c.command.view_is at w.edit_arguments.ensures))
     ] in
     let edit = rw c.in_ok-edit.was at edited in
     let place = c.in_ok-edit.edit.place in

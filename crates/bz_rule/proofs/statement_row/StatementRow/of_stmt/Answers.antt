@@ -1,18 +1,14 @@
-use Rattle.std.proofs.Common.{◌≡◌, ◌∙◌, ◌++◌, List, Option, None, Some, true, false, is_some, ap, map, refl, sym}
+use Rattle.std.proofs.Common.{◌≡◌, ◌∙◌, ◌++◌, List, is_some, ap, map, refl, sym}
 use Rattle.bz_tree.specs.View.{nodes_view, view}
 use Rattle.bz_tree.specs.Rows.{part_view, parts_of}
 use Rattle.bz_tree.specs.declared.row.Part.{Part}
 use Rattle.bz_tree.specs.declared.tree.Node.{Node}
 use Rattle.bz_attribute.specs.Heads.{HasHead}
-use Rattle.bz_attribute.specs.Rules.{Rule, rule_of}
+use Rattle.bz_attribute.specs.Rules.{rule_of}
 use Rattle.bz_attribute.proofs.Headed.{rule_class}
-use Rattle.bz_rule.proofs.RowEdited.{some_rule}
+use Rattle.bz_rule.proofs.RowEdited.{no_rule, some_rule}
 use Rattle.bz_rule.proofs.statement_row.StatementRow.of_stmt.Goals as goal
 use Rattle.bz_rule.proofs.statement_row.StatementRow.of_stmt.Goals.{then-is_rule+in_ok-head, else-is_rule}
-
-no_rule : (o : Option Rule) → is_some o ≡ false → o ≡ None
-no_rule None h = refl
-no_rule (Some r) h = absurd cc
 
 pub new-requires : goal.new-requires
 new-requires c =
