@@ -14,7 +14,7 @@ use crate::passes::Passes;
 use bz_command::Pass;
 use bz_memory::NoMemory;
 
-/// One command on a slot that is marked.
+/// Executes one command on a slot that is marked.
 fn execute<L: Language>(
     language: &L,
     command: &L::Command,
@@ -37,7 +37,7 @@ fn execute<L: Language>(
     Ok(())
 }
 
-/// The commands of a pass on a slot that is marked.
+/// Runs the commands of a pass on a slot that is marked.
 fn run_commands<L: Language>(
     language: &L,
     commands: &[L::Command],
@@ -61,7 +61,7 @@ fn run_commands<L: Language>(
     Ok(())
 }
 
-/// One pass on a slot that its target marks: this is not asked again, whatever the commands do.
+/// Runs one pass on a slot that its target marks: this is not asked again, whatever the commands do.
 fn run_pass<L: Language>(
     language: &L,
     pass: &Pass<L::Target, L::Command>,
