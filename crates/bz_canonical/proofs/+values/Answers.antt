@@ -49,14 +49,14 @@ segments::after_segments-loop-count-preserved-in-Some m c =
 pub segments::after_segments-loop-count-preserved : goal.segments::after_segments-loop-count-preserved
 segments::after_segments-loop-count-preserved m c =
     let l = c.loop-count in
-    let on = more c.args.kind c.args.level c.args.depth c.args.text.now l.rest.now c.after_comments-above.result.rest.now c.in-Some-line.inner.now c.in_ok-read.read.rest.now c.in_ok-comma.comma.now c.in_ok-side.side.rest.now
-    l.count l.holds c.in_ok-read.read.holds l.noted c.after_comments-above.result.some c.in_ok-side.side.some l.invariant c.after_comments-above.ensures c.in-Some-line.ensures c.in_ok-read.ensures c.in_ok-comma.ensures c.in_ok-side.ensures in
+    let on = more c.args.kind c.args.level c.args.depth c.args.text.now l.rest.now c.after_comments-above.result.rest.now c.in-Some-after_line.inner.now c.in_ok-read.read.rest.now c.in_ok-comma.comma.now c.in_ok-side.side.rest.now
+    l.count l.holds c.in_ok-read.read.holds l.noted c.after_comments-above.result.some c.in_ok-side.side.some l.invariant c.after_comments-above.ensures c.in-Some-after_line.ensures c.in_ok-read.ensures c.in_ok-comma.ensures c.in_ok-side.ensures in
     subst (λ b. Continues c.args.kind c.args.level c.args.depth c.args.text.now c.in_ok-side.side.rest.now (l.count + 1) b c.either-noted-in-loop-count.result) (sym c.either-holds.ensures)
     (subst (λ b. Continues c.args.kind c.args.level c.args.depth c.args.text.now c.in_ok-side.side.rest.now (l.count + 1) (l.holds || c.in_ok-read.read.holds) b)
     (sym (c.either-noted-in-loop-count.ensures ∙ ap (λ b. l.noted || b) c.either-about.ensures)) on)
 
-pub segments::after_segments-returns-in_default-line : goal.segments::after_segments-returns-in_default-line
-segments::after_segments-returns-in_default-line m c =
+pub segments::after_segments-returns-in_default-after_line : goal.segments::after_segments-returns-in_default-after_line
+segments::after_segments-returns-in_default-after_line m c =
     let l = c.loop-count in
     (l.rest.now, finish c.args.kind c.args.level c.args.depth c.args.text.now l.rest.now l.count l.holds l.noted l.invariant, c.after_comments-above.ensures)
 
