@@ -11,7 +11,7 @@ use Rattle.bz_command.specs.Labels.{Package}
 use Rattle.buildozer.specs.declared.file_run.Ended.{Ended}
 use Rattle.buildozer.specs.declared.file_run.Ended.TheVariants.{Told, Failed, NotYet}
 use Rattle.buildozer.specs.Runs.{Asked, IsRun, IsKeptText, is_kept, is_whole}
-use Rattle.buildozer.specs.FileRuns.{GaveText, Gives}
+use Rattle.buildozer.specs.FileRuns.{GaveText, GaveAnswer}
 use Rattle.buildozer.specs.Files.{IsFileOf, MayBe, MayHold, MayHoldNothing, IsEdited}
 use Rattle.buildozer.specs.Handled.{IsStatusOver, IsFileStatus, LeavesFiles}
 use Rattle.bz_engine.specs.Outcome.{status_of}
@@ -46,10 +46,10 @@ module _ {S : Type 0} (gave : S → List (List ℕ) → S → Type 0) (failures 
   }
 
   pub safe_edit : (source : S) → before.source ≡ source → {D : Type 0} (did : D → List Event → D → Type 0) (a b : D) (file : List ℕ) (mode : ℕ) (result : Result Bool Trouble)
-      → Replacement did (λ old text answer new. Gives gave failures old.asked old.source text answer new.source new.ended) a b before after file mode result
+      → Replacement did (λ old text answer new. GaveAnswer gave failures old.asked old.source text answer new.source new.ended) a b before after file mode result
       → SafeRun did (MayBe gave source asked file) a b
   safe_edit source from did a b file mode result r =
-      run_one did (MayBe gave source asked file) (λ old text answer new. Gives gave failures old.asked old.source text answer new.source new.ended) a b before after file mode result r
+      run_one did (MayBe gave source asked file) (λ old text answer new. GaveAnswer gave failures old.asked old.source text answer new.source new.ended) a b before after file mode result r
       (λ text g. record { is_it = refl; kept = subst (λ s. IsKeptText gave s asked text) from (kept_text text g) })
 
   -- what the run told is a run's report, and what it answered is whether its text is kept
@@ -68,18 +68,18 @@ module _ {S : Type 0} (gave : S → List (List ℕ) → S → Type 0) (failures 
 
   -- the same, as the file was replaced or not
   pub edited_as : (source : S) → before.source ≡ source → (result : Result Bool Trouble) (kept : Bool) (report : Report) → result ≡ Ok kept
-      → (result ≡ Ok true → (text : List ℕ) × Gives gave failures before.asked before.source text (Ok true) after.source after.ended)
-      → (result ≡ Ok false → (text : List ℕ) × Gives gave failures before.asked before.source text (Ok false) after.source after.ended)
+      → (result ≡ Ok true → (text : List ℕ) × GaveAnswer gave failures before.asked before.source text (Ok true) after.source after.ended)
+      → (result ≡ Ok false → (text : List ℕ) × GaveAnswer gave failures before.asked before.source text (Ok false) after.source after.ended)
       → after.ended ≡ Told report → IsEdited gave source asked report kept
   edited_as source from result true report e wanted unwanted ended = subst (λ s. IsEdited gave s asked report true) from (edited (wanted e).0 true report (wanted e).1 ended)
   edited_as source from result false report e wanted unwanted ended = subst (λ s. IsEdited gave s asked report false) from (edited (unwanted e).0 false report (unwanted e).1 ended)
 
   -- a run whose text is not kept touches no file
   pub safe_idle : {D : Type 0} (did : D → List Event → D → Type 0) (a b : D) (file : List ℕ) (mode : ℕ) (result : Result Bool Trouble)
-      → Replacement did (λ old text answer new. Gives gave failures old.asked old.source text answer new.source new.ended) a b before after file mode result
+      → Replacement did (λ old text answer new. GaveAnswer gave failures old.asked old.source text answer new.source new.ended) a b before after file mode result
       → (report : Report) → after.ended ≡ Told report → is_kept asked.keep_going report ≡ false → SafeRun did MayHoldNothing a b
   safe_idle did a b file mode result r report ended unkept =
-      run_one did MayHoldNothing (λ old text answer new. Gives gave failures old.asked old.source text answer new.source new.ended) a b before after file mode result r
+      run_one did MayHoldNothing (λ old text answer new. GaveAnswer gave failures old.asked old.source text answer new.source new.ended) a b before after file mode result r
       (λ text g. false≢true (sym unkept ∙ sym (edited text true report g ended).replaced_is))
 
 -- a folder of which no call was made

@@ -24,7 +24,7 @@ abbrev pub GaveNone : {S : Type 0} → (S → List (List ℕ) → S → Type 0) 
 GaveNone gave failures asked source source_after ended =
     (asked ≡ None) ⊎ ((fault : RunFault) × (ended ≡ EndedByFault fault) × IsFaultOver gave failures source fault source_after)
 
-abbrev pub Gives : {S : Type 0} → (S → List (List ℕ) → S → Type 0) → (S → ℕ) → Option Asked → S → List ℕ → Result Bool Failed → S
+abbrev pub GaveAnswer : {S : Type 0} → (S → List (List ℕ) → S → Type 0) → (S → ℕ) → Option Asked → S → List ℕ → Result Bool Failed → S
     → Ended → Type 0
-Gives gave failures asked source text (Ok kept) source_after ended = GaveText gave asked source text kept source_after ended
-Gives gave failures asked source text (Err failed) source_after ended = GaveNone gave failures asked source source_after ended
+GaveAnswer gave failures asked source text (Ok kept) source_after ended = GaveText gave asked source text kept source_after ended
+GaveAnswer gave failures asked source text (Err failed) source_after ended = GaveNone gave failures asked source source_after ended

@@ -38,24 +38,27 @@ pub fn edit_file<D: Folder>(
     let mut author = FileRun::new(opened.source, asked);
     let replaced = replace_file(draft, &opened.path, opened.mode, &mut author);
     match author.ended() {
-        Ended::Told(report) => told(report, replaced),
-        Ended::Failed(fault) => Err(unwritten(fault)),
-        Ended::NotYet => Err(not_begun(replaced)),
+        Ended::Told(report) => report_and_kept(report, replaced),
+        Ended::Failed(fault) => Err(fault_of_run(fault)),
+        Ended::NotYet => Err(fault_of_start(replaced)),
     }
 }
 
 /// What a run told, and whether the file was replaced.
-fn told(report: Report, replaced: Result<bool, Trouble>) -> Result<(Report, bool), FileFault>
+fn report_and_kept(
+    report: Report,
+    replaced: Result<bool, Trouble>,
+) -> Result<(Report, bool), FileFault>
     ensures { IfOk result (λ told. (told.0 ≡ report) × (replaced ≡ Ok told.1)) }
 {
     match replaced {
         Ok(kept) => Ok((report, kept)),
-        Err(trouble) => Err(fault_of(trouble)),
+        Err(trouble) => Err(fault_of_trouble(trouble)),
     }
 }
 
 /// Why a run failed that wrote a file: what it could not write is the file.
-fn unwritten(fault: RunFault) -> FileFault {
+fn fault_of_run(fault: RunFault) -> FileFault {
     match fault {
         RunFault::WriteFailed => FileFault::CannotWrite,
         _ => FileFault::Run(fault),
@@ -63,14 +66,14 @@ fn unwritten(fault: RunFault) -> FileFault {
 }
 
 /// Why a run did not begin.
-fn not_begun(replaced: Result<bool, Trouble>) -> FileFault {
+fn fault_of_start(replaced: Result<bool, Trouble>) -> FileFault {
     match replaced {
         Ok(_) => FileFault::CannotWrite,
-        Err(trouble) => fault_of(trouble),
+        Err(trouble) => fault_of_trouble(trouble),
     }
 }
 
-fn fault_of(trouble: Trouble) -> FileFault {
+fn fault_of_trouble(trouble: Trouble) -> FileFault {
     match trouble {
         Trouble::OutOfMemory(why) => FileFault::Run(RunFault::OutOfMemory(why)),
         Trouble::Clean | Trouble::LeftBehind => FileFault::CannotWrite,

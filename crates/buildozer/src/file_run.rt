@@ -50,7 +50,7 @@ impl<S> FileRun<S> {
 impl<S: Source> Author for FileRun<S> {
     ghost use Rattle.buildozer.specs.FileRuns as spec;
 
-    ghost gives = { λ old text answer new. spec.Gives S.gave S.failures old.asked old.source text answer new.source new.ended };
+    ghost gives = { λ old text answer new. spec.GaveAnswer S.gave S.failures old.asked old.source text answer new.source new.ended };
 
     fn write_to<W: Sink>(&mut self, sink: &mut W) -> Result<bool, Failed> {
         let Some(asked) = self.asked.take() else {

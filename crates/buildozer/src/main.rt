@@ -15,7 +15,7 @@ use bz_memory::{NoMemory, WordsFault, push, words};
 use bz_script::flags::Flags;
 use bz_script::group::Script;
 use bz_script::help;
-use bz_script::start::requested;
+use bz_script::start::read_request;
 use bz_script::usage::{StartFault, UsageFault};
 use console::Console;
 use edit_all::edit_all;
@@ -70,7 +70,7 @@ fn main(rt: HostRuntime) -> ExitCode {
             return ExitCode::from(USAGE);
         }
     };
-    let (flags, script) = match requested(&rt, alloc, words.as_slice()) {
+    let (flags, script) = match read_request(&rt, alloc, words.as_slice()) {
         Ok(asked) => asked,
         Err(fault) => {
             tell_usage(&rt, &fault, words.as_slice());

@@ -8,7 +8,7 @@ ghost use Rattle.bz_canonical.specs.private.Rewritten.{IsHeadRead};
 
 use crate::front::{after, before};
 use crate::lists::{after_elements, is_last, is_on_lines, put_elements, read_element};
-use crate::put_arguments::argument_head;
+use crate::put_arguments::read_argument_head;
 use crate::value::either;
 use bz_attribute::equals::text_equals;
 use bz_attribute::{Env, literal_apart};
@@ -36,9 +36,9 @@ pub enum Added {
 // The argument is in two brackets, its own and the rule's.
 pub(crate) const BRACKETS: u8 = 2;
 
-/// What `add` makes of the argument that has these lines, where its value is one list of strings (`edit_list` of
-/// bz_engine asks). `New`: the lines that it has then are in the buffer. None: it may be no such list. Without `New` the
-/// buffer's bytes may be lost. Err: memory is wanting.
+/// What `add` makes of the argument that has these lines, where its value is one list of strings (`execute_on_list` of
+/// bz_engine asks). `New`: the lines that it has then are in the buffer. None: it may be no such list. Without `New`
+/// the buffer's bytes may be lost. Err: memory is wanting.
 pub fn put_added(
     env: Env<'_>,
     lines: &str,
@@ -46,7 +46,7 @@ pub fn put_added(
     max_depth: u8,
     written: &mut Vec<u8>,
 ) -> Result<Option<Added>, NoMemory>
-    ensures { IfOk result (λ told. IfSome told (AddsToLines max_depth env.entry.home.now new.entry.attr.now
+    ensures { IfOk result (λ known. IfSome known (AddsToLines max_depth env.entry.home.now new.entry.attr.now
         new.entry.value.now lines.now written.new.items)) }
 {
     let Some(list) = find_list(env.home, lines, new, max_depth) else {
@@ -63,8 +63,8 @@ pub fn put_added(
     Ok(Some(Added::New))
 }
 
-/// The value of the argument that has these lines is one list of strings, none of which equals the value (`edit_list` of
-/// bz_engine asks, for `remove` and `replace`). False: it may be so or not.
+/// The value of the argument that has these lines is one list of strings, none of which equals the value
+/// (`execute_on_list` of bz_engine asks, for `remove` and `replace`). False: it may be so or not.
 pub fn lacks(home: &Package, lines: &str, sought: ListValue<'_>, max_depth: u8) -> bool
     ensures { IsTrue result → LacksInLines max_depth home.now sought.entry.attr.now sought.entry.value.now lines.now }
 {
@@ -115,7 +115,7 @@ fn find_list<'t>(
 fn list_of<'t>(text: &'t [u8], attr: &[u8]) -> Option<&'t [u8]>
     ensures { IfSome result (λ inside. IsHeadRead attr.now text.now (91 ∷ inside.now) true) }
 {
-    let read = argument_head(text, attr)?;
+    let read = read_argument_head(text, attr)?;
     if !read.named {
         return None;
     }
@@ -181,7 +181,7 @@ fn put_list<'t>(
     list: FoundList<'t>,
     written: &mut Vec<u8>,
 ) -> Result<Option<ListEnd<'t>>, NoMemory>
-    ensures { IfOk result (λ told. IfSome told (λ end. (depth : ℕ) (home : Package) (attr value : List ℕ)
+    ensures { IfOk result (λ known. IfSome known (λ end. (depth : ℕ) (home : Package) (attr value : List ℕ)
         → IsListFound depth home attr value lines.now list.entry
         → IsListTold depth attr lines.now end.rest.now written.new.items end.one)) }
 {

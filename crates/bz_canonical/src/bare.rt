@@ -3,10 +3,10 @@
 ghost use Rattle.std.specs.Prelude.{◌<◌, option_map, IfSome};
 ghost use Rattle.bz_canonical.specs.private.Statements.{IsBareFront};
 
-use crate::assignment::assigned;
-use crate::front::{Word, after, after_word, identifier};
-use crate::load::loaded;
-use crate::rule::rule_call;
+use crate::assignment::after_assignment;
+use crate::front::{Word, after, after_identifier, after_word};
+use crate::load::after_load;
+use crate::rule::read_rule_call;
 use bz_tree::Class;
 
 /// A statement without its comments, and what follows it.
@@ -21,7 +21,7 @@ pub(crate) struct BareStatement<'t> {
 /// The load, rule or assignment here.
 #[tactic(auto, using(crate::proofs::BareStatements::bare_fronts))]
 #[inline(always)]
-pub(crate) fn bare_statement(text: &[u8], max_depth: u8) -> Option<BareStatement<'_>>
+pub(crate) fn read_bare_statement(text: &[u8], max_depth: u8) -> Option<BareStatement<'_>>
     requires { max_depth < 254 }
     ensures { IfSome result (λ read. IsBareFront max_depth read.class (option_map (λ name. name.now) read.name)
         text.now read.rest.now) }
@@ -30,17 +30,17 @@ pub(crate) fn bare_statement(text: &[u8], max_depth: u8) -> Option<BareStatement
         return None;
     }
     if let Some(inside) = after_word(text, Word::Load) {
-        let rest = loaded(inside)?;
+        let rest = after_load(inside)?;
         return Some(BareStatement {
             class: Class::Load,
             name: None,
             rest,
         });
     }
-    let end = identifier(text)?;
+    let end = after_identifier(text)?;
     if let Some(member) = after(end, b'.') {
-        let bracket = identifier(member)?;
-        let read = rule_call(bracket, max_depth)?;
+        let bracket = after_identifier(member)?;
+        let read = read_rule_call(bracket, max_depth)?;
         return Some(BareStatement {
             class: Class::Rule,
             name: read.name,
@@ -49,7 +49,7 @@ pub(crate) fn bare_statement(text: &[u8], max_depth: u8) -> Option<BareStatement
     }
     match end {
         [b' ', ..] => {
-            let rest = assigned(end, max_depth)?;
+            let rest = after_assignment(end, max_depth)?;
             Some(BareStatement {
                 class: Class::Assign,
                 name: None,
@@ -57,7 +57,7 @@ pub(crate) fn bare_statement(text: &[u8], max_depth: u8) -> Option<BareStatement
             })
         }
         _ => {
-            let read = rule_call(end, max_depth)?;
+            let read = read_rule_call(end, max_depth)?;
             Some(BareStatement {
                 class: Class::Rule,
                 name: read.name,

@@ -4,11 +4,11 @@ ghost use Rattle.std.specs.Prelude.{◌≡◌, ◌-◌, ◌<◌, ℕ, List, leng
 ghost use Rattle.bz_canonical.specs.Canonical.{IsCanonical, between};
 ghost use Rattle.bz_canonical.specs.private.Segments.{AreLinesFront};
 
-use crate::notes::lines;
-use crate::put_rule::rule_head;
-use crate::rewrite::rule_chunk;
-use crate::statement::statement;
-use crate::unnamed::{unnamed_chunk, unnamed_rule};
+use crate::comments::after_comments_above;
+use crate::put_rule::read_rule_head;
+use crate::rewrite::read_rule_chunk;
+use crate::statement::read_whole_statement;
+use crate::unnamed::{read_unnamed_chunk, read_unnamed_rule};
 use bz_memory::NoMemory;
 use bz_token::check_utf8;
 use bz_tree::Class;
@@ -62,32 +62,32 @@ impl Lookup<'_> {
 pub(crate) const DEEPEST: u8 = 253;
 
 /// The chunk that the text begins with, where it is known what would be written of it, with the place of the argument
-/// that is asked for. The bytes in the buffer are lost: what is written of a rule goes there, if it stands otherwise. None:
-/// it may be known or not. `canonical.rt` of bz_engine asks, before it reads anything.
+/// that is asked for. The bytes in the buffer are lost: what is written of a rule goes there, if it stands otherwise.
+/// None: it may be known or not. `canonical.rt` of bz_engine asks, before it reads anything.
 #[inline(always)]
-pub fn canonical<'t>(
+pub fn read_canonical<'t>(
     text: &'t str,
     asked: Lookup<'_>,
     max_depth: u8,
     written: &'t mut Vec<u8>,
 ) -> Result<Option<CanonicalChunk<'t>>, NoMemory>
-    ensures { IfOk result (λ told. IfSome told (λ found. IsCanonical max_depth asked.entry.attr.now found.class
+    ensures { IfOk result (λ known. IfSome known (λ found. IsCanonical max_depth asked.entry.attr.now found.class
         (option_map (λ name. name.now) found.name) (option_map between found.place)
         found.chunk.now found.written.now text.now)) }
 {
     if max_depth > DEEPEST {
         return Ok(None);
     }
-    let start = lines(text.as_bytes());
-    match rule_head(start) {
-        Some(head) => rule_chunk(text, head, asked, max_depth, written),
-        None => rarer_chunk(text, start, asked, max_depth, written),
+    let start = after_comments_above(text.as_bytes());
+    match read_rule_head(start) {
+        Some(head) => read_rule_chunk(text, head, asked, max_depth, written),
+        None => read_rarer_chunk(text, start, asked, max_depth, written),
     }
 }
 
 /// The same of what does not begin as a rule whose name is on a line of its own.
 #[inline(never)]
-fn rarer_chunk<'t>(
+fn read_rarer_chunk<'t>(
     text: &'t str,
     start: &'t [u8],
     asked: Lookup<'_>,
@@ -96,31 +96,31 @@ fn rarer_chunk<'t>(
 ) -> Result<Option<CanonicalChunk<'t>>, NoMemory>
     requires depth { max_depth < 254 }
     requires lines { AreLinesFront text.now start.now }
-    ensures { IfOk result (λ told. IfSome told (λ found. IsCanonical max_depth asked.entry.attr.now found.class
+    ensures { IfOk result (λ known. IfSome known (λ found. IsCanonical max_depth asked.entry.attr.now found.class
         (option_map (λ name. name.now) found.name) (option_map between found.place)
         found.chunk.now found.written.now text.now)) }
 {
-    match unnamed_rule(start, asked, max_depth) {
+    match read_unnamed_rule(start, asked, max_depth) {
         Some(rule) => {
-            let Some(found) = unnamed_chunk(text, rule, written)? else {
+            let Some(found) = read_unnamed_chunk(text, rule, written)? else {
                 return Ok(None);
             };
             Ok(Some(found))
         }
-        None => Ok(other_chunk(text, start, max_depth)),
+        None => Ok(read_other_chunk(text, start, max_depth)),
     }
 }
 
 /// The same, where it stands as it would be written. There is no place of an argument.
 #[inline(never)]
-fn other_chunk<'t>(text: &'t str, start: &'t [u8], max_depth: u8) -> Option<CanonicalChunk<'t>>
+fn read_other_chunk<'t>(text: &'t str, start: &'t [u8], max_depth: u8) -> Option<CanonicalChunk<'t>>
     requires depth { max_depth < 254 }
     requires lines { AreLinesFront text.now start.now }
     ensures { IfSome result (λ found. (attr : List ℕ) → IsCanonical max_depth attr found.class
         (option_map (λ name. name.now) found.name) (option_map between found.place)
         found.chunk.now found.written.now text.now) }
 {
-    let read = statement(text.as_bytes(), start, max_depth)?;
+    let read = read_whole_statement(text.as_bytes(), start, max_depth)?;
     let chunk = without(text, read.rest.len())?;
     let written = without(text, read.end.len())?;
     match read.name {

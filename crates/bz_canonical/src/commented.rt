@@ -8,10 +8,10 @@ ghost use Rattle.bz_canonical.specs.private.Rewritten.{IsValueEnd};
 
 use crate::added::BRACKETS;
 use crate::chunk::DEEPEST;
-use crate::front::{after, before, simple_string};
+use crate::comments::after_comments;
+use crate::front::{after, before, read_simple_string};
 use crate::lists::{is_last, put_list};
-use crate::notes::notes;
-use crate::put_arguments::{argument_head, value_end};
+use crate::put_arguments::{after_argument_value, read_argument_head};
 use bz_memory::{NoMemory, extend_from_slice};
 
 /// A comment line, and the attribute that it is put above.
@@ -22,8 +22,8 @@ pub struct NewComment<'c> {
 }
 
 /// The argument that has these lines, with the comment line as the last above it, where its value stands as it is
-/// written, or is one list of strings (`edit_comment` of bz_engine asks): its lines go into the buffer, whose bytes are
-/// lost. False: it may be another value. Err: memory is wanting.
+/// written, or is one list of strings (`execute_comment` of bz_engine asks): its lines go into the buffer, whose bytes
+/// are lost. False: it may be another value. Err: memory is wanting.
 pub fn put_commented(
     lines: &str,
     new: NewComment<'_>,
@@ -37,7 +37,7 @@ pub fn put_commented(
         return Ok(false);
     }
     let text = lines.as_bytes();
-    let Some(head) = head_below(text, new.attr.as_bytes()) else {
+    let Some(head) = read_head_below(text, new.attr.as_bytes()) else {
         return Ok(false);
     };
     let Some(above) = before(text, head.line.len()) else {
@@ -70,7 +70,7 @@ fn is_as_written(value: &[u8], depth: u8) -> bool
     if has_several_in_place(value) {
         return false;
     }
-    match value_end(value, depth) {
+    match after_argument_value(value, depth) {
         Some(rest) => rest.is_empty(),
         None => false,
     }
@@ -81,7 +81,7 @@ fn has_several_in_place(value: &[u8]) -> bool {
     let Some(inside) = after(value, b'[') else {
         return false;
     };
-    match simple_string(inside) {
+    match read_simple_string(inside) {
         Some(first) => matches!(first.rest, [b',', ..]),
         None => false,
     }
@@ -115,14 +115,14 @@ struct HeadBelow<'t> {
     value: &'t [u8],
 }
 
-fn head_below<'t>(text: &'t [u8], attr: &[u8]) -> Option<HeadBelow<'t>>
+fn read_head_below<'t>(text: &'t [u8], attr: &[u8]) -> Option<HeadBelow<'t>>
     ensures { IfSome result (λ head. IsHeadBelow attr.now text.now head.line.now head.value.now) }
 {
-    let above = notes(text, 1);
+    let above = after_comments(text, 1);
     if !is_below(above.rest) {
         return None;
     }
-    let head = argument_head(above.rest, attr)?;
+    let head = read_argument_head(above.rest, attr)?;
     if !head.named {
         return None;
     }

@@ -75,17 +75,17 @@ fn after_some(text: &[u8], len: usize) -> Option<&[u8]>
 /// What follows the string here that begins with a double quote.
 #[tactic(auto, using(crate::proofs::Tokens::quoted_token))]
 #[inline(always)]
-pub(crate) fn string(text: &[u8]) -> Option<&[u8]>
+pub(crate) fn after_string(text: &[u8]) -> Option<&[u8]>
     ensures { IfSome result (λ rest. IsTokenFront String text.now rest.now) }
 {
     // Most stand as they are, in one quote.
-    match simple_string(text) {
+    match read_simple_string(text) {
         Some(simple) => match simple.rest {
-            [b'"', ..] => any_string(text),
+            [b'"', ..] => after_any_string(text),
             _ => Some(simple.rest),
         },
         None => match text {
-            [b'"', ..] => any_string(text),
+            [b'"', ..] => after_any_string(text),
             _ => None,
         },
     }
@@ -93,7 +93,7 @@ pub(crate) fn string(text: &[u8]) -> Option<&[u8]>
 
 /// The same of any string.
 #[inline(never)]
-fn any_string(text: &[u8]) -> Option<&[u8]>
+fn after_any_string(text: &[u8]) -> Option<&[u8]>
     ensures { IfSome result (λ rest. IsTokenFront String text.now rest.now) }
 {
     let _inside = after(text, b'"')?;
@@ -104,7 +104,7 @@ fn any_string(text: &[u8]) -> Option<&[u8]>
 /// What follows the identifier here.
 #[tactic(auto, using(crate::proofs::Tokens::word_front))]
 #[inline(always)]
-pub(crate) fn identifier(text: &[u8]) -> Option<&[u8]>
+pub(crate) fn after_identifier(text: &[u8]) -> Option<&[u8]>
     ensures { IfSome result (λ rest. IsTokenFront Identifier text.now rest.now) }
 {
     let rest = after_some(text, identifier_len(text))?;
@@ -113,7 +113,7 @@ pub(crate) fn identifier(text: &[u8]) -> Option<&[u8]>
 
 /// What follows the integer here.
 #[tactic(auto, using(crate::proofs::Tokens::word_front))]
-pub(crate) fn number(text: &[u8]) -> Option<&[u8]>
+pub(crate) fn after_number(text: &[u8]) -> Option<&[u8]>
     ensures { IfSome result (λ rest. IsTokenFront Integer text.now rest.now) }
 {
     let rest = after_some(text, integer_len(text))?;
@@ -122,7 +122,7 @@ pub(crate) fn number(text: &[u8]) -> Option<&[u8]>
 
 /// What follows the comment here.
 #[inline(never)]
-pub(crate) fn comment(text: &[u8]) -> Option<&[u8]>
+pub(crate) fn after_comment(text: &[u8]) -> Option<&[u8]>
     ensures { IfSome result (λ rest. IsTokenFront Comment text.now rest.now) }
 {
     let rest = after_some(text, comment_len(text))?;
@@ -138,7 +138,7 @@ pub(crate) struct SimpleString<'t> {
 
 /// The string of so many bytes here, which this quote ends.
 #[inline(always)]
-fn closed_string(inside: &[u8], len: usize, quote: u8) -> Option<SimpleString<'_>>
+fn read_closed_string(inside: &[u8], len: usize, quote: u8) -> Option<SimpleString<'_>>
     requires { len ≤ length inside.now }
     ensures { IfSome result (λ q. (q.inner.now ≡ take len inside.now) × (drop len inside.now ≡ quote ∷ q.rest.now)) }
 {
@@ -149,11 +149,11 @@ fn closed_string(inside: &[u8], len: usize, quote: u8) -> Option<SimpleString<'_
 
 /// The string in double quotes here, whose value stands as it is.
 #[inline(always)]
-pub(crate) fn simple_string(text: &[u8]) -> Option<SimpleString<'_>>
+pub(crate) fn read_simple_string(text: &[u8]) -> Option<SimpleString<'_>>
     ensures { IfSome result (λ q. IsQuotedFront text.now q.inner.now q.rest.now) }
 {
     let inside = after(text, b'"')?;
-    let string = closed_string(inside, simple_len(inside), b'"')?;
+    let string = read_closed_string(inside, simple_len(inside), b'"')?;
     Some(string)
 }
 
@@ -171,11 +171,11 @@ fn plain_len(bytes: &[u8]) -> usize
 }
 
 /// The string in single quotes here, which double quotes would leave as it is.
-pub(crate) fn single_string(text: &[u8]) -> Option<SimpleString<'_>>
+pub(crate) fn read_single_string(text: &[u8]) -> Option<SimpleString<'_>>
     ensures { IfSome result (λ q. IsSingleFront text.now q.inner.now q.rest.now) }
 {
     let inside = after(text, b'\'')?;
-    let string = closed_string(inside, plain_len(inside), b'\'')?;
+    let string = read_closed_string(inside, plain_len(inside), b'\'')?;
     Some(string)
 }
 
@@ -183,7 +183,7 @@ pub(crate) fn single_string(text: &[u8]) -> Option<SimpleString<'_>>
 const FOUR_SPACES: u32 = 0x2020_2020;
 
 #[inline(always)]
-fn spaces(text: &[u8]) -> Option<&[u8]>
+fn after_spaces(text: &[u8]) -> Option<&[u8]>
     ensures { IfSome result (λ rest. text.now ≡ 32 ∷ 32 ∷ 32 ∷ 32 ∷ rest.now) }
 {
     match text {
@@ -199,22 +199,22 @@ fn spaces(text: &[u8]) -> Option<&[u8]>
 
 /// What follows the indent of a line at this level.
 #[inline(always)]
-fn indented(text: &[u8], level: u8) -> Option<&[u8]>
+fn after_indent(text: &[u8], level: u8) -> Option<&[u8]>
     ensures { IfSome result (λ rest. text.now ≡ indent level ++ rest.now) }
 {
     let mut rest = text;
     for i in 0..level {
-        rest = spaces(rest)?;
+        rest = after_spaces(rest)?;
     }
     Some(rest)
 }
 
 /// What follows a newline and the indent at this level.
 #[inline(always)]
-pub(crate) fn line(text: &[u8], level: u8) -> Option<&[u8]>
+pub(crate) fn after_line(text: &[u8], level: u8) -> Option<&[u8]>
     ensures { IfSome result (λ rest. text.now ≡ 10 ∷ (indent level ++ rest.now)) }
 {
     let rest = after(text, b'\n')?;
-    let inner = indented(rest, level)?;
+    let inner = after_indent(rest, level)?;
     Some(inner)
 }

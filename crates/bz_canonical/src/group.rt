@@ -5,8 +5,8 @@ ghost use Rattle.bz_layout.specs.Broken.{breaks_by_count};
 ghost use Rattle.bz_layout.specs.Layout.{closing, has_commas, opening};
 ghost use Rattle.bz_canonical.specs.private.Segments.{IsGroupFront};
 
-use crate::front::{after, line};
-use crate::segments::{flat_segments, segments};
+use crate::front::{after, after_line};
+use crate::segments::{after_flat_segments, after_segments};
 use crate::value::{Value, either};
 use bz_tree::GroupKind;
 
@@ -48,7 +48,7 @@ fn breaks(kind: GroupKind, one: bool, two: bool, holds: bool) -> bool
 /// What follows the group of this kind here. Its segments are one bracket deeper.
 #[cycle(values)]
 #[inline(always)]
-pub(crate) fn group(kind: GroupKind, text: &[u8], level: u8, depth: u8) -> Option<Value<'_>>
+pub(crate) fn after_group(kind: GroupKind, text: &[u8], level: u8, depth: u8) -> Option<Value<'_>>
     requires commas { (n : ℕ) → has_commas kind false n ≡ true }
     requires deep { level + depth < 255 }
     ensures { IfSome result (λ v. IsGroupFront kind level depth text.now v.rest.now v.holds) }
@@ -58,27 +58,27 @@ pub(crate) fn group(kind: GroupKind, text: &[u8], level: u8, depth: u8) -> Optio
     }
     let inside = after(text, opening(kind))?;
     match inside {
-        [b'\n', ..] => broken_group(kind, inside, level, depth - 1),
-        _ => flat_group(kind, inside, level, depth - 1),
+        [b'\n', ..] => after_broken_group(kind, inside, level, depth - 1),
+        _ => after_flat_group(kind, inside, level, depth - 1),
     }
 }
 
 /// What follows the group on lines here, its first bracket left out.
 #[cycle(values)]
 #[inline(never)]
-fn broken_group(kind: GroupKind, inside: &[u8], level: u8, depth: u8) -> Option<Value<'_>>
+fn after_broken_group(kind: GroupKind, inside: &[u8], level: u8, depth: u8) -> Option<Value<'_>>
     requires commas { (n : ℕ) → has_commas kind false n ≡ true }
     requires deep { level + depth + 1 < 255 }
     ensures { IfSome result (λ v. IsGroupFront kind level (depth + 1) (opening kind ++ inside.now) v.rest.now v.holds) }
 {
-    let read = segments(kind, inside, level + 1, depth)?;
+    let read = after_segments(kind, inside, level + 1, depth)?;
     let many = breaks(kind, read.count >= 1, read.count >= 2, read.holds);
     let noted = either(read.noted, many);
     let broken = either(read.ended, noted);
     if !broken {
         return None;
     }
-    let end = line(read.rest, level)?;
+    let end = after_line(read.rest, level)?;
     let rest = after(end, closing(kind))?;
     Some(Value { rest, holds: true })
 }
@@ -86,11 +86,11 @@ fn broken_group(kind: GroupKind, inside: &[u8], level: u8, depth: u8) -> Option<
 /// What follows the group in place here, its first bracket left out.
 #[cycle(values)]
 #[inline(always)]
-fn flat_group(kind: GroupKind, inside: &[u8], level: u8, depth: u8) -> Option<Value<'_>>
+fn after_flat_group(kind: GroupKind, inside: &[u8], level: u8, depth: u8) -> Option<Value<'_>>
     requires { level + depth < 255 }
     ensures { IfSome result (λ v. IsGroupFront kind level (depth + 1) (opening kind ++ inside.now) v.rest.now v.holds) }
 {
-    let read = flat_segments(kind, inside, level, depth)?;
+    let read = after_flat_segments(kind, inside, level, depth)?;
     let broken = breaks(kind, read.one, read.two, read.holds);
     if broken {
         return None;

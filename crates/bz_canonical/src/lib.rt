@@ -1,9 +1,11 @@
 //! Whether a text begins with a chunk that is in canonical form: then it need not be read.
 //!
-//! `canonical` recognizes what `bz_layout` writes, and not the whole language: rules, loads on one line, assignments
-//! and comment lines, of values with the spaces, lines and double quotes of the layout. What it accepts is read back as
-//! a statement, of which the layout writes the same text. In rules it also recognizes lists of strings that stand
-//! otherwise, and writes these as the layout does.
+//! `read_canonical` recognizes what `bz_layout` writes, and not the whole language: rules, loads on one line,
+//! assignments and comment lines, of values with the spaces, lines and double quotes of the layout. What it accepts is
+//! read back as a statement, of which the layout writes the same text. In rules it also recognizes lists of strings
+//! that stand otherwise, and writes these as the layout does.
+//!
+//! `after_x` gives what follows x at the front of a text; `read_x` also what x says; `put_x` appends to the buffer.
 #![tactic(auto)]
 
 mod added;
@@ -11,11 +13,11 @@ mod assignment;
 mod bare;
 mod chunk;
 mod commented;
+mod comments;
 mod front;
 mod group;
 mod lists;
 mod load;
-mod notes;
 mod put_arguments;
 mod put_rule;
 mod rewrite;
@@ -27,5 +29,5 @@ mod unnamed;
 mod value;
 
 pub use added::{Added, ListValue, lacks, put_added};
-pub use chunk::{ArgumentPlace, CanonicalChunk, Lookup, canonical};
+pub use chunk::{ArgumentPlace, CanonicalChunk, Lookup, read_canonical};
 pub use commented::{NewComment, put_commented};

@@ -5,8 +5,8 @@ ghost use Rattle.bz_layout.specs.Pieces.{indent};
 ghost use Rattle.bz_canonical.specs.private.Segments.{IsBesideFront};
 ghost use Rattle.bz_canonical.specs.private.Rewritten.{AreElementsRead, IsElementRead, IsLast, IsListRead, IsStringRead, between, closing, element_written, spelling};
 
-use crate::front::{Word, after, after_word, before, line, single_string, string};
-use crate::notes::{AfterNotes, beside, notes};
+use crate::comments::{AfterComments, after_comments, after_suffix};
+use crate::front::{Word, after, after_line, after_string, after_word, before, read_single_string};
 use crate::value::either;
 use bz_memory::{NoMemory, extend_from_slice, push};
 
@@ -27,7 +27,7 @@ fn read_string(text: &[u8]) -> Option<ReadString<'_>>
 {
     match text {
         [b'"', ..] => {
-            let rest = string(text)?;
+            let rest = after_string(text)?;
             let token = before(text, rest.len())?;
             Some(ReadString {
                 token,
@@ -37,7 +37,7 @@ fn read_string(text: &[u8]) -> Option<ReadString<'_>>
             })
         }
         _ => {
-            let read = single_string(text)?;
+            let read = read_single_string(text)?;
             let token = before(text, read.rest.len())?;
             Some(ReadString {
                 token,
@@ -67,7 +67,7 @@ pub(crate) fn put_list<'t>(
     text: &'t [u8],
     written: &mut Vec<u8>,
 ) -> Result<Option<&'t [u8]>, NoMemory>
-    ensures { IfOk result (λ told. IfSome told (λ rest. (w : List ℕ)
+    ensures { IfOk result (λ known. IfSome known (λ rest. (w : List ℕ)
         × (written.new.items ≡ written.old.items ++ w) × IsListRead text.now rest.now w)) }
 {
     let Some(inside) = after(text, b'[') else {
@@ -121,7 +121,7 @@ pub(crate) fn put_elements<'t>(
     written: &mut Vec<u8>,
 ) -> Result<Option<PutElements<'t>>, NoMemory>
     requires { IsElementRead lines false inside.now first }
-    ensures { IfOk result (λ told. IfSome told (λ put. (w : List ℕ)
+    ensures { IfOk result (λ known. IfSome known (λ put. (w : List ℕ)
         × (written.new.items ≡ written.old.items ++ w) × AreElementsRead inside.now put.rest.now w true put.broken)) }
 {
     put_element(first, written)?;
@@ -179,21 +179,21 @@ pub(crate) fn read_element(text: &[u8], lines: bool, one: bool) -> Option<ReadEl
     ensures { IfSome result (IsElementRead lines one text.now) }
 {
     if lines {
-        return element_on_lines(text);
+        return read_element_on_lines(text);
     }
-    element_in_place(text, one)
+    read_element_in_place(text, one)
 }
 
 /// The element on lines here, with its comments.
 #[inline(always)]
-fn element_on_lines(text: &[u8]) -> Option<ReadElement<'_>>
+fn read_element_on_lines(text: &[u8]) -> Option<ReadElement<'_>>
     ensures { IfSome result (λ read. (one : Bool) → IsElementRead true one text.now read) }
 {
-    let above = notes(text, 2);
-    let inner = line(above.rest, 2)?;
+    let above = after_comments(text, 2);
+    let inner = after_line(above.rest, 2)?;
     let front = before(text, inner.len())?;
     let string = read_string(inner)?;
-    let side = after_value(string.rest)?;
+    let side = after_comma(string.rest)?;
     let back = before(string.rest, side.rest.len())?;
     Some(ReadElement {
         front,
@@ -208,7 +208,7 @@ fn element_on_lines(text: &[u8]) -> Option<ReadElement<'_>>
 /// The string in place here.
 #[tactic(auto, using(crate::proofs::ElementLists::place_read))]
 #[inline(always)]
-fn element_in_place(text: &[u8], one: bool) -> Option<ReadElement<'_>>
+fn read_element_in_place(text: &[u8], one: bool) -> Option<ReadElement<'_>>
     ensures { IfSome result (IsElementRead false one text.now) }
 {
     let inner = after_others(text, one)?;
@@ -250,19 +250,19 @@ pub(crate) fn after_elements(text: &[u8], lines: bool) -> Option<&[u8]>
 fn after_last(text: &[u8]) -> Option<&[u8]>
     ensures { IfSome result (λ rest. text.now ≡ 10 ∷ (indent 1 ++ 93 ∷ rest.now)) }
 {
-    let end = line(text, 1)?;
+    let end = after_line(text, 1)?;
     let rest = after(end, b']')?;
     Some(rest)
 }
 
 /// What follows a comma and the comment beside it.
 #[inline(always)]
-pub(crate) fn after_value(text: &[u8]) -> Option<AfterNotes<'_>>
+pub(crate) fn after_comma(text: &[u8]) -> Option<AfterComments<'_>>
     ensures { IfSome result (λ side. (comma : List ℕ) × (text.now ≡ 44 ∷ comma)
         × IsBesideFront comma side.rest.now side.some) }
 {
     let comma = after(text, b',')?;
-    let side = beside(comma)?;
+    let side = after_suffix(comma)?;
     Some(side)
 }
 
@@ -270,7 +270,7 @@ pub(crate) fn after_value(text: &[u8]) -> Option<AfterNotes<'_>>
 pub(crate) fn is_last(text: &[u8]) -> bool
     ensures { IsTrue result → IsLast text.now }
 {
-    match after_value(text) {
+    match after_comma(text) {
         Some(side) => side.rest.is_empty(),
         None => false,
     }

@@ -5,19 +5,19 @@ ghost use Rattle.bz_tree.specs.declared.tree.GroupKind.TheVariants.{Load};
 ghost use Rattle.bz_canonical.specs.private.Segments.{IsSegmentFront};
 ghost use Rattle.bz_canonical.specs.private.Statements.{IsLoadFront};
 
-use crate::front::{Word, after, after_word, string};
+use crate::front::{Word, after, after_string, after_word};
 use crate::segments::after_keyword;
 
 /// What follows the names that are loaded here, in place, and their closing bracket.
-pub(crate) fn loaded(inside: &[u8]) -> Option<&[u8]>
+pub(crate) fn after_load(inside: &[u8]) -> Option<&[u8]>
     ensures { IfSome result (λ rest. IsLoadFront inside.now rest.now) }
 {
-    let mut rest = string(inside)?;
+    let mut rest = after_string(inside)?;
     for _ in 0..inside.len() {
         let Some(next) = after_word(rest, Word::Comma) else {
             break;
         };
-        rest = loaded_name(next)?;
+        rest = after_loaded_name(next)?;
     }
     let end = after(rest, b')')?;
     Some(end)
@@ -25,16 +25,16 @@ pub(crate) fn loaded(inside: &[u8]) -> Option<&[u8]>
 
 /// What follows the string here, or the name, equals sign and string.
 #[tactic(auto, using(crate::proofs::BareStatements::loaded_string, crate::proofs::BareStatements::renamed_string))]
-fn loaded_name(text: &[u8]) -> Option<&[u8]>
+fn after_loaded_name(text: &[u8]) -> Option<&[u8]>
     ensures { IfSome result (λ rest. IsSegmentFront Load 0 0 text.now rest.now false) }
 {
     match after_keyword(text) {
         Some(value) => {
-            let rest = string(value)?;
+            let rest = after_string(value)?;
             Some(rest)
         }
         None => {
-            let rest = string(text)?;
+            let rest = after_string(text)?;
             Some(rest)
         }
     }

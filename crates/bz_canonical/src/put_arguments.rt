@@ -6,16 +6,16 @@ ghost use Rattle.bz_tree.specs.declared.tree.GroupKind.TheVariants.{RuleCall};
 ghost use Rattle.bz_canonical.specs.private.Segments.{AreNotesFront, AreSegmentsFront};
 ghost use Rattle.bz_canonical.specs.private.Rewritten.{AreArgumentsRead, AreOthersRead, AreRead, IsHeadRead, ArePlacedRead, IsPending, IsValueEnd, Puts, PutsArgument, pending, put_ends};
 
-use crate::front::{Word, after_word, before, identifier, line};
-use crate::lists::{after_value, put_list};
-use crate::notes::notes;
-use crate::segments::{AfterLines, segments};
-use crate::value::{either, nodes};
+use crate::comments::after_comments;
+use crate::front::{Word, after_identifier, after_line, after_word, before};
+use crate::lists::{after_comma, put_list};
+use crate::segments::{AfterLines, after_segments};
+use crate::value::{after_nodes, either};
 use bz_memory::{NoMemory, extend_from_slice};
 use bz_tree::GroupKind;
 
 /// None: it is not known what would be written.
-type Told<T> = Result<Option<T>, NoMemory>;
+type Known<T> = Result<Option<T>, NoMemory>;
 
 /// The attribute that is asked for, and how many brackets may be open in the value of an argument.
 #[derive(Clone, Copy)]
@@ -63,12 +63,12 @@ pub(crate) struct ArgumentHead<'t> {
 
 /// The name of the argument here.
 #[inline(always)]
-pub(crate) fn argument_head<'t>(text: &'t [u8], attr: &[u8]) -> Option<ArgumentHead<'t>>
+pub(crate) fn read_argument_head<'t>(text: &'t [u8], attr: &[u8]) -> Option<ArgumentHead<'t>>
     ensures { IfSome result (λ head. IsHeadRead attr.now text.now head.value.now head.named) }
 {
-    let above = notes(text, 1);
-    let inner = line(above.rest, 1)?;
-    let equals = identifier(inner)?;
+    let above = after_comments(text, 1);
+    let inner = after_line(above.rest, 1)?;
+    let equals = after_identifier(inner)?;
     let value = after_word(equals, Word::Equals)?;
     let keyword = before(inner, equals.len())?;
     Some(ArgumentHead {
@@ -79,12 +79,12 @@ pub(crate) fn argument_head<'t>(text: &'t [u8], attr: &[u8]) -> Option<ArgumentH
 
 /// What follows the value here and its comma, where it stands as it is written.
 #[inline(always)]
-pub(crate) fn value_end(value: &[u8], depth: u8) -> Option<&[u8]>
+pub(crate) fn after_argument_value(value: &[u8], depth: u8) -> Option<&[u8]>
     requires { depth < 254 }
     ensures { IfSome result (λ rest. IsValueEnd depth value.now rest.now) }
 {
-    let read = nodes(value, 1, depth)?;
-    let side = after_value(read.rest)?;
+    let read = after_nodes(value, 1, depth)?;
+    let side = after_comma(read.rest)?;
     Some(side.rest)
 }
 
@@ -96,12 +96,12 @@ fn put_argument<'t>(
     value: &'t [u8],
     depth: u8,
     written: &mut Vec<u8>,
-) -> Told<Pending<'t>>
+) -> Known<Pending<'t>>
     requires { depth < 254 }
-    ensures { IfOk result (λ told. IfSome told
+    ensures { IfOk result (λ known. IfSome known
         (PutsArgument depth at.entry value.now written.old.items written.new.items)) }
 {
-    match value_end(value, depth) {
+    match after_argument_value(value, depth) {
         Some(rest) => Ok(Some(Pending {
             from: at.from,
             rest,
@@ -121,8 +121,8 @@ fn put_list_argument<'t>(
     at: Pending<'t>,
     value: &'t [u8],
     written: &mut Vec<u8>,
-) -> Told<Pending<'t>>
-    ensures { IfOk result (λ told. IfSome told (λ next. (depth : ℕ) → 0 < depth
+) -> Known<Pending<'t>>
+    ensures { IfOk result (λ known. IfSome known (λ next. (depth : ℕ) → 0 < depth
         → PutsArgument depth at.entry value.now written.old.items written.new.items next)) }
 {
     let Some(front) = before(at.from, value.len()) else {
@@ -132,7 +132,7 @@ fn put_list_argument<'t>(
     let Some(end) = put_list(value, written)? else {
         return Ok(None);
     };
-    let Some(side) = after_value(end) else {
+    let Some(side) = after_comma(end) else {
         return Ok(None);
     };
     Ok(Some(Pending {
@@ -156,19 +156,19 @@ fn put_others<'t>(
     from: Pending<'t>,
     asked: Sought<'_>,
     written: &mut Vec<u8>,
-) -> Told<PutOthers<'t>>
+) -> Known<PutOthers<'t>>
     requires { asked.depth < 254 }
-    ensures passed { IfOk result (λ told. IfSome told (λ read.
+    ensures passed { IfOk result (λ known. IfSome known (λ read.
         Puts written.old.items (pending from.entry) written.new.items (pending read.at)
         (λ begun w. AreOthersRead asked.entry.depth asked.entry.attr.now from.entry.rest.now read.at.rest.now w
         read.one))) }
-    ensures named { IfOk result (λ told. IfSome told (λ read. IfSome read.named (λ value.
+    ensures named { IfOk result (λ known. IfSome known (λ read. IfSome read.named (λ value.
         IsHeadRead asked.entry.attr.now read.at.rest.now value.now true))) }
 {
     let mut at = from;
     let mut one = false;
     for _ in 0..from.rest.len() {
-        let Some(head) = argument_head(at.rest, asked.attr) else {
+        let Some(head) = read_argument_head(at.rest, asked.attr) else {
             return Ok(Some(PutOthers {
                 at,
                 one,
@@ -218,9 +218,9 @@ fn put_placed<'t>(
     from: Pending<'t>,
     asked: Sought<'_>,
     written: &mut Vec<u8>,
-) -> Told<PutPlaced<'t>>
+) -> Known<PutPlaced<'t>>
     requires { asked.depth < 254 }
-    ensures { IfOk result (λ told. IfSome told (λ read.
+    ensures { IfOk result (λ known. IfSome known (λ read.
         Puts written.old.items (pending from.entry) written.new.items (pending read.at)
         (λ begun w. ArePlacedRead asked.entry.depth asked.entry.attr.now from.entry.rest.now read.at.rest.now begun w
         read.one (put_ends read.place) read.named))) }
@@ -270,9 +270,9 @@ fn place_between<'t>(from: Pending<'t>, start: usize, to: Pending<'t>, end: usiz
 }
 
 /// Passes the arguments here, which follow the one of the name.
-fn put_later<'t>(placed: PutPlaced<'t>, depth: u8, written: &mut Vec<u8>) -> Told<PutOthers<'t>>
+fn put_later<'t>(placed: PutPlaced<'t>, depth: u8, written: &mut Vec<u8>) -> Known<PutOthers<'t>>
     requires { depth < 254 }
-    ensures { IfOk result (λ told. IfSome told (λ read.
+    ensures { IfOk result (λ known. IfSome known (λ read.
         Puts written.old.items (pending placed.entry.at) written.new.items (pending read.at)
         (λ begun w. AreRead depth placed.entry.at.rest.now read.at.rest.now w read.one))) }
 {
@@ -307,9 +307,9 @@ pub(crate) fn pass_arguments<'t>(
     from: Pending<'t>,
     depth: u8,
     written: &mut Vec<u8>,
-) -> Told<PassedArguments<'t>>
+) -> Known<PassedArguments<'t>>
     requires { depth < 254 }
-    ensures { IfOk result (λ told. IfSome told (λ read. (attr : List ℕ)
+    ensures { IfOk result (λ known. IfSome known (λ read. (attr : List ℕ)
         → Puts written.old.items (pending from.entry) written.new.items (pending read.at)
         (λ begun w. AreArgumentsRead depth attr from.entry.rest.now read.at.rest.now begun w read.some None))) }
 {
@@ -320,7 +320,7 @@ pub(crate) fn pass_arguments<'t>(
     let Some(others) = put_others(from, none, written)? else {
         return Ok(None);
     };
-    let Some(last) = last_segments(others.at.rest, depth) else {
+    let Some(last) = after_last_segments(others.at.rest, depth) else {
         return Ok(None);
     };
     let more = either(others.one, last.count > 0);
@@ -348,9 +348,9 @@ pub(crate) fn put_arguments<'t>(
     from: Pending<'t>,
     asked: Sought<'_>,
     written: &mut Vec<u8>,
-) -> Told<PutArguments<'t>>
+) -> Known<PutArguments<'t>>
     requires { asked.depth < 254 }
-    ensures { IfOk result (λ told. IfSome told (λ read.
+    ensures { IfOk result (λ known. IfSome known (λ read.
         Puts written.old.items (pending from.entry) written.new.items (pending read.at)
         (λ begun w. AreArgumentsRead asked.entry.depth asked.entry.attr.now from.entry.rest.now read.at.rest.now begun
         w read.some (option_map put_ends read.place)))) }
@@ -361,7 +361,7 @@ pub(crate) fn put_arguments<'t>(
     let Some(later) = put_later(placed, asked.depth, written)? else {
         return Ok(None);
     };
-    let Some(last) = last_segments(later.at.rest, asked.depth) else {
+    let Some(last) = after_last_segments(later.at.rest, asked.depth) else {
         return Ok(None);
     };
     let more = either(later.one, last.count > 0);
@@ -378,7 +378,7 @@ pub(crate) fn put_arguments<'t>(
 
 /// What follows the arguments here, and the comments after them.
 #[inline(always)]
-fn last_segments(text: &[u8], depth: u8) -> Option<AfterLines<'_>>
+fn after_last_segments(text: &[u8], depth: u8) -> Option<AfterLines<'_>>
     requires { depth < 254 }
     ensures { IfSome result (λ read. (middle : List ℕ)
         × AreSegmentsFront RuleCall 1 depth text.now middle read.count read.holds read.noted
@@ -386,13 +386,13 @@ fn last_segments(text: &[u8], depth: u8) -> Option<AfterLines<'_>>
 {
     match text {
         // Most calls end here.
-        [b'\n', b')', ..] => Some(no_segments(text)),
-        _ => segments(GroupKind::RuleCall, text, 1, depth),
+        [b'\n', b')', ..] => Some(after_no_segments(text)),
+        _ => after_segments(GroupKind::RuleCall, text, 1, depth),
     }
 }
 
 #[inline(always)]
-fn no_segments(text: &[u8]) -> AfterLines<'_>
+fn after_no_segments(text: &[u8]) -> AfterLines<'_>
     ensures { (depth : ℕ) → (middle : List ℕ)
         × AreSegmentsFront RuleCall 1 depth text.now middle result.count result.holds result.noted
         × AreNotesFront 1 middle result.rest.now result.ended }

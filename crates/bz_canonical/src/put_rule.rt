@@ -5,8 +5,10 @@ ghost use Rattle.bz_canonical.specs.private.Segments.{AreLinesFront};
 ghost use Rattle.bz_canonical.specs.private.Rewritten.{IsPending, IsRuleEnd, IsRuleHead, IsRulePlace, IsRuleRead, put_ends};
 
 use crate::chunk::Lookup;
-use crate::front::{Word, after, after_word, before, identifier, line, simple_string};
-use crate::notes::beside;
+use crate::comments::after_suffix;
+use crate::front::{
+    Word, after, after_identifier, after_line, after_word, before, read_simple_string,
+};
 use crate::put_arguments::{
     Lines, PassedArguments, Pending, PutPlace, Sought, pass_arguments, put_arguments,
 };
@@ -33,8 +35,8 @@ pub(crate) fn put_rule<'t>(
 ) -> Result<Option<PutRule<'t>>, NoMemory>
     requires deep { depth < 253 }
     requires head { IsRuleHead text.now head.name.now head.inside.now head.rest.now }
-    ensures { IfOk result (λ told. IfSome told (λ read. IsRuleRead (depth + 1) asked.entry.attr.now head.entry.name.now
-        text.now read.rest.now
+    ensures { IfOk result (λ known. IfSome known (λ read. IsRuleRead (depth + 1) asked.entry.attr.now
+        head.entry.name.now text.now read.rest.now
         (if read.as_is then take (length text.now - length read.rest.now) text.now else written.new.items)
         (option_map put_ends read.place))) }
 {
@@ -71,8 +73,8 @@ fn put_asked_rule<'t>(
     requires deep { depth < 253 }
     requires head { IsRuleHead text.now head.name.now head.inside.now head.rest.now }
     requires empty { written.old.items ≡ [] }
-    ensures { IfOk result (λ told. IfSome told (λ read. IsRuleRead (depth + 1) asked.entry.attr.now head.entry.name.now
-        text.now read.rest.now
+    ensures { IfOk result (λ known. IfSome known (λ read. IsRuleRead (depth + 1) asked.entry.attr.now
+        head.entry.name.now text.now read.rest.now
         (if read.as_is then take (length text.now - length read.rest.now) text.now else written.new.items)
         (option_map put_ends read.place))) }
 {
@@ -92,7 +94,7 @@ fn put_asked_rule<'t>(
         return Ok(None);
     };
     Ok(Some(PutRule {
-        place: place_of(text, head, attr, read.place),
+        place: asked_place(text, head, attr, read.place),
         rest: end.rest,
         as_is: end.as_is,
     }))
@@ -112,16 +114,16 @@ fn put_rule_end<'t>(
     read: PassedArguments<'t>,
     written: &mut Vec<u8>,
 ) -> Result<Option<RuleEnd<'t>>, NoMemory>
-    ensures some { IfOk result (λ told. IfSome told (λ end. IsTrue read.entry.some)) }
-    ensures end { IfOk result (λ told. IfSome told (λ end. IsRuleEnd read.entry.at.rest.now end.rest.now)) }
-    ensures written { IfOk result (λ told. IfSome told (λ end. (text all : List ℕ)
+    ensures some { IfOk result (λ known. IfSome known (λ end. IsTrue read.entry.some)) }
+    ensures end { IfOk result (λ known. IfSome known (λ end. IsRuleEnd read.entry.at.rest.now end.rest.now)) }
+    ensures written { IfOk result (λ known. IfSome known (λ end. (text all : List ℕ)
         → IsPending text written.old.items all read.entry.at.from.now end.rest.now
         → (if end.as_is then take (length text - length end.rest.now) text else written.new.items) ≡ all)) }
 {
     if !read.some {
         return Ok(None);
     }
-    let Some(rest) = rule_end(read.at.rest) else {
+    let Some(rest) = after_rule(read.at.rest) else {
         return Ok(None);
     };
     if written.is_empty() {
@@ -144,18 +146,18 @@ pub(crate) struct RuleHead<'t> {
     pub(crate) rest: &'t [u8],
 }
 
-/// The beginning of the rule whose kind is here, after the comments above it, and whose name is its first argument, on a
-/// line of its own.
+/// The beginning of the rule whose kind is here, after the comments above it, and whose name is its first argument, on
+/// a line of its own.
 #[inline(always)]
-pub(crate) fn rule_head(start: &[u8]) -> Option<RuleHead<'_>>
+pub(crate) fn read_rule_head(start: &[u8]) -> Option<RuleHead<'_>>
     ensures { IfSome result (λ head. (text : List ℕ) → AreLinesFront text start.now
         → IsRuleHead text head.name.now head.inside.now head.rest.now) }
 {
-    let bracket = identifier(start)?;
+    let bracket = after_identifier(start)?;
     let inside = after(bracket, b'(')?;
-    let first = line(inside, 1)?;
+    let first = after_line(inside, 1)?;
     let value = after_word(first, Word::Name)?;
-    let name = simple_string(value)?;
+    let name = read_simple_string(value)?;
     let rest = after(name.rest, b',')?;
     Some(RuleHead {
         name: name.inner,
@@ -166,18 +168,18 @@ pub(crate) fn rule_head(start: &[u8]) -> Option<RuleHead<'_>>
 
 /// What follows the bracket that closes a rule, the comment beside it and its newline.
 #[inline(always)]
-fn rule_end(text: &[u8]) -> Option<&[u8]>
+fn after_rule(text: &[u8]) -> Option<&[u8]>
     ensures { IfSome result (λ rest. IsRuleEnd text.now rest.now) }
 {
-    let end = line(text, 0)?;
+    let end = after_line(text, 0)?;
     let close = after(end, b')')?;
-    let side = beside(close)?;
+    let side = after_suffix(close)?;
     let rest = after(side.rest, b'\n')?;
     Some(rest)
 }
 
 /// The place of the argument of this name, by that of one after the name of the rule.
-fn place_of<'t>(
+fn asked_place<'t>(
     text: &[u8],
     head: RuleHead<'t>,
     attr: &[u8],

@@ -14,7 +14,7 @@ use bz_tree::Class;
 /// The chunk of the rule that begins with this head, where it stands as it would be written but for arguments whose
 /// value is a list of strings. If there are such, what is written goes into the buffer, whose bytes are lost.
 #[inline(always)]
-pub(crate) fn rule_chunk<'t>(
+pub(crate) fn read_rule_chunk<'t>(
     text: &'t str,
     head: RuleHead<'t>,
     asked: Lookup<'_>,
@@ -23,7 +23,7 @@ pub(crate) fn rule_chunk<'t>(
 ) -> Result<Option<CanonicalChunk<'t>>, NoMemory>
     requires deep { max_depth < 254 }
     requires head { IsRuleHead text.now head.name.now head.inside.now head.rest.now }
-    ensures { IfOk result (λ told. IfSome told (λ found. IsCanonical max_depth asked.entry.attr.now found.class
+    ensures { IfOk result (λ known. IfSome known (λ found. IsCanonical max_depth asked.entry.attr.now found.class
         (option_map (λ name. name.now) found.name) (option_map between found.place)
         found.chunk.now found.written.now text.now)) }
 {

@@ -4,8 +4,8 @@ ghost use Rattle.std.specs.Prelude.{◌≡◌, ◌<◌, ◌∷◌, ◌++◌, cod
 ghost use Rattle.bz_canonical.specs.Canonical.{HasArgumentName};
 ghost use Rattle.bz_canonical.specs.private.Statements.{IsRuleCallFront};
 
-use crate::front::{Word, after, after_word, before, simple_string};
-use crate::group::group;
+use crate::front::{Word, after, after_word, before, read_simple_string};
+use crate::group::after_group;
 use bz_tree::GroupKind;
 
 /// The name that the call of a rule gives, and what follows the call.
@@ -17,14 +17,14 @@ pub(crate) struct RuleCall<'t> {
 
 /// The call of a rule here, whose name is its only argument, in place, or which has none.
 #[inline(always)]
-pub(crate) fn rule_call(text: &[u8], depth: u8) -> Option<RuleCall<'_>>
+pub(crate) fn read_rule_call(text: &[u8], depth: u8) -> Option<RuleCall<'_>>
     requires { (0 < depth) × (depth < 254) }
     ensures { IfSome result (λ read. IsRuleCallFront depth (option_map (λ name. name.now) read.name)
         text.now read.rest.now) }
 {
     match after_only_name(text) {
         Some(value) => {
-            let name = simple_string(value)?;
+            let name = read_simple_string(value)?;
             let rest = after(name.rest, b')')?;
             Some(RuleCall {
                 name: Some(name.inner),
@@ -32,7 +32,7 @@ pub(crate) fn rule_call(text: &[u8], depth: u8) -> Option<RuleCall<'_>>
             })
         }
         None => {
-            let rest = unnamed_call(text, depth)?;
+            let rest = after_unnamed_call(text, depth)?;
             Some(RuleCall { name: None, rest })
         }
     }
@@ -48,11 +48,11 @@ fn after_only_name(text: &[u8]) -> Option<&[u8]>
 }
 
 /// What follows the call of a rule here, no argument of which is `name`.
-fn unnamed_call(text: &[u8], depth: u8) -> Option<&[u8]>
+fn after_unnamed_call(text: &[u8], depth: u8) -> Option<&[u8]>
     requires { depth < 254 }
     ensures { IfSome result (λ rest. IsRuleCallFront depth None text.now rest.now) }
 {
-    let read = group(GroupKind::RuleCall, text, 0, depth)?;
+    let read = after_group(GroupKind::RuleCall, text, 0, depth)?;
     let call = before(text, read.rest.len())?;
     if has_argument_name(call, b"name".as_slice()) {
         return None;
@@ -65,7 +65,7 @@ pub(crate) fn has_argument_name(text: &[u8], name: &[u8]) -> bool
     ensures { IsFalse result → HasArgumentName name.now text.now → ⊥ }
 {
     let mut rest = text;
-    while let Some(next) = tail(rest) {
+    while let Some(next) = after_any_byte(rest) {
         if begins_argument(rest, name) {
             return true;
         }
@@ -93,7 +93,7 @@ fn begins_equals(text: &[u8]) -> bool
     matches!(text, [b' ', b'=', ..])
 }
 
-fn tail(text: &[u8]) -> Option<&[u8]>
+fn after_any_byte(text: &[u8]) -> Option<&[u8]>
     ensures some { IfSome result (λ rest. (b : ℕ) × (text.now ≡ b ∷ rest.now)) }
     ensures none { IfNone result (text.now ≡ []) }
 {

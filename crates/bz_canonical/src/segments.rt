@@ -8,10 +8,10 @@ ghost use Rattle.bz_canonical.specs.private.Fronts.{IsTokenFront};
 ghost use Rattle.bz_canonical.specs.private.Segments.{AreFlatFront, AreNotesFront, AreSegmentsFront, IsBesideFront, IsSegmentFront};
 ghost use Rattle.bz_canonical.specs.private.Values.{IsValueFront};
 
-use crate::front::{Word, after, after_word, identifier, line, simple_string};
+use crate::comments::{AfterComments, after_comments, after_suffix};
+use crate::front::{Word, after, after_identifier, after_line, after_word, read_simple_string};
 use crate::group::closing;
-use crate::notes::{AfterNotes, beside, notes};
-use crate::value::{Value, either, leaf, nodes};
+use crate::value::{Value, after_leaf, after_nodes, either};
 use bz_tree::GroupKind;
 
 /// What follows segments on lines.
@@ -31,7 +31,12 @@ pub(crate) struct AfterLines<'t> {
 /// What follows the segments here, each on lines of its own and with its comma, and the comments after them.
 #[cycle(values)]
 #[inline(always)]
-pub(crate) fn segments(kind: GroupKind, text: &[u8], level: u8, depth: u8) -> Option<AfterLines<'_>>
+pub(crate) fn after_segments(
+    kind: GroupKind,
+    text: &[u8],
+    level: u8,
+    depth: u8,
+) -> Option<AfterLines<'_>>
     requires { level + depth < 255 }
     ensures { IfSome result (λ read. (middle : List ℕ)
         × AreSegmentsFront kind level depth text.now middle read.count read.holds read.noted
@@ -42,13 +47,13 @@ pub(crate) fn segments(kind: GroupKind, text: &[u8], level: u8, depth: u8) -> Op
     let mut noted = false;
     for count in 0..text.len() {
         // Most lines are strings in lists.
-        if let Some(after_string) = string_line(kind, rest, level) {
+        if let Some(after_string) = after_string_line(kind, rest, level) {
             rest = after_string.rest;
             noted = either(noted, after_string.some);
             continue;
         }
-        let above = notes(rest, level);
-        let Some(inner) = line(above.rest, level) else {
+        let above = after_comments(rest, level);
+        let Some(inner) = after_line(above.rest, level) else {
             return Some(AfterLines {
                 rest: above.rest,
                 count,
@@ -57,9 +62,9 @@ pub(crate) fn segments(kind: GroupKind, text: &[u8], level: u8, depth: u8) -> Op
                 ended: above.some,
             });
         };
-        let read = segment(kind, inner, level, depth)?;
+        let read = after_segment(kind, inner, level, depth)?;
         let comma = after(read.rest, b',')?;
-        let side = beside(comma)?;
+        let side = after_suffix(comma)?;
         rest = side.rest;
         holds = either(holds, read.holds);
         let about = either(above.some, side.some);
@@ -71,7 +76,7 @@ pub(crate) fn segments(kind: GroupKind, text: &[u8], level: u8, depth: u8) -> Op
 /// What follows the element here of a list that is the value of an argument, on a line of its own, where it is a string
 /// whose bytes stand for themselves, with its comma and the comment beside it.
 #[inline(always)]
-fn string_line(kind: GroupKind, text: &[u8], level: u8) -> Option<AfterNotes<'_>>
+fn after_string_line(kind: GroupKind, text: &[u8], level: u8) -> Option<AfterComments<'_>>
     ensures { IfSome result (λ side. (inner comma : List ℕ) × (text.now ≡ 10 ∷ (indent level ++ inner))
         × ((depth : ℕ) → IsSegmentFront kind level depth inner (44 ∷ comma) false)
         × IsBesideFront comma side.rest.now side.some) }
@@ -81,10 +86,10 @@ fn string_line(kind: GroupKind, text: &[u8], level: u8) -> Option<AfterNotes<'_>
     }
     match kind {
         GroupKind::List => {
-            let inner = line(text, 2)?;
-            let string = simple_string(inner)?;
+            let inner = after_line(text, 2)?;
+            let string = read_simple_string(inner)?;
             let comma = after(string.rest, b',')?;
-            let side = beside(comma)?;
+            let side = after_suffix(comma)?;
             Some(side)
         }
         _ => None,
@@ -106,7 +111,7 @@ pub(crate) struct AfterFlat<'t> {
 /// What follows the segments here in place.
 #[cycle(values)]
 #[inline(always)]
-pub(crate) fn flat_segments(
+pub(crate) fn after_flat_segments(
     kind: GroupKind,
     text: &[u8],
     level: u8,
@@ -124,7 +129,7 @@ pub(crate) fn flat_segments(
             holds: false,
         });
     }
-    let first = segment(kind, text, level, depth)?;
+    let first = after_segment(kind, text, level, depth)?;
     let mut rest = first.rest;
     let mut two = false;
     let mut holds = first.holds;
@@ -137,7 +142,7 @@ pub(crate) fn flat_segments(
                 holds,
             });
         };
-        let read = segment(kind, next, level, depth)?;
+        let read = after_segment(kind, next, level, depth)?;
         rest = read.rest;
         holds = either(holds, read.holds);
         two = true;
@@ -148,31 +153,36 @@ pub(crate) fn flat_segments(
 /// What follows the segment here, of a group of this kind.
 #[cycle(values)]
 #[inline(always)]
-fn segment(kind: GroupKind, text: &[u8], level: u8, depth: u8) -> Option<Value<'_>>
+fn after_segment(kind: GroupKind, text: &[u8], level: u8, depth: u8) -> Option<Value<'_>>
     requires { level + depth < 255 }
     ensures { IfSome result (λ read. IsSegmentFront kind level depth text.now read.rest.now read.holds) }
 {
     match kind {
         GroupKind::List => {
-            let read = nodes(text, level, depth)?;
+            let read = after_nodes(text, level, depth)?;
             Some(read)
         }
-        _ => named_segment(kind, text, level, depth),
+        _ => after_named_segment(kind, text, level, depth),
     }
 }
 
 /// What follows the entry of a dict here, or the argument of a call.
 #[cycle(values)]
 #[inline(never)]
-pub(crate) fn named_segment(kind: GroupKind, text: &[u8], level: u8, depth: u8) -> Option<Value<'_>>
+pub(crate) fn after_named_segment(
+    kind: GroupKind,
+    text: &[u8],
+    level: u8,
+    depth: u8,
+) -> Option<Value<'_>>
     requires { level + depth < 255 }
     ensures { IfSome result (λ read. IsSegmentFront kind level depth text.now read.rest.now read.holds) }
 {
     match kind {
         GroupKind::Dict => {
-            let colon = leaf(text)?;
+            let colon = after_leaf(text)?;
             let value = after_word(colon, Word::Colon)?;
-            let read = nodes(value, level, depth)?;
+            let read = after_nodes(value, level, depth)?;
             Some(read)
         }
         _ => {
@@ -181,11 +191,11 @@ pub(crate) fn named_segment(kind: GroupKind, text: &[u8], level: u8, depth: u8) 
             }
             match after_keyword(text) {
                 Some(value) => {
-                    let read = nodes(value, level, depth)?;
+                    let read = after_nodes(value, level, depth)?;
                     Some(read)
                 }
                 None => {
-                    let read = nodes(text, level, depth)?;
+                    let read = after_nodes(text, level, depth)?;
                     Some(read)
                 }
             }
@@ -204,7 +214,7 @@ fn is_call(kind: GroupKind) -> bool
 pub(crate) fn after_keyword(text: &[u8]) -> Option<&[u8]>
     ensures { IfSome result (λ rest. IsTokenFront Identifier text.now (codes " = " ++ rest.now)) }
 {
-    let equals = identifier(text)?;
+    let equals = after_identifier(text)?;
     let rest = after_word(equals, Word::Equals)?;
     Some(rest)
 }

@@ -4,9 +4,9 @@ ghost use Rattle.std.specs.Prelude.{◌<◌, option_map, IfSome};
 ghost use Rattle.bz_canonical.specs.private.Segments.{AreLinesFront};
 ghost use Rattle.bz_canonical.specs.private.Statements.{IsStatementFront};
 
-use crate::bare::bare_statement;
+use crate::bare::read_bare_statement;
+use crate::comments::after_suffix;
 use crate::front::after;
-use crate::notes::beside;
 use bz_tree::Class;
 
 /// A statement, and what follows it.
@@ -23,7 +23,7 @@ pub(crate) struct ReadStatement<'t> {
 
 /// The statement that the text begins with, whose comments are followed by what is here.
 #[inline(always)]
-pub(crate) fn statement<'t>(
+pub(crate) fn read_whole_statement<'t>(
     text: &'t [u8],
     start: &'t [u8],
     max_depth: u8,
@@ -44,8 +44,8 @@ pub(crate) fn statement<'t>(
             rest,
         });
     }
-    let read = bare_statement(start, max_depth)?;
-    let side = beside(read.rest)?;
+    let read = read_bare_statement(start, max_depth)?;
+    let side = after_suffix(read.rest)?;
     let rest = after(side.rest, b'\n')?;
     Some(ReadStatement {
         class: read.class,

@@ -8,10 +8,10 @@ ghost use Rattle.bz_canonical.specs.private.Segments.{AreLinesFront, IsSegmentFr
 ghost use Rattle.bz_canonical.specs.private.Unnamed.{IsStatementEnd, IsUnnamedRule};
 
 use crate::chunk::{ArgumentPlace, CanonicalChunk, Lookup, without};
-use crate::front::{after, before, identifier};
-use crate::notes::beside;
+use crate::comments::after_suffix;
+use crate::front::{after, after_identifier, before};
 use crate::rule::has_argument_name;
-use crate::segments::named_segment;
+use crate::segments::after_named_segment;
 use bz_memory::{NoMemory, extend_from_slice};
 use bz_token::check_utf8;
 use bz_tree::{Class, GroupKind};
@@ -30,7 +30,7 @@ pub(crate) struct UnnamedRule<'t> {
 /// The rule whose kind is here, after the comments above it, and whose argument is neither `name` nor has the name that
 /// is asked for. None also where a rule of a name is asked for.
 #[inline(never)]
-pub(crate) fn unnamed_rule<'t>(
+pub(crate) fn read_unnamed_rule<'t>(
     start: &'t [u8],
     asked: Lookup<'_>,
     max_depth: u8,
@@ -43,16 +43,16 @@ pub(crate) fn unnamed_rule<'t>(
         return None;
     }
     let depth = max_depth.checked_sub(1)?;
-    let bracket = identifier(start)?;
+    let bracket = after_identifier(start)?;
     let argument = after(bracket, b'(')?;
-    let close = only_argument(argument, depth)?;
+    let close = after_only_argument(argument, depth)?;
     let end = after(close, b')')?;
     let call = before(bracket, end.len())?;
     let sought = asked.attr.as_bytes();
     if has_argument_name(call, b"name".as_slice()) || has_argument_name(call, sought) {
         return None;
     }
-    let rest = statement_end(end)?;
+    let rest = after_statement(end)?;
     Some(UnnamedRule {
         argument,
         close,
@@ -61,11 +61,11 @@ pub(crate) fn unnamed_rule<'t>(
 }
 
 /// What follows the argument here, all of which stands in place.
-fn only_argument(text: &[u8], depth: u8) -> Option<&[u8]>
+fn after_only_argument(text: &[u8], depth: u8) -> Option<&[u8]>
     requires { depth < 253 }
     ensures { IfSome result (λ close. IsSegmentFront RuleCall 1 depth text.now close.now false) }
 {
-    let read = named_segment(GroupKind::RuleCall, text, 1, depth)?;
+    let read = after_named_segment(GroupKind::RuleCall, text, 1, depth)?;
     if read.holds {
         return None;
     }
@@ -73,22 +73,22 @@ fn only_argument(text: &[u8], depth: u8) -> Option<&[u8]>
 }
 
 /// What follows the comment beside a statement and its newline.
-fn statement_end(text: &[u8]) -> Option<&[u8]>
+fn after_statement(text: &[u8]) -> Option<&[u8]>
     ensures { IfSome result (λ rest. IsStatementEnd text.now rest.now) }
 {
-    let side = beside(text)?;
+    let side = after_suffix(text)?;
     let rest = after(side.rest, b'\n')?;
     Some(rest)
 }
 
 /// The chunk of such a rule. What is written of it with one more argument is in the buffer, whose bytes are lost.
 #[inline(never)]
-pub(crate) fn unnamed_chunk<'t>(
+pub(crate) fn read_unnamed_chunk<'t>(
     text: &'t str,
     rule: UnnamedRule<'t>,
     written: &'t mut Vec<u8>,
 ) -> Result<Option<CanonicalChunk<'t>>, NoMemory>
-    ensures { IfOk result (λ told. IfSome told (λ found. (depth : ℕ) (attr : List ℕ)
+    ensures { IfOk result (λ known. IfSome known (λ found. (depth : ℕ) (attr : List ℕ)
         → IsUnnamedRule depth attr text.now rule.entry.argument.now rule.entry.close.now rule.entry.rest.now
         → IsCanonical depth attr found.class (option_map (λ name. name.now) found.name)
         (option_map between found.place) found.chunk.now found.written.now text.now)) }

@@ -6,8 +6,10 @@ ghost use Rattle.bz_canonical.specs.private.Chains.{Chains, IsTermFront};
 ghost use Rattle.bz_canonical.specs.private.Fronts.{IsTokenFront};
 ghost use Rattle.bz_canonical.specs.private.Values.{AreNodesFront, IsValueFront};
 
-use crate::front::{Word, after, after_word, identifier, number, simple_string, string};
-use crate::group::group;
+use crate::front::{
+    Word, after, after_identifier, after_number, after_string, after_word, read_simple_string,
+};
+use crate::group::after_group;
 use bz_tree::GroupKind;
 
 /// What follows a value.
@@ -27,20 +29,20 @@ pub(crate) fn either(a: bool, b: bool) -> bool
 /// What follows the string, number or name here.
 #[tactic(auto, using(crate::proofs::Operands::leaf_values))]
 #[inline(always)]
-pub(crate) fn leaf(text: &[u8]) -> Option<&[u8]>
+pub(crate) fn after_leaf(text: &[u8]) -> Option<&[u8]>
     ensures { IfSome result (λ rest. (level depth : ℕ) → IsValueFront level depth text.now rest.now false) }
 {
     match text {
         [b'"', ..] => {
-            let rest = string(text)?;
+            let rest = after_string(text)?;
             Some(rest)
         }
         [b'0'..=b'9', ..] => {
-            let rest = number(text)?;
+            let rest = after_number(text)?;
             Some(rest)
         }
         _ => {
-            let rest = identifier(text)?;
+            let rest = after_identifier(text)?;
             Some(rest)
         }
     }
@@ -48,7 +50,7 @@ pub(crate) fn leaf(text: &[u8]) -> Option<&[u8]>
 
 /// The text, where no operator begins it.
 #[inline(always)]
-fn unjoined(rest: &[u8]) -> Option<&[u8]>
+fn without_operator(rest: &[u8]) -> Option<&[u8]>
     ensures { IfSome result (λ same. same.now ≡ rest.now) }
 {
     match rest {
@@ -59,35 +61,35 @@ fn unjoined(rest: &[u8]) -> Option<&[u8]>
 
 /// What follows the string here, where no operator may follow it.
 #[inline(always)]
-fn lone_string(text: &[u8]) -> Option<&[u8]>
+fn after_lone_string(text: &[u8]) -> Option<&[u8]>
     ensures { IfSome result (λ rest. IsTokenFront String text.now rest.now) }
 {
-    let end = string(text)?;
-    let rest = unjoined(end)?;
+    let end = after_string(text)?;
+    let rest = without_operator(end)?;
     Some(rest)
 }
 
 /// What follows the operand or call here.
 #[cycle(values)]
 #[inline(always)]
-fn term(text: &[u8], level: u8, depth: u8) -> Option<Value<'_>>
+fn after_term(text: &[u8], level: u8, depth: u8) -> Option<Value<'_>>
     requires { level + depth < 255 }
     ensures { IfSome result (λ v. IsTermFront level depth text.now v.rest.now v.holds) }
 {
     match text {
         [b'[', ..] => {
-            let read = group(GroupKind::List, text, level, depth)?;
+            let read = after_group(GroupKind::List, text, level, depth)?;
             Some(read)
         }
         [b'{', ..] => {
-            let read = group(GroupKind::Dict, text, level, depth)?;
+            let read = after_group(GroupKind::Dict, text, level, depth)?;
             Some(read)
         }
         [b'"' | b'0'..=b'9', ..] => {
-            let rest = leaf(text)?;
+            let rest = after_leaf(text)?;
             Some(Value { rest, holds: false })
         }
-        _ => name_or_call(text, level, depth),
+        _ => after_name_or_call(text, level, depth),
     }
 }
 
@@ -95,14 +97,14 @@ fn term(text: &[u8], level: u8, depth: u8) -> Option<Value<'_>>
 #[tactic(auto, using(crate::proofs::Chained::call_term))]
 #[cycle(values)]
 #[inline(always)]
-fn name_or_call(text: &[u8], level: u8, depth: u8) -> Option<Value<'_>>
+fn after_name_or_call(text: &[u8], level: u8, depth: u8) -> Option<Value<'_>>
     requires { level + depth < 255 }
     ensures { IfSome result (λ v. IsTermFront level depth text.now v.rest.now v.holds) }
 {
-    let end = identifier(text)?;
+    let end = after_identifier(text)?;
     match end {
         [b'(', ..] => {
-            let read = group(GroupKind::Call, end, level, depth)?;
+            let read = after_group(GroupKind::Call, end, level, depth)?;
             Some(read)
         }
         _ => Some(Value {
@@ -116,17 +118,17 @@ fn name_or_call(text: &[u8], level: u8, depth: u8) -> Option<Value<'_>>
 #[tactic(auto, using(crate::proofs::Operands::string_value, crate::proofs::Chained::value_nodes))]
 #[cycle(values)]
 #[inline(always)]
-pub(crate) fn nodes(text: &[u8], level: u8, depth: u8) -> Option<Value<'_>>
+pub(crate) fn after_nodes(text: &[u8], level: u8, depth: u8) -> Option<Value<'_>>
     requires { level + depth < 255 }
     ensures { IfSome result (λ v. AreNodesFront level depth text.now v.rest.now v.holds) }
 {
     // Most values are a string alone, or a list of one.
-    match lone_string(text) {
+    match after_lone_string(text) {
         Some(rest) => Some(Value { rest, holds: false }),
-        None => match lone_list(text, depth) {
+        None => match after_lone_list(text, depth) {
             Some(rest) => Some(Value { rest, holds: false }),
             None => {
-                let read = sum(text, level, depth)?;
+                let read = after_sum(text, level, depth)?;
                 Some(read)
             }
         },
@@ -135,32 +137,32 @@ pub(crate) fn nodes(text: &[u8], level: u8, depth: u8) -> Option<Value<'_>>
 
 /// What follows the list of one string here, in place, where no operator may follow it.
 #[inline(always)]
-fn lone_list(text: &[u8], depth: u8) -> Option<&[u8]>
+fn after_lone_list(text: &[u8], depth: u8) -> Option<&[u8]>
     ensures { IfSome result (λ rest. (level : ℕ) → AreNodesFront level depth text.now rest.now false) }
 {
     if depth == 0 {
         return None;
     }
     let inside = after(text, b'[')?;
-    let string = simple_string(inside)?;
+    let string = read_simple_string(inside)?;
     let end = after(string.rest, b']')?;
-    let rest = unjoined(end)?;
+    let rest = without_operator(end)?;
     Some(rest)
 }
 
 /// What follows the operands here, with operators between them.
 #[cycle(values)]
 #[inline(never)]
-fn sum(text: &[u8], level: u8, depth: u8) -> Option<Value<'_>>
+fn after_sum(text: &[u8], level: u8, depth: u8) -> Option<Value<'_>>
     requires { level + depth < 255 }
     ensures { IfSome result (λ v. AreNodesFront level depth text.now v.rest.now v.holds) }
 {
-    let first = term(text, level, depth)?;
+    let first = after_term(text, level, depth)?;
     match after_word(first.rest, Word::Plus) {
         // Most are one operand.
         None => Some(first),
         Some(operand) => {
-            let read = operands(operand, first.holds, level, depth)?;
+            let read = after_operands(operand, first.holds, level, depth)?;
             Some(read)
         }
     }
@@ -169,7 +171,7 @@ fn sum(text: &[u8], level: u8, depth: u8) -> Option<Value<'_>>
 /// What follows the operands here, which follow others. `before`: one of those is a group on lines, or holds one.
 #[cycle(values)]
 #[inline(never)]
-fn operands(text: &[u8], before: bool, level: u8, depth: u8) -> Option<Value<'_>>
+fn after_operands(text: &[u8], before: bool, level: u8, depth: u8) -> Option<Value<'_>>
     requires { level + depth < 255 }
     ensures { IfSome result (λ v. (all : List ℕ)
         → ((rest : List ℕ) (k : Bool) → IsTermFront level depth text.now rest k → Chains level depth all rest (before || k))
@@ -178,7 +180,7 @@ fn operands(text: &[u8], before: bool, level: u8, depth: u8) -> Option<Value<'_>
     let mut next = text;
     let mut holds = before;
     for _ in 0..text.len() {
-        let read = term(next, level, depth)?;
+        let read = after_term(next, level, depth)?;
         holds = either(holds, read.holds);
         let Some(operand) = after_word(read.rest, Word::Plus) else {
             return Some(Value {

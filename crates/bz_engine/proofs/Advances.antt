@@ -100,9 +100,9 @@ take_some n bytes some within = subst (λ l. 0 < l) (sym (length-take-le n bytes
 pub take_few : (n most : ℕ) (bytes : List ℕ) → n ≤ most → n ≤ length bytes → length (take n bytes) ≤ most
 take_few n most bytes size within = subst (λ l. l ≤ most) (sym (length-take-le n bytes within)) size
 
--- what was done does not depend on the stage
-pub restaged : (v : SessionValue) (stage : SessionState) (pieces cs : List (List ℕ)) (text : List ℕ) → HasDone v pieces cs text → HasDone (record v { stage = stage }) pieces cs text
-restaged v stage pieces cs text done = record {
+-- what was done does not depend on the state
+pub done_at_state : (v : SessionValue) (state : SessionState) (pieces cs : List (List ℕ)) (text : List ℕ) → HasDone v pieces cs text → HasDone (record v { state = state }) pieces cs text
+done_at_state v state pieces cs text done = record {
   bytes = done.bytes;
   reads = done.reads;
   ended = done.ended;

@@ -11,7 +11,7 @@ use Rattle.bz_token.proofs.ChunkForms.{statement_chunk}
 use Rattle.bz_token.proofs.Ends.{line_token}
 use Rattle.bz_tree.specs.Chunk.{IsBlank}
 use Rattle.bz_devices.specs.Ahead.{Ahead, IsFewAfter}
-use Rattle.bz_engine.specs.File.{Gives}
+use Rattle.bz_engine.specs.File.{IsAnswerOf}
 use Rattle.bz_engine.specs.Outcome.{Run}
 use Rattle.bz_engine.specs.Progress.{Progress}
 use Rattle.bz_engine.specs.declared.edit.Edited.TheVariants.{Done}
@@ -38,7 +38,7 @@ newline_blank line depth = record {
   none = cc;
 }
 
-newline_gives : (line depth : ℕ) → Gives depth line newline (Ok None)
+newline_gives : (line depth : ℕ) → IsAnswerOf depth line newline (Ok None)
 newline_gives line depth = (subst IsUtf8 (encode_ascii 10 (omega arith)) (IsUtf8-encode 10 refl), newline_blank line depth)
 
 -- the bytes that a text which begins with a newline is a front of begin with it

@@ -6,7 +6,7 @@ use Rattle.bz_tree.specs.Tree.{Statement}
 use Rattle.bz_tree.specs.declared.tree.Class.{Class}
 use Rattle.bz_passes.specs.Exchange.{IsLeftBy, IsPassedBy, slot_after}
 use Rattle.bz_engine.specs.Language.{meaning, changes, fails_on}
-use Rattle.bz_engine.specs.File.{Gives}
+use Rattle.bz_engine.specs.File.{IsAnswerOf}
 use Rattle.bz_engine.specs.Outcome.{Run, slots_of, is_query}
 use Rattle.bz_command.specs.Passes.{slots_after}
 use Rattle.bz_engine.specs.Progress.{Progress, IsKeptOf, last_class, text_following}
@@ -20,7 +20,7 @@ use Rattle.bz_engine.proofs.MoreText.{text_after_more, last_after_more, text_aft
 -- a blank chunk
 pub blank_done : (run : Run) (cs : List (List ℕ)) (ss : List Statement) (chunk : List ℕ)
     (old new : Progress) (before : List ℕ)
-    → IsKeptOf run cs ss old → Gives run.max_depth old.line chunk (Ok None)
+    → IsKeptOf run cs ss old → IsAnswerOf run.max_depth old.line chunk (Ok None)
     → new ≡ record old { line = line_at old.line chunk }
     → IsDone run cs ss chunk old new before before
 blank_done run cs ss chunk old new before kept gives is = record {
@@ -41,7 +41,7 @@ blank_done run cs ss chunk old new before kept gives is = record {
 -- a statement, which the script left as `laid` says
 statement_done : (run : Run) (cs : List (List ℕ)) (ss : List Statement) (chunk : List ℕ) (s : Statement)
     (old mid new : Progress) (before after : List ℕ)
-    → IsKeptOf run cs ss old → Gives run.max_depth old.line chunk (Ok (Some s))
+    → IsKeptOf run cs ss old → IsAnswerOf run.max_depth old.line chunk (Ok (Some s))
     → IsLaidOut run s old mid before after
     → new ≡ record mid { line = line_at mid.line chunk }
     → IsDone run cs ss chunk old new before after
@@ -79,7 +79,7 @@ passed_by run class s old new before after passed of_class same text =
 -- what the script on a statement made of its chunk
 pub scripted_edited : (run : Run) (cs : List (List ℕ)) (ss : List Statement) (chunk : List ℕ) (s : Statement)
     (old mid new : Progress) (before after : List ℕ) (scripted : Scripted)
-    → IsKeptOf run cs ss old → Gives run.max_depth old.line chunk (Ok (Some s))
+    → IsKeptOf run cs ss old → IsAnswerOf run.max_depth old.line chunk (Ok (Some s))
     → IsScripted run s old mid before after scripted
     → new ≡ record mid { line = line_at mid.line chunk }
     → IsEdited run cs ss chunk old new before after (edited_of scripted)

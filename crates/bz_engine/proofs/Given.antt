@@ -9,7 +9,7 @@ use Rattle.std.specs.List.{concat}
 use Rattle.bz_token.specs.Places.{line_at}
 use Rattle.bz_tree.specs.Tree.{Statement}
 use Rattle.bz_engine.specs.declared.report.SyntaxFault.{SyntaxFault}
-use Rattle.bz_engine.specs.File.{Gives, Follows, Give}
+use Rattle.bz_engine.specs.File.{IsAnswerOf, Follows, AreStatementsOf}
 
 -- the line after two texts
 line_more : (first : ℕ) (xs ys : List ℕ) → line_at first (xs ++ ys) ≡ line_at (line_at first xs) ys
@@ -28,34 +28,34 @@ follows_more (Ok None) ss ts f Near Far go h = go ss h
 follows_more (Ok (Some s)) ss ts f Near Far go h = (h.0 ++ ts, ap (λ l. l ++ ts) h.1, go h.0 h.2)
 
 pub give_more : (depth line : ℕ) (cs ds : List (List ℕ)) (ss ts : List Statement) (f : Option SyntaxFault)
-    → Give depth line cs ss None → Give depth (line_at line (concat cs)) ds ts f → Give depth line (cs ++ ds) (ss ++ ts) f
+    → AreStatementsOf depth line cs ss None → AreStatementsOf depth (line_at line (concat cs)) ds ts f → AreStatementsOf depth line (cs ++ ds) (ss ++ ts) f
 give_more depth line [] ds ss ts f near far =
-    subst (λ l. Give depth line ds (l ++ ts) f) (sym near.0) (subst (λ n. Give depth n ds ts f) (add-zero line) far)
+    subst (λ l. AreStatementsOf depth line ds (l ++ ts) f) (sym near.0) (subst (λ n. AreStatementsOf depth n ds ts f) (add-zero line) far)
 give_more depth line (c ∷ cs) ds ss ts f near far = (
   near.0,
   near.1,
-  follows_more near.0 ss ts f (Give depth (line_at line c) cs) (Give depth (line_at line c) (cs ++ ds))
-      (λ more h. give_more depth (line_at line c) cs ds more ts f h (subst (λ n. Give depth n ds ts f) (line_more line c (concat cs)) far))
+  follows_more near.0 ss ts f (AreStatementsOf depth (line_at line c) cs) (AreStatementsOf depth (line_at line c) (cs ++ ds))
+      (λ more h. give_more depth (line_at line c) cs ds more ts f h (subst (λ n. AreStatementsOf depth n ds ts f) (line_more line c (concat cs)) far))
       near.2,
 )
 
 -- one chunk more
 pub give_blank : (depth line : ℕ) (cs : List (List ℕ)) (ss : List Statement) (chunk : List ℕ)
-    → Give depth 1 cs ss None → line ≡ line_at 1 (concat cs) → Gives depth line chunk (Ok None) → Give depth 1 (cs ++ chunk ∷ []) (ss ++ []) None
+    → AreStatementsOf depth 1 cs ss None → line ≡ line_at 1 (concat cs) → IsAnswerOf depth line chunk (Ok None) → AreStatementsOf depth 1 (cs ++ chunk ∷ []) (ss ++ []) None
 give_blank depth line cs ss chunk near at gives =
-    give_more depth 1 cs (chunk ∷ []) ss [] None near (subst (λ n. Give depth n (chunk ∷ []) [] None) at (Ok None, gives, (refl, refl)))
+    give_more depth 1 cs (chunk ∷ []) ss [] None near (subst (λ n. AreStatementsOf depth n (chunk ∷ []) [] None) at (Ok None, gives, (refl, refl)))
 
 pub give_statement : (depth line : ℕ) (cs : List (List ℕ)) (ss : List Statement) (chunk : List ℕ) (s : Statement)
-    → Give depth 1 cs ss None → line ≡ line_at 1 (concat cs) → Gives depth line chunk (Ok (Some s)) → Give depth 1 (cs ++ chunk ∷ []) (ss ++ s ∷ []) None
+    → AreStatementsOf depth 1 cs ss None → line ≡ line_at 1 (concat cs) → IsAnswerOf depth line chunk (Ok (Some s)) → AreStatementsOf depth 1 (cs ++ chunk ∷ []) (ss ++ s ∷ []) None
 give_statement depth line cs ss chunk s near at gives =
-    give_more depth 1 cs (chunk ∷ []) ss (s ∷ []) None near (subst (λ n. Give depth n (chunk ∷ []) (s ∷ []) None) at (Ok (Some s), gives, ([], refl, (refl, refl))))
+    give_more depth 1 cs (chunk ∷ []) ss (s ∷ []) None near (subst (λ n. AreStatementsOf depth n (chunk ∷ []) (s ∷ []) None) at (Ok (Some s), gives, ([], refl, (refl, refl))))
 
 -- a fault ends the list
 pub give_fault : (depth line : ℕ) (cs : List (List ℕ)) (ss : List Statement) (chunk : List ℕ) (others : List (List ℕ)) (f : SyntaxFault)
-    → Give depth 1 cs ss None → line ≡ line_at 1 (concat cs) → Gives depth line chunk (Err f) → Give depth 1 (cs ++ chunk ∷ others) ss (Some f)
+    → AreStatementsOf depth 1 cs ss None → line ≡ line_at 1 (concat cs) → IsAnswerOf depth line chunk (Err f) → AreStatementsOf depth 1 (cs ++ chunk ∷ others) ss (Some f)
 give_fault depth line cs ss chunk others f near at gives =
-    subst (λ l. Give depth 1 (cs ++ chunk ∷ others) l (Some f)) (append-nil ss)
-    (give_more depth 1 cs (chunk ∷ others) ss [] (Some f) near (subst (λ n. Give depth n (chunk ∷ others) [] (Some f)) at (Err f, gives, (refl, refl))))
+    subst (λ l. AreStatementsOf depth 1 (cs ++ chunk ∷ others) l (Some f)) (append-nil ss)
+    (give_more depth 1 cs (chunk ∷ others) ss [] (Some f) near (subst (λ n. AreStatementsOf depth n (chunk ∷ others) [] (Some f)) at (Err f, gives, (refl, refl))))
 
 concat_more : (cs : List (List ℕ)) (chunk : List ℕ) → concat (cs ++ chunk ∷ []) ≡ concat cs ++ chunk
 concat_more cs chunk = concat-append cs (chunk ∷ []) ∙ ap (λ l. concat cs ++ l) (append-nil chunk)

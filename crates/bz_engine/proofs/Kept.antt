@@ -18,7 +18,7 @@ is_stopped (Ended end) = false
 is_stopped Stopped = true
 
 -- a session that was stopped keeps to its limits alone
-stopped_session : (v : SessionValue) → v.stage ≡ Stopped → v.options.max_reads ≤ 2 ^ 50 → v.ahead.reads ≤ v.options.max_reads → IsSession v
+stopped_session : (v : SessionValue) → v.state ≡ Stopped → v.options.max_reads ≤ 2 ^ 50 → v.ahead.reads ≤ v.options.max_reads → IsSession v
 stopped_session v stopped limit made = record {
   limit = limit;
   made = made;
@@ -26,35 +26,35 @@ stopped_session v stopped limit made = record {
   fits = λ end ended. absurd (false≢true (sym (ap is_stopped ended) ∙ ap is_stopped stopped));
 }
 
-pub session_stopped : (v : SessionValue) → IsSession v → IsSession (record v { stage = Stopped })
+pub session_stopped : (v : SessionValue) → IsSession v → IsSession (record v { state = Stopped })
 session_stopped v kept =
-    let after : SessionValue = record v { stage = Stopped } in
+    let after : SessionValue = record v { state = Stopped } in
     stopped_session after refl kept.limit kept.made
 
 -- more was read
-pub session_ahead : (v w : SessionValue) (mid : Ahead) (read : List (List ℕ)) → v ≡ w → IsSession w → w.stage ≡ Stopped → IsReadOn v.options.max_reads v.ahead mid read
+pub session_ahead : (v w : SessionValue) (mid : Ahead) (read : List (List ℕ)) → v ≡ w → IsSession w → w.state ≡ Stopped → IsReadOn v.options.max_reads v.ahead mid read
     → IsSession (record v { ahead = mid })
 session_ahead v w mid read same kept stopped on =
     let after : SessionValue = record v { ahead = mid } in
-    stopped_session after (ap (λ x. x.stage) same ∙ stopped) (subst (λ x. x.options.max_reads ≤ 2 ^ 50) (sym same) kept.limit) on.within
+    stopped_session after (ap (λ x. x.state) same ∙ stopped) (subst (λ x. x.options.max_reads ≤ 2 ^ 50) (sym same) kept.limit) on.within
 
-pub ready_with : (v : SessionValue) (stage : SessionState) (failure : Option (List ℕ)) → IsReady v → IsReady (record v { stage = stage; failure = failure })
-ready_with v stage failure ready = record { fits = ready.fits; few = ready.few; lines = ready.lines }
+pub ready_with : (v : SessionValue) (state : SessionState) (failure : Option (List ℕ)) → IsReady v → IsReady (record v { state = state; failure = failure })
+ready_with v state failure ready = record { fits = ready.fits; few = ready.few; lines = ready.lines }
 
 pub session_failed : (v : SessionValue) (message : Option (List ℕ)) → IsSession v → IsSession (record v { failure = message })
 session_failed v message kept = record {
   limit = kept.limit;
   made = kept.made;
-  ready = λ going. ready_with v v.stage message (kept.ready going);
+  ready = λ going. ready_with v v.state message (kept.ready going);
   fits = kept.fits;
 }
 
--- at the stage to which the next chunk led
-pub session_at : (v w : SessionValue) (stage : SessionState) → v ≡ w → IsSession v → (stage ≡ Going → IsReady w) → Fits w.progress.kept w.passes → IsSession (record v { stage = stage })
-session_at v w stage same kept ready fits = record {
+-- at the state to which the next chunk led
+pub session_at : (v w : SessionValue) (state : SessionState) → v ≡ w → IsSession v → (state ≡ Going → IsReady w) → Fits w.progress.kept w.passes → IsSession (record v { state = state })
+session_at v w state same kept ready fits = record {
   limit = kept.limit;
   made = kept.made;
-  ready = λ going. ready_with v stage v.failure (subst IsReady (sym same) (ready going));
+  ready = λ going. ready_with v state v.failure (subst IsReady (sym same) (ready going));
   fits = λ end ended. subst (λ x. Fits x.progress.kept x.passes) (sym same) fits;
 }
 

@@ -23,7 +23,7 @@ use Rattle.bz_tree.proofs.Trees.Standing.{bare_empty}
 use Rattle.bz_tree_laws.proofs.ChunkLaws.{chunk_same}
 use Rattle.bz_engine.specs.declared.report.SyntaxFault.{SyntaxFault}
 use Rattle.bz_engine.specs.declared.report.SyntaxFault.TheVariants.{NotUtf8, Parse}
-use Rattle.bz_engine.specs.File.{not_utf8, Gives}
+use Rattle.bz_engine.specs.File.{not_utf8, IsAnswerOf}
 use Rattle.bz_token.specs.Common.{first_of, map_or}
 use Rattle.bz_tree.specs.Blocks.{is_block_word}
 
@@ -123,7 +123,7 @@ IsText first depth bytes answer = IsUtf8 bytes × (IsLexFault first depth bytes 
 lexical_some : (f : LexFault) → IsLexical f → f ≡ lex.OutOfMemory no_memory → ⊥
 lexical_some f lexical is = subst IsLexical is lexical
 
-by_way : (first depth : ℕ) (bytes : List ℕ) (a : Result (Option Statement) SyntaxFault) → Gives depth first bytes a → IsText first depth bytes a ⊎ IsNoText first bytes a
+by_way : (first depth : ℕ) (bytes : List ℕ) (a : Result (Option Statement) SyntaxFault) → IsAnswerOf depth first bytes a → IsText first depth bytes a ⊎ IsNoText first bytes a
 by_way first depth bytes (Ok (Some s)) g = inl (g.0, inr (record { tokens = g.1.tokens; are = g.1.are; by = g.1.reads }))
 by_way first depth bytes (Ok None) g = inl (g.0, inr (record { tokens = g.1.tokens; are = g.1.are; by = g.1.none }))
 by_way first depth bytes (Err (NotUtf8 line col)) g = inr (record { none = g.0; n = g.1.0; valid = g.1.1; answer_is = ap (λ x. Err x) g.1.2 })
@@ -153,5 +153,5 @@ one_of_ways first depth bytes a b (inr p) (inl q) = absurd (p.none q.0)
 one_of_ways first depth bytes a b (inr p) (inr q) =
     p.answer_is ∙ ap (λ n. Err (not_utf8 first n bytes)) (one_bad_byte bytes p.n q.n p.valid q.valid) ∙ sym q.answer_is
 
-pub one_answer : (depth first : ℕ) (bytes : List ℕ) (a b : Result (Option Statement) SyntaxFault) → Gives depth first bytes a → Gives depth first bytes b → a ≡ b
+pub one_answer : (depth first : ℕ) (bytes : List ℕ) (a b : Result (Option Statement) SyntaxFault) → IsAnswerOf depth first bytes a → IsAnswerOf depth first bytes b → a ≡ b
 one_answer depth first bytes a b p q = one_of_ways first depth bytes a b (by_way first depth bytes a p) (by_way first depth bytes b q)

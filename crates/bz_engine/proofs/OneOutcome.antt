@@ -11,7 +11,7 @@ use Rattle.bz_command.specs.Passes.{Slot, slots_after}
 use Rattle.bz_engine.specs.declared.report.SyntaxFault.{SyntaxFault}
 use Rattle.bz_passes.specs.Exchange.{slot_after, some_alone}
 use Rattle.bz_engine.specs.Language.{meaning, fails_on}
-use Rattle.bz_engine.specs.File.{Follows, Give}
+use Rattle.bz_engine.specs.File.{Follows, AreStatementsOf}
 use Rattle.bz_engine.specs.Progress.{last_class, text_following}
 use Rattle.bz_engine.specs.Outcome.{Script, Run, slots_of, is_query, text_after, Told, some_failure, told_of, told_of_failure, BeginsWith, IsWholeRun, EndsAtFailure, IsOutcome, IsFrontOf}
 use Rattle.bz_passes.proofs.ExchangeLaw.{some_alone_lem}
@@ -31,11 +31,11 @@ one_follows (Ok (Some s)) ss ts f g After one p q =
     let rest = one p.0 q.0 f g p.2 q.2 in
     (p.1 ∙ ap (λ l. s ∷ l) rest.0 ∙ sym q.1, rest.1)
 
-pub one_give : (depth line : ℕ) (cs : List (List ℕ)) (ss ts : List Statement) (f g : Option SyntaxFault) → Give depth line cs ss f → Give depth line cs ts g → (ss ≡ ts) × (f ≡ g)
+pub one_give : (depth line : ℕ) (cs : List (List ℕ)) (ss ts : List Statement) (f g : Option SyntaxFault) → AreStatementsOf depth line cs ss f → AreStatementsOf depth line cs ts g → (ss ≡ ts) × (f ≡ g)
 one_give depth line [] ss ts f g p q = (p.0 ∙ sym q.0, p.1 ∙ sym q.1)
 one_give depth line (c ∷ cs) ss ts f g p q =
-    one_follows p.0 ss ts f g (Give depth (line_at line c) cs) (one_give depth (line_at line c) cs) p.2
-    (subst (λ a. Follows a (Give depth (line_at line c) cs) ts g) (one_answer depth line c q.0 p.0 q.1 p.1) q.2)
+    one_follows p.0 ss ts f g (AreStatementsOf depth (line_at line c) cs) (one_give depth (line_at line c) cs) p.2
+    (subst (λ a. Follows a (AreStatementsOf depth (line_at line c) cs) ts g) (one_answer depth line c q.0 p.0 q.1 p.1) q.2)
 
 -- what the first chunks have is a front of what all have
 split_follows : (answer : Result (Option Statement) SyntaxFault) (ss ts : List Statement) (f : Option SyntaxFault) (Near Far : List Statement → Option SyntaxFault → Type 0)
@@ -48,11 +48,11 @@ split_follows (Ok (Some s)) ss ts f Near Far go p q =
     (rest.0, q.1 ∙ ap (λ l. s ∷ l) rest.1 ∙ ap (λ l. l ++ rest.0) (sym p.1))
 
 pub give_split : (depth line : ℕ) (cs ds : List (List ℕ)) (ss ts : List Statement) (f : Option SyntaxFault)
-    → Give depth line cs ss None → Give depth line (cs ++ ds) ts f → (more : List Statement) × (ts ≡ ss ++ more)
+    → AreStatementsOf depth line cs ss None → AreStatementsOf depth line (cs ++ ds) ts f → (more : List Statement) × (ts ≡ ss ++ more)
 give_split depth line [] ds ss ts f p q = (ts, ap (λ l. l ++ ts) (sym p.0))
 give_split depth line (c ∷ cs) ds ss ts f p q =
-    split_follows p.0 ss ts f (Give depth (line_at line c) cs) (Give depth (line_at line c) (cs ++ ds)) (give_split depth (line_at line c) cs ds) p.2
-    (subst (λ a. Follows a (Give depth (line_at line c) (cs ++ ds)) ts f) (one_answer depth line c q.0 p.0 q.1 p.1) q.2)
+    split_follows p.0 ss ts f (AreStatementsOf depth (line_at line c) cs) (AreStatementsOf depth (line_at line c) (cs ++ ds)) (give_split depth (line_at line c) cs ds) p.2
+    (subst (λ a. Follows a (AreStatementsOf depth (line_at line c) (cs ++ ds)) ts f) (one_answer depth line c q.0 p.0 q.1 p.1) q.2)
 
 -- of two fronts one is a front of the other
 either_front : {A : Type 0} (xs ys p q : List A) → xs ++ p ≡ ys ++ q → ((more : List A) × (ys ≡ xs ++ more)) ⊎ ((more : List A) × (xs ≡ ys ++ more))
@@ -126,17 +126,17 @@ pub record BeginsCalmly (run : Run) (file : List ℕ) (ss : List Statement) : Ty
   pub calm : run.keep_going ≡ false → some_failure run.home run.passes ss ≡ false
 
 -- the statements of a whole run begin with those that the file begins with
-whole_begins : (depth : ℕ) (file : List ℕ) (xs ss : List Statement) (fault : Option SyntaxFault) → BeginsWith depth file xs → Give depth 1 (chunks file) ss fault → (more : List Statement) × (ss ≡ xs ++ more)
+whole_begins : (depth : ℕ) (file : List ℕ) (xs ss : List Statement) (fault : Option SyntaxFault) → BeginsWith depth file xs → AreStatementsOf depth 1 (chunks file) ss fault → (more : List Statement) × (ss ≡ xs ++ more)
 whole_begins depth file xs ss fault begins read =
-    give_split depth 1 begins.front begins.after xs ss fault begins.read (subst (λ l. Give depth 1 l ss fault) begins.chunks_are read)
+    give_split depth 1 begins.front begins.after xs ss fault begins.read (subst (λ l. AreStatementsOf depth 1 l ss fault) begins.chunks_are read)
 
 -- of two lists of statements that a file begins with, one begins the other
 either_begins : (depth : ℕ) (file : List ℕ) (xs ys : List Statement) → BeginsWith depth file xs → BeginsWith depth file ys
     → ((more : List Statement) × (ys ≡ xs ++ more)) ⊎ ((more : List Statement) × (xs ≡ ys ++ more))
 either_begins depth file xs ys p q =
     elim (either_front p.front q.front p.after q.after (sym p.chunks_are ∙ q.chunks_are)) [
-      | inl r ↦ inl (give_split depth 1 p.front r.0 xs ys None p.read (subst (λ l. Give depth 1 l ys None) r.1 q.read))
-      | inr r ↦ inr (give_split depth 1 q.front r.0 ys xs None q.read (subst (λ l. Give depth 1 l xs None) r.1 p.read))
+      | inl r ↦ inl (give_split depth 1 p.front r.0 xs ys None p.read (subst (λ l. AreStatementsOf depth 1 l ys None) r.1 q.read))
+      | inr r ↦ inr (give_split depth 1 q.front r.0 ys xs None q.read (subst (λ l. AreStatementsOf depth 1 l xs None) r.1 p.read))
     ]
 
 front_moved : (text whole moved : List ℕ) → IsFrontOf text whole → moved ≡ whole → IsFrontOf text moved

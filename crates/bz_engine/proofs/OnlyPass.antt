@@ -21,10 +21,9 @@ use Rattle.bz_rule.specs.Commands.{Command, after, args_after, done_of}
 use Rattle.bz_rule.specs.OneAttribute.{one_attribute}
 use Rattle.bz_rule.proofs.HeadKept.{name_stays}
 use Rattle.bz_passes.specs.Exchange.{Fits, IsPassedBy, Kept, kept_alone, kept_and, pass_alone, slot_after, slot_after_pass, some_alone, some_of_commands_alone}
-use Rattle.bz_passes.specs.Asked.{asked_by}
+use Rattle.bz_passes.specs.Asked.{IsKeyOf, asked_by}
 use Rattle.bz_passes.specs.OnePass.{IsOnlyAt, IsOnlyFor, and_at}
 use Rattle.bz_passes.specs.declared.index.Key.{Key}
-use Rattle.bz_passes.specs.private.Indexes.{IsKeyOf}
 use Rattle.bz_passes.specs.declared.entry.Entry.{Entry}
 use Rattle.bz_passes.specs.declared.entry.Entry.TheVariants.{Line}
 use Rattle.bz_passes.proofs.ExchangeLaw.{left_more}

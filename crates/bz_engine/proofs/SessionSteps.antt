@@ -24,23 +24,23 @@ use Rattle.bz_engine.specs.SessionValue.{SessionValue, IsSameRun, IsReady, HasDo
 use Rattle.bz_engine.specs.SessionSteps.{Reader, Writer, reader, writer, AddsOne, EndsRun, IsCutShort, Tells, IsLeftByFault, Did, Steps}
 use Rattle.bz_engine.specs.private.Finds.{Finds}
 use Rattle.bz_engine.specs.private.NextChunks.{IsNextEdited}
-use Rattle.bz_engine.proofs.Advances.{chunk_done, chunk_faulty, chunk_failed, write_cut, restaged, take_some, take_few}
+use Rattle.bz_engine.proofs.Advances.{chunk_done, chunk_faulty, chunk_failed, write_cut, done_at_state, take_some, take_few}
 use Rattle.bz_engine.proofs.BlankLines.{newline_edited}
 use Rattle.bz_engine.proofs.Finds.{finds_ok, finds_nothing}
 use Rattle.bz_engine.proofs.Runs.{reads_for}
 use Rattle.bz_engine.proofs.Sessions.{ended_whole, reads_are, read_within}
 
--- what was done does not depend on the stage, nor does what an ended session tells
+-- what was done does not depend on the state, nor does what an ended session tells
 abbrev pub IsAtChunk : SessionValue → SessionValue → Type 0
-IsAtChunk old v = let stopped : SessionValue = record old { stage = Stopped } in v ≡ stopped
+IsAtChunk old v = let stopped : SessionValue = record old { state = Stopped } in v ≡ stopped
 
 done_at : (old v : SessionValue) (pieces cs : List (List ℕ)) (text : List ℕ) → IsAtChunk old v → HasDone old pieces cs text → HasDone v pieces cs text
-done_at old v pieces cs text at done = subst (λ x. HasDone x pieces cs text) (sym at) (restaged old Stopped pieces cs text done)
+done_at old v pieces cs text at done = subst (λ x. HasDone x pieces cs text) (sym at) (done_at_state old Stopped pieces cs text done)
 
-ended_in : (v : SessionValue) (stage : SessionState) (end : End) (pieces cs : List (List ℕ)) (text : List ℕ) → HasEnded v end pieces cs text → HasEnded (record v { stage = stage }) end pieces cs text
-ended_in v stage Whole pieces cs text h = h
-ended_in v stage (Syntax fault) pieces cs text h = h
-ended_in v stage FirstFailure pieces cs text h = h
+ended_in : (v : SessionValue) (state : SessionState) (end : End) (pieces cs : List (List ℕ)) (text : List ℕ) → HasEnded v end pieces cs text → HasEnded (record v { state = state }) end pieces cs text
+ended_in v state Whole pieces cs text h = h
+ended_in v state (Syntax fault) pieces cs text h = h
+ended_in v state FirstFailure pieces cs text h = h
 
 -- a chunk was done, written and taken
 pub adds_one : (old v e f new : SessionValue) (before following : List ℕ) (next : NextChunk) (read : List (List ℕ)) → IsAtChunk old v
@@ -48,20 +48,20 @@ pub adds_one : (old v e f new : SessionValue) (before following : List ℕ) (nex
     → IsNextEdited v e before following next → before ≡ [] → next.edited ≡ Done
     → (let after : SessionValue = record v { ahead = e.ahead; progress = e.progress } in e ≡ after)
     → (let taken : SessionValue = record e { ahead = record e.ahead { bytes = drop next.len e.ahead.bytes } } in f ≡ taken)
-    → (let goes : SessionValue = record f { stage = Going } in new ≡ goes)
+    → (let goes : SessionValue = record f { state = Going } in new ≡ goes)
     → AddsOne old new read following
 adds_one old v e f new before following next read at on needed is none done after taken goes =
     let most : new.options.max_statement ≡ v.options.max_statement =
     ap (λ x. x.options.max_statement) goes ∙ ap (λ x. x.options.max_statement) taken ∙ ap (λ x. x.options.max_statement) after in
     record {
-      going = ap (λ x. x.stage) goes;
+      going = ap (λ x. x.state) goes;
       chunk = take next.len e.ahead.bytes;
       some = take_some next.len e.ahead.bytes is.chunk.some is.chunk.within;
       size = subst (λ m. length (take next.len e.ahead.bytes) ≤ m) (sym most) (take_few next.len v.options.max_statement e.ahead.bytes is.chunk.size is.chunk.within);
       done = λ pieces cs text before_it.
           let chunk = take next.len e.ahead.bytes in
           subst (λ x. HasDone x (pieces ++ read) (cs ++ chunk ∷ []) (text ++ following)) (sym goes)
-          (restaged f Going (pieces ++ read) (cs ++ chunk ∷ []) (text ++ following)
+          (done_at_state f Going (pieces ++ read) (cs ++ chunk ∷ []) (text ++ following)
           (chunk_done v e f e.ahead before following next.edited v.options.max_reads v.options.max_statement next.len pieces cs read text
           (done_at old v pieces cs text at before_it) on needed is.chunk none after is.edited done taken));
     }
@@ -70,12 +70,12 @@ adds_one old v e f new before following next read at on needed is none done afte
 ends_run : (old v f new : SessionValue) (end : End) (read : List (List ℕ)) → IsAtChunk old v
     → IsReadOn v.options.max_reads v.ahead f.ahead read → AreNeeded v.options.max_statement v.ahead.bytes read → IsSameRun v f
     → (IsTooLong v.options.max_statement f.ahead → ⊥)
-    → (let there : SessionValue = record f { stage = Ended end } in new ≡ there)
+    → (let there : SessionValue = record f { state = Ended end } in new ≡ there)
     → ((pieces cs : List (List ℕ)) (text : List ℕ) → HasDone v pieces cs text → HasEnded f end (pieces ++ read) cs text)
     → EndsRun old new read
 ends_run old v f new end read at on needed same fits there ended = record {
   end = end;
-  ended = ap (λ x. x.stage) there;
+  ended = ap (λ x. x.state) there;
   fits = λ long. fits (subst (λ o. IsTooLong o.max_statement f.ahead) same.options (subst (λ x. IsTooLong x.options.max_statement x.ahead) there long));
   outcome = λ pieces cs text before.
       let done = done_at old v pieces cs text at before in (
@@ -93,7 +93,7 @@ pub ends_whole : (old v e new : SessionValue) (read : List (List ℕ)) → IsAtC
     → IsReadOn v.options.max_reads v.ahead e.ahead read → AreNeeded v.options.max_statement v.ahead.bytes read
     → (e.progress ≡ v.progress) × (e.ahead.bytes ≡ []) × IsTrue e.ahead.ended
     → (let after : SessionValue = record v { ahead = e.ahead; progress = e.progress } in e ≡ after)
-    → (let there : SessionValue = record e { stage = Ended Whole } in new ≡ there)
+    → (let there : SessionValue = record e { state = Ended Whole } in new ≡ there)
     → EndsRun old new read
 ends_whole old v e new read at on needed none after there =
     let with_progress : Progress → SessionValue = λ p. record v { ahead = e.ahead; progress = p } in
@@ -106,7 +106,7 @@ pub ends_at_fault : (old v e new : SessionValue) (before following : List ℕ) (
     → IsReadOn v.options.max_reads v.ahead e.ahead read → AreNeeded v.options.max_statement v.ahead.bytes read
     → IsNextEdited v e before following next → before ≡ [] → next.edited ≡ Faulty fault
     → (let after : SessionValue = record v { ahead = e.ahead; progress = e.progress } in e ≡ after)
-    → (let there : SessionValue = record e { stage = Ended (Syntax fault) } in new ≡ there)
+    → (let there : SessionValue = record e { state = Ended (Syntax fault) } in new ≡ there)
     → EndsRun old new read
 ends_at_fault old v e new before following next fault read at on needed is none faulty after there =
     ends_run old v e new (Syntax fault) read at on needed (same_after v e after) (next_fits v.options.max_statement next.len e.ahead is.chunk) there
@@ -119,7 +119,7 @@ pub ends_at_failure : (old v e f new : SessionValue) (before following : List �
     → IsNextEdited v e before following next → before ≡ [] → next.edited ≡ Failed message
     → (let after : SessionValue = record v { ahead = e.ahead; progress = e.progress } in e ≡ after)
     → (let failed : SessionValue = record e { failure = message } in f ≡ failed)
-    → (let there : SessionValue = record f { stage = Ended FirstFailure } in new ≡ there)
+    → (let there : SessionValue = record f { state = Ended FirstFailure } in new ≡ there)
     → EndsRun old new read
 ends_at_failure old v e f new before following next message read at on needed is none fails after failed there =
     let same = same_after v e after in
@@ -137,7 +137,7 @@ pub left_by_write : (old v e new : SessionValue) (before following : List ℕ) (
     → (let after : SessionValue = record v { ahead = e.ahead; progress = e.progress } in e ≡ after) → new ≡ e
     → IsLeftByFault old new read (take k following) WriteFailed
 left_by_write old v e new before following next k read at on needed is none done after same = record {
-  stopped = ap (λ x. x.stage) same ∙ ap (λ x. x.stage) after ∙ ap (λ x. x.stage) at;
+  stopped = ap (λ x. x.state) same ∙ ap (λ x. x.state) after ∙ ap (λ x. x.state) at;
   read_ahead = subst (λ x. IsReadOn old.options.max_reads old.ahead x.ahead read) (sym same) (subst (λ x. IsReadOn x.options.max_reads x.ahead e.ahead read) at on);
   front = λ pieces cs text before_it. subst (λ x. IsCutShort x (pieces ++ read) cs text (take k following)) (sym same)
       (write_cut v e e.ahead before following next.edited v.options.max_reads v.options.max_statement next.len k pieces cs read text
@@ -191,7 +191,7 @@ module _ {S W T : Type 0} (gave : S → List (List ℕ) → S → Type 0) (reads
         gave = read.1;
         took = nothing;
         did = record {
-          stopped = ap (λ x. x.stage) there ∙ ap (λ x. x.stage) at;
+          stopped = ap (λ x. x.state) there ∙ ap (λ x. x.state) at;
           read_ahead = subst (λ x. IsReadOn x.options.max_reads x.ahead e.ahead read.0) at read.2;
           front = λ pieces cs text done. inl refl;
           tells = tells_read old v e source after fault at there finds;
@@ -263,16 +263,16 @@ module _ {S W T : Type 0} (gave : S → List (List ℕ) → S → Type 0) (reads
 -- an empty line was taken, of which nothing is written
 pub step_at_empty_line : {S W : Type 0} (gave : S → List (List ℕ) → S → Type 0) (reads_failed : S → ℕ) (took : W → List ℕ → W → Type 0) (writes_failed : W → ℕ)
     → (v new : SessionValue) (source : S) (sink : W) (rest : List ℕ) → gave source [] source → took sink [] sink
-    → v.stage ≡ Going → IsReady v → v.ahead.reads ≤ v.options.max_reads → v.ahead.bytes ≡ 10 ∷ rest → 0 < v.options.max_statement
+    → v.state ≡ Going → IsReady v → v.ahead.reads ≤ v.options.max_reads → v.ahead.bytes ≡ 10 ∷ rest → 0 < v.options.max_statement
     → (let after : SessionValue = record v { progress = record v.progress { line = v.progress.line + 1 }; ahead = record v.ahead { bytes = drop 1 v.ahead.bytes } } in new ≡ after)
     → Steps (reader gave reads_failed source source) (writer took writes_failed sink sink) v new (Ok step.More)
 unfolding finds_nothing finds_ok
 step_at_empty_line gave reads_failed took writes_failed v new source sink rest unread unwritten going ready made begins some is =
-    let stopped : SessionValue = record v { stage = Stopped } in
+    let stopped : SessionValue = record v { state = Stopped } in
     let passed : Progress = record v.progress { line = v.progress.line + 1 } in
     let done : SessionValue = record stopped { progress = passed } in
     let taken : SessionValue = record done { ahead = record v.ahead { bytes = drop 1 v.ahead.bytes } } in
-    let goes : SessionState → SessionValue = λ stage. record taken { stage = stage } in
+    let goes : SessionState → SessionValue = λ state. record taken { state = state } in
     let next : IsNextEdited stopped done [] [] (record { len = 1; edited = Done }) =
     newline_edited _ _ v.ahead v.progress passed [] rest v.ahead.bytes (λ n more. absurd (omega (arith, ready.few, more))) (length v.ahead.bytes, omega arith, sym (take-length v.ahead.bytes)) begins some refl in
     step_on {T = ℕ} gave reads_failed took writes_failed v stopped done new 0 step.More source source sink sink [] unwritten refl (λ other. absurd (other refl)) refl

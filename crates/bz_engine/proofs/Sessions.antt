@@ -12,7 +12,7 @@ use Rattle.bz_engine.specs.declared.report.End.TheVariants.{Whole, Syntax, First
 use Rattle.bz_devices.specs.Device.{ends, NoneEnds}
 use Rattle.bz_devices.specs.Ahead.{Ahead, IsReadOn, AreNeeded, IsNextChunk}
 use Rattle.bz_engine.specs.Language.{meaning}
-use Rattle.bz_engine.specs.File.{Give, Gives}
+use Rattle.bz_engine.specs.File.{AreStatementsOf, IsAnswerOf}
 use Rattle.bz_engine.specs.Messages.{fault_text}
 use Rattle.bz_engine.specs.Outcome.{Run, slots_of, text_after, said, told_of}
 use Rattle.bz_engine.specs.Progress.{Progress, IsKeptOf}
@@ -99,7 +99,7 @@ ended_whole v mid max_reads pieces cs read text done on nothing over = record {
         inl (record {
           statements = done.statements;
           fault = None;
-          read = subst (λ l. Give v.options.max_depth 1 l done.statements None) (sym all) done.kept.read;
+          read = subst (λ l. AreStatementsOf v.options.max_depth 1 l done.statements None) (sym all) done.kept.read;
           calm = λ h. sym done.kept.left.failed ∙ done.calm h;
           text_is = done.text_is;
           told_is = told_whole (run_in v) cs done.statements v.progress done.kept;
@@ -111,7 +111,7 @@ ended_whole v mid max_reads pieces cs read text done on nothing over = record {
 -- a chunk has a fault
 pub ended_fault : (v : SessionValue) (mid : Ahead) (fault : SyntaxFault) (max_reads most n : ℕ) (pieces cs read : List (List ℕ)) (text : List ℕ)
     → HasDone v pieces cs text → IsReadOn max_reads v.ahead mid read → IsNextChunk most mid n
-    → Gives v.options.max_depth v.progress.line (take n mid.bytes) (Err fault)
+    → IsAnswerOf v.options.max_depth v.progress.line (take n mid.bytes) (Err fault)
     → HasEnded (record v { ahead = mid }) (Syntax fault) (pieces ++ read) cs text
 ended_fault v mid fault max_reads most n pieces cs read text done on next gives = record {
   each = λ rest last.
@@ -121,7 +121,7 @@ ended_fault v mid fault max_reads most n pieces cs read text done on next gives 
         inl (record {
           statements = done.statements;
           fault = Some fault;
-          read = subst (λ l. Give v.options.max_depth 1 l done.statements (Some fault)) (sym all)
+          read = subst (λ l. AreStatementsOf v.options.max_depth 1 l done.statements (Some fault)) (sym all)
               (give_fault v.options.max_depth v.progress.line cs done.statements (take n mid.bytes) (chunks (drop n mid.bytes ++ rest)) fault done.kept.read done.kept.line gives);
           calm = λ h. sym done.kept.left.failed ∙ done.calm h;
           text_is = done.text_is;
@@ -185,12 +185,12 @@ ended_not_stopped s end h i = stopped_ended (sym h ∙ i)
     stopped_ended : Stopped ≡ Ended end → ⊥
     stopped_ended k = false≢true (sym (ap is_stopped k))
 
-pub stopped_session : (v : SessionValue) → v.stage ≡ Stopped → v.options.max_reads ≤ 2 ^ 50 → v.ahead.reads ≤ v.options.max_reads → IsSession v
+pub stopped_session : (v : SessionValue) → v.state ≡ Stopped → v.options.max_reads ≤ 2 ^ 50 → v.ahead.reads ≤ v.options.max_reads → IsSession v
 stopped_session v stopped limit made = record {
   limit = limit;
   made = made;
-  ready = λ h. absurd (going_not_stopped v.stage stopped h);
-  fits = λ end h. absurd (ended_not_stopped v.stage end stopped h);
+  ready = λ h. absurd (going_not_stopped v.state stopped h);
+  fits = λ end h. absurd (ended_not_stopped v.state end stopped h);
 }
 
 -- the input is too long

@@ -15,16 +15,16 @@ use Rattle.bz_engine.specs.declared.report.SyntaxFault.{SyntaxFault}
 use Rattle.bz_engine.specs.declared.report.SyntaxFault.TheVariants.{Parse}
 use Rattle.bz_passes.specs.Exchange.{some_alone}
 use Rattle.bz_engine.specs.Language.{meaning, fails_on}
-use Rattle.bz_engine.specs.File.{not_utf8, Gives, Follows, Give}
+use Rattle.bz_engine.specs.File.{not_utf8, IsAnswerOf, Follows, AreStatementsOf}
 use Rattle.bz_engine.specs.Outcome.{Run, slots_of, text_after, Told, some_failure, told_of, told_of_failure, IsOutcome}
 use Rattle.bz_passes.proofs.ExchangeLaw.{some_alone_lem}
 use Rattle.bz_engine.proofs.OneSlot.{fails_alone}
 
 -- a chunk gives an answer
-abbrev GivesSome : ℕ → ℕ → List ℕ → Type 0
-GivesSome depth line c = (a : Result (Option Statement) SyntaxFault) × Gives depth line c a
+abbrev HasSomeAnswer : ℕ → ℕ → List ℕ → Type 0
+HasSomeAnswer depth line c = (a : Result (Option Statement) SyntaxFault) × IsAnswerOf depth line c a
 
-of_text : (depth line : ℕ) (c : List ℕ) → IsUtf8 c → HasAnswer line depth c → GivesSome depth line c
+of_text : (depth line : ℕ) (c : List ℕ) → IsUtf8 c → HasAnswer line depth c → HasSomeAnswer depth line c
 of_text depth line c text (inl found) = (Ok (Some found.0), (text, found.1))
 of_text depth line c text (inr (inl blank)) = (Ok None, (text, blank))
 of_text depth line c text (inr (inr fault)) = (Err (Parse fault.0), (text, fault.2, fault.1))
@@ -77,22 +77,22 @@ text_or_not bs =
 no_text : (bs : List ℕ) (n : ℕ) → IsValidUpTo bs n → IsUtf8 bs → ⊥
 no_text bs n v u = v.longest (length bs) v.short (subst IsUtf8 (sym (take_all (length bs) bs (omega arith))) u)
 
-some_gives : (depth line : ℕ) (c : List ℕ) → GivesSome depth line c
+some_gives : (depth line : ℕ) (c : List ℕ) → HasSomeAnswer depth line c
 some_gives depth line c = elim (text_or_not c) [
   | inl text ↦ of_text depth line c text (some_answer line depth c)
   | inr bad ↦ (Err (not_utf8 line bad.0 c), (no_text c bad.0 bad.1, (bad.0, bad.1, refl)))
 ]
 
 -- chunks have statements
-abbrev GiveSome : ℕ → ℕ → List (List ℕ) → Type 0
-GiveSome depth line cs = (ss : List Statement) × (fault : Option SyntaxFault) × Give depth line cs ss fault
+abbrev HaveSomeStatements : ℕ → ℕ → List (List ℕ) → Type 0
+HaveSomeStatements depth line cs = (ss : List Statement) × (fault : Option SyntaxFault) × AreStatementsOf depth line cs ss fault
 
-and_more : (depth line : ℕ) (c : List ℕ) (cs : List (List ℕ)) (a : Result (Option Statement) SyntaxFault) → Gives depth line c a → GiveSome depth (line_at line c) cs → GiveSome depth line (c ∷ cs)
+and_more : (depth line : ℕ) (c : List ℕ) (cs : List (List ℕ)) (a : Result (Option Statement) SyntaxFault) → IsAnswerOf depth line c a → HaveSomeStatements depth (line_at line c) cs → HaveSomeStatements depth line (c ∷ cs)
 and_more depth line c cs (Err e) g rest = ([], Some e, (Err e, g, (refl, refl)))
 and_more depth line c cs (Ok None) g rest = (rest.0, rest.1, (Ok None, g, rest.2))
 and_more depth line c cs (Ok (Some s)) g rest = (s ∷ rest.0, rest.1, (Ok (Some s), g, (rest.0, refl, rest.2)))
 
-some_give : (depth line : ℕ) (cs : List (List ℕ)) → GiveSome depth line cs
+some_give : (depth line : ℕ) (cs : List (List ℕ)) → HaveSomeStatements depth line cs
 some_give depth line [] = ([], None, (refl, refl))
 some_give depth line (c ∷ cs) = let here = some_gives depth line c in and_more depth line c cs here.0 here.1 (some_give depth (line_at line c) cs)
 
@@ -127,18 +127,18 @@ record EndsAt (depth line : ℕ) (cs : List (List ℕ)) (ss : List Statement) : 
   front : List (List ℕ)
   after : List (List ℕ)
   are : cs ≡ front ++ after
-  read : Give depth line front ss None
+  read : AreStatementsOf depth line front ss None
 
 none_before : {X : Type 0} (before more : List Statement) (s : Statement) → before ++ s ∷ more ≡ [] → X
 none_before [] more s h = absurd cc
 none_before (b ∷ before) more s h = absurd cc
 
-ends_at : (depth line : ℕ) (cs : List (List ℕ)) (before more : List Statement) (s : Statement) (fault : Option SyntaxFault) → Give depth line cs (before ++ s ∷ more) fault → EndsAt depth line cs (before ++ s ∷ [])
+ends_at : (depth line : ℕ) (cs : List (List ℕ)) (before more : List Statement) (s : Statement) (fault : Option SyntaxFault) → AreStatementsOf depth line cs (before ++ s ∷ more) fault → EndsAt depth line cs (before ++ s ∷ [])
 ends_at depth line [] before more s fault p = none_before before more s p.0
 ends_at depth line (c ∷ cs) before more s fault p = at_answer (λ bs. ends_at depth (line_at line c) cs bs) before p.0 p.1 p.2
   where
-    at_answer : ((bs more : List Statement) (s : Statement) (fault : Option SyntaxFault) → Give depth (line_at line c) cs (bs ++ s ∷ more) fault → EndsAt depth (line_at line c) cs (bs ++ s ∷ []))
-        → (bs : List Statement) → (a : Result (Option Statement) SyntaxFault) → Gives depth line c a → Follows a (Give depth (line_at line c) cs) (bs ++ s ∷ more) fault → EndsAt depth line (c ∷ cs) (bs ++ s ∷ [])
+    at_answer : ((bs more : List Statement) (s : Statement) (fault : Option SyntaxFault) → AreStatementsOf depth (line_at line c) cs (bs ++ s ∷ more) fault → EndsAt depth (line_at line c) cs (bs ++ s ∷ []))
+        → (bs : List Statement) → (a : Result (Option Statement) SyntaxFault) → IsAnswerOf depth line c a → Follows a (AreStatementsOf depth (line_at line c) cs) (bs ++ s ∷ more) fault → EndsAt depth line (c ∷ cs) (bs ++ s ∷ [])
     at_answer go bs (Err e) g q = none_before bs more s q.0
     at_answer go bs (Ok None) g q =
         let rest = go bs more s fault q in
@@ -149,7 +149,7 @@ ends_at depth line (c ∷ cs) before more s fault p = at_answer (λ bs. ends_at 
     at_answer go (b ∷ bs) (Ok (Some t)) g q =
         let same : b ≡ t = cc in
         let left : q.0 ≡ bs ++ s ∷ more = cc in
-        let rest = go bs more s fault (subst (λ l. Give depth (line_at line c) cs l fault) left q.2) in
+        let rest = go bs more s fault (subst (λ l. AreStatementsOf depth (line_at line c) cs l fault) left q.2) in
         record { front = c ∷ rest.front; after = rest.after; are = ap (λ l. c ∷ l) rest.are; read = (Ok (Some t), g, (bs ++ s ∷ [], ap (λ u. u ∷ (bs ++ s ∷ [])) same, rest.read)) }
 
 pub some_outcome : (run : Run) (file : List ℕ) → (text : List ℕ) × (told : Told) × IsOutcome run file text told
@@ -161,7 +161,7 @@ some_outcome run file = at_keep run.keep_going refl (some_failure run.home run.p
     fault : Option SyntaxFault
     fault = (some_give run.max_depth 1 (chunks file)).1
 
-    read : Give run.max_depth 1 (chunks file) ss fault
+    read : AreStatementsOf run.max_depth 1 (chunks file) ss fault
     read = (some_give run.max_depth 1 (chunks file)).2
 
     whole : (run.keep_going ≡ false → some_failure run.home run.passes ss ≡ false) → (text : List ℕ) × (told : Told) × IsOutcome run file text told
@@ -170,7 +170,7 @@ some_outcome run file = at_keep run.keep_going refl (some_failure run.home run.p
     cut : run.keep_going ≡ false → some_failure run.home run.passes ss ≡ true → (text : List ℕ) × (told : Told) × IsOutcome run file text told
     cut ends fails =
         let first = first_found (some_alone (meaning run.home) (fails_on run.home) run.passes) ss (sym (some_alone_lem (meaning run.home) (fails_on run.home) run.passes (slots_of ss)) ∙ fails) in
-        let at = ends_at run.max_depth 1 (chunks file) first.before first.more first.statement fault (subst (λ l. Give run.max_depth 1 (chunks file) l fault) first.are read) in (
+        let at = ends_at run.max_depth 1 (chunks file) first.before first.more first.statement fault (subst (λ l. AreStatementsOf run.max_depth 1 (chunks file) l fault) first.are read) in (
           text_after run.home run.passes first.before,
           told_of_failure run.home run.passes first.before first.statement,
           inr (record {

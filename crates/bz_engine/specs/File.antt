@@ -17,11 +17,11 @@ abbrev pub not_utf8 : ℕ → ℕ → List ℕ → SyntaxFault
 not_utf8 line n bytes = NotUtf8 (line_at line (take n bytes)) (column_at (take n bytes))
 
 -- What a chunk gives, read by itself with its first line: a statement, nothing where it is blank, or its first fault.
-abbrev pub Gives : ℕ → ℕ → List ℕ → Result (Option Statement) SyntaxFault → Type 0
-Gives max_depth line chunk (Ok (Some s)) = IsUtf8 chunk × IsStatementIn line max_depth chunk s
-Gives max_depth line chunk (Ok None) = IsUtf8 chunk × IsBlank line max_depth chunk
-Gives max_depth line chunk (Err (NotUtf8 l c)) = ¬ (IsUtf8 chunk) × ((n : ℕ) × IsValidUpTo chunk n × (NotUtf8 l c ≡ not_utf8 line n chunk))
-Gives max_depth line chunk (Err (Parse fault)) = IsUtf8 chunk × IsFaultIn line max_depth chunk fault × (fault ≢ OutOfMemory no_memory)
+abbrev pub IsAnswerOf : ℕ → ℕ → List ℕ → Result (Option Statement) SyntaxFault → Type 0
+IsAnswerOf max_depth line chunk (Ok (Some s)) = IsUtf8 chunk × IsStatementIn line max_depth chunk s
+IsAnswerOf max_depth line chunk (Ok None) = IsUtf8 chunk × IsBlank line max_depth chunk
+IsAnswerOf max_depth line chunk (Err (NotUtf8 l c)) = ¬ (IsUtf8 chunk) × ((n : ℕ) × IsValidUpTo chunk n × (NotUtf8 l c ≡ not_utf8 line n chunk))
+IsAnswerOf max_depth line chunk (Err (Parse fault)) = IsUtf8 chunk × IsFaultIn line max_depth chunk fault × (fault ≢ OutOfMemory no_memory)
 
 -- and then what the chunks after it give: a fault ends the list
 abbrev pub Follows : Result (Option Statement) SyntaxFault → (List Statement → Option SyntaxFault → Type 0) → List Statement → Option SyntaxFault → Type 0
@@ -30,12 +30,12 @@ Follows (Ok None) After statements fault = After statements fault
 Follows (Ok (Some s)) After statements fault = (more : List Statement) × (statements ≡ s ∷ more) × After more fault
 
 -- The chunks, of which the first begins at this line, have these statements before the first fault.
-abbrev pub Give : ℕ → ℕ → List (List ℕ) → List Statement → Option SyntaxFault → Type 0
-Give max_depth line [] statements fault = (statements ≡ []) × (fault ≡ None)
-Give max_depth line (c ∷ cs) statements fault =
-    (answer : Result (Option Statement) SyntaxFault) × Gives max_depth line c answer
-    × Follows answer (Give max_depth (line_at line c) cs) statements fault
+abbrev pub AreStatementsOf : ℕ → ℕ → List (List ℕ) → List Statement → Option SyntaxFault → Type 0
+AreStatementsOf max_depth line [] statements fault = (statements ≡ []) × (fault ≡ None)
+AreStatementsOf max_depth line (c ∷ cs) statements fault =
+    (answer : Result (Option Statement) SyntaxFault) × IsAnswerOf max_depth line c answer
+    × Follows answer (AreStatementsOf max_depth (line_at line c) cs) statements fault
 
 -- The file has these statements before its first fault. Lines count from 1.
 abbrev pub IsFile : ℕ → List ℕ → List Statement → Option SyntaxFault → Type 0
-IsFile max_depth bytes statements fault = Give max_depth 1 (chunks bytes) statements fault
+IsFile max_depth bytes statements fault = AreStatementsOf max_depth 1 (chunks bytes) statements fault

@@ -1,6 +1,6 @@
 -- The reads of a run: each was needed (this project's own rule).
 -- Begin with `AreReads`.
--- Of later stops: 4 `Package`, `Statement`; 7 `Give`; 8 `chunks`.
+-- Of later stops: 4 `Package`, `Statement`; 7 `AreStatementsOf`; 8 `chunks`.
 use Rattle.std.specs.Prelude.{◌≡◌, ℕ, ◌+◌, ◌≤◌, false, List, [], ◌∷◌, ◌++◌, length, None, ⊤}
 use Rattle.std.specs.List.{concat}
 use Rattle.bz_token.specs.Chunks.{chunks}
@@ -9,7 +9,7 @@ use Rattle.bz_command.specs.Labels.{Package}
 use Rattle.bz_devices.specs.Device.{NoneEnds}
 use Rattle.bz_devices.specs.Ahead.{IsUndecided}
 use Rattle.bz_engine.specs.declared.options.Options.{Options}
-use Rattle.bz_engine.specs.File.{Give}
+use Rattle.bz_engine.specs.File.{AreStatementsOf}
 use Rattle.bz_engine.specs.Outcome.{Script, Run, run_with, some_failure}
 
 -- After these reads another was needed: none of them met the end, the chunks that they gave, the first on line 1, do not end
@@ -21,7 +21,7 @@ pub record IsOneNeeded (run : Run) (max_statement : ℕ) (pieces : List (List �
   pub bytes_are : concat pieces ≡ concat front ++ left
   pub chunks_are : (rest : List ℕ) → chunks (concat pieces ++ rest) ≡ front ++ chunks (left ++ rest)
   pub statements : List Statement
-  pub read : Give run.max_depth 1 front statements None
+  pub read : AreStatementsOf run.max_depth 1 front statements None
   pub calm : run.keep_going ≡ false → some_failure run.home run.passes statements ≡ false
   pub undecided : IsUndecided max_statement left
 

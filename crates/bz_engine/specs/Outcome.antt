@@ -1,7 +1,7 @@
 -- What a run over a file gives: the passes one after another on the whole list of its statements, and the result laid out.
 -- Begin with `IsOutcome`.
 -- Of later stops: 4 `Package`, `Statement`, `Target`, `changes`, `fails_on`, `fault_text`, `meaning`; 5 `Command`,
--- `is_print`; 6 `gap_text`, `layout_text`, `lines_between`; 7 `Give`, `IsFile`; 8 `chunks`.
+-- `is_print`; 6 `gap_text`, `layout_text`, `lines_between`; 7 `AreStatementsOf`, `IsFile`; 8 `chunks`.
 use Rattle.std.specs.Prelude.{◌≡◌, ◌⊎◌, ℕ, Bool, true, false, ◌||◌, if◌then◌else◌, List, [], ◌∷◌, ◌++◌, map, Option, None, Some, take, filter_map}
 use Rattle.std.specs.List.{list_all, flat_map}
 use Rattle.bz_token.specs.Chunks.{chunks}
@@ -19,7 +19,7 @@ use Rattle.bz_engine.specs.declared.report.Report.{Report}
 use Rattle.bz_command.specs.Passes.{Meaning, Pass, Slot, marked, log_of_commands, slots_after_pass, slots_after, log_of, some_execution, some_missing}
 use Rattle.bz_engine.specs.Messages.{fault_text}
 use Rattle.bz_engine.specs.Language.{meaning, changes, fails_on}
-use Rattle.bz_engine.specs.File.{Give, IsFile}
+use Rattle.bz_engine.specs.File.{AreStatementsOf, IsFile}
 
 abbrev pub Script : Type 0
 Script = List (Pass Target Command)
@@ -105,7 +105,7 @@ pub record BeginsWith (max_depth : ℕ) (file : List ℕ) (statements : List Sta
   pub front : List (List ℕ)
   pub after : List (List ℕ)
   pub chunks_are : chunks file ≡ front ++ after
-  pub read : Give max_depth 1 front statements None
+  pub read : AreStatementsOf max_depth 1 front statements None
 
 -- All executions take place, up to the first fault of the file: failures do not end the run, or there is none.
 pub record IsWholeRun (run : Run) (file text : List ℕ) (told : Told) : Type 0 where

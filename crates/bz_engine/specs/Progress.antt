@@ -11,7 +11,7 @@ use Rattle.bz_passes.specs.declared.entry.Entry.{Entry}
 use Rattle.bz_command.specs.Passes.{Slot, slots_after}
 use Rattle.bz_passes.specs.Exchange.{Kept, IsLeftBy, slot_after}
 use Rattle.bz_engine.specs.Language.{meaning, changes, fails_on}
-use Rattle.bz_engine.specs.File.{Give}
+use Rattle.bz_engine.specs.File.{AreStatementsOf}
 use Rattle.bz_engine.specs.Outcome.{Script, Run, slots_of, is_query}
 
 -- For each pass and command what was told, whether something changed and failed, the class of the last statement that is left, and the
@@ -31,7 +31,7 @@ last_class last (Some s ∷ slots) = last_class (Some s.class) slots
 
 -- This is kept of these chunks, whose statements these are.
 pub record IsKeptOf (run : Run) (cs : List (List ℕ)) (statements : List Statement) (p : Progress) : Type 0 where
-  pub read : Give run.max_depth 1 cs statements None
+  pub read : AreStatementsOf run.max_depth 1 cs statements None
   pub line : p.line ≡ line_at 1 (concat cs)
   pub left : IsLeftBy (meaning run.home) (changes run.home) (fails_on run.home) run.passes (slots_of statements) p.kept p.changed p.failed
   pub last : p.last ≡ last_class None (slots_after (meaning run.home) run.passes (slots_of statements))

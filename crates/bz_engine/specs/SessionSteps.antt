@@ -5,7 +5,7 @@ use Rattle.bz_devices.specs.Ahead.{IsReadOn, AreNeeded, IsTooLong, IsUncertain}
 use Rattle.bz_engine.specs.declared.report.End.{End}
 use Rattle.bz_engine.specs.declared.run_fault.RunFault.{RunFault}
 use Rattle.bz_engine.specs.declared.run_fault.RunFault.TheVariants.{OutOfMemory, ReadFailed, WriteFailed, InputTooLong, StatementTooLong, Stopped}
-use Rattle.bz_engine.specs.declared.session.SessionState.TheVariants as stage
+use Rattle.bz_engine.specs.declared.session.SessionState.TheVariants as state
 use Rattle.bz_engine.specs.declared.session.Step.{Step}
 use Rattle.bz_engine.specs.declared.session.Step.TheVariants as step
 use Rattle.bz_engine.specs.Outcome.{IsFrontOf}
@@ -36,7 +36,7 @@ writer took failures sink after =
 
 -- One chunk was taken, which may have so many bytes. It is done, whatever was done before.
 pub record AddsOne (old new : SessionValue) (read : List (List ℕ)) (shown : List ℕ) : Type 0 where
-  pub going : new.stage ≡ stage.Going
+  pub going : new.state ≡ state.Going
   pub chunk : List ℕ
   pub some : 0 < length chunk
   pub size : length chunk ≤ new.options.max_statement
@@ -46,7 +46,7 @@ pub record AddsOne (old new : SessionValue) (read : List (List ℕ)) (shown : Li
 -- The run came to this end, and the next chunk is not too long: what the session tells is the outcome.
 pub record EndsRun (old new : SessionValue) (read : List (List ℕ)) : Type 0 where
   pub end : End
-  pub ended : new.stage ≡ stage.Ended end
+  pub ended : new.state ≡ state.Ended end
   pub fits : IsTooLong new.options.max_statement new.ahead → ⊥
   pub outcome : (pieces cs : List (List ℕ)) (text : List ℕ) → HasDone old pieces cs text
       → AreReads new.home new.passes new.options (pieces ++ read) × HasEnded new end (pieces ++ read) cs text
@@ -76,7 +76,7 @@ Tells old new Stopped = ⊥
 
 -- What a fault leaves: what was read stands ahead, and what was written is a front of what the next chunk adds.
 pub record IsLeftByFault (old new : SessionValue) (read : List (List ℕ)) (shown : List ℕ) (fault : RunFault) : Type 0 where
-  pub stopped : new.stage ≡ stage.Stopped
+  pub stopped : new.state ≡ state.Stopped
   pub read_ahead : IsReadOn old.options.max_reads old.ahead new.ahead read
   pub front : (pieces cs : List (List ℕ)) (text : List ℕ) → HasDone old pieces cs text → IsCutShort new (pieces ++ read) cs text shown
   pub tells : Tells old new fault

@@ -28,7 +28,7 @@ pub record SessionValue : Type 0 where
   pub options : Options
   pub progress : Progress
   pub ahead : Ahead
-  pub stage : SessionState
+  pub state : SessionState
   pub failure : Option (List ℕ)
 
 abbrev pub at_start : Package → Script → Options → SessionValue
@@ -38,7 +38,7 @@ at_start home passes options = record {
   options = options;
   progress = record { kept = map no_slot passes; changed = false; failed = false; last = None; line = 1 };
   ahead = record { bytes = []; reads = 0; ended = false };
-  stage = Going;
+  state = Going;
   failure = None;
 }
 
@@ -107,5 +107,5 @@ pub record IsReady (v : SessionValue) : Type 0 where
 pub record IsSession (v : SessionValue) : Type 0 where
   pub limit : v.options.max_reads ≤ 2 ^ 50
   pub made : v.ahead.reads ≤ v.options.max_reads
-  pub ready : v.stage ≡ Going → IsReady v
-  pub fits : (end : End) → v.stage ≡ Ended end → Fits v.progress.kept v.passes
+  pub ready : v.state ≡ Going → IsReady v
+  pub fits : (end : End) → v.state ≡ Ended end → Fits v.progress.kept v.passes

@@ -45,7 +45,7 @@ pub(crate) fn unchanged_by_text(
     command: &Command,
     found: Found<'_>,
 ) -> Result<Option<Unchanged>, NoMemory>
-    ensures { IfOk result (λ told. IfSome told (LeavesRule command.now env.entry.home.now found.entry)) }
+    ensures { IfOk result (λ known. IfSome known (LeavesRule command.now env.entry.home.now found.entry)) }
 {
     if let Some(attr) = looked_at(command) {
         if !is_without(found, attr) {

@@ -1,5 +1,5 @@
 //! What a command makes of the lines of an argument, by a small rule that has this argument alone. `canonical.rt` calls
-//! `edit_lines` for a rule of which it edits one argument.
+//! `execute_on_lines` for a rule of which it edits one argument.
 
 ghost use Rattle.std.specs.Prelude.{◌≡◌, ◌++◌, ◌∷◌, ℕ, List, [], codes, option_map, string_bytes, IfOk, IfSome, IsTrue, OnOk, Some};
 ghost use Rattle.bz_canonical.specs.Canonical.{argument_lines, small_text};
@@ -61,16 +61,16 @@ const LONGEST: usize = 1 << 16;
 
 /// What a command makes of the argument that has these lines, or, where they are none, adds to a rule that has no
 /// argument of the name. None: the rule is to be seen.
-pub(crate) fn edit_lines<'s>(
+pub(crate) fn execute_on_lines<'s>(
     script: ScriptRun<'_>,
     command: &Command,
     lines: &str,
     spare: &'s mut Spare,
 ) -> Result<Option<EditedArgument<'s>>, NoMemory>
     requires { (attr : List ℕ) × (one_attribute command.now ≡ Some attr) }
-    ensures { IfOk result (λ told. IfSome told (EditsLines script.entry.max_depth command.now script.entry.home.now lines.now)) }
+    ensures { IfOk result (λ known. IfSome known (EditsLines script.entry.max_depth command.now script.entry.home.now lines.now)) }
 {
-    match edit_list(script, command, lines, &mut spare.laid)? {
+    match execute_on_list(script, command, lines, &mut spare.laid)? {
         Some(EditedList::Unchanged) => return Ok(Some(EditedArgument::Unchanged)),
         Some(EditedList::Written) => return Ok(Some(EditedArgument::Lines(spare.laid.as_slice()))),
         None => {}
@@ -85,19 +85,19 @@ pub(crate) fn edit_lines<'s>(
         return Ok(None);
     }
     put_small_rule(lines, &mut spare.small)?;
-    edit_small_rule(script, command, spare)
+    execute_on_small_rule(script, command, spare)
 }
 
 /// What the command makes of the argument that has these lines, where it adds one value to a list of strings, looks for
-/// one that is not in it, or puts a comment above. None: it may be another command, or another argument; then the buffer
-/// does not count.
-fn edit_list(
+/// one that is not in it, or puts a comment above. None: it may be another command, or another argument; then the
+/// buffer does not count.
+fn execute_on_list(
     script: ScriptRun<'_>,
     command: &Command,
     lines: &str,
     written: &mut Vec<u8>,
 ) -> Result<Option<EditedList>, NoMemory>
-    ensures { IfOk result (λ told. IfSome told (EditsList script.entry.max_depth command.now script.entry.home.now
+    ensures { IfOk result (λ known. IfSome known (EditsList script.entry.max_depth command.now script.entry.home.now
         lines.now written.new.items)) }
 {
     if let Some(new) = added_by(command) {
@@ -106,10 +106,10 @@ fn edit_list(
             home: script.home,
         };
         let added = put_added(env, lines, new, script.max_depth, written)?;
-        return Ok(edited_by(added));
+        return Ok(list_edit_of(added));
     }
     if let Some(comment) = comment_by(command) {
-        return edit_comment(script, comment, lines, written);
+        return execute_comment(script, comment, lines, written);
     }
     if is_lacking(script, command, lines) {
         return Ok(Some(EditedList::Unchanged));
@@ -132,7 +132,7 @@ fn is_lacking(script: ScriptRun<'_>, command: &Command, lines: &str) -> bool
     }
 }
 
-fn edited_by(added: Option<Added>) -> Option<EditedList>
+fn list_edit_of(added: Option<Added>) -> Option<EditedList>
     ensures { option_map list_edit added ≡ result }
 {
     match added? {
@@ -155,13 +155,13 @@ fn comment_by(command: &Command) -> Option<AttributeComment<'_>>
 }
 
 /// The same of a comment.
-fn edit_comment(
+fn execute_comment(
     script: ScriptRun<'_>,
     comment: AttributeComment<'_>,
     lines: &str,
     written: &mut Vec<u8>,
 ) -> Result<Option<EditedList>, NoMemory>
-    ensures { IfOk result (λ told. IfSome told (EditsList script.entry.max_depth
+    ensures { IfOk result (λ known. IfSome known (EditsList script.entry.max_depth
         (Comment (Attribute comment.entry.attr.now) comment.entry.text.now) script.entry.home.now lines.now
         written.new.items)) }
 {
@@ -269,15 +269,15 @@ fn set_by(command: &Command) -> Option<NewArgument<'_>>
     }
 }
 
-/// The command on the small rule in the buffer.
-fn edit_small_rule<'s>(
+/// Executes the command on the small rule in the buffer.
+fn execute_on_small_rule<'s>(
     script: ScriptRun<'_>,
     command: &Command,
     spare: &'s mut Spare,
 ) -> Result<Option<EditedArgument<'s>>, NoMemory>
     requires { (attr : List ℕ) × (one_attribute command.now ≡ Some attr) }
-    ensures { IfOk result (λ told. IfSome told (EditsSmallRule script.entry.max_depth command.now script.entry.home.now
-        (string_bytes spare.old.small))) }
+    ensures { IfOk result (λ known. IfSome known (EditsSmallRule script.entry.max_depth command.now
+        script.entry.home.now (string_bytes spare.old.small))) }
 {
     if spare.small.len() > 2 * LONGEST {
         return Ok(None);
@@ -319,7 +319,7 @@ fn lines_after<'s>(
     slot: &Option<StatementRow<'_>>,
     text: &'s mut Vec<u8>,
 ) -> Result<Option<EditedArgument<'s>>, NoMemory>
-    ensures { IfOk result (λ told. IfSome told (AreLinesAfter done.now slot.now)) }
+    ensures { IfOk result (λ known. IfSome known (AreLinesAfter done.now slot.now)) }
 {
     if done.note.is_some() || done.line.is_some() {
         return Ok(None);

@@ -1,6 +1,6 @@
 //! Chunks of which it is known what would be written without reading them, of statements that the script leaves as they
 //! are, or of which it edits one argument: they are copied. `next_chunk.rt` asks here first, of the first chunk of the
-//! text ahead (`edit_canonical`) and of one that was found line by line (`edit_whole`), and reads what is left.
+//! text ahead (`copy_canonical`) and of one that was found line by line (`copy_whole`), and reads what is left.
 
 ghost use Rattle.std.specs.Prelude.{◌≡◌, ◌+◌, ◌<◌, ◌≤◌, ◌^◌, ◌++◌, if◌then◌else◌, [], ◌∷◌, Some, false, true, bytes_eq, codes, length, option_map, IfOk, OnOk, IfSome, IfNone, IsTrue};
 ghost use Rattle.bz_tree.specs.Tree.{Statement};
@@ -18,7 +18,7 @@ ghost use Rattle.bz_engine.specs.private.NextChunks.{EditsFound, IsFirstEdited, 
 ghost use Rattle.bz_engine.specs.private.Rows.{HasKey};
 
 use crate::answer::{marks_found, unchanged_by_text};
-use crate::argument::{EditedArgument, edit_lines};
+use crate::argument::{EditedArgument, execute_on_lines};
 use crate::edit::ScriptRun;
 use crate::failure::failure_by_text;
 use crate::progress::Progress;
@@ -26,7 +26,7 @@ use crate::rule_passes::OnePass;
 use crate::rules::Rules;
 use crate::written::{begin_statement, put_canonical};
 use bz_attribute::Env;
-use bz_canonical::{ArgumentPlace, CanonicalChunk, canonical};
+use bz_canonical::{ArgumentPlace, CanonicalChunk, read_canonical};
 use bz_devices::ahead::Ahead;
 use bz_memory::{NoMemory, extend_from_slice};
 use bz_passes::index::Key;
@@ -34,9 +34,9 @@ use bz_passes::script::{only_pass, passes_by};
 use bz_rule::one_attribute;
 use bz_tree::Class;
 
-/// The script on the first chunk of the text ahead, where what would be written of it and what the script makes of its
-/// statement are known without it: it is copied. None, with nothing done: it is to be read.
-pub(crate) fn edit_canonical(
+/// Runs the script on the first chunk of the text ahead, where what would be written of it and what the script makes of
+/// its statement are known without it: it is copied. None, with nothing done: it is to be read.
+pub(crate) fn copy_canonical(
     ahead: &Ahead,
     script: ScriptRun<'_>,
     progress: &mut Progress,
@@ -58,20 +58,20 @@ pub(crate) fn edit_canonical(
     match find_canonical(script, ahead.text(), script.max_statement, &mut written)? {
         None => {
             progress.give_back_written(written);
-            progress.looked_in_vain();
+            progress.fail_look();
             Ok(None)
         }
         Some(found) => {
-            let len = edit_known(script, found, progress, text)?;
+            let len = copy_known(script, found, progress, text)?;
             progress.give_back_written(written);
             Ok(len)
         }
     }
 }
 
-/// The script on a chunk that was found line by line, where the same is known of it. False, with nothing done: it is to
-/// be read.
-pub(crate) fn edit_whole(
+/// Runs the script on a chunk that was found line by line, where the same is known of it. False, with nothing done: it
+/// is to be read.
+pub(crate) fn copy_whole(
     script: ScriptRun<'_>,
     chunk: &str,
     progress: &mut Progress,
@@ -88,7 +88,7 @@ pub(crate) fn edit_whole(
     let mut written = progress.take_written(script.alloc);
     match find_canonical(script, chunk, u64::MAX, &mut written)? {
         Some(found) if found.chunk.chunk.len() == chunk.len() => {
-            let len = edit_known(script, found, progress, text)?;
+            let len = copy_known(script, found, progress, text)?;
             progress.give_back_written(written);
             Ok(len.is_some())
         }
@@ -99,11 +99,11 @@ pub(crate) fn edit_whole(
     }
 }
 
-/// The script on the statement of a chunk that was found, for both calls above: no pass marks it, or `edit_marked` knows
-/// what is made of it. `text` is the buffer for what is written of the chunk. None, with nothing done: the chunk is to be
-/// read.
+/// Runs the script on the statement of a chunk that was found, for both calls above: no pass marks it, or `copy_marked`
+/// knows what is made of it. `text` is the buffer for what is written of the chunk. None, with nothing done: the chunk
+/// is to be read.
 #[inline(always)]
-fn edit_known(
+fn copy_known(
     script: ScriptRun<'_>,
     found: Found<'_>,
     progress: &mut Progress,
@@ -119,11 +119,11 @@ fn edit_known(
 {
     if is_passed_by(script, found) {
         put_canonical(script, found.chunk, progress, text)?;
-    } else if !edit_marked(script, &found, progress, text)? {
-        progress.looked_in_vain();
+    } else if !copy_marked(script, &found, progress, text)? {
+        progress.fail_look();
         return Ok(None);
     }
-    progress.looked_well();
+    progress.succeed_look();
     progress.pass_lines(found.chunk.chunk.as_bytes());
     Ok(Some(found.chunk.chunk.len()))
 }
@@ -143,13 +143,13 @@ fn find_canonical<'a>(
     max_statement: u64,
     written: &'a mut Vec<u8>,
 ) -> Result<Option<Found<'a>>, NoMemory>
-    ensures canonical { IfOk result (λ told. IfSome told (λ found. IsCanonical script.entry.max_depth found.attr.now
+    ensures canonical { IfOk result (λ known. IfSome known (λ found. IsCanonical script.entry.max_depth found.attr.now
         found.chunk.class (option_map (λ name. name.now) found.chunk.name) (option_map between found.chunk.place)
         found.chunk.chunk.now found.chunk.written.now text.now)) }
-    ensures size { IfOk result (λ told. IfSome told (λ found. length found.chunk.chunk.now ≤ max_statement)) }
+    ensures size { IfOk result (λ known. IfSome known (λ found. length found.chunk.chunk.now ≤ max_statement)) }
 {
     let asked = script.passes.asked();
-    let Some(chunk) = canonical(text, asked, script.max_depth, written)? else {
+    let Some(chunk) = read_canonical(text, asked, script.max_depth, written)? else {
         return Ok(None);
     };
     if chunk.chunk.len() as u64 > max_statement {
@@ -161,10 +161,10 @@ fn find_canonical<'a>(
     }))
 }
 
-/// The script on the statement of such a chunk, by the first of these: the one command leaves it as it is, fails on it,
-/// or edits one argument. False, with nothing done: the statement is to be seen.
+/// Runs the script on the statement of such a chunk, by the first of these: the one command leaves it as it is, fails
+/// on it, or edits one argument. False, with nothing done: the statement is to be seen.
 #[inline(never)]
-fn edit_marked(
+fn copy_marked(
     script: ScriptRun<'_>,
     found: &Found<'_>,
     progress: &mut Progress,
@@ -174,7 +174,7 @@ fn edit_marked(
     ensures { IfOk result (EditsFound (run_of script.entry) found.now progress.old progress.new
         text.old.items text.new.items) }
 {
-    let Some(only) = marking(script, *found) else {
+    let Some(only) = find_one_pass(script, *found) else {
         return Ok(false);
     };
     let env = Env {
@@ -195,7 +195,7 @@ fn edit_marked(
 }
 
 /// The one pass of the script that marks the statement of the chunk, where it has one command.
-fn marking<'a>(script: ScriptRun<'a>, found: Found<'_>) -> Option<OnePass<'a>>
+fn find_one_pass<'a>(script: ScriptRun<'a>, found: Found<'_>) -> Option<OnePass<'a>>
     ensures { IfSome result (λ only. IsForOne script.entry.max_depth script.entry.home.now script.entry.passes.now only
         found.entry) }
 {
@@ -229,7 +229,7 @@ fn edit_argument(
         return Ok(false);
     };
     let mut spare = progress.take_spare(script.alloc);
-    match edit_lines(script, only.command, place.lines, &mut spare)? {
+    match execute_on_lines(script, only.command, place.lines, &mut spare)? {
         None => {
             progress.give_back(spare);
             Ok(false)

@@ -69,8 +69,8 @@ fn edited_of(scripted: Scripted) -> Edited
     }
 }
 
-/// The script on the next chunk, which is read as this: what it leaves goes after the text, and what is kept is then
-/// that of the chunks with this one. After a refusal neither the text nor what is kept is of use.
+/// Runs the script on the next chunk, which is read as this: what it leaves goes after the text, and what is kept is
+/// then that of the chunks with this one. After a refusal neither the text nor what is kept is of use.
 pub(crate) fn edit_chunk<'a>(
     script: ScriptRun<'a>,
     chunk: &str,
@@ -100,7 +100,7 @@ pub(crate) fn edit_chunk<'a>(
     Ok(edited_of(scripted))
 }
 
-/// The script on the statement of a row.
+/// Runs the script on the statement of a row.
 fn edit_row<'a>(
     script: ScriptRun<'a>,
     row: Row<'a>,
@@ -122,7 +122,7 @@ fn edit_row<'a>(
     edit_slot(script, &mut slot, progress, text)
 }
 
-/// The script on what is in a slot.
+/// Runs the script on what is in a slot.
 fn edit_slot<'a>(
     script: ScriptRun<'a>,
     slot: &mut Option<StatementRow<'a>>,

@@ -24,7 +24,7 @@ pub(crate) fn failure_by_text(
     command: &Command,
     found: Found<'_>,
 ) -> Result<Option<Entry>, NoMemory>
-    ensures { IfOk result (λ told. IfSome told (FailsRule script.entry.keep_going command.now script.entry.home.now found.entry)) }
+    ensures { IfOk result (λ known. IfSome known (FailsRule script.entry.keep_going command.now script.entry.home.now found.entry)) }
 {
     if !script.keep_going {
         return Ok(None);

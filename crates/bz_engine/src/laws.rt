@@ -6,7 +6,7 @@ ghost use Rattle.bz_command.specs.Labels.{Package, Target};
 ghost use Rattle.bz_rule.specs.Commands.{Command};
 ghost use Rattle.bz_command.specs.Passes.{Pass, Slot, some_execution};
 ghost use Rattle.bz_engine.specs.Changes.{AreCommands, Changes};
-ghost use Rattle.bz_engine.specs.File.{Gives, IsFile};
+ghost use Rattle.bz_engine.specs.File.{IsAnswerOf, IsFile};
 ghost use Rattle.bz_engine.specs.Outcome.{Script, Run, Told, IsOutcome};
 ghost use Rattle.bz_engine.specs.SessionValue.{HasDone, at_start};
 ghost use Rattle.bz_engine.specs.declared.options.Options.{Options};
@@ -23,7 +23,7 @@ pub fn changed_is_a_difference()
 /// A chunk gives one answer: a statement, nothing or a fault. So a file has one list of statements before one fault.
 pub fn one_list_of_statements()
     ensures chunk { (max_depth line : ℕ) (chunk : List ℕ) (a b : Result (Option Statement) SyntaxFault)
-        → Gives max_depth line chunk a → Gives max_depth line chunk b → a ≡ b }
+        → IsAnswerOf max_depth line chunk a → IsAnswerOf max_depth line chunk b → a ≡ b }
     ensures file { (max_depth : ℕ) (file : List ℕ) (ss ts : List Statement) (f g : Option SyntaxFault)
         → IsFile max_depth file ss f → IsFile max_depth file ts g → (ss ≡ ts) × (f ≡ g) }
 {}
@@ -35,8 +35,8 @@ pub fn one_outcome()
         → IsOutcome run file text2 told2 → (text ≡ text2) × (told ≡ told2) }
 {}
 
-/// A new session has done no chunk: nothing was read, and nothing was written. So `Session::step`, whose `More` leads from
-/// what is done to one chunk more, says what any number of steps has done.
+/// A new session has done no chunk: nothing was read, and nothing was written. So `Session::step`, whose `More` leads
+/// from what is done to one chunk more, says what any number of steps has done.
 pub fn new_session_has_done_nothing()
     ensures { (home : Package) (passes : Script) (options : Options) → HasDone (at_start home passes options) [] [] [] }
 {}

@@ -8,7 +8,7 @@ ghost use Rattle.bz_passes.specs.Exchange.{Fits};
 ghost use Rattle.bz_engine.specs.private.Edits.{EditsChunk, run_of};
 ghost use Rattle.bz_engine.specs.private.NextChunks.{IsFirst, done_chunk};
 
-use crate::canonical::edit_whole;
+use crate::canonical::copy_whole;
 use crate::chunk::not_utf8;
 use crate::edit::{Edited, ScriptRun, edit_chunk};
 use crate::progress::Progress;
@@ -46,8 +46,8 @@ pub(crate) enum First {
     Other,
 }
 
-/// The script on the first chunk of the text ahead, which is read by the tokens that were made to find its end. Nothing
-/// is done where the text does not show where it ends, where it has a fault, is a block, or is too long.
+/// Runs the script on the first chunk of the text ahead, which is read by the tokens that were made to find its end.
+/// Nothing is done where the text does not show where it ends, where it has a fault, is a block, or is too long.
 pub(crate) fn edit_first(
     ahead: &Ahead,
     script: ScriptRun<'_>,
@@ -75,7 +75,7 @@ pub(crate) fn edit_first(
     Ok(First::Edited(NextChunk { len, edited }))
 }
 
-/// The script on the chunk that has these tokens.
+/// Runs the script on the chunk that has these tokens.
 #[inline(never)]
 fn edit_tokens<'a>(
     script: ScriptRun<'a>,
@@ -96,7 +96,7 @@ fn edit_tokens<'a>(
     edit_chunk(script, chunk, read, progress, text)
 }
 
-/// The script on the chunk of these bytes.
+/// Runs the script on the chunk of these bytes.
 pub(crate) fn edit_bytes(
     script: ScriptRun<'_>,
     chunk: &[u8],
@@ -115,7 +115,7 @@ pub(crate) fn edit_bytes(
         Ok(whole) => whole,
         Err(valid) => return Ok(Edited::Faulty(not_utf8(line, &chunk[..valid]))),
     };
-    if edit_whole(script, whole, progress, text)? {
+    if copy_whole(script, whole, progress, text)? {
         return Ok(Edited::Done);
     }
     let read = read_text(script.alloc, script.bump, whole, line, script.max_depth);

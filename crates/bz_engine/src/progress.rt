@@ -110,14 +110,14 @@ impl Progress {
     }
 
     /// It was not known, or the script was to see its statement.
-    pub(crate) fn looked_in_vain(&mut self)
+    pub(crate) fn fail_look(&mut self)
         ensures { self.new ≡ self.old }
     {
         self.looks.fail();
     }
 
     /// It was known, and the script did without its statement.
-    pub(crate) fn looked_well(&mut self)
+    pub(crate) fn succeed_look(&mut self)
         ensures { self.new ≡ self.old }
     {
         self.looks.succeed();
@@ -131,7 +131,7 @@ impl Progress {
     }
 
     /// They did not.
-    pub(crate) fn ended_ahead(&mut self)
+    pub(crate) fn end_ahead(&mut self)
         ensures { self.new ≡ self.old }
     {
         self.looks.end_ahead();

@@ -17,7 +17,7 @@ ghost use Rattle.bz_engine.specs.SessionValue.{at_start, run_in, IsSameRun, IsRe
 ghost use Rattle.bz_engine.specs.SessionSteps.{Steps, reader, writer};
 ghost use Rattle.bz_engine.specs.declared.session.SessionState.TheVariants.{Going, Ended, Stopped};
 
-use crate::canonical::edit_canonical;
+use crate::canonical::copy_canonical;
 use crate::edit::{Edited, ScriptRun};
 use crate::looks::Looks;
 use crate::next_chunk::{First, NextChunk, done_chunk, edit_bytes, edit_first};
@@ -70,7 +70,7 @@ pub struct Session {
     options: Options,
     progress: Progress,
     ahead: Ahead,
-    stage: SessionState,
+    state: SessionState,
     /// The message of the failure that ended the run.
     failure: Option<Text>,
     /// The text of one chunk; used again for each.
@@ -85,10 +85,10 @@ impl Model for Session {
     ghost Value = { spec.SessionValue };
 
     ghost view = { λ s.
-        record { home = s.home; passes = s.passes; options = s.options; progress = s.progress; ahead = s.ahead; stage = s.stage; failure = s.failure } };
+        record { home = s.home; passes = s.passes; options = s.options; progress = s.progress; ahead = s.ahead; state = s.state; failure = s.failure } };
 
     ghost invariant = { λ s. spec.IsSession
-        (record { home = s.home; passes = s.passes; options = s.options; progress = s.progress; ahead = s.ahead; stage = s.stage; failure = s.failure }) };
+        (record { home = s.home; passes = s.passes; options = s.options; progress = s.progress; ahead = s.ahead; state = s.state; failure = s.failure }) };
 }
 
 impl Session {
@@ -121,7 +121,7 @@ impl Session {
                 written: Vec::new(alloc),
             },
             ahead: Ahead::new(alloc),
-            stage: SessionState::Going,
+            state: SessionState::Going,
             failure: None,
             text: Vec::new(alloc),
             bump: Bump::new(alloc),
@@ -136,17 +136,17 @@ impl Session {
     ) -> Result<Step, RunFault>
         ensures same { IsSameRun self.old self.new }
         // Once the session was stopped, nothing is read or written.
-        ensures stopped { self.old.stage ≡ Stopped
+        ensures stopped { self.old.state ≡ Stopped
             → (result ≡ Err RunFault.Stopped) × (source.new ≡ source.old) × (sink.new ≡ sink.old) }
         // Nor once it has ended, and it stays as it is.
-        ensures ended { (end : _) → self.old.stage ≡ Ended end
+        ensures ended { (end : _) → self.old.state ≡ Ended end
             → (result ≡ Ok Step.End) × (self.new ≡ self.old) × (source.new ≡ source.old) × (sink.new ≡ sink.old) }
         // Else it takes one chunk, comes to the end or answers a fault.
-        ensures steps { self.old.stage ≡ Going → Steps (reader S.gave S.failures source.old source.new)
+        ensures steps { self.old.state ≡ Going → Steps (reader S.gave S.failures source.old source.new)
             (writer W.took W.failures sink.old sink.new) self.old self.new result }
-        ensures stops { OnErr result (self.new.stage ≡ Stopped) }
+        ensures stops { OnErr result (self.new.state ≡ Stopped) }
     {
-        match self.stage {
+        match self.state {
             SessionState::Stopped => return Err(RunFault::Stopped),
             SessionState::Ended(_) => return Ok(Step::End),
             SessionState::Going => {}
@@ -156,36 +156,36 @@ impl Session {
 
     /// What the run tells, once it has ended.
     pub fn finish(mut self) -> Result<Report, RunFault>
-        ensures report { (end : _) → self.stage ≡ Ended end
+        ensures report { (end : _) → self.state ≡ Ended end
             → IfOk result (λ report. told_by report ≡ told_at self end) }
         // Where it has ended, only a lack of memory keeps the report back; else it is refused.
-        ensures memory { (end : _) → self.stage ≡ Ended end → OnErr result (result ≡ Err (RunFault.OutOfMemory no_memory)) }
-        ensures stopped { ((end : _) → self.stage ≢ Ended end) → result ≡ Err RunFault.Stopped }
+        ensures memory { (end : _) → self.state ≡ Ended end → OnErr result (result ≡ Err (RunFault.OutOfMemory no_memory)) }
+        ensures stopped { ((end : _) → self.state ≢ Ended end) → result ≡ Err RunFault.Stopped }
     {
         self.take_report()
     }
 
     /// What the run tells, once it has ended; then the session is of no use.
     fn take_report(&mut self) -> Result<Report, RunFault>
-        ensures report { (end : _) → self.old.stage ≡ Ended end
+        ensures report { (end : _) → self.old.state ≡ Ended end
             → IfOk result (λ report. told_by report ≡ told_at self.old end) }
-        ensures memory { (end : _) → self.old.stage ≡ Ended end → OnErr result (result ≡ Err (RunFault.OutOfMemory no_memory)) }
-        ensures stopped { ((end : _) → self.old.stage ≢ Ended end) → result ≡ Err RunFault.Stopped }
+        ensures memory { (end : _) → self.old.state ≡ Ended end → OnErr result (result ≡ Err (RunFault.OutOfMemory no_memory)) }
+        ensures stopped { ((end : _) → self.old.state ≢ Ended end) → result ≡ Err RunFault.Stopped }
     {
-        let SessionState::Ended(end) = self.stage else {
+        let SessionState::Ended(end) = self.state else {
             return Err(RunFault::Stopped);
         };
-        self.stage = SessionState::Stopped;
+        self.state = SessionState::Stopped;
         self.report_at(end)
     }
 
-    /// The report of a session that ended in this way. `take_report` stops it first: what was kept moves into the report,
-    /// and a session that counts as ended has to have it still (`IsSession`).
+    /// The report of a session that ended in this way. `take_report` stops it first: what was kept moves into the
+    /// report, and a session that counts as ended has to have it still (`IsSession`).
     ///
     /// What is kept has a place for each pass and each of its commands (`Fits`), and is told with them in turn. So each
     /// step leaves it.
     fn report_at(&mut self, end: End) -> Result<Report, RunFault>
-        requires stopped { self.old.stage ≡ Stopped }
+        requires stopped { self.old.state ≡ Stopped }
         requires fits { Fits self.old.progress.kept self.old.passes }
         ensures told { IfOk result (λ report. told_by report ≡ told_at self.old end) }
         ensures memory { OnErr result (result ≡ Err (RunFault.OutOfMemory no_memory)) }
@@ -213,18 +213,18 @@ impl Session {
         source: &mut S,
         sink: &mut W,
     ) -> Result<Step, RunFault>
-        requires going { self.old.stage ≡ Going }
+        requires going { self.old.state ≡ Going }
         ensures same { IsSameRun self.old self.new }
         ensures steps { Steps (reader S.gave S.failures source.old source.new)
             (writer W.took W.failures sink.old sink.new) self.old self.new result }
-        ensures stops { OnErr result (self.new.stage ≡ Stopped) }
+        ensures stops { OnErr result (self.new.state ≡ Stopped) }
     {
         if self.is_at_empty_line() {
             self.pass_empty_line();
             return Ok(Step::More);
         }
         // After a fault what is kept is of no use.
-        self.stage = SessionState::Stopped;
+        self.state = SessionState::Stopped;
         let mut text = self.take_text();
         let Some(NextChunk { len, edited }) = self.edit_next(source, &mut text)? else {
             return Ok(self.end_at(End::Whole));
@@ -233,7 +233,7 @@ impl Session {
             Edited::Done => {
                 self.write(len, text.as_slice(), sink)?;
                 self.text = text;
-                self.stage = SessionState::Going;
+                self.state = SessionState::Going;
                 Ok(Step::More)
             }
             Edited::Faulty(fault) => Ok(self.end_at(End::Syntax(fault))),
@@ -254,7 +254,7 @@ impl Session {
 
     /// The empty line ahead is taken.
     fn pass_empty_line(&mut self)
-        requires going { self.old.stage ≡ Going }
+        requires going { self.old.state ≡ Going }
         requires some { 0 < length self.old.ahead.bytes }
         ensures { self.new ≡ record self.old {
           progress = record self.old.progress { line = self.old.progress.line + 1 };
@@ -269,10 +269,10 @@ impl Session {
     /// `finish` tells it (`IsSession`).
     fn end_at(&mut self, end: End) -> Step
         requires { Fits self.old.progress.kept self.old.passes }
-        ensures ended { self.new ≡ record self.old { stage = Ended end } }
+        ensures ended { self.new ≡ record self.old { state = Ended end } }
         ensures end { result ≡ Step.End }
     {
-        self.stage = SessionState::Ended(end);
+        self.state = SessionState::Ended(end);
         Step::End
     }
 
@@ -295,7 +295,7 @@ impl Session {
     ) -> Result<Option<NextChunk>, RunFault>
         requires ready { IsReady self.old }
         requires made { self.old.ahead.reads ≤ self.old.options.max_reads }
-        requires stopped { self.old.stage ≡ Stopped }
+        requires stopped { self.old.state ≡ Stopped }
         ensures same { self.new ≡ record self.old { ahead = self.new.ahead; progress = self.new.progress } }
         ensures finds { FindsNext S.gave S.failures source.old source.new self.old self.new result }
         ensures fits { OnOk result (Fits self.new.progress.kept self.new.passes) }
@@ -315,7 +315,7 @@ impl Session {
     ) -> Result<Option<NextChunk>, RunFault>
         requires ready { CanTake self.old }
         requires made { self.old.ahead.reads ≤ self.old.options.max_reads }
-        requires stopped { self.old.stage ≡ Stopped }
+        requires stopped { self.old.state ≡ Stopped }
         requires bound { length self.old.ahead.bytes ≤ self.old.options.max_statement + 8192 }
         ensures same { self.new ≡ record self.old { ahead = self.new.ahead; progress = self.new.progress } }
         ensures finds { FindsNext S.gave S.failures source.old source.new self.old self.new result }
@@ -350,7 +350,7 @@ impl Session {
         source: &mut S,
         text: &mut Vec<u8>,
     ) -> Result<Option<NextChunk>, RunFault>
-        requires stopped { self.old.stage ≡ Stopped }
+        requires stopped { self.old.state ≡ Stopped }
         requires ready { CanTake self.old }
         requires bound { length self.old.ahead.bytes ≤ self.old.options.max_statement + 8192 }
         ensures same { self.new ≡ record self.old { ahead = self.new.ahead; progress = self.new.progress } }
@@ -371,7 +371,7 @@ impl Session {
 
     /// Runs the script on the first chunk of the text ahead: it is copied (`canonical.rt`), or else read.
     fn edit_ahead(&mut self, text: &mut Vec<u8>) -> Result<First, NoMemory>
-        requires stopped { self.old.stage ≡ Stopped }
+        requires stopped { self.old.state ≡ Stopped }
         requires ready { CanTake self.old }
         ensures same { self.new ≡ record self.old { progress = self.new.progress } }
         ensures unread { IsReadOn self.old.options.max_reads self.old.ahead self.new.ahead [] }
@@ -380,16 +380,16 @@ impl Session {
     {
         let options = self.options;
         let script = script_run(self.alloc, &self.bump, &self.home, &self.passes, options);
-        match edit_canonical(&self.ahead, script, &mut self.progress, text)? {
+        match copy_canonical(&self.ahead, script, &mut self.progress, text)? {
             Some(len) => Ok(First::Edited(done_chunk(len))),
-            None => self.edit_read(text),
+            None => self.read_and_edit(text),
         }
     }
 
     /// The same, where the chunk is read (`next_chunk.rt`).
     #[inline(never)]
-    fn edit_read(&mut self, text: &mut Vec<u8>) -> Result<First, NoMemory>
-        requires stopped { self.old.stage ≡ Stopped }
+    fn read_and_edit(&mut self, text: &mut Vec<u8>) -> Result<First, NoMemory>
+        requires stopped { self.old.state ≡ Stopped }
         requires ready { CanTake self.old }
         ensures same { self.new ≡ record self.old { progress = self.new.progress } }
         ensures unread { IsReadOn self.old.options.max_reads self.old.ahead self.new.ahead [] }
@@ -405,7 +405,7 @@ impl Session {
 
     /// Runs the script on the chunk of the first bytes ahead.
     fn edit(&mut self, len: usize, text: &mut Vec<u8>) -> Result<Edited, NoMemory>
-        requires stopped { self.old.stage ≡ Stopped }
+        requires stopped { self.old.state ≡ Stopped }
         requires within { len ≤ length self.old.ahead.bytes }
         requires fits { Fits self.old.progress.kept self.old.passes }
         requires lines { self.old.progress.line + len < 2 ^ 64 }
@@ -422,7 +422,7 @@ impl Session {
 
     /// Writes the text of the chunk, which is then taken.
     fn write<W: Sink>(&mut self, len: usize, text: &[u8], sink: &mut W) -> Result<(), RunFault>
-        requires stopped { self.old.stage ≡ Stopped }
+        requires stopped { self.old.state ≡ Stopped }
         requires within { len ≤ length self.old.ahead.bytes }
         ensures taken { OnOk result
             (self.new ≡ record self.old { ahead = record self.old.ahead { bytes = drop len self.old.ahead.bytes } }) }
@@ -526,7 +526,7 @@ fn read_short<S: Source>(
     if progress.is_likely_short(ahead.bytes()) {
         let line = progress.line;
         if !read_more(ahead, source, Search { options, line })? {
-            progress.ended_ahead();
+            progress.end_ahead();
         }
     }
     Ok(())

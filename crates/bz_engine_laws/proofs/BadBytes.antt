@@ -14,7 +14,7 @@ use Rattle.bz_tree.specs.Tree.{Statement}
 use Rattle.bz_engine.proofs.Given.{none_is_some}
 use Rattle.bz_engine.specs.declared.report.SyntaxFault.{SyntaxFault}
 use Rattle.bz_engine.specs.declared.report.SyntaxFault.TheVariants.{NotUtf8}
-use Rattle.bz_engine.specs.File.{not_utf8, Follows, Gives, Give, IsFile}
+use Rattle.bz_engine.specs.File.{not_utf8, Follows, IsAnswerOf, AreStatementsOf, IsFile}
 use Rattle.bz_engine_laws.proofs.Utf8Chunks.{cut_after_newline, ends_or_last}
 
 -- fronts of a text in two parts
@@ -81,7 +81,7 @@ bad_after line c rest fault (inl none) text bad = empty_bad bad.0 (subst (λ r. 
 bad_after line c rest fault (inr ends) text bad = (length c + bad.0, valid_after c rest bad.0 ends text bad.1, bad.2 ∙ place_after line c rest bad.0 ends)
 
 -- that of a file
-bad_byte : (depth line : ℕ) (cs : List (List ℕ)) (bytes : List ℕ) (ss : List Statement) (l k : ℕ) → chunks bytes ≡ cs → Give depth line cs ss (Some (NotUtf8 l k)) → IsBadByte line bytes (NotUtf8 l k)
+bad_byte : (depth line : ℕ) (cs : List (List ℕ)) (bytes : List ℕ) (ss : List Statement) (l k : ℕ) → chunks bytes ≡ cs → AreStatementsOf depth line cs ss (Some (NotUtf8 l k)) → IsBadByte line bytes (NotUtf8 l k)
 bad_byte depth line [] bytes ss l k e g = none_is_some (NotUtf8 l k) (sym g.1)
 bad_byte depth line (c ∷ cs) bytes ss l k e g =
     let first = first_cut bytes c cs e in
@@ -91,11 +91,11 @@ bad_byte depth line (c ∷ cs) bytes ss l k e g =
     same_fault : (h m : SyntaxFault) → Some h ≡ Some m → h ≡ m
     same_fault h m is = cc
 
-    by_answer : (rest : List ℕ) → (rest ≡ []) ⊎ (ends_in_newline c ≡ true) → (a : Result (Option Statement) SyntaxFault) → Gives depth line c a
-        → Follows a (Give depth (line_at line c) cs) ss (Some (NotUtf8 l k))
-        → ((rs : List Statement) → Give depth (line_at line c) cs rs (Some (NotUtf8 l k)) → IsBadByte (line_at line c) rest (NotUtf8 l k)) → IsBadByte line (c ++ rest) (NotUtf8 l k)
+    by_answer : (rest : List ℕ) → (rest ≡ []) ⊎ (ends_in_newline c ≡ true) → (a : Result (Option Statement) SyntaxFault) → IsAnswerOf depth line c a
+        → Follows a (AreStatementsOf depth (line_at line c) cs) ss (Some (NotUtf8 l k))
+        → ((rs : List Statement) → AreStatementsOf depth (line_at line c) cs rs (Some (NotUtf8 l k)) → IsBadByte (line_at line c) rest (NotUtf8 l k)) → IsBadByte line (c ++ rest) (NotUtf8 l k)
     by_answer rest ends (Err h) gives after next =
-        let here = subst (λ x. Gives depth line c (Err x)) (same_fault h (NotUtf8 l k) (sym after.1)) gives in
+        let here = subst (λ x. IsAnswerOf depth line c (Err x)) (same_fault h (NotUtf8 l k) (sym after.1)) gives in
         bad_within line c rest (NotUtf8 l k) ends here.1
     by_answer rest ends (Ok None) gives after next = bad_after line c rest (NotUtf8 l k) ends gives.0 (next ss after)
     by_answer rest ends (Ok (Some s)) gives after next = bad_after line c rest (NotUtf8 l k) ends gives.0 (next after.0 after.2)

@@ -20,8 +20,8 @@ use Rattle.bz_tree.specs.Tree.{Statement}
 use Rattle.bz_engine.proofs.Given.{none_is_some}
 use Rattle.bz_engine.specs.declared.report.SyntaxFault.{SyntaxFault}
 use Rattle.bz_engine.specs.declared.report.SyntaxFault.TheVariants.{NotUtf8, Parse}
-use Rattle.bz_engine.specs.File.{Follows, Gives, Give, IsFile}
-use Rattle.bz_engine_laws.specs.WholeFile.{IsOnLines, GivesOnLines, GiveOnLines}
+use Rattle.bz_engine.specs.File.{Follows, IsAnswerOf, AreStatementsOf, IsFile}
+use Rattle.bz_engine_laws.specs.WholeFile.{IsOnLines, IsAnswerOnLines, AreStatementsOnLines}
 use Rattle.bz_engine_laws.proofs.FileTokens.{line_snoc, tokens_snoc, found_tokens, tokens_found}
 
 -- a fault that is not want of memory
@@ -46,11 +46,11 @@ moved_tokens : (line : ℕ) (c : List ℕ) (us tokens : List Placed) (lexical : 
 moved_tokens line c us tokens lexical found same on = (sym same.1, subst (λ ts. IsOnLines line c ts found) same.0 on)
 
 -- What a chunk gives by itself, it gives by the tokens and the fault that it is read as.
-gives_found : (line depth : ℕ) (c : List ℕ) (tokens : List Placed) (lexical : Option LexFault) (found : Option Statement) → IsReadOnlyAs line depth c tokens lexical → Gives depth line c (Ok found) → GivesOnLines line c tokens lexical (Ok found)
+gives_found : (line depth : ℕ) (c : List ℕ) (tokens : List Placed) (lexical : Option LexFault) (found : Option Statement) → IsReadOnlyAs line depth c tokens lexical → IsAnswerOf depth line c (Ok found) → IsAnswerOnLines line c tokens lexical (Ok found)
 gives_found line depth c tokens lexical None same g = let f = found_tokens line depth c None g.1 in let on = moved_tokens line c f.0 tokens lexical None (same f.0 None f.1) f.2 in (g.0, on.0, on.1)
 gives_found line depth c tokens lexical (Some s) same g = let f = found_tokens line depth c (Some s) g.1 in let on = moved_tokens line c f.0 tokens lexical (Some s) (same f.0 None f.1) f.2 in (g.0, on.0, on.1)
 
-gives_on_lines : (line depth : ℕ) (c : List ℕ) (tokens : List Placed) (lexical : Option LexFault) (answer : Result (Option Statement) SyntaxFault) → IsReadOnlyAs line depth c tokens lexical → Gives depth line c answer → GivesOnLines line c tokens lexical answer
+gives_on_lines : (line depth : ℕ) (c : List ℕ) (tokens : List Placed) (lexical : Option LexFault) (answer : Result (Option Statement) SyntaxFault) → IsReadOnlyAs line depth c tokens lexical → IsAnswerOf depth line c answer → IsAnswerOnLines line c tokens lexical answer
 gives_on_lines line depth c tokens lexical (Ok found) same g = gives_found line depth c tokens lexical found same g
 gives_on_lines line depth c tokens lexical (Err (NotUtf8 l col)) same g = g
 gives_on_lines line depth c tokens lexical (Err (Parse (OutOfMemory _))) same g = absurd (g.2 refl)
@@ -65,14 +65,14 @@ gives_on_lines line depth c tokens lexical (Err (Parse (NotAStatement l))) same 
     (g.0, (sym here.1, subst (λ ts. IsNoStatement line c ts l) here.0 g.1.is))
 
 -- and the other way round
-found_gives : (line depth : ℕ) (c : List ℕ) (tokens : List Placed) (found : Option Statement) → IsReadAs line depth c tokens None → GivesOnLines line c tokens None (Ok found) → Gives depth line c (Ok found)
+found_gives : (line depth : ℕ) (c : List ℕ) (tokens : List Placed) (found : Option Statement) → IsReadAs line depth c tokens None → IsAnswerOnLines line c tokens None (Ok found) → IsAnswerOf depth line c (Ok found)
 found_gives line depth c tokens None read g = (g.0, tokens_found line depth c None tokens read g.2)
 found_gives line depth c tokens (Some s) read g = (g.0, tokens_found line depth c (Some s) tokens read g.2)
 
 whole_tokens : (line depth : ℕ) (c : List ℕ) (tokens : List Placed) (lexical f : Option LexFault) → IsReadAs line depth c tokens lexical → lexical ≡ f → IsReadAs line depth c tokens f
 whole_tokens line depth c tokens lexical f read is = subst (IsReadAs line depth c tokens) is read
 
-on_lines_gives : (line depth : ℕ) (c : List ℕ) (tokens : List Placed) (lexical : Option LexFault) (answer : Result (Option Statement) SyntaxFault) → IsReadAs line depth c tokens lexical → GivesOnLines line c tokens lexical answer → Gives depth line c answer
+on_lines_gives : (line depth : ℕ) (c : List ℕ) (tokens : List Placed) (lexical : Option LexFault) (answer : Result (Option Statement) SyntaxFault) → IsReadAs line depth c tokens lexical → IsAnswerOnLines line c tokens lexical answer → IsAnswerOf depth line c answer
 on_lines_gives line depth c tokens lexical (Ok found) read g = found_gives line depth c tokens found (whole_tokens line depth c tokens lexical None read g.1) (g.0, refl, g.2)
 on_lines_gives line depth c tokens lexical (Err (NotUtf8 l col)) read g = g
 on_lines_gives line depth c tokens lexical (Err (Parse (OutOfMemory _))) read g = absurd g.1
@@ -85,7 +85,7 @@ on_lines_gives line depth c tokens lexical (Err (Parse (NotAStatement l))) read 
     (g.0, record { tokens = tokens; are = whole_tokens line depth c tokens lexical None read g.1.0; is = g.1.1 }, λ same. absurd cc)
 
 -- a chunk without a fault has tokens
-given_tokens : (line depth : ℕ) (c : List ℕ) (found : Option Statement) → Gives depth line c (Ok found) → (ts : List Placed) × AreTokensOf line depth c ts
+given_tokens : (line depth : ℕ) (c : List ℕ) (found : Option Statement) → IsAnswerOf depth line c (Ok found) → (ts : List Placed) × AreTokensOf line depth c ts
 given_tokens line depth c None g = (g.1.tokens, g.1.are)
 given_tokens line depth c (Some s) g = (g.1.tokens, g.1.are)
 
@@ -97,7 +97,7 @@ next_follows (Ok None) Near Far ss fault next h = next None refl ss h
 next_follows (Ok (Some s)) Near Far ss fault next h = (h.0, h.1, next (Some s) refl h.0 h.2)
 
 give_on_lines : (depth : ℕ) (before cs : List (List ℕ)) (bytes : List ℕ) (ts tokens : List Placed) (lexical : Option LexFault) (ss : List Statement) (fault : Option SyntaxFault) → chunks bytes ≡ before ++ cs → AreTokensOfChunks 1 depth before ts → IsReadAs 1 depth bytes tokens lexical
-    → Give depth (line_at 1 (concat before)) cs ss fault → GiveOnLines tokens lexical (line_at 1 (concat before)) cs ss fault
+    → AreStatementsOf depth (line_at 1 (concat before)) cs ss fault → AreStatementsOnLines tokens lexical (line_at 1 (concat before)) cs ss fault
 give_on_lines depth before [] bytes ts tokens lexical ss fault e t whole g = g
 give_on_lines depth before (c ∷ cs) bytes ts tokens lexical ss fault e t whole g =
     let line = line_at 1 (concat before) in
@@ -105,16 +105,16 @@ give_on_lines depth before (c ∷ cs) bytes ts tokens lexical ss fault e t whole
     let moved = line_snoc 1 before c in (
       g.0,
       gives_on_lines line depth c (tokens_on_lines line c tokens) (fault_on_lines line c lexical) g.0 same g.1,
-      next_follows g.0 (Give depth (line_at line c) cs) (GiveOnLines tokens lexical (line_at line c) cs) ss fault
+      next_follows g.0 (AreStatementsOf depth (line_at line c) cs) (AreStatementsOnLines tokens lexical (line_at line c) cs) ss fault
           (λ found is rs later.
-          let own = given_tokens line depth c found (subst (Gives depth line c) is g.1) in
-          subst (λ l. GiveOnLines tokens lexical l cs rs fault) (sym moved)
+          let own = given_tokens line depth c found (subst (IsAnswerOf depth line c) is g.1) in
+          subst (λ l. AreStatementsOnLines tokens lexical l cs rs fault) (sym moved)
           (give_on_lines depth (before ++ c ∷ []) cs bytes (ts ++ own.0) tokens lexical rs fault (e ∙ sym (append_assoc before (c ∷ []) cs)) (tokens_snoc 1 depth before c ts own.0 t own.1) whole
-          (subst (λ l. Give depth l cs rs fault) moved later))) g.2,
+          (subst (λ l. AreStatementsOf depth l cs rs fault) moved later))) g.2,
     )
 
 on_lines_give : (depth : ℕ) (before cs : List (List ℕ)) (bytes : List ℕ) (ts tokens : List Placed) (lexical : Option LexFault) (ss : List Statement) (fault : Option SyntaxFault) → chunks bytes ≡ before ++ cs → AreTokensOfChunks 1 depth before ts → IsReadAs 1 depth bytes tokens lexical
-    → GiveOnLines tokens lexical (line_at 1 (concat before)) cs ss fault → Give depth (line_at 1 (concat before)) cs ss fault
+    → AreStatementsOnLines tokens lexical (line_at 1 (concat before)) cs ss fault → AreStatementsOf depth (line_at 1 (concat before)) cs ss fault
 on_lines_give depth before [] bytes ts tokens lexical ss fault e t whole g = g
 on_lines_give depth before (c ∷ cs) bytes ts tokens lexical ss fault e t whole g =
     let line = line_at 1 (concat before) in
@@ -123,15 +123,15 @@ on_lines_give depth before (c ∷ cs) bytes ts tokens lexical ss fault e t whole
     let moved = line_snoc 1 before c in (
       g.0,
       here,
-      next_follows g.0 (GiveOnLines tokens lexical (line_at line c) cs) (Give depth (line_at line c) cs) ss fault
+      next_follows g.0 (AreStatementsOnLines tokens lexical (line_at line c) cs) (AreStatementsOf depth (line_at line c) cs) ss fault
           (λ found is rs later.
-          let own = given_tokens line depth c found (subst (Gives depth line c) is here) in
-          subst (λ l. Give depth l cs rs fault) (sym moved)
+          let own = given_tokens line depth c found (subst (IsAnswerOf depth line c) is here) in
+          subst (λ l. AreStatementsOf depth l cs rs fault) (sym moved)
           (on_lines_give depth (before ++ c ∷ []) cs bytes (ts ++ own.0) tokens lexical rs fault (e ∙ sym (append_assoc before (c ∷ []) cs)) (tokens_snoc 1 depth before c ts own.0 t own.1) whole
-          (subst (λ l. GiveOnLines tokens lexical l cs rs fault) moved later))) g.2,
+          (subst (λ l. AreStatementsOnLines tokens lexical l cs rs fault) moved later))) g.2,
     )
 
-pub by_its_lines : (depth : ℕ) (bytes : List ℕ) (ss : List Statement) (fault : Option SyntaxFault) (tokens : List Placed) (lexical : Option LexFault) → IsReadAs 1 depth bytes tokens lexical → (IsFile depth bytes ss fault ↔ GiveOnLines tokens lexical 1 (chunks bytes) ss fault)
+pub by_its_lines : (depth : ℕ) (bytes : List ℕ) (ss : List Statement) (fault : Option SyntaxFault) (tokens : List Placed) (lexical : Option LexFault) → IsReadAs 1 depth bytes tokens lexical → (IsFile depth bytes ss fault ↔ AreStatementsOnLines tokens lexical 1 (chunks bytes) ss fault)
 by_its_lines depth bytes ss fault tokens lexical whole = (give_on_lines depth [] (chunks bytes) bytes [] tokens lexical ss fault refl refl whole, on_lines_give depth [] (chunks bytes) bytes [] tokens lexical ss fault refl refl whole)
 
 -- the lexical fault of a chunk is that of the file
@@ -143,19 +143,19 @@ some_on_lines line c (Some g) f is = by_test (is_line_of line c (line_of g)) is
     by_test true is = is
     by_test false is = none_is_some f is
 
-lexical_given : (tokens : List Placed) (lexical : Option LexFault) (line : ℕ) (cs : List (List ℕ)) (ss : List Statement) (f : LexFault) → GiveOnLines tokens lexical line cs ss (Some (Parse (Lex f))) → lexical ≡ Some f
+lexical_given : (tokens : List Placed) (lexical : Option LexFault) (line : ℕ) (cs : List (List ℕ)) (ss : List Statement) (f : LexFault) → AreStatementsOnLines tokens lexical line cs ss (Some (Parse (Lex f))) → lexical ≡ Some f
 lexical_given tokens lexical line [] ss f g = none_is_some (Parse (Lex f)) (sym g.1)
 lexical_given tokens lexical line (c ∷ cs) ss f g = by_answer g.0 g.1 g.2 (λ rs later. lexical_given tokens lexical (line_at line c) cs rs f later)
   where
-    at_fault : (h : SyntaxFault) → GivesOnLines line c (tokens_on_lines line c tokens) (fault_on_lines line c lexical) (Err h) → h ≡ Parse (Lex f) → lexical ≡ Some f
-    at_fault h gives is = some_on_lines line c lexical f (subst (λ x. GivesOnLines line c (tokens_on_lines line c tokens) (fault_on_lines line c lexical) (Err x)) is gives).1
+    at_fault : (h : SyntaxFault) → IsAnswerOnLines line c (tokens_on_lines line c tokens) (fault_on_lines line c lexical) (Err h) → h ≡ Parse (Lex f) → lexical ≡ Some f
+    at_fault h gives is = some_on_lines line c lexical f (subst (λ x. IsAnswerOnLines line c (tokens_on_lines line c tokens) (fault_on_lines line c lexical) (Err x)) is gives).1
 
     same_fault : (h k : SyntaxFault) → Some h ≡ Some k → h ≡ k
     same_fault h k is = cc
 
-    by_answer : (a : Result (Option Statement) SyntaxFault) → GivesOnLines line c (tokens_on_lines line c tokens) (fault_on_lines line c lexical) a
-        → Follows a (GiveOnLines tokens lexical (line_at line c) cs) ss (Some (Parse (Lex f)))
-        → ((rs : List Statement) → GiveOnLines tokens lexical (line_at line c) cs rs (Some (Parse (Lex f))) → lexical ≡ Some f) → lexical ≡ Some f
+    by_answer : (a : Result (Option Statement) SyntaxFault) → IsAnswerOnLines line c (tokens_on_lines line c tokens) (fault_on_lines line c lexical) a
+        → Follows a (AreStatementsOnLines tokens lexical (line_at line c) cs) ss (Some (Parse (Lex f)))
+        → ((rs : List Statement) → AreStatementsOnLines tokens lexical (line_at line c) cs rs (Some (Parse (Lex f))) → lexical ≡ Some f) → lexical ≡ Some f
     by_answer (Err h) gives after next = at_fault h gives (same_fault h (Parse (Lex f)) (sym after.1))
     by_answer (Ok None) gives after next = next ss after
     by_answer (Ok (Some s)) gives after next = next after.0 after.2

@@ -23,7 +23,7 @@ use Rattle.bz_layout_laws.proofs.StatementReadBack.{statement_read_back}
 use Rattle.bz_layout_laws.proofs.Utf8Written.{written_utf8, low_utf8}
 use Rattle.bz_engine.specs.declared.report.SyntaxFault.{SyntaxFault}
 use Rattle.bz_engine.proofs.OneOutcome.{one_give}
-use Rattle.bz_engine.specs.File.{Gives, Follows, Give, IsFile}
+use Rattle.bz_engine.specs.File.{IsAnswerOf, Follows, AreStatementsOf, IsFile}
 use Rattle.bz_engine.specs.Outcome.{left_in, slots_of, text_of}
 use Rattle.bz_engine_laws.specs.Sound.{IsSound}
 
@@ -41,7 +41,7 @@ left_all [] = refl
 left_all (s ∷ ss) = ap (λ rest. s ∷ rest) (left_all ss)
 
 -- chunks that are UTF-8 give the statements that they are read as
-give_found : (depth line : ℕ) (chunk : List ℕ) (found : Option Statement) → IsUtf8 chunk → IsFound line depth chunk found → Gives depth line chunk (Ok found)
+give_found : (depth line : ℕ) (chunk : List ℕ) (found : Option Statement) → IsUtf8 chunk → IsFound line depth chunk found → IsAnswerOf depth line chunk (Ok found)
 give_found depth line chunk None u is = (u, is)
 give_found depth line chunk (Some s) u is = (u, is)
 
@@ -49,10 +49,10 @@ give_follows : (found : Option Statement) (After : List Statement → Type 0) (L
 give_follows None After Later ss next are = next ss are
 give_follows (Some s) After Later ss next are = (are.0, are.1, next are.0 are.2)
 
-pub give_statements : (depth line : ℕ) (cs : List (List ℕ)) (ss : List Statement) → AllByRecursion IsUtf8 cs → AreStatementsIn line depth cs ss → Give depth line cs ss None
+pub give_statements : (depth line : ℕ) (cs : List (List ℕ)) (ss : List Statement) → AllByRecursion IsUtf8 cs → AreStatementsIn line depth cs ss → AreStatementsOf depth line cs ss None
 give_statements depth line [] ss u are = (are, refl)
 give_statements depth line (c ∷ cs) ss u are =
-    (Ok are.0, give_found depth line c are.0 u.0 are.1, give_follows are.0 (AreStatementsIn (line_at line c) depth cs) (Give depth (line_at line c) cs) ss (λ ts later. give_statements depth (line_at line c) cs ts u.1 later) are.2)
+    (Ok are.0, give_found depth line c are.0 u.0 are.1, give_follows are.0 (AreStatementsIn (line_at line c) depth cs) (AreStatementsOf depth (line_at line c) cs) ss (λ ts later. give_statements depth (line_at line c) cs ts u.1 later) are.2)
 
 -- the chunks of statements are UTF-8
 both_parts : (xs ys : List (List ℕ)) → AllByRecursion IsUtf8 xs → AllByRecursion IsUtf8 ys → AllByRecursion IsUtf8 (xs ++ ys)

@@ -14,7 +14,7 @@ use Rattle.bz_token.proofs.Progress.{newlines, newlines-append}
 use Rattle.bz_tree.specs.Tree.{Statement}
 use Rattle.bz_layout_laws.specs.FileRead.{AreFound, IsFound, AreStatementsIn}
 use Rattle.bz_engine.proofs.Given.{none_is_some}
-use Rattle.bz_engine.specs.File.{Follows, Gives, Give, IsFile}
+use Rattle.bz_engine.specs.File.{Follows, IsAnswerOf, AreStatementsOf, IsFile}
 use Rattle.bz_engine.specs.declared.report.SyntaxFault.{SyntaxFault}
 use Rattle.bz_engine_laws.specs.WholeFile.{IsOnLines, AreOnLines, tokens_by_chunks}
 use Rattle.bz_engine_laws.proofs.FileText.{give_statements}
@@ -105,12 +105,12 @@ on_lines_found depth before (c ∷ cs) bytes ts tokens ss e t whole are =
     )
 
 -- Chunks that give statements and no fault are UTF-8, and these are found in them.
-given_found : (depth line : ℕ) (cs : List (List ℕ)) (ss : List Statement) → Give depth line cs ss None → AllByRecursion IsUtf8 cs × AreStatementsIn line depth cs ss
+given_found : (depth line : ℕ) (cs : List (List ℕ)) (ss : List Statement) → AreStatementsOf depth line cs ss None → AllByRecursion IsUtf8 cs × AreStatementsIn line depth cs ss
 given_found depth line [] ss g = (tt, g.0)
 given_found depth line (c ∷ cs) ss g = by_answer g.0 ss g.1 g.2 (λ rs. given_found depth (line_at line c) cs rs)
   where
-    by_answer : (a : Result (Option Statement) SyntaxFault) (ss : List Statement) → Gives depth line c a → Follows a (Give depth (line_at line c) cs) ss None
-        → ((rs : List Statement) → Give depth (line_at line c) cs rs None → AllByRecursion IsUtf8 cs × AreStatementsIn (line_at line c) depth cs rs)
+    by_answer : (a : Result (Option Statement) SyntaxFault) (ss : List Statement) → IsAnswerOf depth line c a → Follows a (AreStatementsOf depth (line_at line c) cs) ss None
+        → ((rs : List Statement) → AreStatementsOf depth (line_at line c) cs rs None → AllByRecursion IsUtf8 cs × AreStatementsIn (line_at line c) depth cs rs)
         → AllByRecursion IsUtf8 (c ∷ cs) × AreStatementsIn line depth (c ∷ cs) ss
     by_answer (Err f) ss g after next = none_is_some f after.1
     by_answer (Ok None) ss g after next = let rest = next ss after in ((g.0, rest.0), (None, g.1, rest.1))

@@ -15,7 +15,7 @@ use Rattle.bz_layout_laws.proofs.BlockUtf8.{block_utf8}
 use Rattle.bz_layout_laws.proofs.Utf8Read.{read_utf8}
 use Rattle.bz_layout_laws.proofs.WellFormed.{plain_formed}
 use Rattle.bz_engine.specs.declared.report.SyntaxFault.{SyntaxFault}
-use Rattle.bz_engine.specs.File.{Gives, Follows, Give, IsFile}
+use Rattle.bz_engine.specs.File.{IsAnswerOf, Follows, AreStatementsOf, IsFile}
 use Rattle.bz_engine.specs.Outcome.{BeginsWith}
 use Rattle.bz_engine_laws.specs.Sound.{IsSound}
 use Rattle.bz_token.specs.Common.{map_or}
@@ -36,7 +36,7 @@ kept_block line depth chunk s alone block = record {
   is = refl;
 }
 
-pub given_sound : (depth line : ℕ) (chunk : List ℕ) (s : Statement) → chunks chunk ≡ chunk ∷ [] → Gives depth line chunk (Ok (Some s)) → IsSound depth s
+pub given_sound : (depth line : ℕ) (chunk : List ℕ) (s : Statement) → chunks chunk ≡ chunk ∷ [] → IsAnswerOf depth line chunk (Ok (Some s)) → IsSound depth s
 given_sound depth line chunk s alone gives = by (map_or false is_block_word (first_token gives.1.tokens)) refl gives.1.reads.chunk
   where
     by : (b : Bool) → map_or false is_block_word (first_token gives.1.tokens) ≡ b → IsOneOf b line chunk gives.1.tokens s → IsSound depth s
@@ -64,16 +64,16 @@ first_alone [] ds alone = tt
 first_alone (c ∷ cs) ds alone = (alone.0, first_alone cs ds alone.1)
 
 follows_sound : (depth line : ℕ) (chunk : List ℕ) (answer : Result (Option Statement) SyntaxFault) (After : List Statement → Option SyntaxFault → Type 0) (ss : List Statement) (fault : Option SyntaxFault) → IsAlone chunk
-    → Gives depth line chunk answer → ((more : List Statement) → After more fault → AllByRecursion (IsSound depth) more) → Follows answer After ss fault → AllByRecursion (IsSound depth) ss
+    → IsAnswerOf depth line chunk answer → ((more : List Statement) → After more fault → AllByRecursion (IsSound depth) more) → Follows answer After ss fault → AllByRecursion (IsSound depth) ss
 follows_sound depth line chunk (Err f) After ss fault alone gives next follows = subst (AllByRecursion (IsSound depth)) (sym follows.0) tt
 follows_sound depth line chunk (Ok None) After ss fault alone gives next follows = next ss follows
 follows_sound depth line chunk (Ok (Some s)) After ss fault alone gives next follows =
     subst (AllByRecursion (IsSound depth)) (sym follows.1) (given_sound depth line chunk s alone gives, next follows.0 follows.2)
 
-give_sound : (depth line : ℕ) (cs : List (List ℕ)) (ss : List Statement) (fault : Option SyntaxFault) → AllByRecursion IsAlone cs → Give depth line cs ss fault → AllByRecursion (IsSound depth) ss
+give_sound : (depth line : ℕ) (cs : List (List ℕ)) (ss : List Statement) (fault : Option SyntaxFault) → AllByRecursion IsAlone cs → AreStatementsOf depth line cs ss fault → AllByRecursion (IsSound depth) ss
 give_sound depth line [] ss fault alone give = subst (AllByRecursion (IsSound depth)) (sym give.0) tt
 give_sound depth line (c ∷ cs) ss fault alone give =
-    follows_sound depth line c give.0 (Give depth (line_at line c) cs) ss fault alone.0 give.1 (λ more later. give_sound depth (line_at line c) cs more fault alone.1 later) give.2
+    follows_sound depth line c give.0 (AreStatementsOf depth (line_at line c) cs) ss fault alone.0 give.1 (λ more later. give_sound depth (line_at line c) cs more fault alone.1 later) give.2
 
 pub file_sound : (depth : ℕ) (bytes : List ℕ) (statements : List Statement) (fault : Option SyntaxFault) → IsFile depth bytes statements fault → AllByRecursion (IsSound depth) statements
 file_sound depth bytes statements fault file = give_sound depth 1 (chunks bytes) statements fault (chunks_alone (chunks bytes) bytes refl) file

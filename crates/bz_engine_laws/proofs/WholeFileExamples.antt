@@ -19,7 +19,7 @@ use Rattle.bz_tree.specs.Grammar.{comments, expression, last_test, plain, single
 use Rattle.bz_tree.specs.Tree.{Statement}
 use Rattle.bz_engine.specs.declared.report.SyntaxFault.TheVariants.{Parse}
 use Rattle.bz_engine.specs.File.{IsFile}
-use Rattle.bz_engine_laws.specs.WholeFile.{AreOnLines, GiveOnLines}
+use Rattle.bz_engine_laws.specs.WholeFile.{AreOnLines, AreStatementsOnLines}
 use Rattle.bz_engine_laws.proofs.FileFaults.{by_its_lines}
 use Rattle.bz_engine_laws.proofs.FileTokens.{file_of_tokens}
 
@@ -149,7 +149,7 @@ up_to_fault = (
   refl,
 )
 
-fault_on_its_line : GiveOnLines tokens (Some (BadBracket 3 1)) 1 (chunks faulty) (x ∷ []) (Some (Parse (Lex (BadBracket 3 1))))
+fault_on_its_line : AreStatementsOnLines tokens (Some (BadBracket 3 1)) 1 (chunks faulty) (x ∷ []) (Some (Parse (Lex (BadBracket 3 1))))
 unfolding lib.Utf8.encode
 fault_on_its_line = (
   Ok (Some x),

@@ -38,16 +38,16 @@ IsFaultOnLines line chunk tokens lexical (Lex fault) = lexical ≡ Some fault
 IsFaultOnLines line chunk tokens lexical fault = (lexical ≡ None) × IsTokenFault line chunk tokens fault
 
 -- What such a chunk gives: a statement, nothing, or its first fault.
-abbrev pub GivesOnLines : ℕ → List ℕ → List Placed → Option LexFault → Result (Option Statement) SyntaxFault → Type 0
-GivesOnLines line chunk tokens lexical (Ok found) = IsUtf8 chunk × (lexical ≡ None) × IsOnLines line chunk tokens found
-GivesOnLines line chunk tokens lexical (Err (NotUtf8 l c)) = ¬ (IsUtf8 chunk) × ((n : ℕ) × IsValidUpTo chunk n × (NotUtf8 l c ≡ not_utf8 line n chunk))
-GivesOnLines line chunk tokens lexical (Err (Parse fault)) = IsUtf8 chunk × IsFaultOnLines line chunk tokens lexical fault
+abbrev pub IsAnswerOnLines : ℕ → List ℕ → List Placed → Option LexFault → Result (Option Statement) SyntaxFault → Type 0
+IsAnswerOnLines line chunk tokens lexical (Ok found) = IsUtf8 chunk × (lexical ≡ None) × IsOnLines line chunk tokens found
+IsAnswerOnLines line chunk tokens lexical (Err (NotUtf8 l c)) = ¬ (IsUtf8 chunk) × ((n : ℕ) × IsValidUpTo chunk n × (NotUtf8 l c ≡ not_utf8 line n chunk))
+IsAnswerOnLines line chunk tokens lexical (Err (Parse fault)) = IsUtf8 chunk × IsFaultOnLines line chunk tokens lexical fault
 
 -- The statements on the lines of chunks, of which the first begins at this line, up to the first chunk with a fault, where
 -- the file has these tokens up to this lexical fault, if any.
-abbrev pub GiveOnLines : List Placed → Option LexFault → ℕ → List (List ℕ) → List Statement → Option SyntaxFault → Type 0
-GiveOnLines tokens lexical line [] statements fault = (statements ≡ []) × (fault ≡ None)
-GiveOnLines tokens lexical line (c ∷ cs) statements fault =
+abbrev pub AreStatementsOnLines : List Placed → Option LexFault → ℕ → List (List ℕ) → List Statement → Option SyntaxFault → Type 0
+AreStatementsOnLines tokens lexical line [] statements fault = (statements ≡ []) × (fault ≡ None)
+AreStatementsOnLines tokens lexical line (c ∷ cs) statements fault =
     (answer : Result (Option Statement) SyntaxFault)
-    × GivesOnLines line c (tokens_on_lines line c tokens) (fault_on_lines line c lexical) answer
-    × Follows answer (GiveOnLines tokens lexical (line_at line c) cs) statements fault
+    × IsAnswerOnLines line c (tokens_on_lines line c tokens) (fault_on_lines line c lexical) answer
+    × Follows answer (AreStatementsOnLines tokens lexical (line_at line c) cs) statements fault

@@ -7,7 +7,7 @@ ghost use Rattle.bz_tree.specs.Tree.{Statement};
 ghost use Rattle.bz_command.specs.Labels.{Package};
 ghost use Rattle.bz_engine.specs.declared.report.SyntaxFault.{SyntaxFault};
 ghost use Rattle.bz_engine.specs.Changes.{AreCommands};
-ghost use Rattle.bz_engine.specs.File.{Gives, IsFile};
+ghost use Rattle.bz_engine.specs.File.{IsAnswerOf, IsFile};
 ghost use Rattle.bz_engine.specs.Outcome.{BeginsWith, Script};
 ghost use Rattle.bz_engine_laws.specs.Sound.{IsSound};
 ghost use Rattle.bz_engine_laws.specs.Written.{HaveUtf8Words, left_by};
@@ -15,7 +15,7 @@ ghost use Rattle.bz_engine_laws.specs.Written.{HaveUtf8Words, left_by};
 /// What a chunk gives is sound. So are the statements of a file up to its first fault, and those that it begins with.
 pub fn what_is_read_is_sound()
     ensures read { (depth line : ℕ) (chunk : List ℕ) (s : Statement) → chunks chunk ≡ chunk ∷ []
-        → Gives depth line chunk (Ok (Some s)) → IsSound depth s }
+        → IsAnswerOf depth line chunk (Ok (Some s)) → IsSound depth s }
     ensures file { (depth : ℕ) (bytes : List ℕ) (statements : List Statement) (fault : Option SyntaxFault)
         → IsFile depth bytes statements fault → AllByRecursion (IsSound depth) statements }
     ensures front { (depth : ℕ) (file : List ℕ) (statements : List Statement) → BeginsWith depth file statements

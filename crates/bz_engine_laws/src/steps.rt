@@ -20,7 +20,7 @@ pub fn take_steps<S: Source, W: Sink>(
     ensures more { result ≡ Ok Step.More → (pieces cs : List (List ℕ)) (text : List ℕ) → HasDone session.old pieces cs text
         → HasManyMore count (λ read. S.gave source.old read source.new) (λ shown. W.took sink.old shown sink.new)
         session.new pieces cs text }
-    ensures end { result ≡ Ok Step.End → session.old.stage ≡ Going → (end : _) × (session.new.stage ≡ Ended end)
+    ensures end { result ≡ Ok Step.End → session.old.state ≡ Going → (end : _) × (session.new.state ≡ Ended end)
         × ((pieces cs : List (List ℕ)) (text : List ℕ) → HasDone session.old pieces cs text
         → HasComeTo end (λ read. S.gave source.old read source.new) (λ shown. W.took sink.old shown sink.new)
         session.new pieces cs text) }

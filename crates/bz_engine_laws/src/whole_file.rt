@@ -13,7 +13,7 @@ ghost use Rattle.bz_tree.specs.Tree.{Statement};
 ghost use Rattle.bz_engine.specs.declared.report.SyntaxFault.{SyntaxFault};
 ghost use Rattle.bz_engine.specs.declared.report.SyntaxFault.TheVariants.{NotUtf8, Parse};
 ghost use Rattle.bz_engine.specs.File.{not_utf8, IsFile};
-ghost use Rattle.bz_engine_laws.specs.WholeFile.{AreOnLines, GiveOnLines, tokens_by_chunks};
+ghost use Rattle.bz_engine_laws.specs.WholeFile.{AreOnLines, AreStatementsOnLines, tokens_by_chunks};
 
 /// A file without a fault is UTF-8 and has tokens, and its statements are those that stand on the lines of its chunks;
 /// and a file of which this is so has no fault. The tokens of a file are those on the lines of its chunks, one chunk
@@ -35,7 +35,7 @@ pub fn a_file_is_read_by_its_tokens()
 pub fn a_file_is_read_up_to_its_fault()
     ensures tokens { (depth : ℕ) (bytes : List ℕ) (statements : List Statement) (fault : Option SyntaxFault)
         (tokens : List Placed) (lexical : Option LexFault) → IsReadAs 1 depth bytes tokens lexical
-        → (IsFile depth bytes statements fault ↔ GiveOnLines tokens lexical 1 (chunks bytes) statements fault) }
+        → (IsFile depth bytes statements fault ↔ AreStatementsOnLines tokens lexical 1 (chunks bytes) statements fault) }
     ensures lexical { (depth : ℕ) (bytes : List ℕ) (statements : List Statement) (fault : LexFault)
         → IsFile depth bytes statements (Some (Parse (Lex fault))) → IsFault 1 depth bytes fault }
     ensures byte { (depth : ℕ) (bytes : List ℕ) (statements : List Statement) (line col : ℕ)

@@ -63,8 +63,8 @@ module _ (file : List ℕ) where
 
   -- it is put after the bytes that waited were written
   pub put_after : {D : Type 0} (did : D → List Event → D → Type 0) (a b : DraftValue D) (mode : ℕ) (result : Result ⊤ Failed) (path : List ℕ) (fs : List Event)
-      → a.temporary ≡ T → path ≡ b.temporary → (s : Sent did a b []) → b.stage ≡ Made → b.waiting ≡ []
-      → IsPut (HasBytes path) ⊥ file mode result fs → IsPut (IsText a) (a.stage ≡ Broken) file mode result (s.events ++ fs)
+      → a.temporary ≡ T → path ≡ b.temporary → (s : Sent did a b []) → b.state ≡ Made → b.waiting ≡ []
+      → IsPut (HasBytes path) ⊥ file mode result fs → IsPut (IsText a) (a.state ≡ Broken) file mode result (s.events ++ fs)
   put_after did a b mode result path fs e pe s made none i = record {
     safe = λ text start now same t.
         along_append (SameBut a.temporary now) (IsSafe file (Some (text, mode)) start) (IsText b (text ++ [])) (IsPutEnd file (text, mode) result start) s.events fs now
@@ -77,18 +77,18 @@ module _ (file : List ℕ) where
       between : (start now m : Files) → SameBut T start now → SameBut a.temporary now m → SameBut T start m
       between start now m same h = same_trans T start now m same (subst (λ p. SameBut p now m) e h)
 
-      there : (text : List ℕ) (m : Files) → IsTextAt b.stage b.temporary b.waiting (text ++ []) m → HasBytes path text m
+      there : (text : List ℕ) (m : Files) → IsTextAt b.state b.temporary b.waiting (text ++ []) m → HasBytes path text m
       there text m q =
           let w : (sent : List ℕ) × HasBytes b.temporary sent m × (sent ++ [] ≡ text ++ []) = subst (λ v. IsTextAt Made b.temporary v (text ++ []) m) none (subst (λ g. IsTextAt g b.temporary b.waiting (text ++ []) m) made q) in
           subst (λ p. HasBytes p text m) (sym pe) (subst (λ l. HasBytes b.temporary l m) (sym (append-nil w.0) ∙ w.2 ∙ append-nil text) w.1)
 
-      cause : (result : Result ⊤ Failed) → OnErr result (⊥ ⊎ AnyFails fs) → OnErr result ((a.stage ≡ Broken) ⊎ AnyFails (s.events ++ fs))
+      cause : (result : Result ⊤ Failed) → OnErr result (⊥ ⊎ AnyFails fs) → OnErr result ((a.state ≡ Broken) ⊎ AnyFails (s.events ++ fs))
       cause (Ok x) h = tt
       cause (Err x) h = ⊎_elim (λ f. absurd f) (λ f. inr (any_right s.events fs f)) h
 
   -- it is not put where these could not be written
   pub put_nothing : {D : Type 0} (did : D → List Event → D → Type 0) (a b : DraftValue D) (mode : ℕ) (result : Result ⊤ Failed) (P : Failed → Type 0)
-      → a.temporary ≡ T → (s : Sent did a b []) → b.stage ≡ Broken → IsErrAnd result P → IsPut (IsText a) (a.stage ≡ Broken) file mode result s.events
+      → a.temporary ≡ T → (s : Sent did a b []) → b.state ≡ Broken → IsErrAnd result P → IsPut (IsText a) (a.state ≡ Broken) file mode result s.events
   put_nothing did a b mode (Ok x) P e s broken h = absurd h
   put_nothing did a b mode (Err x) P e s broken h = record {
     safe = λ text start now same t.

@@ -29,7 +29,7 @@ module _ {D A : Type 0} (did : D → List Event → D → Type 0) (gives : A →
   }
 
   module _ (more : (a b c : D) (es fs : List Event) → did a es b → did b fs c → did a (es ++ fs) c) (first begun taken : DraftValue D) (last : D) (author author_after : A)
-      (same : begun.folder ≡ first.folder) (path : begun.temporary ≡ temporary_path file) (unmade : begun.stage ≡ Unmade) (empty : begun.waiting ≡ [])
+      (same : begun.folder ≡ first.folder) (path : begun.temporary ≡ temporary_path file) (unmade : begun.state ≡ Unmade) (empty : begun.waiting ≡ [])
       (text : List ℕ) (took : Took did begun taken text) (answer : Result Bool Failed) (gave : gives author text answer author_after)
       (fs : List Event) (calls : did taken.folder fs last) (result : Result Bool Trouble) (end : IsFinished taken file mode answer result fs) where
     nothing_yet : (start : Files) → IsText begun [] start
@@ -40,12 +40,12 @@ module _ {D A : Type 0} (did : D → List Event → D → Type 0) (gives : A →
         let T : List ℕ = temporary_path file in
         let S : Files → Type 0 = IsSafe file (wanted_of answer text mode) start in
         let Last : Files → Type 0 = IsEnd file (wanted_of answer text mode) result start in
-        let Mid : Files → Type 0 = λ m. IsText taken text m × (taken.stage ≡ Unmade → m T ≡ start T) in
+        let Mid : Files → Type 0 = λ m. IsText taken text m × (taken.state ≡ Unmade → m T ≡ start T) in
         let writes : Along (SameBut T start) (IsText taken text) took.sent.events start
         = subst (λ t. Along (SameBut t start) (IsText taken text) took.sent.events start) path (took.sent.written [] start (nothing_yet start)) in
         along_append (SameBut T start) S Mid Last took.sent.events fs start
         (λ m s. safe_of file (wanted_of answer text mode) start m s)
-        (along_where (SameBut T start) (IsText taken text) (taken.stage ≡ Unmade) T took.sent.events start (λ k. (took.sent.unmade k).1) writes)
+        (along_where (SameBut T start) (IsText taken text) (taken.state ≡ Unmade) T took.sent.events start (λ k. (took.sent.unmade k).1) writes)
         (λ m s q. end.safe text start m s q.1 q.0)
 
     keeps : (answer : Result Bool Failed) → gives author text answer author_after → IfSome (wanted_of answer text mode) (λ content. gives author content.0 (Ok true) author_after × (content.1 ≡ mode))
@@ -60,7 +60,7 @@ module _ {D A : Type 0} (did : D → List Event → D → Type 0) (gives : A →
     from_answer (Ok k) g h = absurd (false≢true h)
     from_answer (Err e) g h = (text, e, g)
 
-    broke : taken.stage ≡ Broken → AnyFails took.sent.events
+    broke : taken.state ≡ Broken → AnyFails took.sent.events
     broke k = ⊎_elim (λ b. absurd (unmade-not-broken (sym unmade ∙ b))) (λ f. f) (took.sent.cause k)
       where
         IsUnmade : DraftState → Type 0
@@ -71,7 +71,7 @@ module _ {D A : Type 0} (did : D → List Event → D → Type 0) (gives : A →
         unmade-not-broken : Unmade ≡ Broken → ⊥
         unmade-not-broken k = subst IsUnmade k tt
 
-    causes : (result : Result Bool Trouble) → IsFinishCaused (IsErr answer ⊎ (taken.stage ≡ Broken)) result fs → IsCaused Gave result (took.sent.events ++ fs)
+    causes : (result : Result Bool Trouble) → IsFinishCaused (IsErr answer ⊎ (taken.state ≡ Broken)) result fs → IsCaused Gave result (took.sent.events ++ fs)
     causes (Ok k) h = tt
     causes (Err (OutOfMemory _)) h = absurd h
     causes (Err Clean) h =
@@ -103,7 +103,7 @@ module _ {D A : Type 0} (did : D → List Event → D → Type 0) (gives : A →
           text,
           subst (λ r. gives author text r author_after) a gave,
           λ few.
-              let k : taken.stage ≡ Unmade = (took.idle unmade (subst (λ w. length w + length text < capacity) (sym empty) (starts few))).0 in
+              let k : taken.state ≡ Unmade = (took.idle unmade (subst (λ w. length w + length text < capacity) (sym empty) (starts few))).0 in
               let none : took.sent.events ≡ [] = (took.sent.unmade k).1 in
               let after : fs ≡ [] = end.idle a k in
               subst (λ l. did first.folder l last) after (made_all [] (subst (λ l. did begun.folder l taken.folder) none took.sent.made)),

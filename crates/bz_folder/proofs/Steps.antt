@@ -91,9 +91,9 @@ makes_nothing path first removed (Err x) P h fails = record {
 }
 
 -- bytes are written after those that are there
-pub sends : (stage : DraftState) (path bytes : List ℕ) (es : List Event) (before after : Result ⊤ Failed) → (x : ⊤) → before ≡ Ok x
-    → IsSent stage path [] before es → IsSent stage path bytes after (es ++ (Write path bytes, is_ok after) ∷ [])
-sends stage path bytes es before after x e h = record {
+pub sends : (state : DraftState) (path bytes : List ℕ) (es : List Event) (before after : Result ⊤ Failed) → (x : ⊤) → before ≡ Ok x
+    → IsSent state path [] before es → IsSent state path bytes after (es ++ (Write path bytes, is_ok after) ∷ [])
+sends state path bytes es before after x e h = record {
   written = λ sent start k.
       at_append path (λ now. OnOk before (HasBytes path (sent ++ []) now)) (λ now. OnOk after (HasBytes path (sent ++ bytes) now)) es ((Write path bytes, is_ok after) ∷ []) start
       (h.written sent start k)
@@ -103,46 +103,46 @@ sends stage path bytes es before after x e h = record {
   cause = cause after;
 }
   where
-    whole : (after : Result ⊤ Failed) → OnOk after (stage ≢ Broken)
-    whole (Ok y) = subst (λ r. OnOk r (stage ≢ Broken)) e h.whole
+    whole : (after : Result ⊤ Failed) → OnOk after (state ≢ Broken)
+    whole (Ok y) = subst (λ r. OnOk r (state ≢ Broken)) e h.whole
     whole (Err y) = tt
 
     there : (after : Result ⊤ Failed) (sent : List ℕ) (m n : Files) → HasBytes path sent m → After (Write path bytes) (is_ok after) m n → OnOk after (HasBytes path (sent ++ bytes) n)
     there (Ok x) sent m n k a = a.0 sent k
     there (Err x) sent m n k a = tt
 
-    cause : (after : Result ⊤ Failed) → OnErr after ((stage ≡ Broken) ⊎ AnyFails (es ++ (Write path bytes, is_ok after) ∷ []))
+    cause : (after : Result ⊤ Failed) → OnErr after ((state ≡ Broken) ⊎ AnyFails (es ++ (Write path bytes, is_ok after) ∷ []))
     cause (Ok x) = tt
     cause (Err x) = inr (any_right es ((Write path bytes, false) ∷ []) (inl refl))
 
 -- where the file could not be made, nothing is written
-pub sends_nothing : (stage : DraftState) (path bytes : List ℕ) (es : List Event) (before after : Result ⊤ Failed) (P : Failed → Type 0) → (e : Failed) → before ≡ Err e
-    → IsErrAnd after P → IsSent stage path [] before es → IsSent stage path bytes after es
-sends_nothing stage path bytes es before (Ok x) P e b k h = absurd k
-sends_nothing stage path bytes es before (Err f) P e b k h = record {
+pub sends_nothing : (state : DraftState) (path bytes : List ℕ) (es : List Event) (before after : Result ⊤ Failed) (P : Failed → Type 0) → (e : Failed) → before ≡ Err e
+    → IsErrAnd after P → IsSent state path [] before es → IsSent state path bytes after es
+sends_nothing state path bytes es before (Ok x) P e b k h = absurd k
+sends_nothing state path bytes es before (Err f) P e b k h = record {
   written = λ sent start s. along_weaker (SameBut path start) (SameBut path start) (λ now. OnOk before (HasBytes path (sent ++ []) now)) (λ now. ⊤) (λ m a. a) (λ m a l. tt) es start (h.written sent start s);
   whole = tt;
-  cause = subst (λ r. OnErr r ((stage ≡ Broken) ⊎ AnyFails es)) b h.cause;
+  cause = subst (λ r. OnErr r ((state ≡ Broken) ⊎ AnyFails es)) b h.cause;
 }
 
--- what the temporary file has at a stage where the draft has a text
-has_sent : (stage : DraftState) (temporary waiting text : List ℕ) (start : Files) → IsTextAt stage temporary waiting text start
-    → (sent : List ℕ) × HasSent stage temporary sent start × (stage ≢ Broken → sent ++ waiting ≡ text)
+-- what the temporary file has at a state where the draft has a text
+has_sent : (state : DraftState) (temporary waiting text : List ℕ) (start : Files) → IsTextAt state temporary waiting text start
+    → (sent : List ℕ) × HasSent state temporary sent start × (state ≢ Broken → sent ++ waiting ≡ text)
 has_sent Unmade temporary waiting text start t = ([], refl, λ n. t)
 has_sent Made temporary waiting text start t = (t.0, t.1, λ n. t.2)
 has_sent Broken temporary waiting text start t = ([], tt, λ n. absurd (n refl))
 
 module _ {D : Type 0} (did : D → List Event → D → Type 0) (old : DraftValue D) (folder : D) (failures : ℕ) (path bytes waiting : List ℕ)
     (same_path : path ≡ old.temporary) (same_bytes : bytes ≡ old.waiting) (es : List Event) (result : Result ⊤ Failed)
-    (calls : did old.folder es folder) (sent : IsSent old.stage path bytes result es) where
+    (calls : did old.folder es folder) (sent : IsSent old.state path bytes result es) where
   -- the calls change the temporary file alone
   along : (start : Files) (text : List ℕ) → IsText old text start → (Last : Files → Type 0)
-      → ((s : List ℕ) → (old.stage ≢ Broken → s ++ old.waiting ≡ text) → (m : Files) → OnOk result (HasBytes old.temporary (s ++ old.waiting) m) → Last m)
+      → ((s : List ℕ) → (old.state ≢ Broken → s ++ old.waiting ≡ text) → (m : Files) → OnOk result (HasBytes old.temporary (s ++ old.waiting) m) → Last m)
       → Along (SameBut old.temporary start) Last es start
   along start text t Last f =
-      let s = has_sent old.stage old.temporary old.waiting text start t in
+      let s = has_sent old.state old.temporary old.waiting text start t in
       let w : Along (SameBut path start) (λ now. OnOk result (HasBytes path (s.0 ++ bytes) now)) es start
-      = sent.written s.0 start (subst (λ p. HasSent old.stage p s.0 start) (sym same_path) s.1) in
+      = sent.written s.0 start (subst (λ p. HasSent old.state p s.0 start) (sym same_path) s.1) in
       along_weaker (SameBut path start) (SameBut old.temporary start) (λ now. OnOk result (HasBytes path (s.0 ++ bytes) now)) Last
       (λ m a. subst (λ p. SameBut p start m) same_path a)
       (λ m a q. f s.0 s.2 m (subst (λ p. OnOk result (HasBytes p (s.0 ++ old.waiting) m)) same_path (subst (λ b. OnOk result (HasBytes path (s.0 ++ b) m)) same_bytes q)))
@@ -150,7 +150,7 @@ module _ {D : Type 0} (did : D → List Event → D → Type 0) (old : DraftValu
 
   -- the bytes that waited were written
   pub spilled : (x : ⊤) → result ≡ Ok x → waiting ≡ []
-      → Sent did old (record { folder = folder; temporary = old.temporary; stage = Made; waiting = waiting; failures = failures }) []
+      → Sent did old (record { folder = folder; temporary = old.temporary; state = Made; waiting = waiting; failures = failures }) []
   spilled x e none = record {
     events = es;
     made = calls;
@@ -158,7 +158,7 @@ module _ {D : Type 0} (did : D → List Event → D → Type 0) (old : DraftValu
     written = λ text start t. along start text t _ (λ s whole m q. (
       s ++ old.waiting,
       subst (λ r. OnOk r (HasBytes old.temporary (s ++ old.waiting) m)) e q,
-      ap (λ l. (s ++ old.waiting) ++ l) none ∙ ap (λ l. l ++ []) (whole (subst (λ r. OnOk r (old.stage ≢ Broken)) e sent.whole)),
+      ap (λ l. (s ++ old.waiting) ++ l) none ∙ ap (λ l. l ++ []) (whole (subst (λ r. OnOk r (old.state ≢ Broken)) e sent.whole)),
     ));
     cause = λ k. absurd (made-not-broken k);
     unmade = λ k. absurd (made-not-unmade k);
@@ -166,12 +166,12 @@ module _ {D : Type 0} (did : D → List Event → D → Type 0) (old : DraftValu
 
   -- they were not
   pub broken : (x : Failed) → result ≡ Err x
-      → Sent did old (record { folder = folder; temporary = old.temporary; stage = Broken; waiting = old.waiting; failures = failures }) []
+      → Sent did old (record { folder = folder; temporary = old.temporary; state = Broken; waiting = old.waiting; failures = failures }) []
   broken x e = record {
     events = es;
     made = calls;
     same_path = refl;
     written = λ text start t. along start text t (λ m. ⊤) (λ s whole m q. tt);
-    cause = λ k. subst (λ r. OnErr r ((old.stage ≡ Broken) ⊎ AnyFails es)) e sent.cause;
+    cause = λ k. subst (λ r. OnErr r ((old.state ≡ Broken) ⊎ AnyFails es)) e sent.cause;
     unmade = λ k. absurd (broken-not-unmade k);
   }

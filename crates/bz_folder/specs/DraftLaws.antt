@@ -60,18 +60,18 @@ module _ {D : Type 0} (did : D → List Event → D → Type 0) where
   -- bytes are taken where there is room
   pub pushes : ((s : D) → did s [] s) → ((a b c : D) (es fs : List Event) → did a es b → did b fs c → did a (es ++ fs) c)
       → (a b : DraftValue D) (waiting piece : List ℕ) → Sent did a b [] → (length a.waiting < capacity → b ≡ a) → waiting ≡ b.waiting ++ piece
-      → Took did a (record { folder = b.folder; temporary = b.temporary; stage = b.stage; waiting = waiting; failures = b.failures }) piece
+      → Took did a (record { folder = b.folder; temporary = b.temporary; state = b.state; waiting = waiting; failures = b.failures }) piece
   pushes nothing more a b waiting piece s same e = record {
     sent = sent_more more a b after [] piece s after_sent;
     idle = λ h k. let back = same (shorter (length a.waiting) (length piece) k) in
-        (ap (λ d. d.stage) back ∙ h, e ∙ ap (λ d. d.waiting ++ piece) back);
+        (ap (λ d. d.state) back ∙ h, e ∙ ap (λ d. d.waiting ++ piece) back);
   }
     where
       after : DraftValue D
-      after = record { folder = b.folder; temporary = b.temporary; stage = b.stage; waiting = waiting; failures = b.failures }
+      after = record { folder = b.folder; temporary = b.temporary; state = b.state; waiting = waiting; failures = b.failures }
 
-      text_after : (stage : DraftState) (text : List ℕ) (start : Files) → IsTextAt stage b.temporary b.waiting text start
-          → IsTextAt stage b.temporary waiting (text ++ piece) start
+      text_after : (state : DraftState) (text : List ℕ) (start : Files) → IsTextAt state b.temporary b.waiting text start
+          → IsTextAt state b.temporary waiting (text ++ piece) start
       text_after Unmade text start h = e ∙ ap (λ l. l ++ piece) h
       text_after Made text start h = (h.0, h.1, ap (λ l. h.0 ++ l) e ∙ sym (append_assoc h.0 b.waiting piece) ∙ ap (λ l. l ++ piece) h.2)
       text_after Broken text start h = tt
@@ -81,7 +81,7 @@ module _ {D : Type 0} (did : D → List Event → D → Type 0) where
         events = [];
         made = nothing b.folder;
         same_path = refl;
-        written = λ text start h. (same_refl b.temporary start, text_after b.stage text start h);
+        written = λ text start h. (same_refl b.temporary start, text_after b.state text start h);
         cause = λ h. inl h;
         unmade = λ h. (h, refl);
       }
@@ -96,5 +96,5 @@ module _ {D : Type 0} (did : D → List Event → D → Type 0) where
   pushes_nothing P a b (Err e) s same h = record {
     sent = s;
     idle = λ i k. let back = same (subst (λ n. n < capacity) (add-zero (length a.waiting)) k) in
-        (ap (λ d. d.stage) back ∙ i, ap (λ d. d.waiting) back ∙ sym (append-nil a.waiting));
+        (ap (λ d. d.state) back ∙ i, ap (λ d. d.waiting) back ∙ sym (append-nil a.waiting));
   }

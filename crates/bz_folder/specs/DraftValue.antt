@@ -13,13 +13,13 @@ pub record DraftValue (D : Type 0) : Type 0 where
   -- the path of the temporary file
   pub temporary : List ℕ
   -- whether there is a temporary file
-  pub stage : DraftState
+  pub state : DraftState
   -- the bytes that were taken and not yet written
   pub waiting : List ℕ
   -- how many writes failed
   pub failures : ℕ
 
--- at this stage the temporary file has these bytes
+-- at this state the temporary file has these bytes
 abbrev pub HasSent : DraftState → List ℕ → List ℕ → Files → Type 0
 HasSent Unmade temporary sent files = sent ≡ []
 HasSent Made temporary sent files = HasBytes temporary sent files
@@ -32,7 +32,7 @@ IsTextAt Made temporary waiting text files = (sent : List ℕ) × HasBytes tempo
 IsTextAt Broken temporary waiting text files = ⊤
 
 abbrev pub IsText : {D : Type 0} → DraftValue D → List ℕ → Files → Type 0
-IsText draft text files = IsTextAt draft.stage draft.temporary draft.waiting text files
+IsText draft text files = IsTextAt draft.state draft.temporary draft.waiting text files
 
 -- a draft took these bytes, and changed nothing but its temporary file
 pub record Sent {D : Type 0} (did : D → List Event → D → Type 0) (old new : DraftValue D)
@@ -42,12 +42,12 @@ pub record Sent {D : Type 0} (did : D → List Event → D → Type 0) (old new 
   pub same_path : new.temporary ≡ old.temporary
   pub written : (text : List ℕ) (start : Files) → IsText old text start
       → Along (SameBut old.temporary start) (IsText new (text ++ bytes)) events start
-  pub cause : new.stage ≡ Broken → (old.stage ≡ Broken) ⊎ AnyFails events
-  pub unmade : new.stage ≡ Unmade → (old.stage ≡ Unmade) × (events ≡ [])
+  pub cause : new.state ≡ Broken → (old.state ≡ Broken) ⊎ AnyFails events
+  pub unmade : new.state ≡ Unmade → (old.state ≡ Unmade) × (events ≡ [])
 
 -- a draft took these bytes; while they are few it makes no call
 pub record Took {D : Type 0} (did : D → List Event → D → Type 0) (old new : DraftValue D)
     (bytes : List ℕ) : Type 0 where
   pub sent : Sent did old new bytes
-  pub idle : old.stage ≡ Unmade → length old.waiting + length bytes < capacity
-      → (new.stage ≡ Unmade) × (new.waiting ≡ old.waiting ++ bytes)
+  pub idle : old.state ≡ Unmade → length old.waiting + length bytes < capacity
+      → (new.state ≡ Unmade) × (new.waiting ≡ old.waiting ++ bytes)

@@ -24,10 +24,10 @@ fn make_empty<D: Folder>(folder: &mut D, path: &str) -> Result<(), Failed>
 }
 
 /// Makes the temporary file where it is not made.
-fn ready<D: Folder>(folder: &mut D, stage: DraftState, path: &str) -> Result<(), Failed>
-    ensures { (events : List Event) × D.did folder.old events folder.new × IsSent stage path.now [] result events }
+fn prepare<D: Folder>(folder: &mut D, state: DraftState, path: &str) -> Result<(), Failed>
+    ensures { (events : List Event) × D.did folder.old events folder.new × IsSent state path.now [] result events }
 {
-    match stage {
+    match state {
         DraftState::Unmade => make_empty(folder, path),
         DraftState::Made => Ok(()),
         DraftState::Broken => Err(Failed),
@@ -37,14 +37,14 @@ fn ready<D: Folder>(folder: &mut D, stage: DraftState, path: &str) -> Result<(),
 /// Writes bytes at the end of the temporary file, which is made first if need be.
 pub(crate) fn send<D: Folder>(
     folder: &mut D,
-    stage: DraftState,
+    state: DraftState,
     path: &str,
     bytes: &[u8],
 ) -> Result<(), Failed>
     ensures { (events : List Event) × D.did folder.old events folder.new
-        × IsSent stage path.now bytes.now result events }
+        × IsSent state path.now bytes.now result events }
 {
-    ready(folder, stage, path)?;
+    prepare(folder, state, path)?;
     folder.write(path, bytes)
 }
 

@@ -37,7 +37,7 @@ pub struct Draft<D> {
     folder: D,
     /// The path of the temporary file.
     temporary: String,
-    stage: DraftState,
+    state: DraftState,
     waiting: Waiting,
     /// How many writes failed. It stays at its greatest value.
     failures: u64,
@@ -50,7 +50,7 @@ impl<D> Model for Draft<D> {
     ghost Value = { spec.DraftValue D };
 
     ghost view = { λ d.
-        record { folder = d.folder; temporary = string_bytes d.temporary; stage = d.stage; waiting = d.waiting; failures = d.failures } };
+        record { folder = d.folder; temporary = string_bytes d.temporary; state = d.state; waiting = d.waiting; failures = d.failures } };
 }
 
 impl<D: Drop> Draft<D> {
@@ -62,7 +62,7 @@ impl<D: Drop> Draft<D> {
         Ok(Draft {
             folder,
             temporary: String::new(alloc),
-            stage: DraftState::Unmade,
+            state: DraftState::Unmade,
             waiting,
             failures: 0,
         })
@@ -80,10 +80,10 @@ impl<D: Folder> Draft<D> {
     /// An empty draft for this file. No call is made.
     pub(crate) fn begin(&mut self, file: &str) -> Result<(), NoMemory>
         ensures path { OnOk result (self.new.temporary ≡ temporary_path file.now) }
-        ensures empty { OnOk result ((self.new.stage ≡ Unmade) × (self.new.waiting ≡ [])) }
+        ensures empty { OnOk result ((self.new.state ≡ Unmade) × (self.new.waiting ≡ [])) }
         ensures folder { self.new.folder ≡ self.old.folder }
     {
-        self.stage = DraftState::Unmade;
+        self.state = DraftState::Unmade;
         self.waiting.clear();
         self.temporary.clear();
         push_str(&mut self.temporary, file)?;
@@ -94,24 +94,24 @@ impl<D: Folder> Draft<D> {
     /// Writes the bytes that wait, in the temporary file, which it makes if need be.
     fn spill(&mut self) -> Result<(), Failed>
         ensures sent { Sent D.did self.old self.new [] }
-        ensures ok { OnOk result ((self.new.stage ≡ Made) × (self.new.waiting ≡ [])) }
-        ensures err { OnErr result (self.new.stage ≡ Broken) }
+        ensures ok { OnOk result ((self.new.state ≡ Made) × (self.new.waiting ≡ [])) }
+        ensures err { OnErr result (self.new.state ≡ Broken) }
         ensures steady { OnOk result (self.new.failures ≡ self.old.failures) }
         ensures counted { OnErr result (Rises self.old.failures self.new.failures) }
     {
         match send(
             &mut self.folder,
-            self.stage,
+            self.state,
             &self.temporary,
             self.waiting.bytes(),
         ) {
             Ok(()) => {
-                self.stage = DraftState::Made;
+                self.state = DraftState::Made;
                 self.waiting.clear();
                 Ok(())
             }
             Err(failed) => {
-                self.stage = DraftState::Broken;
+                self.state = DraftState::Broken;
                 self.failures = self.failures.saturating_add(1);
                 Err(failed)
             }
@@ -137,8 +137,8 @@ impl<D: Folder> Draft<D> {
         requires { self.old.temporary ≡ temporary_path file.now }
         ensures path { self.new.temporary ≡ self.old.temporary }
         ensures calls { (events : List Event) × D.did self.old.folder events self.new.folder
-            × IsPut (IsText self.old) (self.old.stage ≡ Broken) file.now mode result events }
-        ensures made { OnErr result (self.new.stage ≢ Unmade) }
+            × IsPut (IsText self.old) (self.old.state ≡ Broken) file.now mode result events }
+        ensures made { OnErr result (self.new.state ≢ Unmade) }
     {
         self.spill()?;
         install(&mut self.folder, &self.temporary, file, mode)
@@ -147,10 +147,10 @@ impl<D: Folder> Draft<D> {
     /// Removes the temporary file, if there is one, and answers `answer` if that succeeds.
     pub(crate) fn abandon(&mut self, answer: Result<bool, Trouble>) -> Result<bool, Trouble>
         ensures { (ok : Bool)
-            × D.did self.old.folder (abandon_calls self.old.stage self.old.temporary ok) self.new.folder
-            × (result ≡ abandon_answer self.old.stage ok answer) }
+            × D.did self.old.folder (abandon_calls self.old.state self.old.temporary ok) self.new.folder
+            × (result ≡ abandon_answer self.old.state ok answer) }
     {
-        if self.stage == DraftState::Unmade {
+        if self.state == DraftState::Unmade {
             return answer;
         }
         match self.folder.remove(&self.temporary) {

@@ -124,8 +124,8 @@ impl<R: Files<File = File>> OnDisk<R> {
     /// Opens a file that may be replaced, when no other run holds it.
     fn open_to_replace(&self, path: &str) -> io::Result<Opened<FromRead<File>>> {
         for _ in 0..MOST_TRIES {
-            let path = self.resolved(path)?;
-            let file = self.locked(&path)?;
+            let path = self.resolve(path)?;
+            let file = self.open_locked(&path)?;
             let own = file.metadata()?;
             // The run that held the lock before may have put another file at the path; so its text
             // is what is to be edited.
@@ -143,7 +143,7 @@ impl<R: Files<File = File>> OnDisk<R> {
     }
 
     /// The path of a regular file itself, where a link stands at the end of the path.
-    fn resolved(&self, path: &str) -> io::Result<String> {
+    fn resolve(&self, path: &str) -> io::Result<String> {
         let there = fs::symlink_metadata(&self.files, path)?;
         if there.is_symlink() {
             let file = self.files.canonicalize(self.alloc, path)?.into_string();
@@ -156,16 +156,16 @@ impl<R: Files<File = File>> OnDisk<R> {
 
     /// The file, open and locked until it is closed. Where the file system has no locks it is open
     /// alone: then only the looks before the rename keep runs apart.
-    fn locked(&self, path: &str) -> io::Result<File> {
+    fn open_locked(&self, path: &str) -> io::Result<File> {
         let file = File::open(&self.files, path)?;
         if file.lock().is_ok() {
             return Ok(file);
         }
-        self.locked_to_write(path).or(Ok(file))
+        self.open_locked_to_write(path).or(Ok(file))
     }
 
     /// The file, open to be written too: some network file systems lock no other.
-    fn locked_to_write(&self, path: &str) -> io::Result<File> {
+    fn open_locked_to_write(&self, path: &str) -> io::Result<File> {
         let file = OpenOptions::new()
             .read(true)
             .write(true)

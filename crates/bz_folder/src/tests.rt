@@ -110,7 +110,7 @@ const SHORT: usize = 48;
 const LONG: usize = 80_000;
 
 /// What is answered, and what calls are made, where the author writes so many bytes and answers so.
-fn replaced(
+fn replace(
     alloc: Global,
     len: usize,
     answer: Result<bool, Failed>,
@@ -134,7 +134,7 @@ fn each_answer(rt: HostRuntime) -> Result<(), Fail> {
         (LONG, Err(Failed), Err(Trouble::Clean), *b"mwr     "),
     ];
     for (len, answer, want, calls) in cases {
-        assert_eq!(rt; replaced(rt.alloc(), len, answer, 0)?, (want, calls));
+        assert_eq!(rt; replace(rt.alloc(), len, answer, 0)?, (want, calls));
     }
     Ok(())
 }
@@ -149,14 +149,14 @@ fn each_call_fails(rt: HostRuntime) -> Result<(), Fail> {
     ];
     for (fails, calls) in cases {
         assert_eq!(rt;
-            replaced(rt.alloc(), LONG, Ok(true), fails)?,
+            replace(rt.alloc(), LONG, Ok(true), fails)?,
             (Err(Trouble::Clean), calls)
         );
     }
     // What lay there is removed.
-    let again = replaced(rt.alloc(), LONG, Ok(true), 1)?;
+    let again = replace(rt.alloc(), LONG, Ok(true), 1)?;
     assert_eq!(rt; again, (Ok(true), *b"mrmwwsn "));
-    let left = replaced(rt.alloc(), LONG, Ok(false), 3)?;
+    let left = replace(rt.alloc(), LONG, Ok(false), 3)?;
     assert_eq!(rt; left, (Err(Trouble::LeftBehind), *b"mwr     "));
     Ok(())
 }

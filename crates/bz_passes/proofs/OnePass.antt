@@ -1,11 +1,11 @@
 -- A slot that one pass of a script alone marks.
-use Rattle.std.proofs.Common.{◌≡◌, ℕ, zero, suc, ◌+◌, ◌<◌, false, ◌||◌, List, [], ◌∷◌, length, get_or, Option, Some, None, set, refl, ◌∙◌, ap, sym, arith}
+use Rattle.std.proofs.Common.{◌≡◌, ◌≢◌, ℕ, zero, suc, ◌+◌, ◌<◌, Bool, true, false, cond, ◌||◌, List, [], ◌∷◌, length, get_or, filter, Option, Some, None, set, refl, ◌∙◌, ap, sym, arith}
 use Rattle.std.proofs.Math.Nat.{suc_inj}
 use Rattle.bz_command.specs.Passes.{Slot, Meaning, Pass, marked}
 use Rattle.bz_passes.specs.Exchange.{Kept, Fits, kept_alone, kept_and, logs_and, pass_alone, pass_and, slot_after, slot_after_pass, some_of_commands_alone}
 use Rattle.bz_passes.specs.OnePass.{IsOnlyAt, IsOnlyFor, and_at}
 use Rattle.bz_passes.specs.declared.index.Key.{Key}
-use Rattle.bz_passes.specs.private.Indexes.{IsFirstFrom, may_mark}
+use Rattle.bz_passes.specs.Asked.{IsFirstFrom, may_mark, passes_for}
 use Rattle.bz_passes.proofs.PassedBy.{IsUnmarked, none_marks, or_nothing, unmarked}
 use Rattle.bz_passes.proofs.Skips.{unmarked_kept, unmarked_slot, unmarked_test}
 
@@ -46,6 +46,39 @@ pub only_for : {S T C M : Type 0} (m : Meaning S T C M) (asked : T → Option (L
 only_for m asked ps key at first none x p is before after =
     only_marks m x ps at p first.1 is (λ i d l. unmarked _ _ (before (get_or ps i d).target) (first.3 i d (omega arith) l))
     (λ i d l k. unmarked _ _ (after (omega (arith, l, k)) (get_or ps i d).target) (none i d (omega (arith, l)) k))
+
+-- the pass of a script that has one alone
+pub only_of_one : {S T C M : Type 0} (m : Meaning S T C M) (asked : T → Option (List ℕ)) (ps : List (Pass T C)) (key : Key) → length ps ≡ 1 → IsOnlyFor m asked ps key 0
+only_of_one m asked ps key one x p is before after =
+    only_marks m x ps 0 p (omega (arith, one)) is (λ i d l. absurd (omega (arith, l))) (λ i d l k. absurd (omega (arith, one, l, k)))
+
+-- how many elements pass a test: none, one or more, or two or more
+filtered_none : {X : Type 0} (test : X → Bool) (xs : List X) → ((i : ℕ) (d : X) → i < length xs → test (get_or xs i d) ≡ false) → length (filter test xs) ≡ 0
+filtered_none test [] none = refl
+filtered_none test (x ∷ xs) none = rw (none 0 x (omega arith)) (filtered_none test xs (λ i d l. none (suc i) d (omega (arith, l))))
+
+filtered_one : {X : Type 0} (test : X → Bool) (xs : List X) (i : ℕ) → i < length xs → ((d : X) → test (get_or xs i d) ≡ true) → 0 < length (filter test xs)
+filtered_one test [] i within met = absurd (omega (arith, within))
+filtered_one test (x ∷ xs) zero within met = rw (met x) (omega arith)
+filtered_one test (x ∷ xs) (suc i) within met = elim (test x) as (λ b. 0 < length (cond b (x ∷ filter test xs) (filter test xs)))
+    [ true ↦ omega arith | false ↦ filtered_one test xs i (omega (arith, within)) (λ d. met d) ]
+
+filtered_two : {X : Type 0} (test : X → Bool) (xs : List X) (i j : ℕ) → i < j → j < length xs → ((d : X) → test (get_or xs i d) ≡ true) → ((d : X) → test (get_or xs j d) ≡ true) → 1 < length (filter test xs)
+filtered_two test [] i j later within met also = absurd (omega (arith, within))
+filtered_two test (x ∷ xs) i zero later within met also = absurd (omega (arith, later))
+filtered_two test (x ∷ xs) zero (suc j) later within met also = let one = filtered_one test xs j (omega (arith, within)) (λ d. also d) in rw (met x) (omega (arith, one))
+filtered_two test (x ∷ xs) (suc i) (suc j) later within met also =
+    let two = filtered_two test xs i j (omega (arith, later)) (omega (arith, within)) (λ d. met d) (λ d. also d) in
+    elim (test x) as (λ b. 1 < length (cond b (x ∷ filter test xs) (filter test xs))) [ true ↦ omega (arith, two) | false ↦ two ]
+
+-- so it is not one
+pub not_one_of_none : {T C : Type 0} (asked : T → Option (List ℕ)) (ps : List (Pass T C)) (key : Key) → IsFirstFrom (λ pass. may_mark key (asked pass.target)) ps 0 None → length (passes_for asked key ps) ≢ 1
+not_one_of_none asked ps key none one = absurd (omega (arith, one, filtered_none (λ pass. may_mark key (asked pass.target)) ps (λ i d l. none i d (omega arith) l)))
+
+pub not_one_of_two : {T C : Type 0} (asked : T → Option (List ℕ)) (ps : List (Pass T C)) (key : Key) (at next : ℕ) → IsFirstFrom (λ pass. may_mark key (asked pass.target)) ps 0 (Some at)
+    → IsFirstFrom (λ pass. may_mark key (asked pass.target)) ps (at + 1) (Some next) → length (passes_for asked key ps) ≢ 1
+not_one_of_two asked ps key at next first second one =
+    absurd (omega (arith, one, filtered_two (λ pass. may_mark key (asked pass.target)) ps at next (omega (arith, second.0)) second.1 first.2 second.2))
 
 -- what the pass at a position told is put to what is kept of it
 pub put_at : {M : Type 0} (ks : List (Kept M)) (at : ℕ) (e k more : Kept M) → at < length ks → e ≡ get_or ks at e → k ≡ pass_and e more → set ks at k ≡ and_at at more ks

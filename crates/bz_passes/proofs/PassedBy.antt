@@ -4,7 +4,7 @@ use Rattle.std.specs.List.{list_any}
 use Rattle.bz_command.specs.Passes.{Slot, Meaning, Pass}
 use Rattle.bz_passes.specs.Exchange.{Kept, Fits, IsPassedBy, slot_after, logs_of, kept_of, kept_and, kept_alone, some_alone}
 use Rattle.bz_passes.specs.declared.index.Key.{Key}
-use Rattle.bz_passes.specs.private.Indexes.{IsFirstFrom, IsKeyOf, may_mark}
+use Rattle.bz_passes.specs.Asked.{IsFirstFrom, IsKeyOf, may_mark}
 use Rattle.bz_passes.proofs.ExchangeLaw.{left_more}
 use Rattle.bz_passes.proofs.Skips.{unmarked_kept, unmarked_slot, unmarked_test}
 use Rattle.bz_command.specs.Passes.{Marked, executed, marked, slots_after_pass}

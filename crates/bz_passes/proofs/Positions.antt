@@ -1,6 +1,7 @@
 -- The positions where a test holds: in order, all of them, and no other.
 use Rattle.std.proofs.Common.{◌≡◌, ℕ, suc, zero, ◌<◌, ◌≤◌, ◌+◌, Bool, true, false, if◌then◌else◌, List, [], ◌∷◌, ◌++◌, length, get_or, Option, Some, None, refl, sym, ◌∙◌, ap, arith, ◌||◌, min, ltb, leb, leb-true, leb-false, ltb-true, ltb-false, take, is_none}
-use Rattle.bz_passes.specs.private.Indexes.{positions, IsFirstFrom, IsLeastFrom, earlier, IsIndex, named, asks_for}
+use Rattle.bz_passes.specs.Asked.{IsFirstFrom}
+use Rattle.bz_passes.specs.private.Indexes.{positions, IsLeastFrom, earlier, IsIndex, named, asks_for}
 use Rattle.bz_passes.specs.declared.index.Index.{Index}
 use Rattle.std.specs.List.Sorted.{IsNonDecreasingBy}
 use Rattle.std.proofs.lemmas.Grind.{common_steps}

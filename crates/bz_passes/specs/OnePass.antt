@@ -4,7 +4,7 @@ use Rattle.std.specs.Prelude.{◌≡◌, ℕ, zero, suc, ◌+◌, ◌<◌, Bool,
 use Rattle.bz_command.specs.Passes.{Slot, Meaning, Pass, marked}
 use Rattle.bz_passes.specs.Exchange.{Kept, Fits, kept_alone, kept_and, pass_alone, pass_and, slot_after, slot_after_pass, some_alone, some_of_commands_alone}
 use Rattle.bz_passes.specs.declared.index.Key.{Key}
-use Rattle.bz_passes.specs.private.Indexes.{IsKeyOf}
+use Rattle.bz_passes.specs.Asked.{IsKeyOf}
 
 -- what is kept of some slots, and of one more, of which the pass at a position alone has something to tell
 abbrev pub and_at : {M : Type 0} → ℕ → Kept M → List (Kept M) → List (Kept M)

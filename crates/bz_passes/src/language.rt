@@ -3,7 +3,7 @@
 ghost use Rattle.std.specs.Prelude.{◌≡◌, ◌++◌, Bool, true, Option, IfOk, OnOk};
 ghost use Rattle.bz_command.specs.Passes.{Meaning, Slot};
 ghost use Rattle.bz_passes.specs.declared.entry.Entry.{Entry};
-ghost use Rattle.bz_passes.specs.private.Indexes.{may_mark};
+ghost use Rattle.bz_passes.specs.Asked.{may_mark};
 
 use crate::entry::Entry;
 use crate::index::Key;

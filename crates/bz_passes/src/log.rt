@@ -61,8 +61,8 @@ impl Log {
         Ok(())
     }
 
-    /// Moves the entries of another log to the end; to an empty log without an allocation. `Err`: allocation failed, and
-    /// the log is left empty.
+    /// Moves the entries of another log to the end; to an empty log without an allocation. `Err`: allocation failed,
+    /// and the log is left empty.
     pub fn append(&mut self, other: Log) -> Result<(), NoMemory>
         ensures { OnOk result (self.new ≡ self.old ++ other) }
     {

@@ -2,6 +2,7 @@
 
 ghost use Rattle.std.specs.Prelude.{◌≡◌, ℕ, List, Option, option_map, IfOk, is_none, true};
 ghost use Rattle.std.specs.List.Sorted.{IsNonDecreasingBy};
+ghost use Rattle.bz_passes.specs.Asked.{IsFirstFrom, may_mark};
 ghost use Rattle.bz_passes.specs.private.Indexes as spec;
 
 use crate::index::{Index, Key};
@@ -59,7 +60,7 @@ impl<T: Keyed, C> Passes<T, C> {
 
     /// The position, `from` or later, of the first pass that may mark what has this key.
     pub fn first_from(&self, key: Key<'_>, from: usize) -> Option<usize>
-        ensures { spec.IsFirstFrom (λ pass. spec.may_mark key.entry (T.asked pass.target)) self.now from result }
+        ensures { IsFirstFrom (λ pass. may_mark key.entry (T.asked pass.target)) self.now from result }
     {
         match key {
             Key::Unknown => self.any_from(from),
@@ -74,7 +75,7 @@ impl<T: Keyed, C> Passes<T, C> {
     }
 
     fn any_from(&self, from: usize) -> Option<usize>
-        ensures { spec.IsFirstFrom (λ pass. true) self.now from result }
+        ensures { IsFirstFrom (λ pass. true) self.now from result }
     {
         if from < self.passes.len() {
             return Some(from);
@@ -83,13 +84,13 @@ impl<T: Keyed, C> Passes<T, C> {
     }
 
     fn other_from(&self, from: usize) -> Option<usize>
-        ensures { spec.IsFirstFrom (λ pass. is_none (T.asked pass.target)) self.now from result }
+        ensures { IsFirstFrom (λ pass. is_none (T.asked pass.target)) self.now from result }
     {
         first_in(self.index.others.as_slice(), from)
     }
 
     fn named_from(&self, name: &str, from: usize) -> Option<usize>
-        ensures { spec.IsFirstFrom (λ pass. spec.asks_for name.now (T.asked pass.target)) self.now from result }
+        ensures { IsFirstFrom (λ pass. spec.asks_for name.now (T.asked pass.target)) self.now from result }
     {
         first_in(self.index.of_name(name), from)
     }

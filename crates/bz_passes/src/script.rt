@@ -1,10 +1,10 @@
 //! A whole script on one slot.
 
-ghost use Rattle.std.specs.Prelude.{◌≡◌, ◌<◌, ◌++◌, ◌||◌, not, [], ◌∷◌, List, length, true, IfSome, IsTrue, OnOk};
+ghost use Rattle.std.specs.Prelude.{◌≡◌, ◌≢◌, ◌<◌, ◌++◌, ◌||◌, not, [], ◌∷◌, List, length, true, IfNone, IfSome, IsTrue, OnOk};
 ghost use Rattle.bz_command.specs.Passes.{Slot, executed, entries, meets, with_mark, marked};
+ghost use Rattle.bz_passes.specs.Asked.{IsFirstFrom, IsKeyOf, passes_for, some_may_mark};
 ghost use Rattle.bz_passes.specs.Exchange.{Fits, IsLeftBy, IsPassedBy, slot_after_commands, slot_after_pass, slot_after, logs_alone, logs_and, pass_alone, pass_and, kept_alone, kept_and, some_of_commands_alone, some_alone};
 ghost use Rattle.bz_passes.specs.OnePass.{IsOnlyFor};
-ghost use Rattle.bz_passes.specs.private.Indexes.{IsFirstFrom, IsKeyOf, some_may_mark};
 
 use crate::index::Key;
 use crate::kept::Kept;
@@ -14,7 +14,7 @@ use crate::passes::Passes;
 use bz_command::Pass;
 use bz_memory::NoMemory;
 
-/// One command on a slot that is marked.
+/// Executes one command on a slot that is marked.
 fn execute<L: Language>(
     language: &L,
     command: &L::Command,
@@ -37,7 +37,7 @@ fn execute<L: Language>(
     Ok(())
 }
 
-/// The commands of a pass on a slot that is marked.
+/// Runs the commands of a pass on a slot that is marked.
 fn run_commands<L: Language>(
     language: &L,
     commands: &[L::Command],
@@ -61,7 +61,7 @@ fn run_commands<L: Language>(
     Ok(())
 }
 
-/// One pass on a slot that its target marks: this is not asked again, whatever the commands do.
+/// Runs one pass on a slot that its target marks: this is not asked again, whatever the commands do.
 fn run_pass<L: Language>(
     language: &L,
     pass: &Pass<L::Target, L::Command>,
@@ -178,8 +178,8 @@ pub fn passes_by<L: Language>(
     passes.first_from(key, 0).is_none()
 }
 
-/// The position of the one pass that may mark what has this key; none where no pass may, or several. Then `run_script` on
-/// such a slot would do what this pass does.
+/// The position of a pass beside which none may mark what has this key: `run_script` on such a slot would do what this
+/// pass does. None where no pass may mark it, or several may.
 pub fn only_pass<L: Language>(
     language: &L,
     passes: &Passes<L::Target, L::Command>,
@@ -187,8 +187,13 @@ pub fn only_pass<L: Language>(
 ) -> Option<usize>
     ensures within { IfSome result (λ at. at < length passes.now) }
     ensures law { IfSome result (IsOnlyFor (L.meaning language.now) L.Target.asked passes.now key.entry) }
+    ensures none { IfNone result (length (passes_for L.Target.asked key.entry passes.now) ≢ 1) }
 {
     let count = passes.as_slice().len();
+    // Where there is one pass, no other may: the index has not to be asked.
+    if count == 1 {
+        return Some(0);
+    }
     let at = passes.first_from(key, 0)?;
     if at + 1 == count {
         return Some(at);

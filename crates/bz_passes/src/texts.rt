@@ -61,8 +61,8 @@ impl Texts {
         Ok(())
     }
 
-    /// Moves the texts of another list to the end; to an empty list without an allocation. `Err`: allocation failed, and
-    /// nothing changed.
+    /// Moves the texts of another list to the end; to an empty list without an allocation. `Err`: allocation failed,
+    /// and nothing changed.
     pub fn append(&mut self, other: Texts) -> Result<(), NoMemory>
         ensures appended { OnOk result (self.new ≡ self.old ++ other) }
         ensures stays { OnErr result (self.new ≡ self.old) }

@@ -18,32 +18,32 @@ const MAX_COMMANDS: u64 = 16_777_216;
 ///
 /// Faults of flags come first, then those of the command file or of the words, then standard input that is to be read
 /// twice.
-pub fn requested(
+pub fn read_request(
     rt: &HostRuntime,
     alloc: Global,
     words: &[String],
 ) -> Result<(Flags, Script), StartFault> {
     let (flags, words) = read_flags(alloc, words)?;
     let script = match &flags.file {
-        Some(file) => script_in_file(rt, alloc, file.as_str())?,
-        None => script_of_words(alloc, words)?,
+        Some(file) => read_script_file(rt, alloc, file.as_str())?,
+        None => read_script_words(alloc, words)?,
     };
     check_inputs(&flags, script.as_slice())?;
     Ok((flags, script))
 }
 
-fn script_in_file(rt: &HostRuntime, alloc: Global, path: &str) -> Result<Script, StartFault> {
-    let bytes = command_bytes(rt, alloc, path)?;
+fn read_script_file(rt: &HostRuntime, alloc: Global, path: &str) -> Result<Script, StartFault> {
+    let bytes = read_command_bytes(rt, alloc, path)?;
     Ok(read_command_file(alloc, bytes.as_slice())?)
 }
 
-fn script_of_words(alloc: Global, words: &[String]) -> Result<Script, UsageFault> {
+fn read_script_words(alloc: Global, words: &[String]) -> Result<Script, UsageFault> {
     let words = texts(alloc, words)?;
     read_group(alloc, COMMAND_LINE, words.as_slice())
 }
 
 /// The bytes of a command file; `-` is standard input.
-fn command_bytes(rt: &HostRuntime, alloc: Global, path: &str) -> Result<Vec<u8>, StartFault> {
+fn read_command_bytes(rt: &HostRuntime, alloc: Global, path: &str) -> Result<Vec<u8>, StartFault> {
     let name = Quoted::from_str(alloc, path).map_err(UsageFault::from)?;
     let read = if path == "-" {
         bytes_of_input(rt, alloc, MAX_COMMANDS + 1)

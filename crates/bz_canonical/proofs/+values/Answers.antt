@@ -9,62 +9,62 @@ use Rattle.bz_canonical.specs.private.Chains.{Chains}
 use Rattle.bz_canonical.proofs.Chained.{begin_chain, more_chain, finish_chain, value_term}
 use Rattle.bz_canonical.proofs.+values.Goals as goal
 
-pub segments::segments-loop-count-init : goal.segments::segments-loop-count-init
-segments::segments-loop-count-init m c = begin c.args.kind c.args.level c.args.depth c.args.text.now
+pub segments::after_segments-loop-count-init : goal.segments::after_segments-loop-count-init
+segments::after_segments-loop-count-init m c = begin c.args.kind c.args.level c.args.depth c.args.text.now
 
-pub value::sum-returns-in-None : goal.value::sum-returns-in-None
-value::sum-returns-in-None m c =
+pub value::after_sum-returns-in-None : goal.value::after_sum-returns-in-None
+value::after_sum-returns-in-None m c =
     let first = c.in_ok-first.first in
     finish_chain c.args.level c.args.depth c.args.text.now first.rest.now first.holds (begin_chain c.args.level c.args.depth c.args.text.now first.rest.now first.holds c.in_ok-first.ensures)
 
-pub value::sum-returns-in_ok-read-in-Some : goal.value::sum-returns-in_ok-read-in-Some
-value::sum-returns-in_ok-read-in-Some m c =
+pub value::after_sum-returns-in_ok-read-in-Some : goal.value::after_sum-returns-in_ok-read-in-Some
+value::after_sum-returns-in_ok-read-in-Some m c =
     let first = c.in_ok-first.first in
     c.in_ok-read-in-Some.ensures c.args.text.now (λ rest k t. more_chain c.args.level c.args.depth c.args.text.now first.rest.now c.in-Some.operand.now rest first.holds k
     (begin_chain c.args.level c.args.depth c.args.text.now first.rest.now first.holds c.in_ok-first.ensures) c.in-Some.ensures t)
 
-pub value::operands-loop-init : goal.value::operands-loop-init
-value::operands-loop-init m c = λ all so. so
+pub value::after_operands-loop-init : goal.value::after_operands-loop-init
+value::after_operands-loop-init m c = λ all so. so
 
-pub value::operands-returns-in_default : goal.value::operands-returns-in_default
-value::operands-returns-in_default m c = λ all so.
+pub value::after_operands-returns-in_default : goal.value::after_operands-returns-in_default
+value::after_operands-returns-in_default m c = λ all so.
     subst (λ h. AreNodesFront c.args.level c.args.depth all c.in_ok-read.read.rest.now h) (sym c.either-holds.ensures)
     (finish_chain c.args.level c.args.depth all c.in_ok-read.read.rest.now _ (c.loop.invariant all so c.in_ok-read.read.rest.now c.in_ok-read.read.holds c.in_ok-read.ensures))
 
-pub value::operands-loop-preserved : goal.value::operands-loop-preserved
-value::operands-loop-preserved m c = λ all so rest k t.
+pub value::after_operands-loop-preserved : goal.value::after_operands-loop-preserved
+value::after_operands-loop-preserved m c = λ all so rest k t.
     let holds = c.loop.holds || c.in_ok-read.read.holds in
     subst (λ h. Chains c.args.level c.args.depth all rest (h || k)) (sym c.either-holds.ensures)
     (more_chain c.args.level c.args.depth all c.in_ok-read.read.rest.now c.in-Some.operand.now rest holds k
     (c.loop.invariant all so c.in_ok-read.read.rest.now c.in_ok-read.read.holds c.in_ok-read.ensures) c.in-Some.ensures t)
 
-pub segments::segments-loop-count-preserved-in-Some : goal.segments::segments-loop-count-preserved-in-Some
-segments::segments-loop-count-preserved-in-Some m c =
+pub segments::after_segments-loop-count-preserved-in-Some : goal.segments::after_segments-loop-count-preserved-in-Some
+segments::after_segments-loop-count-preserved-in-Some m c =
     let l = c.loop-count in
     let side = c.in-Some.after_string in
     let read = c.in-Some.ensures in
     subst (λ b. Continues c.args.kind c.args.level c.args.depth c.args.text.now side.rest.now (l.count + 1) l.holds b) (sym c.either-noted.ensures)
     (plain_more c.args.kind c.args.level c.args.depth c.args.text.now l.rest.now read.0 read.1 side.rest.now l.count l.holds l.noted side.some l.invariant read.2 (read.3 c.args.depth) read.4)
 
-pub segments::segments-loop-count-preserved : goal.segments::segments-loop-count-preserved
-segments::segments-loop-count-preserved m c =
+pub segments::after_segments-loop-count-preserved : goal.segments::after_segments-loop-count-preserved
+segments::after_segments-loop-count-preserved m c =
     let l = c.loop-count in
-    let on = more c.args.kind c.args.level c.args.depth c.args.text.now l.rest.now c.notes-above.result.rest.now c.in-Some-line.inner.now c.in_ok-read.read.rest.now c.in_ok-comma.comma.now c.in_ok-side.side.rest.now
-    l.count l.holds c.in_ok-read.read.holds l.noted c.notes-above.result.some c.in_ok-side.side.some l.invariant c.notes-above.ensures c.in-Some-line.ensures c.in_ok-read.ensures c.in_ok-comma.ensures c.in_ok-side.ensures in
+    let on = more c.args.kind c.args.level c.args.depth c.args.text.now l.rest.now c.after_comments-above.result.rest.now c.in-Some-after_line.inner.now c.in_ok-read.read.rest.now c.in_ok-comma.comma.now c.in_ok-side.side.rest.now
+    l.count l.holds c.in_ok-read.read.holds l.noted c.after_comments-above.result.some c.in_ok-side.side.some l.invariant c.after_comments-above.ensures c.in-Some-after_line.ensures c.in_ok-read.ensures c.in_ok-comma.ensures c.in_ok-side.ensures in
     subst (λ b. Continues c.args.kind c.args.level c.args.depth c.args.text.now c.in_ok-side.side.rest.now (l.count + 1) b c.either-noted-in-loop-count.result) (sym c.either-holds.ensures)
     (subst (λ b. Continues c.args.kind c.args.level c.args.depth c.args.text.now c.in_ok-side.side.rest.now (l.count + 1) (l.holds || c.in_ok-read.read.holds) b)
     (sym (c.either-noted-in-loop-count.ensures ∙ ap (λ b. l.noted || b) c.either-about.ensures)) on)
 
-pub segments::segments-returns-in_default-line : goal.segments::segments-returns-in_default-line
-segments::segments-returns-in_default-line m c =
+pub segments::after_segments-returns-in_default-after_line : goal.segments::after_segments-returns-in_default-after_line
+segments::after_segments-returns-in_default-after_line m c =
     let l = c.loop-count in
-    (l.rest.now, finish c.args.kind c.args.level c.args.depth c.args.text.now l.rest.now l.count l.holds l.noted l.invariant, c.notes-above.ensures)
+    (l.rest.now, finish c.args.kind c.args.level c.args.depth c.args.text.now l.rest.now l.count l.holds l.noted l.invariant, c.after_comments-above.ensures)
 
-pub segments::flat_segments-loop-init : goal.segments::flat_segments-loop-init
-segments::flat_segments-loop-init m c = (1, refl, refl, begin_flat c.args.kind c.args.level c.args.depth c.args.text.now c.in_ok-first.first.rest.now c.in_ok-first.first.holds c.in_ok-first.ensures)
+pub segments::after_flat_segments-loop-init : goal.segments::after_flat_segments-loop-init
+segments::after_flat_segments-loop-init m c = (1, refl, refl, begin_flat c.args.kind c.args.level c.args.depth c.args.text.now c.in_ok-first.first.rest.now c.in_ok-first.first.holds c.in_ok-first.ensures)
 
-pub segments::flat_segments-loop-preserved : goal.segments::flat_segments-loop-preserved
-segments::flat_segments-loop-preserved m c =
+pub segments::after_flat_segments-loop-preserved : goal.segments::after_flat_segments-loop-preserved
+segments::after_flat_segments-loop-preserved m c =
     let i = c.loop.invariant in
     let on = more_flat c.args.kind true c.args.level c.args.depth c.args.text.now c.loop.rest.now c.in-Some.next.now c.in_ok-read.read.rest.now i.0 c.loop.holds c.in_ok-read.read.holds i.3 c.in-Some.ensures c.in_ok-read.ensures in (
       i.0 + 1,
@@ -73,62 +73,62 @@ segments::flat_segments-loop-preserved m c =
       subst (λ b. ContinuesFlat c.args.kind true c.args.level c.args.depth c.args.text.now c.in_ok-read.read.rest.now (i.0 + 1) b) (sym c.either-holds.ensures) on,
     )
 
-pub group::broken_group-returns : goal.group::broken_group-returns
-group::broken_group-returns m c =
+pub group::after_broken_group-returns : goal.group::after_broken_group-returns
+group::after_broken_group-returns m c =
     let read = c.in_ok-read.ensures in
     let many = four_or c.in_ok-read.read.ended c.in_ok-read.read.noted _ _ ∙ sym (c.either-broken.ensures ∙ ap (λ b. c.in_ok-read.read.ended || b) (c.either-noted.ensures ∙ ap (λ b. c.in_ok-read.read.noted || b) (c.breaks-many.ensures c.in_ok-read.read.count refl refl))) ∙ c.if-not-broken.false in
     broken_group c.args.kind c.args.level (c.args.depth + 1) c.args.depth c.args.inside.now read.0 c.in_ok-read.read.rest.now c.in_ok-end.end.now c.in_ok-rest.rest.now c.closing.result c.in_ok-read.read.count c.in_ok-read.read.holds c.in_ok-read.read.noted c.in_ok-read.read.ended
     (omega arith) c.closing.ensures c.requires.commas read.1 read.2 many c.in_ok-end.ensures c.in_ok-rest.ensures
 
-pub group::flat_group-returns : goal.group::flat_group-returns
-group::flat_group-returns m c =
+pub group::after_flat_group-returns : goal.group::after_flat_group-returns
+group::after_flat_group-returns m c =
     let read = c.in_ok-read.ensures in
     flat_group c.args.kind c.args.level (c.args.depth + 1) c.args.depth c.args.inside.now c.in_ok-read.read.rest.now c.in_ok-rest.rest.now c.closing.result read.0 c.in_ok-read.read.holds
     (omega arith) c.closing.ensures read.3 (sym (c.breaks-broken.ensures read.0 read.1 read.2) ∙ c.if-broken.false) c.in_ok-rest.ensures
 
-pub segments::flat_segments-returns-then-is_some : goal.segments::flat_segments-returns-then-is_some
-segments::flat_segments-returns-then-is_some m c = (0, refl, refl, none_flat c.args.kind c.args.level c.args.depth c.args.text.now)
+pub segments::after_flat_segments-returns-then-is_some : goal.segments::after_flat_segments-returns-then-is_some
+segments::after_flat_segments-returns-then-is_some m c = (0, refl, refl, none_flat c.args.kind c.args.level c.args.depth c.args.text.now)
 
-pub segments::flat_segments-returns-in_default : goal.segments::flat_segments-returns-in_default
-segments::flat_segments-returns-in_default m c =
+pub segments::after_flat_segments-returns-in_default : goal.segments::after_flat_segments-returns-in_default
+segments::after_flat_segments-returns-in_default m c =
     let i = c.loop.invariant in
     (i.0, i.1, i.2, finish_flat c.args.kind true c.args.level c.args.depth c.args.text.now c.loop.rest.now i.0 c.loop.holds i.3)
 
-pub segments::segment-returns-in_ok-read-in-List : goal.segments::segment-returns-in_ok-read-in-List
-segments::segment-returns-in_ok-read-in-List m c =
+pub segments::after_segment-returns-in_ok-read-in-List : goal.segments::after_segment-returns-in_ok-read-in-List
+segments::after_segment-returns-in_ok-read-in-List m c =
     subst (λ k. IsSegmentFront k c.args.level c.args.depth c.args.text.now c.in_ok-read-in-List.read.rest.now c.in_ok-read-in-List.read.holds) (sym c.in-List.is)
     (element_segment c.args.level c.args.depth c.args.text.now c.in_ok-read-in-List.read.rest.now c.in_ok-read-in-List.read.holds c.in_ok-read-in-List.ensures)
 
-pub segments::named_segment-returns-in_ok-read-in-Dict : goal.segments::named_segment-returns-in_ok-read-in-Dict
-segments::named_segment-returns-in_ok-read-in-Dict m c =
+pub segments::after_named_segment-returns-in_ok-read-in-Dict : goal.segments::after_named_segment-returns-in_ok-read-in-Dict
+segments::after_named_segment-returns-in_ok-read-in-Dict m c =
     subst (λ k. IsSegmentFront k c.args.level c.args.depth c.args.text.now c.in_ok-read-in-Dict.read.rest.now c.in_ok-read-in-Dict.read.holds) (sym c.in-Dict.is)
     (entry_segment c.args.level c.args.depth c.args.text.now c.in_ok-colon-in-Dict.colon.now c.in_ok-read-in-Dict.read.rest.now c.in_ok-value-in-Dict.value.now c.in_ok-read-in-Dict.read.holds
     (c.in_ok-colon-in-Dict.ensures c.args.level c.args.depth) c.in_ok-value-in-Dict.ensures c.in_ok-read-in-Dict.ensures)
 
-pub segments::named_segment-returns-in_ok-read-in-Some : goal.segments::named_segment-returns-in_ok-read-in-Some
-segments::named_segment-returns-in_ok-read-in-Some m c =
+pub segments::after_named_segment-returns-in_ok-read-in-Some : goal.segments::after_named_segment-returns-in_ok-read-in-Some
+segments::after_named_segment-returns-in_ok-read-in-Some m c =
     keyword_segment c.args.kind c.args.level c.args.depth c.args.text.now (codes " = " ++ c.in-Some.value.now) c.in_ok-read-in-Some.read.rest.now c.in-Some.value.now c.in_ok-read-in-Some.read.holds
     (sym c.is_call.ensures ∙ c.if-not-is_call.false) c.in-Some.ensures refl c.in_ok-read-in-Some.ensures
 
-pub segments::named_segment-returns-in_ok-read-in-None : goal.segments::named_segment-returns-in_ok-read-in-None
-segments::named_segment-returns-in_ok-read-in-None m c =
+pub segments::after_named_segment-returns-in_ok-read-in-None : goal.segments::after_named_segment-returns-in_ok-read-in-None
+segments::after_named_segment-returns-in_ok-read-in-None m c =
     positional_segment c.args.kind c.args.level c.args.depth c.args.text.now c.in_ok-read-in-None.read.rest.now c.in_ok-read-in-None.read.holds
     (sym c.is_call.ensures ∙ c.if-not-is_call.false) c.in_ok-read-in-None.ensures
 
-pub value::term-returns-in_ok-read-in-91 : goal.value::term-returns-in_ok-read-in-91
-value::term-returns-in_ok-read-in-91 m c =
+pub value::after_term-returns-in_ok-read-in-91 : goal.value::after_term-returns-in_ok-read-in-91
+value::after_term-returns-in_ok-read-in-91 m c =
     let read = c.in_ok-read-in-91.read in
     value_term c.args.level c.args.depth c.args.text.now read.rest.now read.holds (list_value c.args.level c.args.depth c.args.text.now read.rest.now read.holds c.in_ok-read-in-91.ensures)
 
-pub value::term-returns-in_ok-read-in-123 : goal.value::term-returns-in_ok-read-in-123
-value::term-returns-in_ok-read-in-123 m c =
+pub value::after_term-returns-in_ok-read-in-123 : goal.value::after_term-returns-in_ok-read-in-123
+value::after_term-returns-in_ok-read-in-123 m c =
     let read = c.in_ok-read-in-123.read in
     value_term c.args.level c.args.depth c.args.text.now read.rest.now read.holds (dict_value c.args.level c.args.depth c.args.text.now read.rest.now read.holds c.in_ok-read-in-123.ensures)
 
-pub value::name_or_call-returns-in_default : goal.value::name_or_call-returns-in_default
-value::name_or_call-returns-in_default m c =
+pub value::after_name_or_call-returns-in_default : goal.value::after_name_or_call-returns-in_default
+value::after_name_or_call-returns-in_default m c =
     value_term c.args.level c.args.depth c.args.text.now c.in_ok-end.end.now false (name_value c.args.text.now c.in_ok-end.end.now c.in_ok-end.ensures c.args.level c.args.depth)
 
-pub value::term-returns-in_ok-rest-in-34 : goal.value::term-returns-in_ok-rest-in-34
-value::term-returns-in_ok-rest-in-34 m c =
+pub value::after_term-returns-in_ok-rest-in-34 : goal.value::after_term-returns-in_ok-rest-in-34
+value::after_term-returns-in_ok-rest-in-34 m c =
     value_term c.args.level c.args.depth c.args.text.now c.in_ok-rest-in-34.rest.now false (c.in_ok-rest-in-34.ensures c.args.level c.args.depth)

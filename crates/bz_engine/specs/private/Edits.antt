@@ -7,7 +7,7 @@ use Rattle.bz_engine.specs.declared.edit.Edited.TheVariants.{Done, Faulty, Faile
 use Rattle.bz_engine.specs.declared.edit.Scripted.{Scripted}
 use Rattle.bz_engine.specs.declared.edit.Scripted.TheVariants as scripted
 use Rattle.bz_engine.specs.declared.report.SyntaxFault.{SyntaxFault}
-use Rattle.bz_engine.specs.File.{Gives}
+use Rattle.bz_engine.specs.File.{IsAnswerOf}
 use Rattle.bz_command.specs.Passes.{Slot}
 use Rattle.bz_passes.specs.Exchange.{Fits, IsLeftBy, slot_after}
 use Rattle.bz_engine.specs.Language.{meaning, changes, fails_on}
@@ -29,7 +29,7 @@ pub record IsDone (run : Run) (cs : List (List ℕ)) (statements : List Statemen
 
 -- The chunk has a fault, and nothing was done.
 pub record IsFaulty (max_depth : ℕ) (chunk : List ℕ) (fault : SyntaxFault) (old new : Progress) (text_before text_following : List ℕ) : Type 0 where
-  pub fault_is : Gives max_depth old.line chunk (Err fault)
+  pub fault_is : IsAnswerOf max_depth old.line chunk (Err fault)
   pub same : new ≡ old
   pub nothing : text_following ≡ text_before
 
@@ -37,7 +37,7 @@ pub record IsFaulty (max_depth : ℕ) (chunk : List ℕ) (fault : SyntaxFault) (
 pub record IsFailed (run : Run) (chunk : List ℕ) (message : Option (List ℕ)) (old new : Progress) (text_before text_following : List ℕ) : Type 0 where
   pub ends : run.keep_going ≡ false
   pub statement : Statement
-  pub read : Gives run.max_depth old.line chunk (Ok (Some statement))
+  pub read : IsAnswerOf run.max_depth old.line chunk (Ok (Some statement))
   pub fails : old.failed ≡ false → some_failure run.home run.passes (statement ∷ []) ≡ true
   pub message_is : old.failed ≡ false → option_to_list message ≡ take 1 (flat_map failure_text (said (meaning run.home) run.passes (slots_of (statement ∷ []))))
   pub changed : new.changed ≡ old.changed

@@ -8,8 +8,7 @@ use Rattle.bz_tree.specs.Rows.{IsRowOf}
 use Rattle.bz_command.specs.Labels.{Target}
 use Rattle.bz_attribute.specs.Marks.{marks}
 use Rattle.bz_passes.specs.declared.index.Key.{Key}
-use Rattle.bz_passes.specs.private.Indexes.{may_mark}
-use Rattle.bz_passes.specs.Asked.{asked_by}
+use Rattle.bz_passes.specs.Asked.{asked_by, may_mark}
 
 -- a target that marks the statement may mark what has this key
 abbrev pub HasKey : Statement → Key → Type 0

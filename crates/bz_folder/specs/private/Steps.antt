@@ -11,11 +11,11 @@ use Rattle.bz_folder.specs.declared.trouble.Trouble.{Trouble}
 use Rattle.bz_folder.specs.declared.trouble.Trouble.TheVariants.{OutOfMemory, Clean, LeftBehind}
 
 -- these calls make the temporary file where it is not made, and write these bytes at its end
-pub record IsSent (stage : DraftState) (path bytes : List ℕ) (result : Result ⊤ Failed) (events : List Event) : Type 0 where
-  pub written : (sent : List ℕ) (start : Files) → HasSent stage path sent start
+pub record IsSent (state : DraftState) (path bytes : List ℕ) (result : Result ⊤ Failed) (events : List Event) : Type 0 where
+  pub written : (sent : List ℕ) (start : Files) → HasSent state path sent start
       → Along (SameBut path start) (λ now. OnOk result (HasBytes path (sent ++ bytes) now)) events start
-  pub whole : OnOk result (stage ≢ Broken)
-  pub cause : OnErr result ((stage ≡ Broken) ⊎ AnyFails events)
+  pub whole : OnOk result (state ≢ Broken)
+  pub cause : OnErr result ((state ≡ Broken) ⊎ AnyFails events)
 
 -- what is there when a text was put in the file's place, or was not
 abbrev pub IsPutEnd : List ℕ → Content → Result ⊤ Failed → Files → Files → Type 0
@@ -60,10 +60,10 @@ IsFinishCaused Before (Err LeftBehind) events = AnyFails events
 pub record IsFinished {D : Type 0} (old : DraftValue D) (file : List ℕ) (mode : ℕ) (answer : Result Bool Failed)
     (result : Result Bool Trouble) (events : List Event) : Type 0 where
   pub safe : (text : List ℕ) (start now : Files) → SameBut (temporary_path file) start now
-      → (old.stage ≡ Unmade → now (temporary_path file) ≡ start (temporary_path file)) → IsText old text now
+      → (old.state ≡ Unmade → now (temporary_path file) ≡ start (temporary_path file)) → IsText old text now
       → Along (IsSafe file (wanted_of answer text mode) start) (IsEnd file (wanted_of answer text mode) result start)
       events now
-  pub cause : IsFinishCaused (IsErr answer ⊎ (old.stage ≡ Broken)) result events
+  pub cause : IsFinishCaused (IsErr answer ⊎ (old.state ≡ Broken)) result events
   pub wanted : result ≡ Ok true → answer ≡ Ok true
   pub unwanted : result ≡ Ok false → answer ≡ Ok false
-  pub idle : answer ≡ Ok false → old.stage ≡ Unmade → events ≡ []
+  pub idle : answer ≡ Ok false → old.state ≡ Unmade → events ≡ []

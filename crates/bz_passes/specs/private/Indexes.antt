@@ -1,40 +1,15 @@
--- Which passes may mark what is in a slot, and where they stand in a script.
-use Rattle.std.specs.Prelude.{◌≡◌, ℕ, ◌+◌, ◌<◌, ◌≤◌, ◌%◌, min, Bool, true, false, if◌then◌else◌, List, [], ◌∷◌, length, get_or, slice_get, Option, Some, None, is_none, bytes_eq, String, Vec}
+-- Where the passes of each name stand in a script.
+use Rattle.std.specs.Prelude.{◌≡◌, ℕ, ◌+◌, ◌<◌, ◌≤◌, ◌%◌, min, Bool, false, if◌then◌else◌, List, [], ◌∷◌, length, get_or, slice_get, Option, Some, None, is_none, bytes_eq, String, Vec}
 use Rattle.std.specs.Option.{option_map_or}
-use Rattle.std.specs.List.{list_any}
 use Rattle.std.specs.Hash.FoldHasher.{initial, write, finish}
 use Rattle.std.specs.BTreeMap.{BTreeMap, get_by_text}
-use Rattle.bz_passes.specs.declared.index.Key.{Key}
-use Rattle.bz_passes.specs.declared.index.Key.TheVariants.{NoName, Name, Unknown}
 use Rattle.bz_passes.specs.declared.index.Index.{Index}
 use Rattle.std.specs.Global.{Global}
-use Rattle.bz_command.specs.Passes.{Meaning, Pass, Slot}
 
 -- it asks for this name
 abbrev pub asks_for : List ℕ → Option (List ℕ) → Bool
 asks_for name None = false
 asks_for name (Some asked) = bytes_eq name asked
-
--- a target that asks for a name, or for none, may mark what has this key
-abbrev pub may_mark : Key → Option (List ℕ) → Bool
-may_mark Unknown asked = true
-may_mark NoName asked = is_none asked
-may_mark (Name name) None = true
-may_mark (Name name) (Some asked) = bytes_eq name.now asked
-
--- what is in a slot has this key: each target that marks it may mark what has the key
-abbrev pub IsKeyOf : {S T C M : Type 0} → Meaning S T C M → (T → Option (List ℕ)) → Slot S → Key → Type 0
-IsKeyOf {S} {T} m asked slot key = (target : T) → m.marks target slot ≡ true → may_mark key (asked target) ≡ true
-
--- some pass may mark what has this key
-abbrev pub some_may_mark : {T C : Type 0} → (T → Option (List ℕ)) → Key → List (Pass T C) → Bool
-some_may_mark asked key ps = list_any (λ pass. may_mark key (asked pass.target)) ps
-
--- the first position from `from` on where the test holds; none where it holds nowhere
-abbrev pub IsFirstFrom : {X : Type 0} → (X → Bool) → List X → ℕ → Option ℕ → Type 0
-IsFirstFrom {X} test xs from None = (i : ℕ) (d : X) → from ≤ i → i < length xs → test (get_or xs i d) ≡ false
-IsFirstFrom {X} test xs from (Some first) = (from ≤ first) × (first < length xs) × ((d : X) → test (get_or xs first d) ≡ true)
-    × ((i : ℕ) (d : X) → from ≤ i → i < first → test (get_or xs i d) ≡ false)
 
 -- the positions where the test holds, counted from n
 abbrev pub positions : {X : Type 0} → (X → Bool) → ℕ → List X → List ℕ

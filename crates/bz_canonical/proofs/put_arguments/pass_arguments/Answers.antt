@@ -12,12 +12,12 @@ returns c = λ attr text begun p.
     let depth = c.args.depth in
     let start = c.args.from in
     let others = c.in-Some.others in
-    let last = c.in-Some-last_segments.last in
+    let last = c.in-Some-after_last_segments.last in
     let buffer = c.put_others.new.written.items in
     let passed = subst (λ (o : Option PutOthers). IfSome o (λ read. Puts c.args.written.now.items (pending start) buffer (pending read.at)
     (λ begun w. AreOthersRead depth c.as_slice.result.now start.rest.now read.at.rest.now w read.one))) c.in-Some.is c.in_ok-others.ensures.passed in
     let one = passed text begun p in
-    let tail = c.in-Some-last_segments.ensures in
+    let tail = c.in-Some-after_last_segments.ensures in
     let last_one = nat_le 1 last.count in
     let two = last_read depth others.at.rest.now tail.0 last.count last.holds last.noted last_one tail.1 refl in
     let n = tail.2 in

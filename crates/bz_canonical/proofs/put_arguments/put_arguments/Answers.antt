@@ -16,14 +16,14 @@ returns c = λ text begun p.
     let start = c.args.from in
     let placed = c.in-Some.placed in
     let later = c.in-Some-2.later in
-    let last = c.in-Some-last_segments.last in
+    let last = c.in-Some-after_last_segments.last in
     let first = subst (λ (o : Option PutPlaced). IfSome o (λ read. Puts c.args.written.now.items (pending start) c.put_placed.new.written.items (pending read.at)
     (λ begun w. ArePlacedRead depth attr start.rest.now read.at.rest.now begun w read.one (put_ends read.place) read.named))) c.in-Some.is c.in_ok-placed.ensures in
     let second = subst (λ (o : Option PutOthers). IfSome o (λ read. Puts c.put_placed.new.written.items (pending placed.at) c.put_later.new.written.items (pending read.at)
     (λ begun w. AreRead depth placed.at.rest.now read.at.rest.now w read.one))) c.in-Some-2.is c.in_ok-later.ensures in
     let one = first text begun p in
     let two = second text (begun ++ one.0) one.1 in
-    let tail = c.in-Some-last_segments.ensures in
+    let tail = c.in-Some-after_last_segments.ensures in
     let last_one = nat_le 1 last.count in
     let three = last_read depth later.at.rest.now tail.0 last.count last.holds last.noted last_one tail.1 refl in
     let n = tail.2 in
@@ -38,7 +38,7 @@ returns c = λ text begun p.
     )
   where
     known : (place : Option PutPlace) → IfSome place (λ p. (p ≡ c.in-Some.placed.place) × (c.in-Some.placed.named ≡ false → c.either-more.result ≡ false))
-        → IfSome (option_map put_ends place) (λ p. (p ≡ put_ends c.in-Some.placed.place) × (c.in-Some.placed.named ≡ false → (c.in-Some-2.later.one || nat_le 1 c.in-Some-last_segments.last.count) ≡ false))
+        → IfSome (option_map put_ends place) (λ p. (p ≡ put_ends c.in-Some.placed.place) × (c.in-Some.placed.named ≡ false → (c.in-Some-2.later.one || nat_le 1 c.in-Some-after_last_segments.last.count) ≡ false))
     known None is = tt
     known (Some p) is = (ap put_ends is.0, λ no. sym c.either-more.ensures ∙ is.1 no)
 

@@ -24,6 +24,6 @@ returns c =
     let end_is = subst (λ (o : Option RuleEnd). IfSome o (λ e. IsRuleEnd read.at.rest.now e.rest.now)) c.in-Some-2.is ends.end in
     let put = subst (λ (o : Option RuleEnd). IfSome o (λ e. (text all : List ℕ) → IsPending text buffer all read.at.from.now e.rest.now
     → (if e.as_is then take (length text - length e.rest.now) text else c.put_rule_end.new.written.items) ≡ all)) c.in-Some-2.is ends.written in
-    let all = rule_pending c.args.depth attr text head.name.now head.inside.now head.rest.now read.at.rest.now end.rest.now read.at.from.now buffer got.0 read.some (option_map put_ends read.place) (option_map put_ends c.place_of.result) h
-    got.1 got.2 some end_is (rw c.as_bytes-attr.ensures.value at c.place_of.ensures) in
-    subst (λ (t : List ℕ). IsRuleRead (c.args.depth + 1) attr head.name.now text end.rest.now t (option_map put_ends c.place_of.result)) (sym (put text all.0 all.1)) all.2
+    let all = rule_pending c.args.depth attr text head.name.now head.inside.now head.rest.now read.at.rest.now end.rest.now read.at.from.now buffer got.0 read.some (option_map put_ends read.place) (option_map put_ends c.asked_place.result) h
+    got.1 got.2 some end_is (rw c.as_bytes-attr.ensures.value at c.asked_place.ensures) in
+    subst (λ (t : List ℕ). IsRuleRead (c.args.depth + 1) attr head.name.now text end.rest.now t (option_map put_ends c.asked_place.result)) (sym (put text all.0 all.1)) all.2

@@ -7,7 +7,7 @@ use Rattle.bz_engine.proofs.next_chunk.edit_bytes.Goals as goal
 pub edit_chunk-requires-clause-read : goal.edit_chunk-requires-clause-read
 edit_chunk-requires-clause-read c =
     let read = c.read_text-read in
-    let nothing = c.in_ok-edit_whole.ensures.nothing c.if-branch.false in
+    let nothing = c.in_ok-copy_whole.ensures.nothing c.if-branch.false in
     subst (λ (p : Progress). IsReadAs c.args.script.max_depth p.line c.in-Ok.whole.now read.result) (sym nothing.0)
     (subst (λ n. IsReadAs c.args.script.max_depth n c.in-Ok.whole.now read.result) (ap (λ p. p.line) c.progress.view_is)
     (read_by_text c.progress.inside.line c.args.script.max_depth c.in-Ok.whole.now read.result read.ensures.statement read.ensures.blank read.ensures.fault))

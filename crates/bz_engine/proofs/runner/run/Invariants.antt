@@ -9,7 +9,7 @@ invariant-loop-session g l = record {
   home : l.session.home ≡ l.fn.home;
   passes : l.session.passes ≡ l.fn.passes.items;
   options : l.session.options ≡ l.fn.options;
-  goes : l.session.stage ≡ Going;
+  goes : l.session.state ≡ Going;
   pieces : List (List ℕ);
   cs : List (List ℕ);
   text : List ℕ;

@@ -9,7 +9,7 @@ abbrev pub invariant-loop-taken : goal.invariant-loop-taken
 invariant-loop-taken g l = record {
   within : l.taken ≤ l.count;
   same : IsSameRun l.initial.session l.session;
-  goes : l.initial.session.stage ≡ Going → l.session.stage ≡ Going;
+  goes : l.initial.session.state ≡ Going → l.session.state ≡ Going;
   done : (pieces cs : List (List ℕ)) (text : List ℕ) → HasDone l.initial.session pieces cs text
       → HasManyMore l.taken (λ read. g.S.Source.gave l.initial.source read l.source) (λ shown. g.W.Sink.took l.initial.sink shown l.sink) l.session pieces cs text;
 }

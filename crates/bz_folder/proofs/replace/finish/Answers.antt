@@ -21,7 +21,7 @@ returns-in-Ok g c =
       p.0,
       p.1,
       finished_put c.args.draft.now c.args.file.now c.args.mode c.args.answer p.0 c.in-Ok.field-0 (c.in-Ok-true.is ∙ ap (λ b. Ok b) c.in-Ok-true.field-0-test)
-          (subst (λ r. IsPut (IsText c.args.draft.now) (c.args.draft.now.stage ≡ Broken) c.args.file.now c.args.mode r p.0) c.in-Ok.is p.2),
+          (subst (λ r. IsPut (IsText c.args.draft.now) (c.args.draft.now.state ≡ Broken) c.args.file.now c.args.mode r p.0) c.in-Ok.is p.2),
     )
 
 pub returns-in-Err-put : goal.returns-in-Err-put
@@ -30,7 +30,7 @@ returns-in-Err-put g c =
     let a = c.abandon.ensures in (
       _,
       g.met.D.Folder.did_more _ _ _ p.0 _ p.1 a.1,
-      finished_unput c.args.draft.now c.args.file.now c.args.mode c.args.answer p.0 c.in-Err-put.field-0 c.put.new.self.stage a.0 c.put.new.self.temporary
+      finished_unput c.args.draft.now c.args.file.now c.args.mode c.args.answer p.0 c.in-Err-put.field-0 c.put.new.self.state a.0 c.put.new.self.temporary
           (c.in-Ok-true.is ∙ ap (λ b. Ok b) c.in-Ok-true.field-0-test) (c.put.ensures.path ∙ c.requires) c.in-Err-put.ensures.made c.abandon.result a.2
-          (subst (λ r. IsPut (IsText c.args.draft.now) (c.args.draft.now.stage ≡ Broken) c.args.file.now c.args.mode r p.0) c.in-Err-put.is p.2),
+          (subst (λ r. IsPut (IsText c.args.draft.now) (c.args.draft.now.state ≡ Broken) c.args.file.now c.args.mode r p.0) c.in-Err-put.is p.2),
     )

@@ -22,7 +22,7 @@ pub returns-in_err-len-clause-steps : goal.returns-in_err-len-clause-steps
 returns-in_err-len-clause-steps g c =
     let v = c.take_text-text.new.self in
     let e = c.edit_next.new.self in
-    let stops : SessionValue → SessionValue = λ x. record x { stage = Stopped } in
+    let stops : SessionValue → SessionValue = λ x. record x { state = Stopped } in
     let at = c.take_text-text.ensures.same ∙ ap stops c.self.view_is in
     let finds = subst (Finds g.S.Source.gave g.S.Source.failures v.options v.progress.line c.args.source.now c.edit_next.new.source v.ahead e.ahead) c.in_err-len.was c.edit_next.ensures.finds in
     let p = err_from_is_err_and c.from_residual.result c.from_residual.ensures.1 in
@@ -34,7 +34,7 @@ pub returns-in_default-clause-steps : goal.returns-in_default-clause-steps
 returns-in_default-clause-steps g c =
     let v = c.take_text-text.new.self in
     let e = c.edit_next.new.self in
-    let stops : SessionValue → SessionValue = λ x. record x { stage = Stopped } in
+    let stops : SessionValue → SessionValue = λ x. record x { state = Stopped } in
     let at = c.take_text-text.ensures.same ∙ ap stops c.self.view_is in
     let finds = subst (Finds g.S.Source.gave g.S.Source.failures v.options v.progress.line c.args.source.now c.edit_next.new.source v.ahead e.ahead) c.in_ok-len.was c.edit_next.ensures.finds in
     let none = subst (IsNext v e c.take_text-text.result.items c.edit_next.new.text.items) c.in_default.is c.in_ok-len.ensures.next in
@@ -45,7 +45,7 @@ pub returns-in_err-write-in-Done-clause-steps : goal.returns-in_err-write-in-Don
 returns-in_err-write-in-Done-clause-steps g c =
     let v = c.take_text-text.new.self in
     let e = c.edit_next.new.self in
-    let stops : SessionValue → SessionValue = λ x. record x { stage = Stopped } in
+    let stops : SessionValue → SessionValue = λ x. record x { state = Stopped } in
     let at = c.take_text-text.ensures.same ∙ ap stops c.self.view_is in
     let finds = subst (Finds g.S.Source.gave g.S.Source.failures v.options v.progress.line c.args.source.now c.edit_next.new.source v.ahead e.ahead) c.in_ok-len.was c.edit_next.ensures.finds in
     let next = subst (IsNext v e c.take_text-text.result.items c.edit_next.new.text.items) c.in-Some.is c.in_ok-len.ensures.next in
@@ -61,11 +61,11 @@ pub returns-in_ok-write-in-Done-clause-steps : goal.returns-in_ok-write-in-Done-
 returns-in_ok-write-in-Done-clause-steps g c =
     let v = c.take_text-text.new.self in
     let e = c.edit_next.new.self in
-    let stops : SessionValue → SessionValue = λ x. record x { stage = Stopped } in
+    let stops : SessionValue → SessionValue = λ x. record x { state = Stopped } in
     let at = c.take_text-text.ensures.same ∙ ap stops c.self.view_is in
     let finds = subst (Finds g.S.Source.gave g.S.Source.failures v.options v.progress.line c.args.source.now c.edit_next.new.source v.ahead e.ahead) c.in_ok-len.was c.edit_next.ensures.finds in
     let next = subst (IsNext v e c.take_text-text.result.items c.edit_next.new.text.items) c.in-Some.is c.in_ok-len.ensures.next in
-    let goes : SessionValue → SessionValue = λ x. record x { stage = Going } in
+    let goes : SessionValue → SessionValue = λ x. record x { state = Going } in
     step_on g.S.Source.gave g.S.Source.failures g.W.Sink.took g.W.Sink.failures c.args.self.now v e _ _ More c.args.source.now c.edit_next.new.source c.args.sink.now c.write.new.sink c.edit_next.new.text.items
     (subst (λ t. g.W.Sink.took c.args.sink.now t c.write.new.sink) c.as_slice.ensures.value c.in_ok-write-in-Done.ensures.ok) c.in_ok-write-in-Done.ensures.steady
     (λ other. absurd (other refl)) at finds
@@ -76,7 +76,7 @@ pub returns-in-Faulty-clause-steps : goal.returns-in-Faulty-clause-steps
 returns-in-Faulty-clause-steps g c =
     let v = c.take_text-text.new.self in
     let e = c.edit_next.new.self in
-    let stops : SessionValue → SessionValue = λ x. record x { stage = Stopped } in
+    let stops : SessionValue → SessionValue = λ x. record x { state = Stopped } in
     let at = c.take_text-text.ensures.same ∙ ap stops c.self.view_is in
     let finds = subst (Finds g.S.Source.gave g.S.Source.failures v.options v.progress.line c.args.source.now c.edit_next.new.source v.ahead e.ahead) c.in_ok-len.was c.edit_next.ensures.finds in
     let next = subst (IsNext v e c.take_text-text.result.items c.edit_next.new.text.items) c.in-Some.is c.in_ok-len.ensures.next in
@@ -88,7 +88,7 @@ pub returns-in-Failed-clause-steps : goal.returns-in-Failed-clause-steps
 returns-in-Failed-clause-steps g c =
     let v = c.take_text-text.new.self in
     let e = c.edit_next.new.self in
-    let stops : SessionValue → SessionValue = λ x. record x { stage = Stopped } in
+    let stops : SessionValue → SessionValue = λ x. record x { state = Stopped } in
     let at = c.take_text-text.ensures.same ∙ ap stops c.self.view_is in
     let finds = subst (Finds g.S.Source.gave g.S.Source.failures v.options v.progress.line c.args.source.now c.edit_next.new.source v.ahead e.ahead) c.in_ok-len.was c.edit_next.ensures.finds in
     let next = subst (IsNext v e c.take_text-text.result.items c.edit_next.new.text.items) c.in-Some.is c.in_ok-len.ensures.next in

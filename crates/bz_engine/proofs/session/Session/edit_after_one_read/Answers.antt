@@ -8,7 +8,7 @@ use Rattle.bz_engine.specs.Progress.{Progress}
 use Rattle.bz_engine.specs.SessionValue.{SessionValue}
 use Rattle.bz_engine.proofs.Finds.{finds_nothing, finds_found, finds_then, finds_failed, finds_memory}
 use Rattle.bz_engine.proofs.Kept.{take_read}
-use Rattle.bz_engine.proofs.Stages.{read_alone, passed_over}
+use Rattle.bz_engine.proofs.States.{read_alone, passed_over}
 use Rattle.bz_engine.proofs.session.Session.edit_after_one_read.Goals as goal
 use Rattle.bz_engine.proofs.session.Session.edit_after_one_read.Goals.{in_default-via-in-Short+else-may_read, in_default-via-in_default}
 

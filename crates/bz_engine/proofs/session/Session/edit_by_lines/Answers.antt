@@ -5,7 +5,7 @@ use Rattle.bz_devices.specs.Ahead.{IsReadOn}
 use Rattle.bz_engine.specs.contracts.session.Session.{the_view}
 use Rattle.bz_engine.proofs.Advances.{some_of, none_of}
 use Rattle.bz_engine.proofs.Kept.{lines_fit, session_ahead}
-use Rattle.bz_engine.proofs.Stages.{err_on_ok, err_if_ok, with_more, with_edit, next_edited}
+use Rattle.bz_engine.proofs.States.{err_on_ok, err_if_ok, with_more, with_edit, next_edited}
 use Rattle.bz_engine.specs.declared.next_chunk.NextChunk.{NextChunk}
 use Rattle.bz_engine.specs.SessionValue.{SessionValue}
 use Rattle.bz_passes.specs.Exchange.{Fits}
@@ -68,7 +68,7 @@ pub edit-requires-clause-fits : goal.edit-requires-clause-fits
 edit-requires-clause-fits g c = subst (λ v. Fits v.progress.kept v.passes) (sym (ap the_view c.self-inside.view_is ∙ c.self.view_is)) c.requires.ready.fits
 
 pub edit-requires-clause-stopped : goal.edit-requires-clause-stopped
-edit-requires-clause-stopped g c = ap (λ v. v.stage) (ap the_view c.self-inside.view_is ∙ c.self.view_is) ∙ c.requires.stopped
+edit-requires-clause-stopped g c = ap (λ v. v.state) (ap the_view c.self-inside.view_is ∙ c.self.view_is) ∙ c.requires.stopped
 
 pub edit-requires-clause-lines : goal.edit-requires-clause-lines
 edit-requires-clause-lines g c =
@@ -83,7 +83,7 @@ edit-requires-clause-lines g c =
 pub invariant_of-self : goal.invariant_of-self
 invariant_of-self g c =
     let read = c.find_chunk.ensures.finds.read in
-    session_ahead _ _ c.find_chunk.new.ahead read.0 (ap the_view c.self-inside.view_is) c.self.invariant (ap (λ v. v.stage) (c.self.view_is) ∙ c.requires.stopped) read.2
+    session_ahead _ _ c.find_chunk.new.ahead read.0 (ap the_view c.self-inside.view_is) c.self.invariant (ap (λ v. v.state) (c.self.view_is) ∙ c.requires.stopped) read.2
 
 pub returns-clause-next : goal.returns-clause-next
 returns-clause-next g c =

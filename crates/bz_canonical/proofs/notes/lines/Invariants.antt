@@ -1,5 +1,0 @@
-use Rattle.bz_canonical.proofs.GroupSegments.{ContinuesLines}
-use Rattle.bz_canonical.proofs.notes.lines.Given as goal
-
-abbrev pub invariant-loop : goal.invariant-loop
-invariant-loop l = ContinuesLines l.text l.rest
