@@ -1,8 +1,8 @@
 //! `print`: a line with the texts of a rule's fields. bz_rule (`statement_row.rt`) calls `print`, and bz_engine
 //! (`answer.rt`) calls `print_name` for a rule that it does not read.
 
-ghost use Rattle.std.specs.Prelude.{◌≡◌, ◌++◌, ◌∷◌, [], map, option_map, is_some, IfOk, IfSome, IsTrue, OnOk, string_bytes, false, true, None, Some};
-ghost use Rattle.std.specs.List.{list_all};
+ghost use Rattle.std.specs.Prelude.{◌≡◌, ◌++◌, ◌∷◌, [], map, option_map, is_some, IfOk, IfSome, IsTrue, OnOk, string_bytes, nat_le, ◌==◌, ◌||◌, false, true, None, Some};
+ghost use Rattle.std.specs.List.{list_all, list_any};
 ghost use Rattle.bz_tree.specs.Tree.{Statement};
 ghost use Rattle.bz_tree.specs.Rows.{part_view};
 ghost use Rattle.bz_tree.specs.View.{nodes_view, segs_view};
@@ -222,5 +222,16 @@ fn push_word(alloc: Global, text: &mut String, word: &str) -> Result<(), NoMemor
 fn is_plain(word: &[u8]) -> bool
     ensures { result ≡ spec.is_plain word.now }
 {
-    word.len() > 0 && !word.iter().any(|b| *b == b'"' || *b <= b' ')
+    word.len() > 0 && !has_special(word)
+}
+
+// A quote, a space or a byte below it. No byte ends the loop, so that the compiler looks at several at once.
+fn has_special(word: &[u8]) -> bool
+    ensures { result ≡ list_any (λ b. b == 34 || nat_le b 32) word.now }
+{
+    let mut special = false;
+    for b in word {
+        special |= (*b == b'"') | (*b <= b' ');
+    }
+    special
 }

@@ -1,9 +1,10 @@
 -- Texts in one list of bytes, and more of them at the end.
 use Rattle.std.proofs.Common.{◌≡◌, ℕ, suc, ◌+◌, ◌≤◌, List, [], ◌∷◌, ◌++◌, length, length-append, take, drop, refl, sym, ap, subst, arith}
-use Rattle.std.proofs.lemmas.List.{take-append-le, drop-append-le}
+use Rattle.std.proofs.lemmas.List.{take-append-drop, take-append-le, drop-append-le}
 use Rattle.std.proofs.Math.Nat.{le_refl}
 use Rattle.std.proofs.Math.Seq.{take-length, drop-length}
-use Rattle.std.specs.Str.{IsUtf8}
+use Rattle.std.proofs.lemmas.Str.{IsCharBoundary-from_drop, IsUtf8-append, IsUtf8-nil}
+use Rattle.std.specs.Str.{IsCharBoundary, IsUtf8}
 use Rattle.bz_passes.specs.private.Cuts.{cut, AreTexts}
 
 longer : (n a b c : ℕ) → n ≤ a → c ≡ a + b → n ≤ c
@@ -46,3 +47,13 @@ cut_appended ns bs ms cs ns2 bs2 texts more lens bytes these is and_is =
 pub length-cut : (ns bs : List ℕ) → length (cut ns bs) ≡ length ns
 length-cut [] bs = refl
 length-cut (n ∷ ns) bs = ap suc (length-cut ns (drop n bs))
+
+pub are_utf8 : (ns bs : List ℕ) → AreTexts ns bs → IsUtf8 bs
+are_utf8 [] bs none = subst IsUtf8 (sym none) IsUtf8-nil
+are_utf8 (n ∷ ns) bs these = subst IsUtf8 (take-append-drop n bs) (IsUtf8-append (take n bs) (drop n bs) these.1 (are_utf8 ns (drop n bs) these.2))
+
+-- the first text ends between two characters
+pub first_ends : (ns bs ms : List ℕ) (n : ℕ) → ns ≡ n ∷ ms → AreTexts ns bs → IsCharBoundary bs n
+first_ends ns bs ms n first these =
+    let texts = subst (λ lens. AreTexts lens bs) first these in
+    IsCharBoundary-from_drop bs n texts.0 (are_utf8 ms (drop n bs) texts.2)

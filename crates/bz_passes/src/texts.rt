@@ -2,27 +2,26 @@
 
 ghost use Rattle.std.specs.Prelude.{◌≡◌, ℕ, List, [], ◌∷◌, ◌++◌, length, ◌==◌, OnOk, OnErr, IfSome, IfNone};
 
-use bz_memory::{NoMemory, extend_from_slice, push, reserve, reserve_for};
+use bz_memory::{NoMemory, extend_from_slice, push, push_str, reserve, reserve_for};
 use std::alloc::Global;
 use std::marker::Model;
-use std::str::from_utf8;
 
 /// Texts, one after another in one buffer. Each costs its bytes and its length.
 #[derive(Drop)]
 pub struct Texts {
-    bytes: Vec<u8>,
+    joined: String,
     lens: Vec<usize>,
 }
 
 impl Model for Texts {
-    ghost use Rattle.std.specs.Prelude.{ℕ, List};
+    ghost use Rattle.std.specs.Prelude.{ℕ, List, string_bytes};
     ghost use Rattle.bz_passes.specs.private.Cuts.{cut, AreTexts};
 
     ghost Value = { List (List ℕ) };
 
-    ghost view = { λ t. cut t.lens.items t.bytes.items };
+    ghost view = { λ t. cut t.lens.items (string_bytes t.joined) };
 
-    ghost invariant = { λ t. AreTexts t.lens.items t.bytes.items };
+    ghost invariant = { λ t. AreTexts t.lens.items (string_bytes t.joined) };
 }
 
 impl Texts {
@@ -31,7 +30,7 @@ impl Texts {
         ensures { result ≡ [] }
     {
         Texts {
-            bytes: Vec::new(alloc),
+            joined: String::new(alloc),
             lens: Vec::new(alloc),
         }
     }
@@ -56,7 +55,7 @@ impl Texts {
         ensures stays { OnErr result (self.new ≡ self.old) }
     {
         reserve(&mut self.lens, 1)?;
-        extend_from_slice(&mut self.bytes, text.as_bytes())?;
+        push_str(&mut self.joined, text)?;
         push(&mut self.lens, text.len())?;
         Ok(())
     }
@@ -72,7 +71,7 @@ impl Texts {
             return Ok(());
         }
         reserve_for(&mut self.lens, other.lens.as_slice())?;
-        extend_from_slice(&mut self.bytes, other.bytes.as_slice())?;
+        push_str(&mut self.joined, other.joined.as_str())?;
         extend_from_slice(&mut self.lens, other.lens.as_slice())?;
         Ok(())
     }
@@ -81,7 +80,7 @@ impl Texts {
     pub fn clear(&mut self)
         ensures { self.new ≡ [] }
     {
-        self.bytes.clear();
+        self.joined.clear();
         self.lens.clear();
     }
 
@@ -90,7 +89,7 @@ impl Texts {
         ensures { result ≡ self.now }
     {
         EachText {
-            bytes: self.bytes.as_slice(),
+            joined: self.joined.as_str(),
             lens: self.lens.as_slice(),
         }
     }
@@ -99,7 +98,7 @@ impl Texts {
 /// An iterator over texts: those that are still to come, in order.
 #[derive(Drop)]
 pub struct EachText<'a> {
-    bytes: &'a [u8],
+    joined: &'a str,
     lens: &'a [usize],
 }
 
@@ -109,9 +108,9 @@ impl<'a> Model for EachText<'a> {
 
     ghost Value = { List (List ℕ) };
 
-    ghost view = { λ t. cut t.lens.now t.bytes.now };
+    ghost view = { λ t. cut t.lens.now t.joined.now };
 
-    ghost invariant = { λ t. AreTexts t.lens.now t.bytes.now };
+    ghost invariant = { λ t. AreTexts t.lens.now t.joined.now };
 }
 
 impl<'a> EachText<'a> {
@@ -123,9 +122,9 @@ impl<'a> EachText<'a> {
         let Some((len, lens)) = self.lens.split_first() else {
             return None;
         };
-        let (text, bytes) = self.bytes.split_at(*len);
+        let (text, joined) = self.joined.split_at(*len);
         self.lens = lens;
-        self.bytes = bytes;
-        from_utf8(text).ok()
+        self.joined = joined;
+        Some(text)
     }
 }

@@ -1,7 +1,5 @@
-use Rattle.std.proofs.Common.{rules, tests, ◌≡◌, ℕ, ◌<◌, List, [], ◌∷◌, not, length, refl, ap, ◌∙◌, arith, nat_le, ◌==◌, ◌||◌}
+use Rattle.std.proofs.Common.{◌≡◌, ℕ, ◌<◌, List, [], ◌∷◌, not, length, refl, ap, ◌∙◌, arith, nat_le, ◌==◌, ◌||◌}
 use Rattle.std.specs.List.{list_any}
-use Rattle.std.proofs.lemmas.Iterator.{YieldsList-from_slice}
-use Rattle.std.proofs.lemmas.Iterator.Search.{any_from_yields_List}
 use Rattle.bz_attribute_commands.specs.Print.{is_plain}
 use Rattle.bz_attribute_commands.proofs.print.is_plain.Goals as goal
 
@@ -10,6 +8,4 @@ not_empty [] h = absurd (omega (arith, h))
 not_empty (b ∷ bs) h = refl
 
 pub returns-then-word-gt0 : goal.returns-then-word-gt0
-returns-then-word-gt0 c =
-    ap not (any_from_yields_List (λ b. b == 34 || nat_le b 32) _ _ c.any.result c.any.ensures.ran (YieldsList-from_slice c.args.word.now cc) (λ x b q k. search (rules, tests)))
-    ∙ not_empty c.args.word.now (omega (arith, c.if-word-gt0.true))
+returns-then-word-gt0 c = ap not c.has_special.ensures ∙ not_empty c.args.word.now (omega (arith, c.if-word-gt0.true))
