@@ -9,6 +9,11 @@ use std::simd::prelude::*;
 // So many bytes are a block.
 const BLOCK: usize = 16;
 
+// At each low half of a byte the one byte that is not simple and has it. Where there is none, a byte with another.
+const NOT_SIMPLE: [u8; BLOCK] = [
+    1, 0, b'"', 0, 0, 0, 0, 0, 0, b'\t', b'\n', 0, b'\\', b'\r', 0, 0,
+];
+
 #[inline(always)]
 fn is_simple(b: u8) -> bool
     ensures { result ≡ is_simple b }
@@ -23,12 +28,9 @@ fn simple_in_block(bytes: &[u8]) -> Option<usize>
     ensures { IsCounted bytes.now result }
 {
     let block = u8x16::from_slice(bytes);
-    let quotes = block.simd_eq(u8x16::splat(b'"'));
-    let escapes = block.simd_eq(u8x16::splat(b'\\'));
-    let newlines = block.simd_eq(u8x16::splat(b'\n'));
-    let returns = block.simd_eq(u8x16::splat(b'\r'));
-    let tabs = block.simd_eq(u8x16::splat(b'\t'));
-    let marks = (quotes | escapes | newlines | returns | tabs).to_bitmask();
+    let low_halves = block & u8x16::splat(15);
+    let not_simple = u8x16::from_array(NOT_SIMPLE).swizzle_dyn_within::<BLOCK>(low_halves);
+    let marks = not_simple.simd_eq(block).to_bitmask();
     if marks == 0 {
         return None;
     }

@@ -1,7 +1,9 @@
 //! Guesses of the next chunk. When to see whether it is known what would be written of it: seldom, where of one after
 //! another it was not. And whether it seems to end after the bytes ahead. No contract hangs on a guess.
 
-use memchr::memrchr;
+ghost use Rattle.std.specs.Prelude.{◌≤◌, length};
+
+use std::simd::prelude::*;
 
 // After eight looks in vain one after another, chunks are passed over before the next: 7 of them, and then more after
 // each further look in vain, up to 63.
@@ -10,6 +12,9 @@ const MANY: u8 = 8;
 const SHORTEST_PAUSE: u8 = 7;
 
 const LONGEST_PAUSE: u8 = 63;
+
+// So many bytes are looked at at once.
+const BLOCK: usize = 16;
 
 /// The looks that were had of chunks, and of the bytes ahead.
 #[derive(Clone, Copy)]
@@ -81,16 +86,30 @@ impl Looks {
 }
 
 /// How many bytes follow the last newline that an empty line or a closing bracket follows: where fewer are left, all
-/// chunks that are sure to end are taken. Where there is none, no number of these bytes is enough.
+/// chunks that are sure to end are taken. Where none is seen, no number of these bytes is enough.
 fn open_len(bytes: &[u8]) -> usize {
-    let mut front = bytes;
-    while let Some(at) = memrchr(b'\n', front) {
-        if matches!(bytes.get(at + 1), Some(b'\n' | b')')) {
-            return bytes.len() - at - 1;
+    let mut len = bytes.len();
+    while len > BLOCK {
+        len -= BLOCK;
+        let ends = ends_in_block(&bytes[len - 1..]);
+        if ends != 0 {
+            let passed = len + 63 - ends.leading_zeros() as usize;
+            return bytes.len().saturating_sub(passed);
         }
-        front = &bytes[..at];
     }
     bytes.len() + 1
+}
+
+/// Which of the 16 bytes at the front are newlines that an empty line or a closing bracket follows, a bit each.
+#[inline(always)]
+fn ends_in_block(bytes: &[u8]) -> u64
+    requires { 17 ≤ length bytes.now }
+{
+    let newlines = u8x16::splat(b'\n');
+    let here = u8x16::from_slice(bytes).simd_eq(newlines);
+    let next = u8x16::from_slice(&bytes[1..]);
+    let ends = next.simd_eq(newlines) | next.simd_eq(u8x16::splat(b')'));
+    (here & ends).to_bitmask()
 }
 
 /// Twice as long, and one.

@@ -8,9 +8,6 @@ use std::alloc::Global;
 use std::collections::BTreeMap;
 use std::hash::{FoldHasher, Hasher};
 
-/// How many names are in a bucket on average, if each pass asks for another name. A bucket takes the memory of a dozen.
-const NAMES_IN_BUCKET: usize = 4;
-
 /// What is known of the name of what is in a slot.
 #[derive(Clone, Copy)]
 pub enum Key<'s> {
@@ -34,13 +31,13 @@ pub struct Index {
 }
 
 impl Index {
-    /// Makes the index of no passes, with buckets for so many.
+    /// Makes the index of no passes, with as many buckets as there will be passes.
     pub fn new(alloc: Global, passes: usize) -> Result<Index, NoMemory>
         ensures names { IfOk result (λ index. (name : List ℕ) → spec.named index name ≡ []) }
         ensures others { IfOk result (λ index. index.others.items ≡ []) }
     {
         let mut buckets = Vec::new(alloc);
-        for _bucket in 0..passes / NAMES_IN_BUCKET {
+        for _bucket in 0..passes {
             push(&mut buckets, BTreeMap::new(alloc))?;
         }
         Ok(Index {

@@ -11,6 +11,9 @@ use bz_memory::NoMemory;
 use std::alloc::Global;
 use std::marker::Model;
 
+// So few passes are looked at one after another.
+const FEW: usize = 4;
+
 /// What the index needs of a target.
 pub trait Keyed {
     // The name that it asks for; none where it may mark whatever the name is.
@@ -62,6 +65,9 @@ impl<T: Keyed, C> Passes<T, C> {
     pub fn first_from(&self, key: Key<'_>, from: usize) -> Option<usize>
         ensures { IsFirstFrom (λ pass. may_mark key.entry (T.asked pass.target)) self.now from result }
     {
+        if self.passes.len() <= FEW {
+            return first_of_few(self.as_slice(), key, from);
+        }
         match key {
             Key::Unknown => self.any_from(from),
             Key::NoName => self.other_from(from),
@@ -93,6 +99,30 @@ impl<T: Keyed, C> Passes<T, C> {
         ensures { IsFirstFrom (λ pass. spec.asks_for name.now (T.asked pass.target)) self.now from result }
     {
         first_in(self.index.of_name(name), from)
+    }
+}
+
+/// The same, by each pass in turn.
+fn first_of_few<T: Keyed, C>(passes: &[Pass<T, C>], key: Key<'_>, from: usize) -> Option<usize>
+    ensures { spec.IsFirstFrom (λ pass. spec.may_mark key.entry (T.asked pass.target)) passes.now from result }
+{
+    for i in from..passes.len() {
+        let pass = &passes[i];
+        if may_mark(key, pass.target.asked()) {
+            return Some(i);
+        }
+    }
+    None
+}
+
+/// Whether a target that asks for this name, or for none, may mark what has the key.
+fn may_mark(key: Key<'_>, asked: Option<&str>) -> bool
+    ensures { result ≡ spec.may_mark key.entry (option_map (λ name. name.now) asked.entry) }
+{
+    match (key, asked) {
+        (Key::Unknown, _) | (_, None) => true,
+        (Key::NoName, Some(_)) => false,
+        (Key::Name(name), Some(asked)) => name == asked,
     }
 }
 

@@ -1,9 +1,9 @@
 use Rattle.std.proofs.Common.{◌≤◌, length}
 use Rattle.bz_engine.proofs.looks.open_len.Given as goal
 
--- a front is left
-abbrev pub invariant-loop-at : goal.invariant-loop-at
-invariant-loop-at l = length l.front ≤ length l.bytes
+-- what stands before the bytes that were looked at
+abbrev pub invariant-loop-len : goal.invariant-loop-len
+invariant-loop-len l = l.len ≤ length l.bytes
 
-abbrev pub decreases-loop-at : goal.decreases-loop-at
-decreases-loop-at l = length l.front
+abbrev pub decreases-loop-len : goal.decreases-loop-len
+decreases-loop-len l = l.len
