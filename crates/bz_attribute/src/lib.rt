@@ -32,7 +32,7 @@ pub use env::Env;
 pub use finder::{FirstArgument, find_argument, first_argument};
 pub use head::Head;
 pub use lists::{elements_at, is_list};
-pub use place::{Place, all_arguments, kind_place, new_place, place_of};
+pub use place::{Place, all_arguments, argument_place, kind_place, new_place};
 pub use rule::{is_rule, only_text};
 pub use texts::{label, push_home};
 pub use value::{only_list, value_end};

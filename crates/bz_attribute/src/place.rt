@@ -151,7 +151,7 @@ pub fn new_place(parts: &[Part<'_>]) -> Place
 
 /// Where the first argument of a name stands among the parts of a rule: from the comments above it up to the one beside
 /// it. Where none has the name, it is an empty place after the last argument.
-pub fn place_of(parts: &[Part<'_>], name: &str) -> Place
+pub fn argument_place(parts: &[Part<'_>], name: &str) -> Place
     ensures within { (result.from ≤ result.to) × (result.to ≤ length parts.now) }
     ensures place { ForRule (map part_view parts.now) (λ s r ps. IsPlaceOf name.now s r ps result.from result.to) }
 {

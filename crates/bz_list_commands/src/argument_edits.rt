@@ -10,7 +10,7 @@ ghost use Rattle.bz_list_commands.specs.private.ArgumentEdits as spec;
 use crate::element_edits::{edit_value, loses_all};
 use crate::rewriting::make_way;
 use crate::string_edit::StringEdit;
-use bz_attribute::{Done, Edit, Parts, Place, all_arguments, first_argument, place_of};
+use bz_attribute::{Done, Edit, Parts, Place, all_arguments, argument_place, first_argument};
 use bz_command::Attributes;
 use bz_memory::NoMemory;
 use bz_tree::Part;
@@ -117,6 +117,6 @@ pub fn edit_strings<'a>(
     let edit = ArgumentEdit::Strings(edit);
     match attributes {
         Attributes::Every => edit_in(edit, parts, all_arguments(parts), new),
-        Attributes::Named(attr) => edit_in(edit, parts, place_of(parts, attr.as_str()), new),
+        Attributes::Named(attr) => edit_in(edit, parts, argument_place(parts, attr.as_str()), new),
     }
 }

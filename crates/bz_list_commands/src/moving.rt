@@ -15,7 +15,9 @@ use crate::list_place::{ListPlace, list_place};
 use crate::new_attribute::{close_attribute, open_attribute};
 use crate::string_edit::{Meant, StringEdit};
 use bumpalo::Bump;
-use bz_attribute::{Done, Edit, Env, Parts, Place, WordSet, elements_end, new_place, place_of};
+use bz_attribute::{
+    Done, Edit, Env, Parts, Place, WordSet, argument_place, elements_end, new_place,
+};
 use bz_command::Moved;
 use bz_memory::{NoMemory, extend_from_slice};
 use bz_tree::Part;
@@ -101,7 +103,7 @@ fn move_meant<'a>(
         (λ args. done Nothing (spec.moves edit.entry.env.home.now change.entry.old.now moved args))
         (map part_view parts.now) (map part_view written.new.items) e) }
 {
-    let old = place_of(parts, change.old);
+    let old = argument_place(parts, change.old);
     let strings = ArgumentEdit::Strings(edit);
     let gone = edit_in(strings, parts, old, written)?;
     if !gone.done.changed {

@@ -6,7 +6,7 @@ ghost use Rattle.std.specs.List.{list_any};
 ghost use Rattle.bz_command.specs.Arguments as arguments;
 ghost use Rattle.bz_command.specs.Names.{is_identifier};
 ghost use Rattle.bz_rule.specs.Commands as spec;
-ghost use Rattle.bz_rule.specs.private.CommandSteps.{place_of};
+ghost use Rattle.bz_rule.specs.private.CommandSteps.{commented_of};
 
 use crate::command::{Command, CommandFault, read_named};
 use bz_command::{Attributes, Commented, Moved, Seq, Text, read_words};
@@ -40,7 +40,7 @@ pub(crate) fn moved(values: Seq<Text>) -> Moved
 
 /// What a comment stands before: the rule, an attribute, or a value of one.
 pub(crate) fn read_place(mut words: Vec<Text>) -> Result<Commented, CommandFault>
-    ensures { result ≡ place_of words.items }
+    ensures { result ≡ commented_of words.items }
 {
     let Ok(attr) = next_word(&mut words) else {
         return Ok(Commented::Rule);

@@ -79,7 +79,7 @@ IsLexical (LexOutOfMemory _) = ⊥
 IsLexical fault = Unit {0}
 
 -- The first fault of a chunk: lexical faults come before wrong indents, and these before the grammar. That memory was refused says
--- nothing of the chunk, so it holds of each; `Gives` (bz_engine `File`) leaves it out.
+-- nothing of the chunk, so it holds of each; `IsAnswerOf` (bz_engine `File`) leaves it out.
 abbrev pub IsFaultIn : ℕ → ℕ → List ℕ → ParseFault → Type 0
 IsFaultIn first depth bytes (OutOfMemory _) = Unit {0}
 IsFaultIn first depth bytes (Lex fault) = IsFault first depth bytes fault × IsLexical fault

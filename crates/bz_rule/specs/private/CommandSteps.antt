@@ -7,8 +7,8 @@ use Rattle.bz_command.specs.declared.arguments.Commented.TheVariants.{Rule, Attr
 use Rattle.bz_command.specs.Names.{is_identifier}
 
 -- what a comment stands before
-abbrev pub place_of : List (List ℕ) → Result Commented CommandFault
-place_of [] = Ok Rule
-place_of (attr ∷ []) = if is_identifier attr then Ok (Attribute attr) else Err BadAttribute
-place_of (attr ∷ value ∷ []) = if is_identifier attr then Ok (Value attr value) else Err BadAttribute
-place_of _ = Err WrongCount
+abbrev pub commented_of : List (List ℕ) → Result Commented CommandFault
+commented_of [] = Ok Rule
+commented_of (attr ∷ []) = if is_identifier attr then Ok (Attribute attr) else Err BadAttribute
+commented_of (attr ∷ value ∷ []) = if is_identifier attr then Ok (Value attr value) else Err BadAttribute
+commented_of _ = Err WrongCount

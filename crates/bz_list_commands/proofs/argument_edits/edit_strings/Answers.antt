@@ -14,4 +14,4 @@ returns-in-Every c =
 pub returns-in-Named : goal.returns-in-Named
 returns-in-Named c =
     rw c.in-Named.is
-    (ok_as (λ e h. named_row (means c.args.edit) (literal_of c.args.edit) _ c.place_of.result (map part_view c.args.parts.now) (map part_view c.edit_in-in-Named.new.new.items) e h (rw c.as_str.ensures at c.place_of.ensures.place)) c.edit_in-in-Named.result c.edit_in-in-Named.ensures)
+    (ok_as (λ e h. named_row (means c.args.edit) (literal_of c.args.edit) _ c.argument_place.result (map part_view c.args.parts.now) (map part_view c.edit_in-in-Named.new.new.items) e h (rw c.as_str.ensures at c.argument_place.ensures.place)) c.edit_in-in-Named.result c.edit_in-in-Named.ensures)

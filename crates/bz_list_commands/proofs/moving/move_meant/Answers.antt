@@ -19,7 +19,7 @@ returns-then-not-gone c moved plain same =
     let p = means c.args.edit in
     let ps : List RowPart = map part_view c.args.parts.now in
     let one : List RowPart = map part_view c.edit_in.new.new.items in
-    let named = named_row p (literal_of c.args.edit) c.args.change.old.now c.place_of-old.result ps one c.in_ok-gone.gone c.in_ok-gone.ensures c.place_of-old.ensures.place in
+    let named = named_row p (literal_of c.args.edit) c.args.change.old.now c.argument_place-old.result ps one c.in_ok-gone.gone c.in_ok-gone.ensures c.argument_place-old.ensures.place in
     let gone : IsRowEdit (gone_from c.args.change.old.now (means c.args.edit)) (told_gone c.args.change.old.now (means c.args.edit)) (map part_view c.args.parts.now) (map part_view c.edit_in.new.new.items) c.in_ok-gone.gone =
     subst (λ (literal : Option (List ℕ)). IsRowEdit (edit_first (is_named c.args.change.old.now) (filtered (become_all p literal))) (told_gone c.args.change.old.now p) ps one c.in_ok-gone.gone) plain named in
     not_moved home c.args.change.old.now c.args.change.new.now moved p ps one c.in_ok-gone.gone _ same gone (not-true c.in_ok-gone.gone.done.changed c.if-not-gone.true)
@@ -31,7 +31,7 @@ returns c moved plain same =
     let p = means c.args.edit in
     let ps : List RowPart = map part_view c.args.parts.now in
     let one : List RowPart = map part_view c.edit_in.new.new.items in
-    let named = named_row p (literal_of c.args.edit) c.args.change.old.now c.place_of-old.result ps one c.in_ok-gone.gone c.in_ok-gone.ensures c.place_of-old.ensures.place in
+    let named = named_row p (literal_of c.args.edit) c.args.change.old.now c.argument_place-old.result ps one c.in_ok-gone.gone c.in_ok-gone.ensures c.argument_place-old.ensures.place in
     let gone : IsRowEdit (gone_from c.args.change.old.now (means c.args.edit)) (told_gone c.args.change.old.now (means c.args.edit)) (map part_view c.args.parts.now) (map part_view c.edit_in.new.new.items) c.in_ok-gone.gone =
     subst (λ (literal : Option (List ℕ)). IsRowEdit (edit_first (is_named c.args.change.old.now) (filtered (become_all p literal))) (told_gone c.args.change.old.now p) ps one c.in_ok-gone.gone) plain named in
     has_moved home c.args.change.old.now c.args.change.new.now moved p c.args.lists ps one (map part_view c.deref-3.result.now) (map part_view c.write_with.new.written.items) c.deref-2.result.now c.in_ok-gone.gone c.at.result same gone

@@ -4,7 +4,7 @@ use Rattle.bz_attribute.specs.RowPlaces.{HasArgument}
 use Rattle.bz_attribute.specs.private.Parts.{plain_len, segment_len}
 use Rattle.bz_attribute.proofs.PlaceFound.{place_there}
 use Rattle.bz_attribute.proofs.Slices.{front_seen, rest_seen}
-use Rattle.bz_attribute.proofs.place.place_of.Goals as goal
+use Rattle.bz_attribute.proofs.place.argument_place.Goals as goal
 
 pub returns-in-Some-clause-place : goal.returns-in-Some-clause-place
 returns-in-Some-clause-place c s r h =
