@@ -1,4 +1,4 @@
--- The first and the last token that a test does not leave out, found from either end.
+-- The last token that a test does not leave out, found from the end.
 use Rattle.std.proofs.Common.{map, reverse, not, ◌≡◌, List, [], ◌∷◌, ◌++◌, Bool, true, false, cond, Option, Some, None, option_map, refl, ap, sym, ◌∙◌}
 use Rattle.std.specs.List.{find}
 use Rattle.std.specs.Option.{option_or}
@@ -9,7 +9,7 @@ use Rattle.bz_token.specs.Common.{first_of}
 use Rattle.bz_token.specs.Places.{Placed, placed}
 use Rattle.bz_tree.specs.Kinds.{mark_of}
 use Rattle.bz_tree.specs.Brackets.{is_line, without_lines}
-use Rattle.bz_tree.specs.Statement.{is_aside, bare_tokens, last_of, first_token, first_seen, last_token, last_seen}
+use Rattle.bz_tree.specs.Statement.{is_aside, bare_tokens, last_of, last_token, last_seen}
 
 pub bare_append : (xs ys : List Placed) → bare_tokens (xs ++ ys) ≡ bare_tokens xs ++ bare_tokens ys
 bare_append [] ys = refl
@@ -54,15 +54,6 @@ either_placed (Some t) p = refl
 abbrev pub counts : (Placed → Bool) → Token → Bool
 counts test t = not (test (placed t))
 
-first_found : (test : Placed → Bool) (ts : List Token) → option_map placed (find (counts test) ts) ≡ first_of (without test (map placed ts))
-first_found test [] = refl
-first_found test (t ∷ ts) = at (test (placed t)) (first_found test ts)
-  where
-    at : (b : Bool) → option_map placed (find (counts test) ts) ≡ first_of (without test (map placed ts))
-        → option_map placed (cond (not b) (Some t) (find (counts test) ts)) ≡ first_of (cond b (without test (map placed ts)) (placed t ∷ without test (map placed ts)))
-    at true more = more
-    at false more = refl
-
 last_found : (test : Placed → Bool) (ts : List Token) → option_map placed (find (counts test) (reverse ts)) ≡ last_of None (without test (map placed ts))
 last_found test [] = refl
 last_found test (t ∷ ts) =
@@ -72,12 +63,6 @@ last_found test (t ∷ ts) =
     at : (b : Bool) (us : List Placed) → option_or (last_of None us) (option_map placed (cond (not b) (Some t) None)) ≡ last_of None (cond b us (placed t ∷ us))
     at true us = sym (last_or None us)
     at false us = sym (last_or (Some (placed t)) us)
-
-pub first_token_found : (ts : List Token) → option_map placed (find (counts (λ t. is_aside t.kind)) ts) ≡ first_token (map placed ts)
-first_token_found ts = first_found _ ts ∙ ap first_of (bare_is (map placed ts))
-
-pub first_seen_found : (ts : List Token) → option_map placed (find (counts (λ t. is_line (mark_of t))) ts) ≡ first_seen (map placed ts)
-first_seen_found ts = first_found _ ts ∙ ap first_of (lines_is (map placed ts))
 
 pub last_token_found : (ts : List Token) → option_map placed (find (counts (λ t. is_aside t.kind)) (reverse ts)) ≡ last_token (map placed ts)
 last_token_found ts = last_found _ ts ∙ ap (last_of None) (bare_is (map placed ts))

@@ -27,14 +27,24 @@ fn is_line(token: &Token<'_>) -> bool
 pub(crate) fn first_token<'a>(tokens: &[Token<'a>]) -> Option<Token<'a>>
     ensures { option_map placed result ≡ first_token (map placed tokens.now) }
 {
-    tokens.iter().find(|token| !is_aside(token.kind)).copied()
+    for token in tokens {
+        if !is_aside(token.kind) {
+            return Some(*token);
+        }
+    }
+    None
 }
 
 /// The first token that is no newline.
 pub(crate) fn first_seen<'a>(tokens: &[Token<'a>]) -> Option<Token<'a>>
     ensures { option_map placed result ≡ first_seen (map placed tokens.now) }
 {
-    tokens.iter().find(|token| !is_line(token)).copied()
+    for token in tokens {
+        if !is_line(token) {
+            return Some(*token);
+        }
+    }
+    None
 }
 
 /// The last token that is no comment and no newline.
