@@ -11,6 +11,7 @@ ghost use Rattle.bz_attribute.specs.Heads.{IsHeadOf};
 ghost use Rattle.bz_attribute.specs.RowPlaces.{IsRuleRow};
 ghost use Rattle.bz_attribute.specs.Rules.{Rule, name_in, rule_of, string_value};
 ghost use Rattle.bz_attribute.specs.declared.done.Note.TheVariants.{Missing};
+ghost use Rattle.bz_attribute.specs.Texts.{home_text};
 ghost use Rattle.bz_attribute_commands.specs.Print as spec;
 ghost use Rattle.bz_attribute_commands.specs.private.PrintSteps.{HasPrinted};
 ghost use Rattle.bz_token.specs.Common.{map_or};
@@ -20,7 +21,7 @@ use bz_attribute::{
     Done, Env, Executed, Head, Note, elements_at, is_list, only_text, push_home, value_end,
     value_place,
 };
-use bz_command::{Field, Text, quote, read_value};
+use bz_command::{Field, Package, Text, quote, read_value};
 use bz_layout::flat;
 use bz_memory::{NoMemory, push_char, push_number, push_str, with_length_of};
 use bz_tree::{GroupKind, Node, Part, Seg, nodes_of_parts};
@@ -54,26 +55,50 @@ pub fn print(env: Env<'_>, fields: &[Field], head: Head<'_>, parts: &[Part<'_>])
     })
 }
 
-/// The line that is printed of a rule of this name, where its name or its label is the one field. None: more is asked.
-pub fn print_name(env: Env<'_>, fields: &[Field], name: &str) -> Result<Option<Text>, NoMemory>
+/// The line that is printed of a rule of this name, where its name or its label is the one field. The bytes in the
+/// buffer are lost: a line that is not the name itself goes there. None: more is asked.
+pub fn print_name<'t>(
+    env: Env<'_>,
+    fields: &[Field],
+    name: &'t str,
+    buffer: &'t mut String,
+) -> Result<Option<&'t str>, NoMemory>
     ensures is { IfOk result (λ line. is_some line ≡ spec.is_name_alone fields.now) }
     ensures line { IfOk result (λ line. IfSome line (λ text. (s : Statement) (r : Rule) → rule_of s.nodes ≡ Some r
-        → name_in r.args ≡ Some name.now
-        → spec.prints env.entry.home.now fields.now (Some s) ≡ record { changed = false; line = Some text; note = None })) }
+        → name_in r.args ≡ Some name.now → spec.prints env.entry.home.now fields.now (Some s)
+        ≡ record { changed = false; line = Some text.now; note = None })) }
 {
     let [field] = fields else {
         return Ok(None);
     };
-    let mut line = with_length_of(env.alloc, name)?;
-    match field {
-        Field::Label => {
-            push_home(&mut line, env.home)?;
-            push_str(&mut line, name)?;
-        }
-        Field::ValueOf(attr) if attr.as_str() == "name" => push_word(env.alloc, &mut line, name)?,
+    let line = match field {
+        Field::Label => print_label(env.home, name, buffer)?,
+        Field::ValueOf(attr) if attr.as_str() == "name" => print_word(env.alloc, name, buffer)?,
         _ => return Ok(None),
+    };
+    Ok(Some(line))
+}
+
+// A label, in the buffer.
+fn print_label<'t>(home: &Package, name: &str, buffer: &'t mut String) -> Result<&'t str, NoMemory>
+    ensures { IfOk result (λ line. line.now ≡ home_text home.now ++ name.now) }
+{
+    buffer.clear();
+    push_home(buffer, home)?;
+    push_str(buffer, name)?;
+    Ok(buffer.as_str())
+}
+
+// A name as a word: itself, or in the buffer.
+fn print_word<'t>(alloc: Global, name: &'t str, buffer: &'t mut String) -> Result<&'t str, NoMemory>
+    ensures { IfOk result (λ line. line.now ≡ spec.word_form name.now) }
+{
+    if is_plain(name.as_bytes()) {
+        return Ok(name);
     }
-    Ok(Some(Text::from_string(line)))
+    buffer.clear();
+    push_word(alloc, buffer, name)?;
+    Ok(buffer.as_str())
 }
 
 // Writes fields with a space between them. Tells the first that is missing.

@@ -12,12 +12,12 @@ use bz_attribute::Env;
 use bz_attribute_commands::print::print_name;
 use bz_command::{Attributes, Marked, Setting, Target};
 use bz_memory::NoMemory;
-use bz_rule::{Action, Command, Text, one_attribute};
+use bz_rule::{Action, Command, one_attribute};
 
 /// A rule stays as it is, and this is printed of it.
-#[derive(Drop)]
-pub(crate) struct Unchanged {
-    pub(crate) line: Option<Text>,
+#[derive(Clone, Copy)]
+pub(crate) struct Unchanged<'t> {
+    pub(crate) line: Option<&'t str>,
 }
 
 /// Whether it may be known what the command makes of a rule whose text is known.
@@ -39,12 +39,14 @@ pub(crate) fn asked_attribute(command: &Command) -> &str {
     }
 }
 
-/// What the command prints of the rule, where it leaves it as it is. None: it may change it, or the rule is to be seen.
-pub(crate) fn unchanged_by_text(
+/// What the command prints of the rule, where it leaves it as it is. The bytes in the buffer are lost. None: it may
+/// change it, or the rule is to be seen.
+pub(crate) fn unchanged_by_text<'t>(
     env: Env<'_>,
     command: &Command,
-    found: Found<'_>,
-) -> Result<Option<Unchanged>, NoMemory>
+    found: Found<'t>,
+    buffer: &'t mut String,
+) -> Result<Option<Unchanged<'t>>, NoMemory>
     ensures { IfOk result (λ known. IfSome known (LeavesRule command.now env.entry.home.now found.entry)) }
 {
     if let Some(attr) = looked_at(command) {
@@ -56,7 +58,7 @@ pub(crate) fn unchanged_by_text(
     let Some(name) = found.chunk.name else {
         return Ok(None);
     };
-    let line = printed_by_name(env, command, name)?;
+    let line = printed_by_name(env, command, name, buffer)?;
     match line {
         None => Ok(None),
         Some(line) => Ok(Some(Unchanged { line: Some(line) })),
@@ -75,12 +77,17 @@ fn looked_at(command: &Command) -> Option<&str>
 }
 
 /// What is printed of a rule of this name, where that is all that is asked.
-fn printed_by_name(env: Env<'_>, command: &Command, name: &str) -> Result<Option<Text>, NoMemory>
+fn printed_by_name<'t>(
+    env: Env<'_>,
+    command: &Command,
+    name: &'t str,
+    buffer: &'t mut String,
+) -> Result<Option<&'t str>, NoMemory>
     ensures { IfOk result (λ line. IfSome line (λ text. (s : Statement) → HasName (Some name.now) s
-        → Makes command.now env.entry.home.now s s (told_line false (Some text)))) }
+        → Makes command.now env.entry.home.now s s (told_line false (Some text.now)))) }
 {
     match &command.action {
-        Action::Print(fields) => print_name(env, fields.as_slice(), name),
+        Action::Print(fields) => print_name(env, fields.as_slice(), name, buffer),
         _ => Ok(None),
     }
 }

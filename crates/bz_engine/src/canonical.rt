@@ -181,7 +181,8 @@ fn copy_marked(
         alloc: script.alloc,
         home: script.home,
     };
-    if let Some(unchanged) = unchanged_by_text(env, only.command, *found)? {
+    let mut buffer = String::new(script.alloc);
+    if let Some(unchanged) = unchanged_by_text(env, only.command, *found, &mut buffer)? {
         progress.keep_line(only.at, unchanged.line)?;
         put_canonical(script, found.chunk, progress, text)?;
         return Ok(true);

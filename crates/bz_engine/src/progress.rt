@@ -1,6 +1,7 @@
 //! What a run keeps of the chunks that are done.
 
-ghost use Rattle.std.specs.Prelude.{◌≡◌, ◌+◌, ◌<◌, ◌^◌, ◌∷◌, [], length, OnOk, true};
+ghost use Rattle.std.specs.Prelude.{◌≡◌, ◌+◌, ◌<◌, ◌^◌, ◌∷◌, ◌++◌, [], length, map, option_map, option_to_list, OnOk, true};
+ghost use Rattle.bz_passes.specs.declared.entry.Entry.TheVariants.{Line};
 ghost use Rattle.bz_token.specs.Places.{line_at};
 ghost use Rattle.bz_passes.specs.Exchange.{pass_and};
 ghost use Rattle.bz_passes.specs.OnePass.{and_at};
@@ -8,12 +9,11 @@ ghost use Rattle.bz_engine.specs.private.Found.{HasLogAt, one_log_of, one_told};
 
 use crate::chunk::newlines;
 use crate::looks::Looks;
-use crate::rules::tell_line;
 use crate::spare::Spare;
 use bz_memory::NoMemory;
 use bz_passes::entry::Entry;
 use bz_passes::kept::Kept;
-use bz_rule::Text;
+use bz_passes::log::Log;
 use bz_tree::Class;
 use std::alloc::Global;
 use std::marker::Model;
@@ -59,9 +59,11 @@ impl Progress {
     }
 
     /// The one command of the pass at this position ran on one statement more, and this line was told of it.
-    pub(crate) fn keep_line(&mut self, at: usize, line: Option<Text>) -> Result<(), NoMemory>
+    pub(crate) fn keep_line(&mut self, at: usize, line: Option<&str>) -> Result<(), NoMemory>
         requires { HasLogAt self.old.kept at }
-        ensures { OnOk result (self.new ≡ record self.old { kept = and_at at (one_told line) self.old.kept }) }
+        ensures { OnOk result (self.new ≡ record self.old {
+          kept = and_at at (one_told (option_map (λ text. text.now) line.entry)) self.old.kept;
+        }) }
     {
         keep_line(&mut self.kept[at], line)
     }
@@ -139,12 +141,21 @@ impl Progress {
 }
 
 /// The one command of a pass ran on one statement more, which the pass marked, and this line was told of it.
-fn keep_line(kept: &mut Kept, line: Option<Text>) -> Result<(), NoMemory>
+fn keep_line(kept: &mut Kept, line: Option<&str>) -> Result<(), NoMemory>
     requires { length kept.old.logs ≡ 1 }
-    ensures { OnOk result (kept.new ≡ pass_and kept.old (one_told line)) }
+    ensures { OnOk result (kept.new ≡ pass_and kept.old (one_told (option_map (λ text. text.now) line.entry))) }
 {
     kept.found = true;
-    tell_line(line, &mut kept.logs[0])
+    log_line(line, &mut kept.logs[0])
+}
+
+fn log_line(line: Option<&str>, log: &mut Log) -> Result<(), NoMemory>
+    ensures { OnOk result (log.new ≡ log.old ++ map Line (option_to_list (option_map (λ text. text.now) line.entry))) }
+{
+    if let Some(line) = line {
+        log.push_line(line)?;
+    }
+    Ok(())
 }
 
 /// The one command of a pass ran on one statement more, which the pass marked, and this was told of it.

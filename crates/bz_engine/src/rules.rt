@@ -126,7 +126,7 @@ fn tell_done(
     Ok(facts)
 }
 
-pub(crate) fn tell_line(line: Option<Text>, log: &mut Log) -> Result<(), NoMemory>
+fn tell_line(line: Option<Text>, log: &mut Log) -> Result<(), NoMemory>
     ensures { OnOk result (log.new ≡ log.old ++ map Line (option_to_list line)) }
 {
     if let Some(text) = line {

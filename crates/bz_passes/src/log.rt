@@ -2,6 +2,7 @@
 
 ghost use Rattle.std.specs.Prelude.{◌≡◌, [], ◌∷◌, ◌++◌, List, OnOk, OnErr, option_map, option_to_list, take};
 ghost use Rattle.std.specs.List.{flat_map};
+ghost use Rattle.bz_passes.specs.declared.entry.Entry.TheVariants.{Line};
 ghost use Rattle.bz_passes.specs.Entries.{line_text, message_text, failure_text};
 ghost use Rattle.bz_passes.specs.private.Logs.{kind_of};
 
@@ -58,6 +59,16 @@ impl Log {
         reserve(&mut self.parts.kinds, 1)?;
         self.parts.put_text(&entry)?;
         push(&mut self.parts.kinds, kind_of(&entry))?;
+        Ok(())
+    }
+
+    /// Appends a line. `Err`: allocation failed, and the log is as it was.
+    pub fn push_line(&mut self, line: &str) -> Result<(), NoMemory>
+        ensures { OnOk result (self.new ≡ self.old ++ Line line.now ∷ []) }
+    {
+        reserve(&mut self.parts.kinds, 1)?;
+        self.parts.lines.push(line)?;
+        push(&mut self.parts.kinds, EntryKind::Line)?;
         Ok(())
     }
 

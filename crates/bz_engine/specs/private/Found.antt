@@ -105,4 +105,4 @@ looked_at _ = None
 
 -- the command leaves each rule of which this is known
 abbrev pub LeavesRule : Command → Package → Found → Unchanged → Type 0
-LeavesRule command home found unchanged = (depth : ℕ) (s : Statement) → IsFound depth found s → Makes command home s s (told_line false unchanged.line)
+LeavesRule command home found unchanged = (depth : ℕ) (s : Statement) → IsFound depth found s → Makes command home s s (told_line false (option_map (λ text. text.now) unchanged.line))

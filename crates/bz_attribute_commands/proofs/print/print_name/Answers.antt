@@ -10,7 +10,7 @@ use Rattle.bz_attribute.specs.Texts.{home_text}
 use Rattle.bz_attribute.specs.declared.done.Done.{Done}
 use Rattle.bz_attribute_commands.specs.Print.{field_text, list_text, prints, value_text, word_form}
 use Rattle.bz_attribute_commands.proofs.print.print_name.Goals as goal
-use Rattle.bz_attribute_commands.proofs.print.print_name.Goals.{in-Label+in_ok-push_home-in-Label+in_ok-push_str-in-Label, in-ValueOf+in_ok-push_word-in-ValueOf}
+use Rattle.bz_attribute_commands.proofs.print.print_name.Goals.{in-Label+in_ok-line-in-Label, in-ValueOf+in_ok-line-in-ValueOf}
 
 one_field : (fields : List Field) (f : Field) → 1 ≤ length fields → length fields < 2 → f ≡ get_or fields 0 f → fields ≡ f ∷ []
 one_field [] f few more at = absurd (omega arith)
@@ -33,13 +33,14 @@ returns-clause-line c s r is named =
     let home = c.args.env.home.now in
     let fields = c.args.fields.now in
     let name = c.args.name.now in
+    let line = c.match-field.line.now in
     let one = one_field fields c.field-item.result c.in-len1.len_at_least c.in-len1.len_below c.field-item.is in
     elim c.match-field.branch [
-      | in-Label+in_ok-push_home-in-Label+in_ok-push_str-in-Label w ↦
-          let text : c.from_string.result ≡ home_text home ++ name = search rules in
-          one_printed home c.field-item.result fields s r c.from_string.result one is (ap (λ (f : Field). field_text home s r f) w.in-Label.is ∙ ap (option_map (λ (n : List ℕ). home_text home ++ n)) named ∙ ap Some (sym text))
-      | in-ValueOf+in_ok-push_word-in-ValueOf w ↦
-          let text : c.from_string.result ≡ word_form name = search rules in
+      | in-Label+in_ok-line-in-Label w ↦
+          let text : line ≡ home_text home ++ name = search rules in
+          one_printed home c.field-item.result fields s r line one is (ap (λ (f : Field). field_text home s r f) w.in-Label.is ∙ ap (option_map (λ (n : List ℕ). home_text home ++ n)) named ∙ ap Some (sym text))
+      | in-ValueOf+in_ok-line-in-ValueOf w ↦
+          let text : line ≡ word_form name = search rules in
           let field : c.field-item.result ≡ ValueOf (codes "name") = search rules in
-          one_printed home c.field-item.result fields s r c.from_string.result one is (ap (λ (f : Field). field_text home s r f) field ∙ name_told home s r name named ∙ ap Some (sym text))
+          one_printed home c.field-item.result fields s r line one is (ap (λ (f : Field). field_text home s r f) field ∙ name_told home s r name named ∙ ap Some (sym text))
     ]
