@@ -104,7 +104,7 @@ impl<T: Keyed, C> Passes<T, C> {
 
 /// The same, by each pass in turn.
 fn first_of_few<T: Keyed, C>(passes: &[Pass<T, C>], key: Key<'_>, from: usize) -> Option<usize>
-    ensures { spec.IsFirstFrom (λ pass. spec.may_mark key.entry (T.asked pass.target)) passes.now from result }
+    ensures { IsFirstFrom (λ pass. may_mark key.entry (T.asked pass.target)) passes.now from result }
 {
     for i in from..passes.len() {
         let pass = &passes[i];
@@ -117,7 +117,7 @@ fn first_of_few<T: Keyed, C>(passes: &[Pass<T, C>], key: Key<'_>, from: usize) -
 
 /// Whether a target that asks for this name, or for none, may mark what has the key.
 fn may_mark(key: Key<'_>, asked: Option<&str>) -> bool
-    ensures { result ≡ spec.may_mark key.entry (option_map (λ name. name.now) asked.entry) }
+    ensures { result ≡ may_mark key.entry (option_map (λ name. name.now) asked.entry) }
 {
     match (key, asked) {
         (Key::Unknown, _) | (_, None) => true,

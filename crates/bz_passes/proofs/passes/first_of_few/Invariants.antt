@@ -1,6 +1,6 @@
 use Rattle.std.proofs.Common.{◌≡◌, ◌≤◌, ◌<◌, ℕ, get_or, false}
 use Rattle.bz_command.specs.declared.pass.Pass.{Pass}
-use Rattle.bz_passes.specs.private.Indexes.{may_mark}
+use Rattle.bz_passes.specs.Asked.{may_mark}
 use Rattle.bz_passes.proofs.passes.first_of_few.Given as goal
 
 -- no pass so far may mark what has the key
