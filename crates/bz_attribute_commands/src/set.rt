@@ -1,13 +1,13 @@
 //! `set` and `set_if_absent`: an attribute gets a value.
 
 ghost use Rattle.std.specs.Prelude.{◌≡◌, None, false, not, map, IfOk};
+ghost use Rattle.bz_token.specs.Common.{map_or};
 ghost use Rattle.bz_tree.specs.Rows.{part_view};
 ghost use Rattle.bz_attribute.specs.Effects.{done, has};
 ghost use Rattle.bz_attribute.specs.RowEdits.{IsRowEdit};
 ghost use Rattle.bz_attribute.specs.Lists as lists;
 ghost use Rattle.bz_attribute.specs.Rules as rules;
 ghost use Rattle.bz_attribute_commands.specs.Set as spec;
-ghost use Rattle.bz_token.specs.Common.{map_or};
 ghost use Rattle.bz_attribute_commands.specs.private.SetViews.{new_view};
 
 use crate::new_argument::{push_value, write_argument};

@@ -42,7 +42,7 @@ pub(crate) fn put_rule<'t>(
 {
     written.clear();
     if asked.is_of(head.name) {
-        return put_asked_rule(text, head, asked, depth, written);
+        return put_asked_rule(text, head, asked.attr.as_bytes(), depth, written);
     }
     let start = Pending {
         from: text,
@@ -66,14 +66,14 @@ pub(crate) fn put_rule<'t>(
 fn put_asked_rule<'t>(
     text: &'t [u8],
     head: RuleHead<'t>,
-    asked: Lookup<'_>,
+    attr: &[u8],
     depth: u8,
     written: &mut Vec<u8>,
 ) -> Result<Option<PutRule<'t>>, NoMemory>
     requires deep { depth < 253 }
     requires head { IsRuleHead text.now head.name.now head.inside.now head.rest.now }
     requires empty { written.old.items ≡ [] }
-    ensures { IfOk result (λ known. IfSome known (λ read. IsRuleRead (depth + 1) asked.entry.attr.now
+    ensures { IfOk result (λ known. IfSome known (λ read. IsRuleRead (depth + 1) attr.now
         head.entry.name.now text.now read.rest.now
         (if read.as_is then take (length text.now - length read.rest.now) text.now else written.new.items)
         (option_map put_ends read.place))) }
@@ -82,7 +82,6 @@ fn put_asked_rule<'t>(
         from: text,
         rest: head.rest,
     };
-    let attr = asked.attr.as_bytes();
     let Some(read) = put_arguments(start, Sought { attr, depth }, written)? else {
         return Ok(None);
     };
