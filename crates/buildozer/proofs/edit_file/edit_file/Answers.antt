@@ -10,7 +10,7 @@ pub returns-in-Told-clause-edited : goal.returns-in-Told-clause-edited
 returns-in-Told-clause-edited g c =
     if_ok (λ told h. edited_as _ g.D.File.Source.failures c.new-author.result c.replace_file-replaced.new.author c.args.asked c.new-author.ensures.0 _ c.new-author.ensures.2 c.replace_file-replaced.result told.1 told.0
     h.1 c.replace_file-replaced.ensures.wanted (λ e. let given = c.replace_file-replaced.ensures.unwanted e in (given.0, given.1)) (sym c.ended.ensures ∙ c.in-Told.is ∙ ap Told (sym h.0)))
-    c.told.result c.told.ensures
+    c.report_and_kept.result c.report_and_kept.ensures
 
 pub returns-in-Told-clause-idle : goal.returns-in-Told-clause-idle
 returns-in-Told-clause-idle g c =
@@ -20,7 +20,7 @@ returns-in-Told-clause-idle g c =
     h.1 c.replace_file-replaced.ensures.wanted (λ e. let given = c.replace_file-replaced.ensures.unwanted e in (given.0, given.1)) ended in
     safe_idle _ g.D.File.Source.failures c.new-author.result c.replace_file-replaced.new.author c.args.asked c.new-author.ensures.0 g.D.Folder.did c.args.draft.now.folder c.replace_file-replaced.new.draft.folder
     _ _ _ c.replace_file-replaced.ensures.safe told.0 ended (sym edited.replaced_is ∙ none))
-    c.told.result c.told.ensures
+    c.report_and_kept.result c.report_and_kept.ensures
 
 pub returns-in-Told-clause-safe : goal.returns-in-Told-clause-safe
 returns-in-Told-clause-safe g c =
