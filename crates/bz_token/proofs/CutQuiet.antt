@@ -1,10 +1,9 @@
 -- Bytes that leave the walk where it is.
-use Rattle.std.proofs.Common.{◌≡◌, ℕ, ◌+◌, ◌<◌, ◌==◌, ◌||◌, ◌&&◌, List, [], ◌∷◌, ◌++◌, Bool, true, false, not, cond, take, drop, length, get_or, refl, sym, ap, ◌∙◌, arith, drop-drop, drop-cons, suc, zero, true≢false}
+use Rattle.std.proofs.Common.{◌≡◌, ℕ, ◌+◌, ◌<◌, ◌==◌, ◌||◌, ◌&&◌, List, [], ◌∷◌, ◌++◌, Bool, true, false, not, cond, take, drop, length, get_or, refl, sym, ap, ◌∙◌, arith, drop-drop, drop-cons, suc, zero, true≢false, inl, inr, length-drop}
 use Rattle.std.specs.Prelude.{if◌then◌else◌}
 use Rattle.std.specs.List.{prefix_len}
-use Rattle.std.proofs.lemmas.Bool.{and_parts, or_parts, not-true}
-use Rattle.std.proofs.lemmas.List.{take-append-drop, take_more}
-use Rattle.std.proofs.Math.Seq.{take-add}
+use Rattle.std.proofs.lemmas.Bool.{and_parts, not-true, cases_Bool, eqb-true}
+use Rattle.std.proofs.lemmas.List.{take-append-drop, take_more, get_or-drop}
 use Rattle.bz_token.specs.Lexical.{is_newline}
 use Rattle.bz_token.specs.declared.cutter.scan.LineKind.{LineKind}
 use Rattle.bz_token.specs.declared.cutter.scan.LineKind.TheVariants.{Statement}
@@ -14,7 +13,10 @@ use Rattle.bz_token.specs.declared.cutter.scan.CutState.{CutState}
 use Rattle.bz_token.specs.declared.cutter.scan.CutState.TheVariants.{Plain, Comment, Opened, OpenedTwice, Short}
 use Rattle.bz_token.specs.declared.cutter.scan.Scan.{Scan}
 use Rattle.bz_token.specs.private.Scans.{is_plain}
-use Rattle.bz_token.specs.private.CutSteps.{is_quiet, byte_of, at, outside, in_short, next, run}
+use Rattle.bz_token.specs.declared.cutter.marks.Stretch.{Stretch}
+use Rattle.bz_token.specs.declared.cutter.marks.Stretch.TheVariants.{Text}
+use Rattle.bz_token.specs.private.Marks.{passes}
+use Rattle.bz_token.specs.private.CutSteps.{byte_of, at, outside, in_short, next, run, IsSame}
 use Rattle.bz_token.proofs.CutMachine.{run_append}
 
 -- a run of bytes of which each leaves the walk as it is
@@ -47,17 +49,21 @@ record Quiet (b : ℕ) : Type 0 where
   opening : (b == 40 || b == 91 || b == 123) ≡ false
   closing : (b == 41 || b == 93 || b == 125) ≡ false
 
-quiet : (b : ℕ) → is_quiet b ≡ true → Quiet b
-quiet b h =
-    let closing = or_parts (b == 10 || b == 35 || b == 92 || b == 34 || b == 39 || (b == 40 || b == 91 || b == 123)) (b == 41 || b == 93 || b == 125) (not-true _ h) in
-    let opening = or_parts (b == 10 || b == 35 || b == 92 || b == 34 || b == 39) (b == 40 || b == 91 || b == 123) closing.0 in
-    let single = or_parts (b == 10 || b == 35 || b == 92 || b == 34) (b == 39) opening.0 in
-    let double = or_parts (b == 10 || b == 35 || b == 92) (b == 34) single.0 in
-    let backslash = or_parts (b == 10 || b == 35) (b == 92) double.0 in
-    let hash = or_parts (b == 10) (b == 35) backslash.0 in
-    record { newline = hash.0; hash = hash.1; backslash = backslash.1; double = double.1; single = single.1; opening = opening.1; closing = closing.1 }
+no_mark : (b n : ℕ) → passes Stretch.Statement b ≡ true → passes Stretch.Statement n ≡ false → (b == n) ≡ false
+no_mark b n pass mark = elim (cases_Bool (b == n)) [ inl e ↦ absurd (true≢false (sym pass ∙ ap (passes Stretch.Statement) (eqb-true b n e) ∙ mark)) | inr e ↦ e ]
 
-quiet_same : (d b : ℕ) → is_quiet b ≡ true → outside d Statement b ≡ at Plain d Statement
+quiet : (b : ℕ) → passes Stretch.Statement b ≡ true → Quiet b
+quiet b h = record {
+  newline = no_mark b 10 h refl;
+  hash = no_mark b 35 h refl;
+  backslash = no_mark b 92 h refl;
+  double = no_mark b 34 h refl;
+  single = no_mark b 39 h refl;
+  opening = rw (no_mark b 40 h refl, no_mark b 91 h refl, no_mark b 123 h refl) refl;
+  closing = rw (no_mark b 41 h refl, no_mark b 93 h refl, no_mark b 125 h refl) refl;
+}
+
+quiet_same : (d b : ℕ) → passes Stretch.Statement b ≡ true → outside d Statement b ≡ at Plain d Statement
 quiet_same d b h =
     let s : Scan = at Plain d Statement in
     let no = quiet b h in
@@ -80,34 +86,43 @@ short_same q d k b h =
 comment_same : (d : ℕ) (k : LineKind) (b : ℕ) → not (is_newline b) ≡ true → next (at Comment d k) b ≡ at Comment d k
 comment_same d k b h = past (b == 10) (at Comment d k) _ _ (not-true _ h) refl
 
--- quiet bytes of a statement, outside strings
-pub statement_run : (d : ℕ) (bs : List ℕ) → run (at Plain d Statement) (take (prefix_len is_quiet bs) bs) ≡ at Plain d Statement
-statement_run d bs = run_same (at Plain d Statement) is_quiet (quiet_same d) bs
+-- some bytes that change nothing
+same_taken : (s : Scan) (bytes : List ℕ) (i n : ℕ) → run s (take n (drop i bytes)) ≡ s → IsSame s bytes i (i + n)
+same_taken s bytes i n same =
+    ap (run s) (sym (take-append-drop n (drop i bytes))) ∙ run_append (take n (drop i bytes)) (drop n (drop i bytes)) s
+    ∙ ap (λ u. run u (drop n (drop i bytes))) same ∙ ap (run s) (drop-drop n i bytes)
 
--- what holds of a statement at each depth holds of this one
-pub statement_state : (s : Scan) (bs : List ℕ) (n : ℕ) → s.inside ≡ Plain → s.kind ≡ Statement → ((d : ℕ) → run (at Plain d Statement) (take n bs) ≡ at Plain d Statement) → run s (take n bs) ≡ s
-statement_state s bs n e f same = by s.inside s.depth s.kind e f
+-- quiet bytes of a statement, outside strings
+pub statement_run : (d : ℕ) (bytes : List ℕ) (i : ℕ) → IsSame (at Plain d Statement) bytes i (i + prefix_len (passes Stretch.Statement) (drop i bytes))
+statement_run d bytes i =
+    let s : Scan = at Plain d Statement in
+    same_taken s bytes i (prefix_len (passes Stretch.Statement) (drop i bytes)) (run_same s (passes Stretch.Statement) (quiet_same d) (drop i bytes))
+
+-- what holds of a statement at its depth holds of this one
+pub statement_state : (s : Scan) (bytes : List ℕ) (i j : ℕ) → s.inside ≡ Plain → s.kind ≡ Statement → IsSame (at Plain s.depth Statement) bytes i j → IsSame s bytes i j
+statement_state s bytes i j e f same = by s.inside s.kind e f
   where
-    by : (i : CutState) (d : ℕ) (k : LineKind) → i ≡ Plain → k ≡ Statement → run (at i d k) (take n bs) ≡ at i d k
-    by i d k e f = rw (e, f) (same d)
+    by : (t : CutState) (k : LineKind) → t ≡ Plain → k ≡ Statement → IsSame (at t s.depth k) bytes i j
+    by t k e f = rw (e, f) same
 
 -- in a short string and in a comment
-pub short_run : (s : Scan) (q : Quote) (bs : List ℕ) → s.inside ≡ Short q → run s (take (prefix_len (is_plain (byte_of q)) bs) bs) ≡ s
+short_run : (s : Scan) (q : Quote) (bs : List ℕ) → s.inside ≡ Short q → run s (take (prefix_len (is_plain (byte_of q)) bs) bs) ≡ s
 short_run s q bs e = by s.inside s.depth s.kind e
   where
     by : (i : CutState) (d : ℕ) (k : LineKind) → i ≡ Short q → run (at i d k) (take (prefix_len (is_plain (byte_of q)) bs) bs) ≡ at i d k
     by i d k e = rw e (run_same (at (Short q) d k) (is_plain (byte_of q)) (short_same q d k) bs)
 
-pub comment_run : (s : Scan) (bs : List ℕ) → s.inside ≡ Comment → run s (take (prefix_len (λ b. not (is_newline b)) bs) bs) ≡ s
+comment_run : (s : Scan) (bs : List ℕ) → s.inside ≡ Comment → run s (take (prefix_len (λ b. not (is_newline b)) bs) bs) ≡ s
 comment_run s bs e = by s.inside s.depth s.kind e
   where
     by : (i : CutState) (d : ℕ) (k : LineKind) → i ≡ Comment → run (at i d k) (take (prefix_len (λ b. not (is_newline b)) bs) bs) ≡ at i d k
     by i d k e = rw e (run_same (at Comment d k) (λ b. not (is_newline b)) (comment_same d k) bs)
 
--- some bytes that change nothing, and some after them
-pub same_joined : (s : Scan) (bytes : List ℕ) (m n : ℕ) → run s (take m bytes) ≡ s → run s (take n (drop m bytes)) ≡ s → run s (take (m + n) bytes) ≡ s
-same_joined s bytes m n front rest =
-    ap (run s) (take-add m n bytes) ∙ run_append (take m bytes) (take n (drop m bytes)) s ∙ ap (λ t. run t (take n (drop m bytes))) front ∙ rest
+pub short_same_to : (s : Scan) (q : Quote) (bytes : List ℕ) (i : ℕ) → s.inside ≡ Short q → IsSame s bytes i (i + prefix_len (is_plain (byte_of q)) (drop i bytes))
+short_same_to s q bytes i e = same_taken s bytes i (prefix_len (is_plain (byte_of q)) (drop i bytes)) (short_run s q (drop i bytes) e)
+
+pub comment_same_to : (s : Scan) (bytes : List ℕ) (i : ℕ) → s.inside ≡ Comment → IsSame s bytes i (i + prefix_len (λ b. not (is_newline b)) (drop i bytes))
+comment_same_to s bytes i e = same_taken s bytes i (prefix_len (λ b. not (is_newline b)) (drop i bytes)) (comment_run s (drop i bytes) e)
 
 -- a byte that passes after an opening quote is one of a short string
 opened_short : (d : ℕ) (bytes more : List ℕ) (len : ℕ) → 0 < len → len ≡ prefix_len (is_plain 34) bytes
@@ -134,19 +149,41 @@ string_run d inside len some within is quote =
     ap (run (at Plain d Statement)) all ∙ opened_short d inside (34 ∷ []) len some is ∙ run_append (take len inside) (34 ∷ []) (at (Short Double) d Statement)
     ∙ ap (λ t. run t (34 ∷ [])) short
 
-pub string_here : (d : ℕ) (bytes : List ℕ) (len : ℕ) → get_or bytes 0 0 ≡ 34 → (len ≡ 0 → ⊥) → len < length (drop 1 bytes) → len ≡ prefix_len (is_plain 34) (drop 1 bytes)
+string_here : (d : ℕ) (bytes : List ℕ) (len : ℕ) → get_or bytes 0 0 ≡ 34 → (len ≡ 0 → ⊥) → len < length (drop 1 bytes) → len ≡ prefix_len (is_plain 34) (drop 1 bytes)
     → get_or (drop 1 bytes) len 0 ≡ 34 → run (at Plain d Statement) (take (len + 2) bytes) ≡ at Plain d Statement
 string_here d [] len opens some within is quote = absurd (omega arith)
 string_here d (b ∷ inside) len opens some within is quote =
     ap (λ q. run (at Plain d Statement) (take (len + 2) (q ∷ inside))) opens ∙ string_run d inside len (omega (arith, some)) within is quote
 
--- some bytes that change nothing, and one byte more
-pub read_step : (s t : Scan) (bytes : List ℕ) (i q : ℕ) → i + q < length bytes → run s (take q (drop i bytes)) ≡ s → t ≡ next s (get_or bytes (i + q) 0) → run t (drop (i + q + 1) bytes) ≡ run s (drop i bytes)
-read_step s t bytes i q within quiet stepped =
-    let rest : run s (drop i bytes) ≡ run s (drop (i + q) bytes) =
-    ap (run s) (sym (take-append-drop q (drop i bytes))) ∙ run_append (take q (drop i bytes)) (drop q (drop i bytes)) s
-    ∙ ap (λ u. run u (drop q (drop i bytes))) quiet ∙ ap (run s) (drop-drop q i bytes) in
-    let more : suc (i + q) ≡ i + q + 1 = omega arith in
-    let one : drop (i + q) bytes ≡ get_or bytes (i + q) 0 ∷ drop (i + q + 1) bytes =
-    drop-cons bytes (i + q) 0 within ∙ ap (λ n. get_or bytes (i + q) 0 ∷ drop n bytes) more in
-    ap (λ u. run u (drop (i + q + 1) bytes)) stepped ∙ sym (ap (run s) one) ∙ sym rest
+-- a byte that passes in a string in double quotes
+text_plain : (bs : List ℕ) → prefix_len (passes Text) bs ≡ prefix_len (is_plain 34) bs
+text_plain [] = refl
+text_plain (b ∷ bs) = rw (by (b == 34) (b == 10) (b == 92), text_plain bs) refl
+  where
+    by : (x y z : Bool) → not (x || y || z) ≡ (not x && not y && not z)
+    by true y z = refl
+    by false true z = refl
+    by false false true = refl
+    by false false false = refl
+
+pub string_same : (d : ℕ) (bytes : List ℕ) (i end : ℕ) → get_or bytes i 0 ≡ 34 → end ≡ i + 1 + prefix_len (passes Text) (drop (i + 1) bytes) → (end ≡ i + 1 → ⊥)
+    → end < length bytes → get_or bytes end 0 ≡ 34 → IsSame (at Plain d Statement) bytes i (end + 1)
+string_same d bytes i end opens is some within quote =
+    let s : Scan = at Plain d Statement in
+    let len = prefix_len (passes Text) (drop (i + 1) bytes) in
+    let inside : drop 1 (drop i bytes) ≡ drop (i + 1) bytes = drop-drop 1 i bytes in
+    let first : get_or (drop i bytes) 0 0 ≡ 34 = get_or-drop i bytes 0 0 ∙ ap (λ n. get_or bytes n 0) (omega arith) ∙ opens in
+    let plain : len ≡ prefix_len (is_plain 34) (drop 1 (drop i bytes)) = text_plain (drop (i + 1) bytes) ∙ ap (prefix_len (is_plain 34)) (sym inside) in
+    let fits : len < length (drop 1 (drop i bytes)) = omega (arith, is, within, ap length inside, length-drop (i + 1) bytes) in
+    let last : get_or (drop 1 (drop i bytes)) len 0 ≡ 34 =
+    ap (λ xs. get_or xs len 0) inside ∙ get_or-drop (i + 1) bytes len 0 ∙ ap (λ n. get_or bytes n 0) (omega (arith, is)) ∙ quote in
+    let whole : run s (take (len + 2) (drop i bytes)) ≡ s = string_here d (drop i bytes) len first (λ none. some (omega (arith, is, none))) fits plain last in
+    let past_it : i + (len + 2) ≡ end + 1 = omega (arith, is) in
+    same_taken s bytes i (len + 2) whole ∙ ap (λ n. run s (drop n bytes)) past_it
+
+-- one byte more
+pub read_step : (s t : Scan) (bytes : List ℕ) (i : ℕ) → i < length bytes → t ≡ next s (get_or bytes i 0) → run t (drop (i + 1) bytes) ≡ run s (drop i bytes)
+read_step s t bytes i within stepped =
+    let more : suc i ≡ i + 1 = omega arith in
+    let one : drop i bytes ≡ get_or bytes i 0 ∷ drop (i + 1) bytes = drop-cons bytes i 0 within ∙ ap (λ n. get_or bytes i 0 ∷ drop n bytes) more in
+    ap (λ u. run u (drop (i + 1) bytes)) stepped ∙ sym (ap (run s) one)

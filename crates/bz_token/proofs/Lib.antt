@@ -7,6 +7,7 @@ pub mod Gaps
 pub mod Stack
 pub mod Classes
 pub mod Keywords
+pub mod Marks
 pub mod Openings
 pub mod Ends
 pub mod Operators

@@ -9,8 +9,7 @@ use Rattle.std.proofs.lemmas.Bool.Decides.{nat_tests}
 use Rattle.bz_token.specs.Pieces.{is_quote}
 use Rattle.bz_token.specs.Lexical.{begins, is_word_byte, is_blank, are_two, opening}
 use Rattle.bz_token.specs.Brackets.{is_opening_bracket, is_closing_bracket}
-use Rattle.bz_token.specs.private.CutSteps.{is_quiet}
-use Rattle.bz_token.specs.private.Tables.{is_prefix_letter, is_point, is_operator_start, is_single, class_of, is_quiet_class, IsMark, IsSolid}
+use Rattle.bz_token.specs.private.Tables.{is_prefix_letter, is_point, is_operator_start, is_single, class_of, IsMark, IsSolid}
 use Rattle.bz_token.specs.declared.table.ByteClass.{ByteClass}
 use Rattle.bz_token.specs.declared.table.ByteClass.TheVariants.{Unknown, Space, Newline, Letter, Prefix, Digit, Quote, Hash, Backslash, Open, Close, Point, Operator}
 use Rattle.bz_token.specs.declared.table.TheConstants.{CLASS, WORD}
@@ -24,14 +23,6 @@ words = refl
 
 pub class_read : (b : ℕ) → b < 256 → get_or CLASS b Unknown ≡ class_of b
 class_read b h = ap (λ t. get_or t b Unknown) classes ∙ get_or-map-range_with_len class_of 0 256 b b Unknown h (omega arith)
-
-quiet : map (λ b. is_quiet_class (class_of b)) (range_with_len 0 256) ≡ map is_quiet (range_with_len 0 256)
-quiet = refl
-
-pub quiet_read : (b : ℕ) → b < 256 → is_quiet_class (class_of b) ≡ is_quiet b
-quiet_read b h =
-    sym (get_or-map-range_with_len (λ b. is_quiet_class (class_of b)) 0 256 b b false h (omega arith))
-    ∙ ap (λ t. get_or t b false) quiet ∙ get_or-map-range_with_len is_quiet 0 256 b b false h (omega arith)
 
 pub word_read : (b : ℕ) → b < 256 → get_or WORD b false ≡ is_word_byte b
 word_read b h = ap (λ t. get_or t b false) words ∙ get_or-map-range_with_len is_word_byte 0 256 b b false h (omega arith)

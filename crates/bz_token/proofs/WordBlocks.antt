@@ -14,19 +14,19 @@ not_not : (b : Bool) → not (not b) ≡ b
 not_not true = refl
 not_not false = refl
 
-or_lane : (a b : Bool) → bit_or (cond a 255 0) (cond b 255 0) ≡ cond (a || b) 255 0
+pub or_lane : (a b : Bool) → bit_or (cond a 255 0) (cond b 255 0) ≡ cond (a || b) 255 0
 or_lane true true = refl
 or_lane true false = refl
 or_lane false true = refl
 or_lane false false = refl
 
-and_lane : (a b : Bool) → bit_and (cond a 255 0) (cond b 255 0) ≡ cond (a && b) 255 0
+pub and_lane : (a b : Bool) → bit_and (cond a 255 0) (cond b 255 0) ≡ cond (a && b) 255 0
 and_lane true true = refl
 and_lane true false = refl
 and_lane false true = refl
 and_lane false false = refl
 
-top_lane : (a : Bool) → top 7 (cond a 255 0) ≡ a
+pub top_lane : (a : Bool) → top 7 (cond a 255 0) ≡ a
 top_lane true = refl
 top_lane false = refl
 

@@ -4,6 +4,7 @@ pub mod Decided
 pub mod Scans
 pub mod Phases
 pub mod Steps
+pub mod Marks
 pub mod Tables
 pub mod Keywords
 pub mod LineEnds

@@ -1,6 +1,7 @@
 //! Where the chunks of a file end.
 
 pub mod block;
+mod marks;
 mod scan;
 
 ghost use Rattle.std.specs.Prelude.{◌≡◌, ◌+◌, ◌<◌, ◌^◌, ◌++◌, ◌↔◌, [], List, ℕ, false, length, IsTrue};

@@ -2,7 +2,7 @@
 
 ghost use Rattle.std.specs.Prelude.{◌≡◌};
 ghost use Rattle.bz_token.specs.Lexical.{is_word_byte};
-ghost use Rattle.bz_token.specs.private.Tables.{class_of, is_quiet_class};
+ghost use Rattle.bz_token.specs.private.Tables.{class_of};
 
 /// What begins with a byte.
 #[derive(Clone, Copy)]
@@ -100,23 +100,6 @@ pub fn class_at(b: u8) -> ByteClass
     ensures { result ≡ class_of b }
 {
     CLASS[usize::from(b)]
-}
-
-/// Whether what begins with such a byte changes nothing of a logical line: no string, no bracket, no comment, and neither
-/// a newline nor a continued line.
-#[inline(always)]
-pub fn is_quiet_class(class: ByteClass) -> bool
-    ensures { result ≡ is_quiet_class class }
-{
-    !matches!(
-        class,
-        ByteClass::Newline
-            | ByteClass::Hash
-            | ByteClass::Backslash
-            | ByteClass::Quote
-            | ByteClass::Open
-            | ByteClass::Close
-    )
 }
 
 #[rattlefmt::skip]

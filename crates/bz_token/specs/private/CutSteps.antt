@@ -1,5 +1,5 @@
 -- For private clauses: a byte at a time.
-use Rattle.std.specs.Prelude.{ℕ, ◌+◌, ◌-◌, List, [], ◌∷◌, ◌++◌, Bool, true, false, Option, None, cond, not, ◌||◌, ◌==◌, if◌then◌else◌}
+use Rattle.std.specs.Prelude.{◌≡◌, ℕ, ◌+◌, ◌-◌, List, [], ◌∷◌, ◌++◌, drop, Bool, true, false, Option, None, cond, ◌||◌, ◌==◌, if◌then◌else◌}
 use Rattle.bz_token.specs.declared.cutter.scan.Quote.{Quote}
 use Rattle.bz_token.specs.declared.cutter.scan.Quote.TheVariants.{Single, Double}
 use Rattle.bz_token.specs.declared.cutter.scan.LineKind.{LineKind}
@@ -80,16 +80,16 @@ next_in (LongEscape quote) depth kind b = at (Long quote) depth kind
 abbrev pub next : Scan → ℕ → Scan
 next s b = next_in s.inside s.depth s.kind b
 
--- a byte that changes nothing in a statement outside strings and comments
-abbrev pub is_quiet : ℕ → Bool
-is_quiet b = not (b == 10 || b == 35 || b == 92 || b == 34 || b == 39 || (b == 40 || b == 91 || b == 123) || (b == 41 || b == 93 || b == 125))
-
 abbrev pub start : Scan
 start = at Plain 0 Blank
 
 abbrev pub run : Scan → List ℕ → Scan
 run s [] = s
 run s (b ∷ bs) = run (next s b) bs
+
+-- the bytes from one place to another change nothing
+abbrev pub IsSame : Scan → List ℕ → ℕ → ℕ → Type 0
+IsSame s bytes from to = run s (drop from bytes) ≡ run s (drop to bytes)
 
 -- The chunks that the steps find, after the bytes of whole lines and a part of a line.
 abbrev pub is_broken : CutState → Bool

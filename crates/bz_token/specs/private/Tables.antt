@@ -1,5 +1,5 @@
 -- For private clauses: what begins with a byte.
-use Rattle.std.specs.Prelude.{◌≡◌, ℕ, Bool, true, false, ◌||◌, ◌==◌, if◌then◌else◌}
+use Rattle.std.specs.Prelude.{◌≡◌, ℕ, Bool, false, ◌||◌, ◌==◌, if◌then◌else◌}
 use Rattle.std.specs.Char.{is_ascii_digit}
 use Rattle.bz_token.specs.declared.table.ByteClass.{ByteClass}
 use Rattle.bz_token.specs.declared.table.ByteClass.TheVariants.{Unknown, Space, Newline, Letter, Prefix, Digit, Quote, Hash, Backslash, Open, Close, Point, Operator}
@@ -32,16 +32,6 @@ class_of b =
     else (if is_closing_bracket b then Close
     else (if is_point b then Point
     else (if is_operator_start b then Operator else Unknown)))))))))
-
--- neither a newline, a comment, a backslash, a string nor a bracket
-abbrev pub is_quiet_class : ByteClass → Bool
-is_quiet_class Newline = false
-is_quiet_class Hash = false
-is_quiet_class Backslash = false
-is_quiet_class Quote = false
-is_quiet_class Open = false
-is_quiet_class Close = false
-is_quiet_class _ = true
 
 -- nothing begins with the byte but an operator, if one does
 abbrev pub IsMark : ℕ → Type 0

@@ -1,14 +1,13 @@
 //! The walk over the bytes of a file that finds where its logical lines end. The `Cutter` (`cutter.rt`) walks by it.
 
-ghost use Rattle.std.specs.Prelude.{◌≡◌, ◌+◌, ◌-◌, ◌≤◌, ◌<◌, ◌^◌, ◌==◌, ℕ, not, length, take};
-ghost use Rattle.std.specs.List.{prefix_len};
+ghost use Rattle.std.specs.Prelude.{◌≡◌, ◌+◌, ◌-◌, ◌≤◌, ◌<◌, ◌^◌, ◌==◌, ℕ, not, length, IfSome};
 ghost use Rattle.bz_token.specs.declared.cutter.scan.CutState.TheVariants.{Plain};
 ghost use Rattle.bz_token.specs.declared.cutter.scan.LineKind.TheVariants.{Statement};
-ghost use Rattle.bz_token.specs.private.CutSteps.{is_ended, is_quiet, byte_of, with_comment, at, outside, in_short, in_long, next, start, run};
+ghost use Rattle.bz_token.specs.private.CutSteps.{is_ended, byte_of, with_comment, at, outside, in_short, in_long, next, start, run, IsSame};
 
+use super::marks::{Stretch, mark_from};
 use crate::plain::plain_len;
 use crate::scan::line_len;
-use crate::table::{class_at, is_quiet_class};
 
 /// What a logical line holds.
 #[derive(Clone, Copy)]
@@ -211,77 +210,60 @@ fn advance(scan: Scan, b: u8) -> Scan
     }
 }
 
-// A byte that changes nothing in a statement outside strings and comments.
+// Where the string here ends, if it is a short one in double quotes, not empty and without a backslash: it changes
+// nothing in a statement.
 #[inline(always)]
-fn is_quiet(b: u8) -> bool
-    ensures { result ≡ is_quiet b }
+fn string_end(bytes: &[u8], start: usize) -> Option<usize>
+    requires { start ≤ length bytes.now }
+    ensures in_range { IfSome result (λ end. (start < end) × (end ≤ length bytes.now)) }
+    ensures same { IfSome result (λ end. (depth : ℕ) → IsSame (at Plain depth Statement) bytes.now start end) }
 {
-    is_quiet_class(class_at(b))
-}
-
-// How many such bytes are here.
-#[inline(always)]
-fn quiet_front(bytes: &[u8]) -> usize
-    ensures in_range { result ≤ length bytes.now }
-    ensures same { (depth : ℕ) → run (at Plain depth Statement) (take result bytes.now) ≡ at Plain depth Statement }
-{
-    quiet_prefix(bytes)
-}
-
-// The length of the string here, where it is a short one in double quotes, not empty and without a backslash, or 0: it
-// changes nothing in a statement.
-#[inline(always)]
-fn string_len(bytes: &[u8]) -> usize
-    ensures in_range { result ≤ length bytes.now }
-    ensures same { (depth : ℕ) → run (at Plain depth Statement) (take result bytes.now) ≡ at Plain depth Statement }
-{
-    if bytes.is_empty() || bytes[0] != b'"' {
-        return 0;
+    if start >= bytes.len() || bytes[start] != b'"' {
+        return None;
     }
-    let inside = &bytes[1..];
-    let len = plain_len(b'"', inside);
-    if len == 0 || len >= inside.len() || inside[len] != b'"' {
-        return 0;
+    let end = mark_from(Stretch::Text, bytes, start + 1);
+    if end == start + 1 || end >= bytes.len() || bytes[end] != b'"' {
+        return None;
     }
-    len + 2
+    Some(end + 1)
 }
 
-// How many bytes here change nothing in a statement: quiet ones, and those around a string.
+// Where the next byte stands that may change something in a statement: strings pass, what is between them, and a newline
+// in brackets.
 #[inline(always)]
-fn statement_len(bytes: &[u8]) -> usize
-    ensures in_range { result ≤ length bytes.now }
-    ensures same { (depth : ℕ) → run (at Plain depth Statement) (take result bytes.now) ≡ at Plain depth Statement }
+fn statement_end(depth: u64, bytes: &[u8], start: usize) -> usize
+    requires { start ≤ length bytes.now }
+    ensures in_range { (start ≤ result) × (result ≤ length bytes.now) }
+    ensures same { IsSame (at Plain depth Statement) bytes.now start result }
 {
-    let front = quiet_front(bytes);
-    let string = string_len(&bytes[front..]);
-    if string == 0 {
-        return front;
+    let mut end = mark_from(Stretch::Statement, bytes, start);
+    while let Some(after) = string_end(bytes, end) {
+        if depth > 0 && matches!(&bytes[after..], [b',', b'\n']) {
+            return bytes.len();
+        }
+        end = mark_from(Stretch::Statement, bytes, after);
     }
-    let end = front + string;
-    end + quiet_front(&bytes[end..])
+    if depth > 0 && end < bytes.len() && bytes[end] == b'\n' {
+        return end + 1;
+    }
+    end
 }
 
+// Where the next byte stands that may change something. Most do not, and these are passed at once.
 #[inline(always)]
-fn quiet_prefix(bytes: &[u8]) -> usize
-    ensures { result ≡ prefix_len is_quiet bytes.now }
-{
-    bytes.iter().take_while(|b| is_quiet(**b)).count()
-}
-
-// How many bytes here change nothing. Most do not, and these are passed at once.
-#[inline(always)]
-fn quiet_len(scan: Scan, bytes: &[u8]) -> usize
-    ensures in_range { result ≤ length bytes.now }
-    ensures quiet { run scan (take result bytes.now) ≡ scan }
+fn same_end(scan: Scan, bytes: &[u8], start: usize) -> usize
+    requires { start ≤ length bytes.now }
+    ensures in_range { (start ≤ result) × (result ≤ length bytes.now) }
+    ensures same { IsSame scan bytes.now start result }
 {
     match scan.inside {
         CutState::Plain => match scan.kind {
-            LineKind::Statement => statement_len(bytes),
-            _ => 0,
+            LineKind::Statement => statement_end(scan.depth, bytes, start),
+            _ => start,
         },
-        CutState::Short(quote) => plain_len(byte_of(quote), bytes),
-        CutState::Comment => line_len(bytes),
-        _ => 0,
+        CutState::Short(quote) => start + plain_len(byte_of(quote), &bytes[start..]),
+        CutState::Comment => start + line_len(&bytes[start..]),
+        _ => start,
     }
 }
 
@@ -292,13 +274,10 @@ pub fn read(scan: Scan, bytes: &[u8]) -> Scan
     ensures { result ≡ run scan bytes.now }
 {
     let mut scan = scan;
-    let mut at = 0;
+    let mut at = same_end(scan, bytes, 0);
     while at < bytes.len() {
-        at += quiet_len(scan, &bytes[at..]);
-        if at < bytes.len() {
-            scan = advance(scan, bytes[at]);
-            at += 1;
-        }
+        scan = advance(scan, bytes[at]);
+        at = same_end(scan, bytes, at + 1);
     }
     scan
 }
