@@ -7,7 +7,7 @@ ghost use Rattle.bz_command.specs.private.ValueSteps.{is_value};
 ghost use Rattle.bz_command.specs.private.ByteSteps.{inner_of};
 
 use crate::literal::{Literal, is_at_end, next_in, open, plain_value};
-use bz_memory::{NoMemory, from_str, push_char, push_str};
+use bz_memory::{NoMemory, push_char, push_str};
 use bz_token::{Kind, Token};
 use std::alloc::Global;
 
@@ -23,7 +23,8 @@ pub fn value_is(token: &Token<'_>, value: &str) -> bool
 pub fn quote(alloc: Global, value: &str) -> Result<String, NoMemory>
     ensures { IfOk result (λ text. string_bytes text ≡ spec.quoted value.now) }
 {
-    let mut text = from_str(alloc, "\"")?;
+    let mut text = String::new(alloc);
+    push_char(&mut text, '"')?;
     for c in value.chars() {
         push_written(&mut text, c)?;
     }

@@ -230,6 +230,7 @@ impl<'a> RowWalk<'a> {
         match token.kind {
             Kind::Identifier => self.push_leaf(token, Kind::Identifier, Role::Name),
             Kind::String => self.push_leaf(token, Kind::String, Role::Value),
+            Kind::Integer => self.push_leaf(token, Kind::Integer, Role::Number),
             Kind::Operator => self.add_operator(token),
             Kind::Newline => Ok(true),
             Kind::Comment => self.add_comment(token),
