@@ -1,7 +1,7 @@
 -- A statement without its comments, by what was read of it.
-use Rattle.std.proofs.Common.{◌≡◌, ◌<◌, ℕ, List, [], ◌∷◌, ◌++◌, Bool, true, false, ◌||◌, ◌&&◌, refl, sym, ap, ◌∙◌, arith, append_assoc, append-nil, subst}
+use Rattle.std.proofs.Common.{◌≡◌, ◌<◌, ◌-◌, ℕ, List, [], ◌∷◌, ◌++◌, Bool, true, false, ◌||◌, ◌&&◌, Bor, length, take, refl, sym, ap, ◌∙◌, arith, append_assoc, append-nil, subst}
 use Rattle.bz_attribute.proofs.Calls.{no_dots}
-use Rattle.std.specs.Prelude.{codes, if◌then◌else◌, Option, None, map, nat_le, ◌≤◌, bytes_eq}
+use Rattle.std.specs.Prelude.{codes, if◌then◌else◌, IfNone, IfSome, Option, None, Some, map, option_map, nat_le, ◌≤◌, bytes_eq}
 use Rattle.std.proofs.lemmas.Bool.{false≢true}
 use Rattle.bz_token.specs.declared.token.Kind.TheVariants.{Identifier, Keyword, Operator, String}
 use Rattle.bz_token.specs.Lexical.{is_text, keywords, operators}
@@ -14,7 +14,7 @@ use Rattle.bz_tree.specs.Brackets.{after_item}
 use Rattle.bz_tree.specs.Grammar.{IsTest, IsChain, IsTerm, IsPrimary, IsOperand, IsSuffix, AreSuffixes, IsExpr, IsLoad, IsLoadArg, IsString, IsStatement, is_assignment, operator_role}
 use Rattle.bz_tree.specs.Kinds.{operator_mark}
 use Rattle.bz_tree.specs.Statement.{is_assign_operator, is_rule, rule_call}
-use Rattle.bz_tree.specs.Tree.{Item, leaf, group, Items, no_items, item, items_of, list_of}
+use Rattle.bz_tree.specs.Tree.{Item, leaf, group, Items, no_items, item, items_of, list_of, segments}
 use Rattle.bz_layout.specs.declared.spacing.Edge.{Edge}
 use Rattle.bz_layout.specs.declared.spacing.Edge.TheVariants.{Operand as EdgeOperand, Operator as EdgeOperator}
 use Rattle.bz_layout.specs.declared.spacing.Gap.{Gap}
@@ -31,15 +31,16 @@ use Rattle.bz_layout_laws.specs.TextsOfKinds.{HaveTexts}
 use Rattle.bz_layout_laws.proofs.ParsedRead.{plain_same}
 use Rattle.bz_layout_laws.proofs.SameInside.{items_same}
 use Rattle.bz_attribute.specs.Rules.{first_named, rule_from}
-use Rattle.bz_canonical.specs.Canonical.{HasArgumentName, rule_args, rule_name}
+use Rattle.bz_canonical.specs.Canonical.{HasArgumentName, IsNameless, rule_args, rule_name}
 use Rattle.bz_canonical.specs.private.Fronts.{IsTokenFront}
 use Rattle.bz_canonical.specs.private.Segments.{IsSegmentFront}
 use Rattle.bz_canonical.specs.private.Values.{AreNodesFront}
 use Rattle.bz_canonical.specs.private.Statements.{IsAssignedFront, IsBareFront, IsLoadFront, IsRuleCallFront, assign_operator}
 use Rattle.bz_canonical.proofs.GroupSegments.{most, begin_flat, named_segment, nodes_segment}
 use Rattle.bz_canonical.proofs.Operands.{flat_group, string_value}
-use Rattle.bz_canonical.proofs.Chained.{value_nodes}
+use Rattle.bz_canonical.proofs.Chained.{dot_text, value_nodes}
 use Rattle.bz_canonical.proofs.RuleCalls.{after_it, no_argument_name}
+use Rattle.bz_canonical.proofs.Taken.{taken}
 
 pub absurd_of : {A : Type 0} → false ≡ true → A
 absurd_of h = absurd (false≢true h)
@@ -47,10 +48,6 @@ absurd_of h = absurd (false≢true h)
 and_no : (b : Bool) → (b && false) ≡ false
 and_no true = refl
 and_no false = refl
-
-dot_text : is_text Operator (codes ".") ≡ true
-unfolding operators
-dot_text = refl
 
 load_text : is_text Keyword (codes "load") ≡ true
 unfolding keywords
@@ -61,10 +58,10 @@ unfolding operators
 assign_text true = refl
 assign_text false = refl
 
--- a rule of one word
-abbrev pub rule_bare : (depth : ℕ) (name : Option (List ℕ)) (text bracket rest : List ℕ) → IsTokenFront Identifier text bracket → IsRuleCallFront depth name bracket rest
-    → IsBareFront depth Rule name text rest
-rule_bare depth name text bracket rest f c = record {
+-- a rule of one word, whose kind may be known where it has no name
+abbrev pub rule_bare : (depth : ℕ) (name kind : Option (List ℕ)) (text bracket rest : List ℕ) → (f : IsTokenFront Identifier text bracket) → (c : IsRuleCallFront depth name bracket rest)
+    → IfSome kind (λ k. (f.token ≡ k) × (first_named (codes "name") (segments c.group.segs) ≡ None)) → IsBareFront depth Rule name kind text rest
+rule_bare depth name kind text bracket rest f c known = record {
   nodes = leaf Identifier f.token ∷ group RuleCall c.group.segs false c.group.end ∷ [];
   some = refl;
   texts = ((f.is, refl), ((c.group.are.texts, c.group.end_is), tt));
@@ -77,6 +74,7 @@ rule_bare depth name text bracket rest f c = record {
   stays = ap (λ ss. leaf Identifier f.token ∷ group RuleCall ss false c.group.end ∷ []) c.group.are.stays;
   front = f.front ∙ ap (λ (t : List ℕ). f.token ++ t) (c.group.front Closed) ∙ by (item_pieces Broken 0 Closed (group RuleCall c.group.segs false c.group.end));
   named = c.named;
+  nameless = of_kind kind known;
   absent = λ name none. no_argument_name name c.group.segs c.group.end
       (λ has. none (after_it name f.token _ (subst (λ (P : List Piece). HasArgumentName name (bytes_of P)) (sym (append-nil (item_pieces Broken 0 Closed (group RuleCall c.group.segs false c.group.end)))) has)));
 }
@@ -84,9 +82,29 @@ rule_bare depth name text bracket rest f c = record {
     by : (P : List Piece) → f.token ++ (bytes_of P ++ rest) ≡ bytes_of (piece Closed Identifier f.token ∷ (P ++ [])) ++ rest
     by P = rw (append-nil P) (simp append_assoc)
 
+    of_kind : (kind : Option (List ℕ)) → IfSome kind (λ k. (f.token ≡ k) × (first_named (codes "name") (segments c.group.segs) ≡ None))
+        → IfSome kind (λ k. IsNameless k (leaf Identifier f.token ∷ group RuleCall c.group.segs false c.group.end ∷ []))
+    of_kind None known = tt
+    of_kind (Some k) known = record {
+      rule = record { kind = leaf Identifier f.token ∷ []; args = segments c.group.segs; one_comma = false; end = c.group.end };
+      rule_is = refl;
+      kind_is = append-nil f.token ∙ known.0;
+      none = known.1;
+    }
+
+-- its kind stands before the call
+pub known_bare : (depth : ℕ) (name kind : Option (Bor (List ℕ))) (text bracket rest : List ℕ) → IsTokenFront Identifier text bracket → IsRuleCallFront depth (option_map (λ n. n.now) name) bracket rest
+    → IfSome kind (λ k. (name ≡ None) × (k.now ≡ take (length text - length bracket) text)) → IsBareFront depth Rule (option_map (λ n. n.now) name) (option_map (λ k. k.now) kind) text rest
+known_bare depth name None text bracket rest f c known = rule_bare depth (option_map (λ n. n.now) name) None text bracket rest f c tt
+known_bare depth name (Some k) text bracket rest f c known =
+    rule_bare depth (option_map (λ n. n.now) name) (Some k.now) text bracket rest f c (
+      sym (known.1 ∙ taken text f.token bracket f.front),
+      subst (λ (o : Option (Bor (List ℕ))). IfNone (option_map (λ n. n.now) o) (first_named (codes "name") (segments c.group.segs) ≡ None)) known.0 c.none,
+    )
+
 -- a rule of two words with a dot between them
 pub dotted_bare : (depth : ℕ) (name : Option (List ℕ)) (text end member bracket rest : List ℕ) → IsTokenFront Identifier text end → end ≡ 46 ∷ member → IsTokenFront Identifier member bracket
-    → IsRuleCallFront depth name bracket rest → IsBareFront depth Rule name text rest
+    → IsRuleCallFront depth name bracket rest → IsBareFront depth Rule name None text rest
 dotted_bare depth name text end member bracket rest f dot g c = record {
   nodes = leaf Identifier f.token ∷ leaf Operator (codes ".") ∷ leaf Identifier g.token ∷ group RuleCall c.group.segs false c.group.end ∷ [];
   some = refl;
@@ -101,6 +119,7 @@ dotted_bare depth name text end member bracket rest f dot g c = record {
   front = f.front ∙ ap (λ (t : List ℕ). f.token ++ t) (dot ∙ ap (λ (t : List ℕ). 46 ∷ t) (g.front ∙ ap (λ (t : List ℕ). g.token ++ t) (c.group.front Closed)))
       ∙ by (item_pieces Broken 0 Closed (group RuleCall c.group.segs false c.group.end));
   named = c.named;
+  nameless = tt;
   absent = λ name none. no_argument_name name c.group.segs c.group.end
       (λ has. none (after_it name f.token _ (after_it name (codes ".") _ (after_it name g.token _
       (subst (λ (P : List Piece). HasArgumentName name (bytes_of P)) (sym (append-nil (item_pieces Broken 0 Closed (group RuleCall c.group.segs false c.group.end)))) has)))));
@@ -120,7 +139,7 @@ renamed_string text equals rest value f eq s =
     named_segment LoadGroup 0 0 text equals rest value false f eq (value_nodes 0 0 value rest false (string_value value rest s 0 0)) (IsLoadArg.renamed refl refl (IsString.string refl))
 
 -- a load
-pub load_bare : (depth : ℕ) (text inside rest : List ℕ) → 0 < depth → text ≡ codes "load(" ++ inside → IsLoadFront inside rest → IsBareFront depth Load None text rest
+pub load_bare : (depth : ℕ) (text inside rest : List ℕ) → 0 < depth → text ≡ codes "load(" ++ inside → IsLoadFront inside rest → IsBareFront depth Load None None text rest
 load_bare depth text inside rest deep is l =
     let all = begin_flat LoadGroup 0 0 inside l.middle false (loaded_string inside l.middle l.file) l.names.segs l.end l.names.are l.names.bare l.names.front in
     let g = flat_group LoadGroup 0 1 0 inside l.end rest 41 _ _ refl refl all (few _ _ l.names.breaks) l.ends in
@@ -137,6 +156,7 @@ load_bare depth text inside rest deep is l =
       stays = ap (λ ss. leaf Keyword (codes "load") ∷ group LoadGroup ss false [] ∷ []) g.are.stays;
       front = is ∙ ap (λ (t : List ℕ). codes "load" ++ t) (g.front Closed) ∙ by (item_pieces Broken 0 Closed (group LoadGroup g.segs false []));
       named = refl;
+      nameless = tt;
       absent = λ name none. refl;
     }
   where
@@ -180,7 +200,7 @@ second : {A : Type 0} (b : Bool) (x y z : A) → b ≡ false → x ≡ z → x �
 second b x y z is same = rw is same
 
 assigned_with : (depth : ℕ) (text end value rest o : List ℕ) (h : Bool) → IsTokenFront Identifier text end → end ≡ 32 ∷ (o ++ 32 ∷ value) → IsAssignWord o → AreNodesFront 0 depth value rest h
-    → IsBareFront depth Assign None text rest
+    → IsBareFront depth Assign None None text rest
 assigned_with depth text end value rest o h f is word v = record {
   nodes = leaf Identifier f.token ∷ leaf Operator o ∷ v.x ∷ list_of v.xs;
   some = refl;
@@ -198,6 +218,7 @@ assigned_with depth text end value rest o h f is word v = record {
   front = f.front ∙ ap (λ (t : List ℕ). f.token ++ t) (is ∙ ap (λ (t : List ℕ). 32 ∷ (o ++ t)) value_is)
       ∙ by (gap_before Closed EdgeOperand (leaf Operator o)) (ap (λ c. if c then Closed else Space) word.apart) (edge_after None EdgeOperand (leaf Operator o)) word.edge (items_of (list_of v.xs)) back;
   named = ap rule_name (no_rule f.token o [] (v.x ∷ list_of v.xs) word.dot);
+  nameless = tt;
   absent = λ name none. ap (λ found. first_named name (rule_args found)) (no_rule f.token o [] (v.x ∷ list_of v.xs) word.dot);
 }
   where
@@ -221,7 +242,7 @@ assigned_with depth text end value rest o h f is word v = record {
         ≡ (f.token ++ (gap_bytes gap ++ (o ++ bytes_of (items_pieces Broken 0 None Closed e (item v.x ys))))) ++ rest
     by gap gap_is e edge_is ys same = rw (gap_is, edge_is, same) (simp append_assoc)
 
-pub assigned_bare : (depth : ℕ) (text end rest : List ℕ) → IsTokenFront Identifier text end → IsAssignedFront depth end rest → IsBareFront depth Assign None text rest
+pub assigned_bare : (depth : ℕ) (text end rest : List ℕ) → IsTokenFront Identifier text end → IsAssignedFront depth end rest → IsBareFront depth Assign None None text rest
 assigned_bare depth text end rest f a = assigned_with depth text end a.value rest (assign_operator a.adds) a.holds f a.front (assign_word a.adds) a.nodes
 
-pub ruleset bare_fronts = (assigned_bare, dotted_bare, load_bare, rule_bare)
+pub ruleset bare_fronts = (assigned_bare, dotted_bare, known_bare, load_bare)

@@ -16,7 +16,7 @@ use Rattle.bz_layout_laws.proofs.CommentChunk.{comments_and_blank}
 use Rattle.bz_layout_laws.proofs.CommentRead.{comments_read}
 use Rattle.bz_layout_laws.proofs.WellFormed.{formed_again, formed_legible, formed_no_block}
 use Rattle.bz_layout_laws.proofs.WholeChunk.{statement_chunked}
-use Rattle.bz_canonical.specs.Canonical.{AreReadAlone, Between, HasPlace, IsCanonical, IsReadBack, argument_lines, first_args, rule_args, rule_name}
+use Rattle.bz_canonical.specs.Canonical.{AreReadAlone, Between, HasPlace, IsCanonical, IsNameless, IsReadBack, argument_lines, first_args, rule_args, rule_name}
 use Rattle.bz_canonical.specs.private.Statements.{IsStatementFront, empty_line}
 use Rattle.bz_canonical.proofs.Taken.{taken}
 use Rattle.bz_token.specs.Common.{is_empty}
@@ -50,9 +50,9 @@ place_same depth attr s t b same has = record {
       ∙ ap (λ (z : Statement). b.before ++ (argument_lines (f (first_args attr z)) ++ b.after)) (sym same);
 }
 
-read_back : (first depth : ℕ) (attr : List ℕ) (class : Class) (name : Option (List ℕ)) (place : Option Between) (text end rest : List ℕ) → (f : IsStatementFront depth class name text end rest)
-    → IfSome place (HasPlace depth attr f.s) → IsReadBack first depth attr class name place (layout_text f.s ++ empty_line f.s.class) (layout_text f.s)
-read_back first depth attr class name place text end rest f has =
+read_back : (first depth : ℕ) (attr : List ℕ) (class : Class) (name kind : Option (List ℕ)) (place : Option Between) (text end rest : List ℕ) → (f : IsStatementFront depth class name kind text end rest)
+    → IfSome place (HasPlace depth attr f.s) → IsReadBack first depth attr class name kind place (layout_text f.s ++ empty_line f.s.class) (layout_text f.s)
+read_back first depth attr class name kind place text end rest f has =
     let again = whole_again first depth f.s f.well in
     let same : lineless again.0 ≡ lineless f.s = again.2 ∙ ap lineless f.stays in
     record {
@@ -60,6 +60,7 @@ read_back first depth attr class name place text end rest f has =
       read = again.1;
       class_is = ap (λ (z : Statement). z.class) same ∙ f.class_is;
       named = ap (λ (z : Statement). rule_name (rule_of z.nodes)) same ∙ f.named;
+      nameless = subst (λ (z : Statement). IfSome kind (λ k. IsNameless k z.nodes)) (sym same) f.nameless;
       written = ap layout_text same;
       absent = λ name none. ap (λ (z : Statement). first_named name (rule_args (rule_of z.nodes))) same ∙ f.absent name none;
       has = known_place place has;
@@ -69,13 +70,13 @@ read_back first depth attr class name place text end rest f has =
     known_place None has = tt
     known_place (Some b) has = place_same depth attr f.s (whole_again first depth f.s f.well).0 b ((whole_again first depth f.s f.well).2 ∙ ap lineless f.stays) has
 
-pub canonical_chunk : (depth : ℕ) (attr : List ℕ) (class : Class) (name : Option (List ℕ)) (place : Option Between) (chunk written text end rest : List ℕ) → (f : IsStatementFront depth class name text end rest)
-    → chunk ≡ take (length text - length rest) text → written ≡ take (length text - length end) text → IfSome place (HasPlace depth attr f.s) → IsCanonical depth attr class name place chunk written text
-canonical_chunk depth attr class name place chunk written text end rest f chunk_is written_is has =
+pub canonical_chunk : (depth : ℕ) (attr : List ℕ) (class : Class) (name kind : Option (List ℕ)) (place : Option Between) (chunk written text end rest : List ℕ) → (f : IsStatementFront depth class name kind text end rest)
+    → chunk ≡ take (length text - length rest) text → written ≡ take (length text - length end) text → IfSome place (HasPlace depth attr f.s) → IsCanonical depth attr class name kind place chunk written text
+canonical_chunk depth attr class name kind place chunk written text end rest f chunk_is written_is has =
     let s = f.s in
     let all : List ℕ = layout_text s ++ empty_line s.class in
     let front : text ≡ all ++ rest = f.front ∙ ap (λ (t : List ℕ). layout_text s ++ t) (f.ends ∙ ap (λ c. empty_line c ++ rest) (sym f.class_is)) ∙ sym (append_assoc (layout_text s) (empty_line s.class) rest) in
     let whole : IsChunk all = whole_chunk depth s f.well in
-    subst (λ bytes. IsCanonical depth attr class name place bytes written text) (sym (chunk_is ∙ taken text all rest front))
-    (subst (λ bytes. IsCanonical depth attr class name place all bytes text) (sym (written_is ∙ taken text (layout_text s) end f.front))
-    (record { some = chunk_some all whole; rest = rest; front = front; ends = whole; read = λ first. read_back first depth attr class name place text end rest f has }))
+    subst (λ bytes. IsCanonical depth attr class name kind place bytes written text) (sym (chunk_is ∙ taken text all rest front))
+    (subst (λ bytes. IsCanonical depth attr class name kind place all bytes text) (sym (written_is ∙ taken text (layout_text s) end f.front))
+    (record { some = chunk_some all whole; rest = rest; front = front; ends = whole; read = λ first. read_back first depth attr class name kind place text end rest f has }))

@@ -50,7 +50,7 @@ string_value text rest f level depth = record {
   breaks = refl;
 }
 
-pub name_value : (text rest : List ℕ) → IsTokenFront Identifier text rest → (level depth : ℕ) → IsValueFront level depth text rest false
+abbrev pub name_value : (text rest : List ℕ) → IsTokenFront Identifier text rest → (level depth : ℕ) → IsValueFront level depth text rest false
 name_value text rest f level depth = record {
   x = leaf Identifier f.token;
   is = record {

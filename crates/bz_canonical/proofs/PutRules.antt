@@ -485,10 +485,10 @@ with_name text name inside rest h left front left_is front_is =
         by notes = simp append_assoc
 
 pub rule_chunk : (depth : ℕ) (attr name text rest written chunk : List ℕ) (ends : Option PutEnds) (place : Option Between) → IsRuleRead depth attr name text rest written ends → chunk ≡ take (length text - length rest) text → IsPutPlaceIn text written ends place
-    → IsCanonical depth attr RuleClass (Some name) place chunk written text
+    → IsCanonical depth attr RuleClass (Some name) None place chunk written text
 rule_chunk depth attr name text rest written chunk ends place r chunk_is is =
     let whole : IsChunk (text_by r.choice r.s) = free_chunked depth r.s r.choice r.well r.stand (ap is_comment r.class_is) in
-    subst (λ bytes. IsCanonical depth attr RuleClass (Some name) place bytes written text) (sym (chunk_is ∙ taken text (text_by r.choice r.s) rest r.front)) (record {
+    subst (λ bytes. IsCanonical depth attr RuleClass (Some name) None place bytes written text) (sym (chunk_is ∙ taken text (text_by r.choice r.s) rest r.front)) (record {
       some = chunk_some (text_by r.choice r.s) whole;
       rest = rest;
       front = r.front;
@@ -501,6 +501,7 @@ rule_chunk depth attr name text rest written chunk ends place r chunk_is is =
             read = again.1;
             class_is = ap (λ (z : Statement). z.class) same ∙ r.class_is;
             named = ap (λ (z : Statement). rule_name (rule_of z.nodes)) same ∙ r.named;
+            nameless = tt;
             written = ap layout_text same ∙ sym r.spells;
             absent = λ name none. ap (λ (z : Statement). first_named name (rule_args (rule_of z.nodes))) same ∙ r.absent name (subst (λ (t : List ℕ). HasArgumentName name t → ⊥) r.spells none);
             has = place_back depth attr r.s again.0 text written ends same r.has place is;

@@ -1,7 +1,7 @@
 -- The call of a rule by what was read of it.
-use Rattle.std.proofs.Common.{◌≡◌, ℕ, ◌-◌, ◌<◌, arith, List, [], ◌∷◌, ◌++◌, Bool, true, false, refl, sym, ap, ◌∙◌, append_assoc, subst, length, take, option_and_then}
-use Rattle.std.specs.Prelude.{bytes_eq, codes, Some, None, if◌then◌else◌}
-use Rattle.std.proofs.lemmas.Bool.{false≢true}
+use Rattle.std.proofs.Common.{◌≡◌, ℕ, ◌+◌, ◌-◌, ◌<◌, ◌||◌, ◌&&◌, arith, List, [], ◌∷◌, ◌++◌, Bool, true, false, refl, sym, ap, ◌∙◌, append_assoc, subst, length, take, option_and_then}
+use Rattle.std.specs.Prelude.{bytes_eq, codes, nat_le, Some, None, if◌then◌else◌}
+use Rattle.std.proofs.lemmas.Bool.{false≢true, le-leb}
 use Rattle.std.proofs.Math.Seq.{take-append_seam}
 use Rattle.std.proofs.lemmas.Slice.Eq.{bytes_eq-Decides}
 use Rattle.std.specs.List.{IsSplitAt}
@@ -14,17 +14,17 @@ use Rattle.bz_layout.specs.declared.spacing.Edge.TheVariants.{Start, Operator as
 use Rattle.bz_layout.specs.declared.spacing.Gap.{Gap}
 use Rattle.bz_layout.specs.declared.spacing.Gap.TheVariants.{Closed, Space, Line}
 use Rattle.bz_layout.specs.declared.broken.Style.TheVariants.{Broken}
-use Rattle.bz_layout.specs.Broken.{segs_hold, is_broken}
+use Rattle.bz_layout.specs.Broken.{breaks_by_count, count, segs_hold, is_broken}
 use Rattle.bz_layout.specs.Layout.{items_pieces, item_pieces, broken_segs, flat_segs}
-use Rattle.bz_layout.specs.Pieces.{Piece, piece, bytes_of, comments, comma_if, gap_bytes, suffix_piece}
+use Rattle.bz_layout.specs.Pieces.{Piece, piece, bytes_of, comments, comma_if, gap_bytes, indent, suffix_piece}
 use Rattle.bz_layout.proofs.Pieces.{bytes_append}
 use Rattle.bz_attribute.specs.Rules.{first_named, ident_of, is_operator_item, is_text as is_text_of, name_of, string_value as value_string, value}
 use Rattle.bz_canonical.specs.private.Fronts.{IsTokenFront, IsQuotedFront}
-use Rattle.bz_canonical.specs.private.Segments.{IsGroupFront}
+use Rattle.bz_canonical.specs.private.Segments.{AreNotesFront, AreSegmentsFront, IsBesideFront, IsGroupFront}
 use Rattle.bz_canonical.specs.Canonical.{HasArgumentName}
 use Rattle.bz_canonical.specs.private.Statements.{IsRuleCallFront}
-use Rattle.bz_canonical.proofs.GroupSegments.{begin_flat, no_segments, keyword_segment}
-use Rattle.bz_canonical.proofs.Operands.{flat_group, string_value}
+use Rattle.bz_canonical.proofs.GroupSegments.{begin, begin_flat, more, no_segments, keyword_segment}
+use Rattle.bz_canonical.proofs.Operands.{broken_group, flat_group, string_value}
 use Rattle.bz_canonical.proofs.Chained.{value_nodes}
 use Rattle.bz_canonical.proofs.Taken.{taken}
 
@@ -41,7 +41,27 @@ only_named_front depth text start last rest name deep is q closes =
     let arg = keyword_segment RuleCall 0 (depth - 1) first (codes " = " ++ start) last start false refl ident refl (value_nodes 0 (depth - 1) start last false (string_value start last string 0 (depth - 1))) in
     let all = begin_flat RuleCall 0 (depth - 1) first last false arg no_segs last (no_segments RuleCall (depth - 1)) refl refl in
     subst (λ t. IsRuleCallFront depth (Some name) t rest) (sym is)
-    (record { holds = false; group = flat_group RuleCall 0 depth (depth - 1) first last rest 41 1 false (omega arith) refl all refl closes; named = q.value })
+    (record { holds = false; group = flat_group RuleCall 0 depth (depth - 1) first last rest 41 1 false (omega arith) refl all refl closes; named = q.value; none = tt })
+
+-- the first argument is the name, on a line of its own, with the comments above it and beside it, and there are others
+pub lines_named_front : (depth : ℕ) (text inside below first start last comma next middle end close rest name : List ℕ) (n : ℕ) (h c d e f : Bool) → 0 < depth → text ≡ 40 ∷ inside → AreNotesFront 1 inside below d
+    → below ≡ 10 ∷ (indent 1 ++ first) → first ≡ codes "name = " ++ start → IsQuotedFront start name last → last ≡ 44 ∷ comma → IsBesideFront comma next e
+    → AreSegmentsFront RuleCall 1 (depth - 1) next middle n h c → AreNotesFront 1 middle end f → 0 < n → end ≡ 10 ∷ close → close ≡ 41 ∷ rest → IsRuleCallFront depth (Some name) text rest
+lines_named_front depth text inside below first start last comma next middle end close rest name n h c d e f deep is above line named q comma_is beside others notes some ends closes =
+    let string : IsTokenFront String start last = record { token = 34 ∷ (name ++ 34 ∷ []); is = q.is; stays = refl; front = q.front } in
+    let ident : IsTokenFront Identifier first (codes " = " ++ start) = record { token = codes "name"; is = name_text; stays = refl; front = named } in
+    let arg = keyword_segment RuleCall 1 (depth - 1) first (codes " = " ++ start) last start false refl ident refl (value_nodes 1 (depth - 1) start last false (string_value start last string 1 (depth - 1))) in
+    let all = more RuleCall 1 (depth - 1) inside inside below first last comma next 0 false false false d e (begin RuleCall 1 (depth - 1) inside) above line arg comma_is beside others.segs middle others.are others.front in
+    subst (λ t. IsRuleCallFront depth (Some name) t rest) (sym is)
+    (record { holds = true; group = broken_group RuleCall 0 depth (depth - 1) inside middle end close rest 41 (1 + count others.segs) _ _ f (omega arith) refl (λ n. refl) all notes (many (count others.segs) (omega (arith, some, others.count_is)) _ _) ends closes; named = q.value; none = tt })
+  where
+    many : (n : ℕ) → 0 < n → (c h : Bool) → (f || c || breaks_by_count RuleCall (1 + n) || (nat_le 2 (1 + n) && h)) ≡ true
+    many n some c h = by f c (nat_le 2 (1 + n)) (le-leb 2 (1 + n) (omega (arith, some)))
+      where
+        by : (f c two : Bool) → two ≡ true → (f || c || two || (two && h)) ≡ true
+        by true c two is = refl
+        by false true two is = refl
+        by false false two is = rw is refl
 
 -- no argument has a name that does not stand in the text
 
@@ -141,11 +161,10 @@ no_argument_name attr segs end none = by (is_broken RuleCall segs end (segs_hold
 
 abbrev pub unnamed_front : (depth : ℕ) (text call rest : List ℕ) (h : Bool) → IsGroupFront RuleCall 0 depth text rest h → call ≡ take (length text - length rest) text → (HasArgumentName (codes "name") call → ⊥)
     → IsRuleCallFront depth None text rest
-unnamed_front depth text call rest h g is none = record {
-  holds = h;
-  group = g;
-  named = ap (option_and_then (λ a. value_string (value a))) (no_argument_name (codes "name") g.segs g.end (λ has. none (subst (HasArgumentName (codes "name")) (sym (is ∙ taken text (bytes_of (item_pieces Broken 0 Closed (group RuleCall g.segs false g.end))) rest (g.front Closed))) has)));
-}
+unnamed_front depth text call rest h g is none =
+    let no_name : first_named (codes "name") (segments g.segs) ≡ None =
+    no_argument_name (codes "name") g.segs g.end (λ has. none (subst (HasArgumentName (codes "name")) (sym (is ∙ taken text (bytes_of (item_pieces Broken 0 Closed (group RuleCall g.segs false g.end))) rest (g.front Closed))) has)) in
+    record { holds = h; group = g; named = ap (option_and_then (λ a. value_string (value a))) no_name; none = no_name }
 
 abbrev all_but_first : List ℕ → List ℕ
 all_but_first [] = []

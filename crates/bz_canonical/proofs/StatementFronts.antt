@@ -21,10 +21,10 @@ use Rattle.bz_canonical.proofs.RuleCalls.{after_it, before_it}
 use Rattle.bz_token.specs.Common.{is_filled}
 
 -- a statement that is more than comments
-abbrev pub statement_front : (depth : ℕ) (class : Class) (name : Option (List ℕ)) (text start middle end rest : List ℕ) (b : Bool) → AreLinesFront text start
-    → IsBareFront depth class name start middle → IsBesideFront middle end b
-    → end ≡ 10 ∷ rest → IsStatementFront depth class name text rest rest
-statement_front depth class name text start middle end rest b above s beside ends = record {
+abbrev pub statement_front : (depth : ℕ) (class : Class) (name kind : Option (List ℕ)) (text start middle end rest : List ℕ) (b : Bool) → AreLinesFront text start
+    → IsBareFront depth class name kind start middle → IsBesideFront middle end b
+    → end ≡ 10 ∷ rest → IsStatementFront depth class name kind text rest rest
+statement_front depth class name kind text start middle end rest b above s beside ends = record {
   s = record { before = above.notes; nodes = s.nodes; suffix = beside.note; class = class; start = 0; end = 0 };
   well = record {
     texts = record { some = λ no. s.some; before = above.are; nodes = s.texts; suffix = beside.is };
@@ -41,6 +41,7 @@ statement_front depth class name text start middle end rest b above s beside end
   stays = ap (λ xs. record { before = above.notes; nodes = xs; suffix = beside.note; class = class; start = 0; end = 0 }) s.stays;
   class_is = refl;
   named = s.named;
+  nameless = s.nameless;
   front = above.front ∙ ap (λ (t : List ℕ). bytes_of (comment_lines above.notes) ++ t)
       (s.front ∙ ap (λ (t : List ℕ). bytes_of (items_pieces Broken 0 None Closed Start (items_of s.nodes)) ++ t)
       (beside.front ∙ ap (λ (t : List ℕ). bytes_of (suffix_piece beside.note) ++ t) ends))
@@ -60,7 +61,7 @@ statement_front depth class name text start middle end rest b above s beside end
     none b is = rw is refl
 
 -- comment lines alone, one at least
-pub comments_front : (depth : ℕ) (text start rest : List ℕ) → AreLinesFront text start → length start ≢ length text → start ≡ 10 ∷ rest → IsStatementFront depth Comment None text start rest
+pub comments_front : (depth : ℕ) (text start rest : List ℕ) → AreLinesFront text start → length start ≢ length text → start ≡ 10 ∷ rest → IsStatementFront depth Comment None None text start rest
 comments_front depth text start rest above some ends = record {
   s = record { before = above.notes; nodes = []; suffix = None; class = Comment; start = 0; end = 0 };
   well = record {
@@ -72,6 +73,7 @@ comments_front depth text start rest above some ends = record {
   stays = refl;
   class_is = refl;
   named = refl;
+  nameless = tt;
   front = above.front ∙ ap (λ (ps : List Piece). bytes_of ps ++ start) (sym (append-nil (comment_lines above.notes)));
   ends = ends;
   absent = λ name no. refl;

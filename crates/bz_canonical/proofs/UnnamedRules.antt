@@ -162,7 +162,7 @@ unnamed_rule depth attr text start bracket argument close end call rest above f 
     let absent : first_named attr (segments g.segs) ≡ None =
     no_argument_name attr g.segs g.end (λ has. none (subst (HasArgumentName attr) (sym (call_is ∙ taken bracket (bytes_of (item_pieces Broken 0 Closed (group RuleCall g.segs false g.end))) end (g.front Closed))) has)) in
     record {
-      front = statement_front (suc depth) RuleClass None text start end e.middle rest e.noted above (rule_bare (suc depth) None start bracket end f (unnamed_front (suc depth) bracket call end false g call_is no_name)) e.side e.ends;
+      front = statement_front (suc depth) RuleClass None None text start end e.middle rest e.noted above (rule_bare (suc depth) None None start bracket end f (unnamed_front (suc depth) bracket call end false g call_is no_name) tt) e.side e.ends;
       head = head_of N f.token;
       inner = in_place s.xs;
       end = 41 ∷ (S ++ 10 ∷ []);
@@ -179,7 +179,7 @@ unnamed_rule depth attr text start bracket argument close end call rest above f 
 pub unnamed_chunk : (depth : ℕ) (attr text argument close rest chunk head inner end laid : List ℕ) (start : ℕ) (place : Between) → IsUnnamedRule depth attr text argument close rest → chunk ≡ take (length text - length rest) text
     → head ≡ take (length text - length argument) text → inner ≡ take (length argument - length close) argument → end ≡ take (length close - length rest) close
     → laid ≡ (head ++ (codes "\n    " ++ (inner ++ codes ","))) ++ (10 ∷ end) → start ≡ length (head ++ (codes "\n    " ++ (inner ++ codes ",")))
-    → place ≡ record { before = take start laid; lines = []; after = drop start laid } → IsCanonical depth attr RuleClass None (Some place) chunk chunk text
+    → place ≡ record { before = take start laid; lines = []; after = drop start laid } → IsCanonical depth attr RuleClass None None (Some place) chunk chunk text
 unnamed_chunk depth attr text argument close rest chunk head inner end laid start place r chunk_is head_is inner_is end_is laid_is start_is place_is =
     let H : List ℕ = head ++ (codes "\n    " ++ (inner ++ codes ",")) in
     let begins : head ≡ r.head = head_is ∙ taken text r.head argument r.begins in
@@ -189,15 +189,15 @@ unnamed_chunk depth attr text argument close rest chunk head inner end laid star
     ∙ (λ i. record { before = take (start_is i) (laid_is i); lines = []; after = drop (start_is i) (laid_is i) })
     ∙ (λ i. record { before = take-append_seam H (10 ∷ end) i; lines = []; after = drop-append_seam H (10 ∷ end) i })
     ∙ (λ i. record { before = begins i ++ (codes "\n    " ++ (middle i ++ codes ",")); lines = []; after = 10 ∷ ends i }) in
-    canonical_chunk depth attr RuleClass None (Some place) chunk chunk text rest rest r.front chunk_is chunk_is (subst (HasPlace depth attr r.front.s) (sym same) r.has)
+    canonical_chunk depth attr RuleClass None None (Some place) chunk chunk text rest rest r.front chunk_is chunk_is (subst (HasPlace depth attr r.front.s) (sym same) r.has)
 
 pub canonical_of : (text argument close rest chunk head inner end laid : List ℕ) (start : ℕ) → chunk ≡ take (length text - length rest) text
     → head ≡ take (length text - length argument) text → inner ≡ take (length argument - length close) argument → end ≡ take (length close - length rest) close
     → laid ≡ (head ++ (codes "\n    " ++ (inner ++ codes ","))) ++ (10 ∷ end) → start ≡ length (head ++ (codes "\n    " ++ (inner ++ codes ",")))
-    → (told : Option CanonicalChunk) → IfSome told (λ found. (found.class ≡ RuleClass) × (found.name ≡ None)) → IfSome told (λ found. (found.chunk.now ≡ chunk) × (found.written.now ≡ chunk))
+    → (told : Option CanonicalChunk) → IfSome told (λ found. (found.class ≡ RuleClass) × (found.name ≡ None) × (found.kind ≡ None)) → IfSome told (λ found. (found.chunk.now ≡ chunk) × (found.written.now ≡ chunk))
     → IfSome told (λ found. option_map between found.place ≡ Some (record { before = take start laid; lines = []; after = drop start laid }))
     → IfSome told (λ found. (depth : ℕ) (attr : List ℕ) → IsUnnamedRule depth attr text argument close rest
-    → IsCanonical depth attr found.class (option_map (λ name. name.now) found.name) (option_map between found.place) found.chunk.now found.written.now text)
+    → IsCanonical depth attr found.class (option_map (λ name. name.now) found.name) (option_map (λ kind. kind.now) found.kind) (option_map between found.place) found.chunk.now found.written.now text)
 canonical_of text argument close rest chunk head inner end laid start chunk_is head_is inner_is end_is laid_is start_is None rule same place = tt
 canonical_of text argument close rest chunk head inner end laid start chunk_is head_is inner_is end_is laid_is start_is (Some found) rule same place = λ depth attr r.
-    rw (rule.0, rule.1, place, same.0, same.1) (unnamed_chunk depth attr text argument close rest chunk head inner end laid start _ r chunk_is head_is inner_is end_is laid_is start_is refl)
+    rw (rule.0, rule.1, rule.2, place, same.0, same.1) (unnamed_chunk depth attr text argument close rest chunk head inner end laid start _ r chunk_is head_is inner_is end_is laid_is start_is refl)

@@ -6,7 +6,7 @@ use Rattle.bz_tree.specs.declared.tree.Class.{Class}
 use Rattle.bz_tree.specs.declared.tree.Class.TheVariants.{Rule as RuleClass}
 use Rattle.bz_tree.specs.Chunk.{IsStatementIn}
 use Rattle.bz_tree.specs.declared.tree.GroupKind.TheVariants.{RuleCall}
-use Rattle.bz_tree.specs.Tree.{Segment, Statement, group, leaf, segs_of}
+use Rattle.bz_tree.specs.Tree.{Item, Segment, Statement, group, leaf, segs_of}
 use Rattle.bz_layout.specs.declared.broken.Style.TheVariants.{Broken}
 use Rattle.bz_layout.specs.Layout.{broken_segs, layout_text}
 use Rattle.bz_layout.specs.Pieces.{bytes_of}
@@ -14,7 +14,7 @@ use Rattle.bz_canonical.specs.declared.chunk.ArgumentPlace.{ArgumentPlace}
 use Rattle.bz_layout_laws.specs.Lineless.{lineless}
 use Rattle.bz_attribute.specs.Effects.{with_args}
 use Rattle.bz_attribute.specs.RowPlaces.{IsLocal}
-use Rattle.bz_attribute.specs.Rules.{Rule, first_named, rule_of, name_in}
+use Rattle.bz_attribute.specs.Rules.{Rule, first_named, kind_text, rule_of, name_in}
 use Rattle.bz_token.specs.Common.{is_empty}
 
 abbrev pub rule_name : Option Rule → Option (List ℕ)
@@ -24,6 +24,13 @@ rule_name (Some rule) = name_in rule.args
 -- the name of a rule; what is no rule has none
 abbrev pub HasName : Option (List ℕ) → Statement → Type 0
 HasName name s = rule_name (rule_of s.nodes) ≡ name
+
+-- The nodes are a rule of this kind, of which no argument is `name`.
+pub record IsNameless (kind : List ℕ) (nodes : List Item) : Type 0 where
+  pub rule : Rule
+  pub rule_is : rule_of nodes ≡ Some rule
+  pub kind_is : kind_text rule.kind ≡ kind
+  pub none : first_named (codes "name") rule.args ≡ None
 
 -- the arguments of a rule; what is no rule has none
 abbrev pub rule_args : Option Rule → List Segment
@@ -81,21 +88,23 @@ pub record HasPlace (depth : ℕ) (attr : List ℕ) (s : Statement) (place : Bet
   pub takes : (f : List Segment → List Segment) → IsLocal attr f → is_empty (f (first_args attr s)) ≡ false
       → layout_text (with_args f s) ≡ place.before ++ (argument_lines (f (first_args attr s)) ++ place.after)
 
--- The chunk is read as a statement of this class and name, of which `text` is written. Its first line has this number.
-pub record IsReadBack (first depth : ℕ) (attr : List ℕ) (class : Class) (name : Option (List ℕ)) (place : Option Between) (chunk text : List ℕ) : Type 0 where
+-- The chunk is read as a statement of this class and name, of which `text` is written. Its first line has this number. A kind is
+-- that of a rule without a name.
+pub record IsReadBack (first depth : ℕ) (attr : List ℕ) (class : Class) (name kind : Option (List ℕ)) (place : Option Between) (chunk text : List ℕ) : Type 0 where
   pub statement : Statement
   pub read : IsStatementIn first depth chunk statement
   pub class_is : statement.class ≡ class
   pub named : HasName name statement
+  pub nameless : IfSome kind (λ k. IsNameless k statement.nodes)
   pub written : layout_text statement ≡ text
   -- no argument has a name that stands nowhere in the text with its equals sign
   pub absent : (attr : List ℕ) → (HasArgumentName attr text → ⊥) → first_named attr (rule_args (rule_of statement.nodes)) ≡ None
   pub has : IfSome place (HasPlace depth attr statement)
 
 -- The text begins with this chunk, whatever follows the text, and on whatever line the chunk begins it is read back.
-pub record IsCanonical (depth : ℕ) (attr : List ℕ) (class : Class) (name : Option (List ℕ)) (place : Option Between) (chunk written text : List ℕ) : Type 0 where
+pub record IsCanonical (depth : ℕ) (attr : List ℕ) (class : Class) (name kind : Option (List ℕ)) (place : Option Between) (chunk written text : List ℕ) : Type 0 where
   pub some : 0 < length chunk
   pub rest : List ℕ
   pub front : text ≡ chunk ++ rest
   pub ends : IsChunk chunk
-  pub read : (first : ℕ) → IsReadBack first depth attr class name place chunk written
+  pub read : (first : ℕ) → IsReadBack first depth attr class name kind place chunk written

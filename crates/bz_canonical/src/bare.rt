@@ -1,10 +1,10 @@
 //! A statement that stands as it would be written, without the comments above and beside it.
 
-ghost use Rattle.std.specs.Prelude.{◌<◌, option_map, IfSome};
+ghost use Rattle.std.specs.Prelude.{◌≡◌, ◌-◌, ◌<◌, length, option_map, take, IfSome, None};
 ghost use Rattle.bz_canonical.specs.private.Statements.{IsBareFront};
 
 use crate::assignment::after_assignment;
-use crate::front::{Word, after, after_identifier, after_word};
+use crate::front::{Word, after, after_identifier, after_word, before};
 use crate::load::after_load;
 use crate::rule::read_rule_call;
 use bz_tree::Class;
@@ -16,6 +16,8 @@ pub(crate) struct BareStatement<'t> {
     pub(crate) class: Class,
     /// The name of a rule. None: it is no rule, or has no name.
     pub(crate) name: Option<&'t [u8]>,
+    /// The kind of a rule without an argument `name`. None: it is not known.
+    pub(crate) kind: Option<&'t [u8]>,
 }
 
 /// The load, rule or assignment here.
@@ -24,7 +26,7 @@ pub(crate) struct BareStatement<'t> {
 pub(crate) fn read_bare_statement(text: &[u8], max_depth: u8) -> Option<BareStatement<'_>>
     requires { max_depth < 254 }
     ensures { IfSome result (λ read. IsBareFront max_depth read.class (option_map (λ name. name.now) read.name)
-        text.now read.rest.now) }
+        (option_map (λ kind. kind.now) read.kind) text.now read.rest.now) }
 {
     if max_depth == 0 {
         return None;
@@ -34,6 +36,7 @@ pub(crate) fn read_bare_statement(text: &[u8], max_depth: u8) -> Option<BareStat
         return Some(BareStatement {
             class: Class::Load,
             name: None,
+            kind: None,
             rest,
         });
     }
@@ -44,6 +47,7 @@ pub(crate) fn read_bare_statement(text: &[u8], max_depth: u8) -> Option<BareStat
         return Some(BareStatement {
             class: Class::Rule,
             name: read.name,
+            kind: None,
             rest: read.rest,
         });
     }
@@ -53,6 +57,7 @@ pub(crate) fn read_bare_statement(text: &[u8], max_depth: u8) -> Option<BareStat
             Some(BareStatement {
                 class: Class::Assign,
                 name: None,
+                kind: None,
                 rest,
             })
         }
@@ -61,8 +66,23 @@ pub(crate) fn read_bare_statement(text: &[u8], max_depth: u8) -> Option<BareStat
             Some(BareStatement {
                 class: Class::Rule,
                 name: read.name,
+                kind: kind_before(text, end, read.name),
                 rest: read.rest,
             })
+        }
+    }
+}
+
+/// The kind of a rule, which stands before its call, where it has no name.
+fn kind_before<'t>(text: &'t [u8], call: &[u8], name: Option<&[u8]>) -> Option<&'t [u8]>
+    ensures { IfSome result (λ kind. (name.entry ≡ None)
+        × (kind.now ≡ take (length text.now - length call.now) text.now)) }
+{
+    match name {
+        Some(_) => None,
+        None => {
+            let kind = before(text, call.len())?;
+            Some(kind)
         }
     }
 }

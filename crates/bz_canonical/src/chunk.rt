@@ -6,7 +6,7 @@ ghost use Rattle.bz_canonical.specs.private.Segments.{AreLinesFront};
 
 use crate::comments::after_comments_above;
 use crate::put_rule::read_rule_head;
-use crate::rewrite::read_rule_chunk;
+use crate::rewrite::{is_asked, read_asked_chunk, read_rule_chunk};
 use crate::statement::read_whole_statement;
 use crate::unnamed::{read_unnamed_chunk, read_unnamed_rule};
 use bz_memory::NoMemory;
@@ -23,6 +23,8 @@ pub struct CanonicalChunk<'t> {
     pub class: Class,
     /// The name of a rule. None: it is no rule, or has no name.
     pub name: Option<&'t str>,
+    /// The bytes of the kind of a rule without an argument `name`. None: it is not known.
+    pub kind: Option<&'t [u8]>,
     /// Where the argument that is asked for stands, or would stand. None: it is not known.
     pub place: Option<ArgumentPlace<'t>>,
 }
@@ -36,25 +38,24 @@ pub struct ArgumentPlace<'t> {
     pub after: &'t str,
 }
 
-/// The argument whose place is asked for: its name, and the name of the rules that are meant. None: all rules are. An
-/// empty name of an argument: none is asked for.
-#[derive(Clone, Copy)]
-pub struct Lookup<'c> {
-    pub attr: &'c str,
-    pub name: Option<&'c str>,
+/// Says of which rules the place of an argument is asked for. No contract hangs on it.
+pub trait AsksOfRules {
+    /// Whether it is of a rule of this name, or of one without a name.
+    fn asks_of(&self, name: Option<&str>) -> bool;
 }
 
-impl Lookup<'_> {
-    /// An argument of rules of this name is asked for.
+/// The argument whose place is asked for: its name, and of which rules. An empty name: none is asked for.
+#[derive(Drop)]
+pub struct Lookup<'c, R> {
+    pub attr: &'c str,
+    pub rules: &'c R,
+}
+
+impl<R: AsksOfRules> Lookup<'_, R> {
+    /// Whether it is asked for in a rule of this name, or in one without a name.
     #[inline(always)]
-    pub(crate) fn is_of(self, name: &[u8]) -> bool {
-        if self.attr.is_empty() {
-            return false;
-        }
-        match self.name {
-            Some(asked) => asked.as_bytes() == name,
-            None => true,
-        }
+    pub(crate) fn asks_of(&self, name: Option<&str>) -> bool {
+        !self.attr.is_empty() && self.rules.asks_of(name)
     }
 }
 
@@ -65,50 +66,50 @@ pub(crate) const DEEPEST: u8 = 253;
 /// that is asked for. The bytes in the buffer are lost: what is written of a rule goes there, if it stands otherwise.
 /// None: it may be known or not. `canonical.rt` of bz_engine asks, before it reads anything.
 #[inline(always)]
-pub fn read_canonical<'t>(
+pub fn read_canonical<'t, R: AsksOfRules>(
     text: &'t str,
-    asked: Lookup<'_>,
+    asked: Lookup<'_, R>,
     max_depth: u8,
     written: &'t mut Vec<u8>,
 ) -> Result<Option<CanonicalChunk<'t>>, NoMemory>
     ensures { IfOk result (λ known. IfSome known (λ found. IsCanonical max_depth asked.entry.attr.now found.class
-        (option_map (λ name. name.now) found.name) (option_map between found.place)
-        found.chunk.now found.written.now text.now)) }
+        (option_map (λ name. name.now) found.name) (option_map (λ kind. kind.now) found.kind)
+        (option_map between found.place) found.chunk.now found.written.now text.now)) }
 {
     if max_depth > DEEPEST {
         return Ok(None);
     }
     let start = after_comments_above(text.as_bytes());
     match read_rule_head(start) {
-        Some(head) => read_rule_chunk(text, head, asked, max_depth, written),
+        Some(head) if is_asked(text, head, &asked) => {
+            read_asked_chunk(text, head, asked.attr, max_depth, written)
+        }
+        Some(head) => read_rule_chunk(text, head, max_depth, written),
         None => read_rarer_chunk(text, start, asked, max_depth, written),
     }
 }
 
 /// The same of what does not begin as a rule whose name is on a line of its own.
 #[inline(never)]
-fn read_rarer_chunk<'t>(
+fn read_rarer_chunk<'t, R: AsksOfRules>(
     text: &'t str,
     start: &'t [u8],
-    asked: Lookup<'_>,
+    asked: Lookup<'_, R>,
     max_depth: u8,
     written: &'t mut Vec<u8>,
 ) -> Result<Option<CanonicalChunk<'t>>, NoMemory>
     requires depth { max_depth < 254 }
     requires lines { AreLinesFront text.now start.now }
     ensures { IfOk result (λ known. IfSome known (λ found. IsCanonical max_depth asked.entry.attr.now found.class
-        (option_map (λ name. name.now) found.name) (option_map between found.place)
-        found.chunk.now found.written.now text.now)) }
+        (option_map (λ name. name.now) found.name) (option_map (λ kind. kind.now) found.kind)
+        (option_map between found.place) found.chunk.now found.written.now text.now)) }
 {
-    match read_unnamed_rule(start, asked, max_depth) {
-        Some(rule) => {
-            let Some(found) = read_unnamed_chunk(text, rule, written)? else {
-                return Ok(None);
-            };
-            Ok(Some(found))
+    if asked.asks_of(None) {
+        if let Some(rule) = read_unnamed_rule(start, asked.attr, max_depth) {
+            return read_unnamed_chunk(text, rule, written);
         }
-        None => Ok(read_other_chunk(text, start, max_depth)),
     }
+    Ok(read_other_chunk(text, start, max_depth))
 }
 
 /// The same, where it stands as it would be written. There is no place of an argument.
@@ -117,8 +118,8 @@ fn read_other_chunk<'t>(text: &'t str, start: &'t [u8], max_depth: u8) -> Option
     requires depth { max_depth < 254 }
     requires lines { AreLinesFront text.now start.now }
     ensures { IfSome result (λ found. (attr : List ℕ) → IsCanonical max_depth attr found.class
-        (option_map (λ name. name.now) found.name) (option_map between found.place)
-        found.chunk.now found.written.now text.now) }
+        (option_map (λ name. name.now) found.name) (option_map (λ kind. kind.now) found.kind)
+        (option_map between found.place) found.chunk.now found.written.now text.now) }
 {
     let read = read_whole_statement(text.as_bytes(), start, max_depth)?;
     let chunk = without(text, read.rest.len())?;
@@ -129,6 +130,7 @@ fn read_other_chunk<'t>(text: &'t str, start: &'t [u8], max_depth: u8) -> Option
             written,
             class: read.class,
             name: None,
+            kind: read.kind,
             place: None,
         }),
         Some(bytes) => {
@@ -140,6 +142,7 @@ fn read_other_chunk<'t>(text: &'t str, start: &'t [u8], max_depth: u8) -> Option
                 written,
                 class: read.class,
                 name: Some(name),
+                kind: read.kind,
                 place: None,
             })
         }

@@ -3,8 +3,9 @@
 ghost use Rattle.std.specs.Prelude.{◌≡◌, ◌∷◌, ◌++◌, ◌≤◌, ◌<◌, ◌-◌, length, drop, take, IfSome};
 ghost use Rattle.std.specs.List.{prefix_len};
 ghost use Rattle.bz_token.specs.declared.token.Kind.TheVariants.{Comment, Identifier, Integer, String};
+ghost use Rattle.bz_token.specs.Lengths.{IsTokenOf};
 ghost use Rattle.bz_layout.specs.Pieces.{indent};
-ghost use Rattle.bz_canonical.specs.private.Fronts.{IsQuotedFront, IsTokenFront, word_bytes};
+ghost use Rattle.bz_canonical.specs.private.Fronts.{IsInfixFront, IsQuotedFront, IsTokenFront, is_infix, word_bytes};
 ghost use Rattle.bz_canonical.specs.private.Rewritten.{IsSingleFront, is_plain_inside};
 
 use crate::simple::simple_len;
@@ -24,7 +25,6 @@ pub(crate) fn after(text: &[u8], byte: u8) -> Option<&[u8]>
 /// Bytes that stand so in each text.
 #[derive(Clone, Copy)]
 pub(crate) enum Word {
-    Plus,
     Equals,
     Comma,
     Colon,
@@ -39,13 +39,30 @@ pub(crate) fn after_word(text: &[u8], word: Word) -> Option<&[u8]>
     ensures { IfSome result (λ rest. text.now ≡ word_bytes word ++ rest.now) }
 {
     match (word, text) {
-        (Word::Plus, [b' ', b'+', b' ', rest @ ..])
-        | (Word::Equals, [b' ', b'=', b' ', rest @ ..])
+        (Word::Equals, [b' ', b'=', b' ', rest @ ..])
         | (Word::Comma, [b',', b' ', rest @ ..])
         | (Word::Colon, [b':', b' ', rest @ ..])
         | (Word::Spaces, [b' ', b' ', rest @ ..])
         | (Word::Load, [b'l', b'o', b'a', b'd', b'(', rest @ ..])
         | (Word::Name, [b'n', b'a', b'm', b'e', b' ', b'=', b' ', rest @ ..]) => Some(rest),
+        _ => None,
+    }
+}
+
+#[inline(always)]
+fn is_infix(b: u8) -> bool
+    ensures { result ≡ is_infix b }
+{
+    matches!(b, b'%' | b'*' | b'+' | b'-' | b'/' | b'<' | b'>' | b'|')
+}
+
+/// What follows the operator here, between two spaces.
+#[inline(always)]
+pub(crate) fn after_infix(text: &[u8]) -> Option<&[u8]>
+    ensures { IfSome result (λ rest. IsInfixFront text.now rest.now) }
+{
+    match text {
+        [b' ', operator, b' ', rest @ ..] if is_infix(*operator) => Some(rest),
         _ => None,
     }
 }
@@ -92,13 +109,21 @@ pub(crate) fn after_string(text: &[u8]) -> Option<&[u8]>
 }
 
 /// The same of any string.
-#[inline(never)]
+#[inline(always)]
 fn after_any_string(text: &[u8]) -> Option<&[u8]>
     ensures { IfSome result (λ rest. IsTokenFront String text.now rest.now) }
 {
     let _inside = after(text, b'"')?;
-    let rest = after_some(text, string_len(text))?;
+    let rest = after_some(text, any_string_len(text))?;
     Some(rest)
+}
+
+// Few strings come here: the others are passed without this code in their way.
+#[inline(never)]
+fn any_string_len(text: &[u8]) -> usize
+    ensures { 0 < result → IsTokenOf String text.now result }
+{
+    string_len(text)
 }
 
 /// What follows the identifier here.
@@ -121,12 +146,20 @@ pub(crate) fn after_number(text: &[u8]) -> Option<&[u8]>
 }
 
 /// What follows the comment here.
-#[inline(never)]
+#[inline(always)]
 pub(crate) fn after_comment(text: &[u8]) -> Option<&[u8]>
     ensures { IfSome result (λ rest. IsTokenFront Comment text.now rest.now) }
 {
-    let rest = after_some(text, comment_len(text))?;
+    let rest = after_some(text, any_comment_len(text))?;
     Some(rest)
+}
+
+// Few lines have a comment: the others are passed without this code in their way.
+#[inline(never)]
+fn any_comment_len(text: &[u8]) -> usize
+    ensures { 0 < result → IsTokenOf Comment text.now result }
+{
+    comment_len(text)
 }
 
 /// A string and what follows it.
@@ -207,6 +240,25 @@ fn after_indent(text: &[u8], level: u8) -> Option<&[u8]>
         rest = after_spaces(rest)?;
     }
     Some(rest)
+}
+
+// Eight spaces, looked at as one word.
+const EIGHT_SPACES: u64 = 0x2020_2020_2020_2020;
+
+/// What follows a newline and the indent of an element of a list that is the value of an argument.
+#[inline(always)]
+pub(crate) fn after_element_line(text: &[u8]) -> Option<&[u8]>
+    ensures { IfSome result (λ rest. text.now ≡ 10 ∷ (indent 2 ++ rest.now)) }
+{
+    match text {
+        [b'\n', a, b, c, d, e, f, g, h, rest @ ..] => {
+            if u64::from_le_bytes([*a, *b, *c, *d, *e, *f, *g, *h]) != EIGHT_SPACES {
+                return None;
+            }
+            Some(rest)
+        }
+        _ => None,
+    }
 }
 
 /// What follows a newline and the indent at this level.

@@ -29,5 +29,5 @@ mod unnamed;
 mod value;
 
 pub use added::{Added, ListValue, lacks, put_added};
-pub use chunk::{ArgumentPlace, CanonicalChunk, Lookup, read_canonical};
+pub use chunk::{ArgumentPlace, AsksOfRules, CanonicalChunk, Lookup, read_canonical};
 pub use commented::{NewComment, put_commented};

@@ -106,12 +106,7 @@ fn put_argument<'t>(
             from: at.from,
             rest,
         })),
-        None => {
-            if depth == 0 {
-                return Ok(None);
-            }
-            put_list_argument(at, value, written)
-        }
+        None => put_list_argument(at, value, depth, written),
     }
 }
 
@@ -120,11 +115,15 @@ fn put_argument<'t>(
 fn put_list_argument<'t>(
     at: Pending<'t>,
     value: &'t [u8],
+    depth: u8,
     written: &mut Vec<u8>,
 ) -> Known<Pending<'t>>
-    ensures { IfOk result (λ known. IfSome known (λ next. (depth : ℕ) → 0 < depth
-        → PutsArgument depth at.entry value.now written.old.items written.new.items next)) }
+    ensures { IfOk result (λ known. IfSome known
+        (PutsArgument depth at.entry value.now written.old.items written.new.items)) }
 {
+    if depth == 0 {
+        return Ok(None);
+    }
     let Some(front) = before(at.from, value.len()) else {
         return Ok(None);
     };
@@ -182,11 +181,19 @@ fn put_others<'t>(
                 named: Some(head.value),
             }));
         }
-        let Some(next) = put_argument(at, head.value, asked.depth, written)? else {
+        one = true;
+        // Most values stand as they are written.
+        if let Some(rest) = after_argument_value(head.value, asked.depth) {
+            at = Pending {
+                from: at.from,
+                rest,
+            };
+            continue;
+        }
+        let Some(next) = put_list_argument(at, head.value, asked.depth, written)? else {
             return Ok(None);
         };
         at = next;
-        one = true;
     }
     Ok(None)
 }

@@ -4,7 +4,6 @@ ghost use Rattle.std.specs.Prelude.{ℕ, List, ◌+◌, ◌<◌, ◌-◌, codes,
 ghost use Rattle.bz_canonical.specs.private.Segments.{AreLinesFront};
 ghost use Rattle.bz_canonical.specs.private.Rewritten.{IsPending, IsRuleEnd, IsRuleHead, IsRulePlace, IsRuleRead, put_ends};
 
-use crate::chunk::Lookup;
 use crate::comments::after_suffix;
 use crate::front::{
     Word, after, after_identifier, after_line, after_word, before, read_simple_string,
@@ -24,26 +23,23 @@ pub(crate) struct PutRule<'t> {
     pub(crate) as_is: bool,
 }
 
-/// Passes the rule here. If it stands otherwise than it is written, what is written goes into the buffer.
+/// Passes the rule here, where the place of no argument is asked for. If it stands otherwise than it is
+/// written, what is written goes into the buffer, whose bytes are lost.
 #[inline(always)]
 pub(crate) fn put_rule<'t>(
     text: &'t [u8],
     head: RuleHead<'t>,
-    asked: Lookup<'_>,
     depth: u8,
     written: &mut Vec<u8>,
 ) -> Result<Option<PutRule<'t>>, NoMemory>
     requires deep { depth < 253 }
     requires head { IsRuleHead text.now head.name.now head.inside.now head.rest.now }
-    ensures { IfOk result (λ known. IfSome known (λ read. IsRuleRead (depth + 1) asked.entry.attr.now
+    ensures { IfOk result (λ known. IfSome known (λ read. (attr : List ℕ) → IsRuleRead (depth + 1) attr
         head.entry.name.now text.now read.rest.now
         (if read.as_is then take (length text.now - length read.rest.now) text.now else written.new.items)
         (option_map put_ends read.place))) }
 {
     written.clear();
-    if asked.is_of(head.name) {
-        return put_asked_rule(text, head, asked.attr.as_bytes(), depth, written);
-    }
     let start = Pending {
         from: text,
         rest: head.rest,
@@ -61,9 +57,8 @@ pub(crate) fn put_rule<'t>(
     }))
 }
 
-/// The same, where the place of an argument is asked for, and the buffer is empty.
-#[inline(never)]
-fn put_asked_rule<'t>(
+/// The same, where the place of an argument is asked for.
+pub(crate) fn put_asked_rule<'t>(
     text: &'t [u8],
     head: RuleHead<'t>,
     attr: &[u8],
@@ -72,12 +67,12 @@ fn put_asked_rule<'t>(
 ) -> Result<Option<PutRule<'t>>, NoMemory>
     requires deep { depth < 253 }
     requires head { IsRuleHead text.now head.name.now head.inside.now head.rest.now }
-    requires empty { written.old.items ≡ [] }
     ensures { IfOk result (λ known. IfSome known (λ read. IsRuleRead (depth + 1) attr.now
         head.entry.name.now text.now read.rest.now
         (if read.as_is then take (length text.now - length read.rest.now) text.now else written.new.items)
         (option_map put_ends read.place))) }
 {
+    written.clear();
     let start = Pending {
         from: text,
         rest: head.rest,

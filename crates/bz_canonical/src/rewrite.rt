@@ -4,39 +4,81 @@ ghost use Rattle.std.specs.Prelude.{◌≡◌, ◌-◌, ◌<◌, ℕ, List, leng
 ghost use Rattle.bz_canonical.specs.Canonical.{IsCanonical, between};
 ghost use Rattle.bz_canonical.specs.private.Rewritten.{IsPutPlaceIn, IsRuleHead, IsRuleRead, put_ends};
 
-use crate::chunk::{ArgumentPlace, CanonicalChunk, Lookup, without};
+use crate::chunk::{ArgumentPlace, AsksOfRules, CanonicalChunk, Lookup, without};
 use crate::put_arguments::PutPlace;
-use crate::put_rule::{PutRule, RuleHead, put_rule};
+use crate::put_rule::{PutRule, RuleHead, put_asked_rule, put_rule};
 use bz_memory::NoMemory;
 use bz_token::check_utf8;
 use bz_tree::Class;
 
 /// The chunk of the rule that begins with this head, where it stands as it would be written but for arguments whose
-/// value is a list of strings. If there are such, what is written goes into the buffer, whose bytes are lost.
+/// value is a list of strings. If there are such, what is written goes into the buffer, whose bytes are lost. The place
+/// of no argument is asked for.
 #[inline(always)]
 pub(crate) fn read_rule_chunk<'t>(
     text: &'t str,
     head: RuleHead<'t>,
-    asked: Lookup<'_>,
     max_depth: u8,
     written: &'t mut Vec<u8>,
 ) -> Result<Option<CanonicalChunk<'t>>, NoMemory>
     requires deep { max_depth < 254 }
     requires head { IsRuleHead text.now head.name.now head.inside.now head.rest.now }
-    ensures { IfOk result (λ known. IfSome known (λ found. IsCanonical max_depth asked.entry.attr.now found.class
-        (option_map (λ name. name.now) found.name) (option_map between found.place)
-        found.chunk.now found.written.now text.now)) }
+    ensures { IfOk result (λ known. IfSome known (λ found. (attr : List ℕ) → IsCanonical max_depth attr found.class
+        (option_map (λ name. name.now) found.name) (option_map (λ kind. kind.now) found.kind)
+        (option_map between found.place) found.chunk.now found.written.now text.now)) }
 {
     let Some(depth) = max_depth.checked_sub(1) else {
         return Ok(None);
     };
-    let Some(read) = put_rule(text.as_bytes(), head, asked, depth, written)? else {
+    let Some(read) = put_rule(text.as_bytes(), head, depth, written)? else {
         return Ok(None);
     };
     let Some(name) = name_in(text, head) else {
         return Ok(None);
     };
     Ok(chunk_of(text, name, written.as_slice(), read))
+}
+
+/// The same, where the place of an argument is asked for.
+#[inline(never)]
+pub(crate) fn read_asked_chunk<'t>(
+    text: &'t str,
+    head: RuleHead<'t>,
+    attr: &str,
+    max_depth: u8,
+    written: &'t mut Vec<u8>,
+) -> Result<Option<CanonicalChunk<'t>>, NoMemory>
+    requires deep { max_depth < 254 }
+    requires head { IsRuleHead text.now head.name.now head.inside.now head.rest.now }
+    ensures { IfOk result (λ known. IfSome known (λ found. IsCanonical max_depth attr.now found.class
+        (option_map (λ name. name.now) found.name) (option_map (λ kind. kind.now) found.kind)
+        (option_map between found.place) found.chunk.now found.written.now text.now)) }
+{
+    let Some(depth) = max_depth.checked_sub(1) else {
+        return Ok(None);
+    };
+    let Some(read) = put_asked_rule(text.as_bytes(), head, attr.as_bytes(), depth, written)? else {
+        return Ok(None);
+    };
+    let Some(name) = name_in(text, head) else {
+        return Ok(None);
+    };
+    Ok(chunk_of(text, name, written.as_slice(), read))
+}
+
+/// Whether the place of an argument is asked for in the rule that begins with this head.
+#[inline(always)]
+pub(crate) fn is_asked<R: AsksOfRules>(
+    text: &str,
+    head: RuleHead<'_>,
+    asked: &Lookup<'_, R>,
+) -> bool
+    requires { IsRuleHead text.now head.name.now head.inside.now head.rest.now }
+{
+    match name_in(text, head) {
+        Some(name) => asked.asks_of(Some(name)),
+        None => false,
+    }
 }
 
 /// The name as text, by its place.
@@ -65,8 +107,8 @@ fn chunk_of<'t>(
         read.entry.rest.now
         (if read.entry.as_is then take (length text.now - length read.entry.rest.now) text.now else buffer.now)
         (option_map put_ends read.entry.place) → IsCanonical depth attr found.class
-        (option_map (λ name. name.now) found.name) (option_map between found.place)
-        found.chunk.now found.written.now text.now) }
+        (option_map (λ name. name.now) found.name) (option_map (λ kind. kind.now) found.kind)
+        (option_map between found.place) found.chunk.now found.written.now text.now) }
 {
     let chunk = without(text, read.rest.len())?;
     let written = written_of(chunk, buffer, read.as_is)?;
@@ -75,11 +117,13 @@ fn chunk_of<'t>(
         written,
         class: Class::Rule,
         name: Some(name),
+        kind: None,
         place: place_in_both(text, written, read.place),
     })
 }
 
 /// What is written of a rule: its chunk, or what is in the buffer.
+#[inline(always)]
 fn written_of<'t>(chunk: &'t str, buffer: &'t [u8], as_is: bool) -> Option<&'t str>
     ensures { IfSome result (λ written. written.now ≡ (if as_is then chunk.now else buffer.now)) }
 {
@@ -93,7 +137,7 @@ fn written_of<'t>(chunk: &'t str, buffer: &'t [u8], as_is: bool) -> Option<&'t s
 }
 
 /// The place of an argument: its lines in the text, and what stands before and after it in what is written.
-#[inline(never)]
+#[inline(always)]
 fn place_in_both<'t>(
     text: &'t str,
     written: &'t str,

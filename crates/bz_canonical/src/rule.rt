@@ -4,8 +4,10 @@ ghost use Rattle.std.specs.Prelude.{◌≡◌, ◌<◌, ◌∷◌, ◌++◌, cod
 ghost use Rattle.bz_canonical.specs.Canonical.{HasArgumentName};
 ghost use Rattle.bz_canonical.specs.private.Statements.{IsRuleCallFront};
 
-use crate::front::{Word, after, after_word, before, read_simple_string};
+use crate::comments::{after_comments, after_suffix};
+use crate::front::{Word, after, after_line, after_word, before, read_simple_string};
 use crate::group::after_group;
+use crate::segments::after_segments;
 use bz_tree::GroupKind;
 
 /// The name that the call of a rule gives, and what follows the call.
@@ -15,13 +17,17 @@ pub(crate) struct RuleCall<'t> {
     pub(crate) rest: &'t [u8],
 }
 
-/// The call of a rule here, whose name is its only argument, in place, or which has none.
+/// The call of a rule here, whose name is its first argument, on a line of its own, or its only argument, in place, or
+/// which has none.
 #[inline(always)]
 pub(crate) fn read_rule_call(text: &[u8], depth: u8) -> Option<RuleCall<'_>>
     requires { (0 < depth) × (depth < 254) }
     ensures { IfSome result (λ read. IsRuleCallFront depth (option_map (λ name. name.now) read.name)
         text.now read.rest.now) }
 {
+    if let Some(read) = read_call_on_lines(text, depth) {
+        return Some(read);
+    }
     match after_only_name(text) {
         Some(value) => {
             let name = read_simple_string(value)?;
@@ -36,6 +42,32 @@ pub(crate) fn read_rule_call(text: &[u8], depth: u8) -> Option<RuleCall<'_>>
             Some(RuleCall { name: None, rest })
         }
     }
+}
+
+/// The call of a rule here, whose first argument is its name, on a line of its own, and which has others.
+#[inline(never)]
+fn read_call_on_lines(text: &[u8], depth: u8) -> Option<RuleCall<'_>>
+    requires { (0 < depth) × (depth < 254) }
+    ensures { IfSome result (λ read. IsRuleCallFront depth (option_map (λ name. name.now) read.name)
+        text.now read.rest.now) }
+{
+    let inside = after(text, b'(')?;
+    let above = after_comments(inside, 1);
+    let first = after_line(above.rest, 1)?;
+    let value = after_word(first, Word::Name)?;
+    let name = read_simple_string(value)?;
+    let comma = after(name.rest, b',')?;
+    let side = after_suffix(comma)?;
+    let others = after_segments(GroupKind::RuleCall, side.rest, 1, depth - 1)?;
+    if others.count == 0 {
+        return None;
+    }
+    let end = after_line(others.rest, 0)?;
+    let rest = after(end, b')')?;
+    Some(RuleCall {
+        name: Some(name.inner),
+        rest,
+    })
 }
 
 /// What follows the name of the first argument, in place, where that is `name`.

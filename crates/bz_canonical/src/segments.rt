@@ -9,7 +9,9 @@ ghost use Rattle.bz_canonical.specs.private.Segments.{AreFlatFront, AreNotesFron
 ghost use Rattle.bz_canonical.specs.private.Values.{IsValueFront};
 
 use crate::comments::{AfterComments, after_comments, after_suffix};
-use crate::front::{Word, after, after_identifier, after_line, after_word, read_simple_string};
+use crate::front::{
+    Word, after, after_element_line, after_identifier, after_line, after_word, read_simple_string,
+};
 use crate::group::closing;
 use crate::value::{Value, after_leaf, after_nodes, either};
 use bz_tree::GroupKind;
@@ -86,7 +88,7 @@ fn after_string_line(kind: GroupKind, text: &[u8], level: u8) -> Option<AfterCom
     }
     match kind {
         GroupKind::List => {
-            let inner = after_line(text, 2)?;
+            let inner = after_element_line(text)?;
             let string = read_simple_string(inner)?;
             let comma = after(string.rest, b',')?;
             let side = after_suffix(comma)?;

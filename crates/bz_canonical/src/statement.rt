@@ -15,6 +15,8 @@ pub(crate) struct ReadStatement<'t> {
     pub(crate) class: Class,
     /// The name of a rule. None: it is no rule, or has no name.
     pub(crate) name: Option<&'t [u8]>,
+    /// The kind of a rule without an argument `name`. None: it is not known.
+    pub(crate) kind: Option<&'t [u8]>,
     /// What follows its text.
     pub(crate) end: &'t [u8],
     /// What follows its chunk: that of comment lines alone has the empty line after them.
@@ -31,7 +33,7 @@ pub(crate) fn read_whole_statement<'t>(
     requires depth { max_depth < 254 }
     requires lines { AreLinesFront text.now start.now }
     ensures { IfSome result (λ read. IsStatementFront max_depth read.class (option_map (λ name. name.now) read.name)
-        text.now read.end.now read.rest.now) }
+        (option_map (λ kind. kind.now) read.kind) text.now read.end.now read.rest.now) }
 {
     if let Some(rest) = after(start, b'\n') {
         if start.len() == text.len() {
@@ -40,6 +42,7 @@ pub(crate) fn read_whole_statement<'t>(
         return Some(ReadStatement {
             class: Class::Comment,
             name: None,
+            kind: None,
             end: start,
             rest,
         });
@@ -50,6 +53,7 @@ pub(crate) fn read_whole_statement<'t>(
     Some(ReadStatement {
         class: read.class,
         name: read.name,
+        kind: read.kind,
         end: rest,
         rest,
     })

@@ -7,7 +7,7 @@ ghost use Rattle.bz_canonical.specs.Canonical.{IsCanonical, between};
 ghost use Rattle.bz_canonical.specs.private.Segments.{AreLinesFront, IsSegmentFront};
 ghost use Rattle.bz_canonical.specs.private.Unnamed.{IsStatementEnd, IsUnnamedRule};
 
-use crate::chunk::{ArgumentPlace, CanonicalChunk, Lookup, without};
+use crate::chunk::{ArgumentPlace, CanonicalChunk, without};
 use crate::comments::after_suffix;
 use crate::front::{after, after_identifier, before};
 use crate::rule::has_argument_name;
@@ -28,28 +28,24 @@ pub(crate) struct UnnamedRule<'t> {
 }
 
 /// The rule whose kind is here, after the comments above it, and whose argument is neither `name` nor has the name that
-/// is asked for. None also where a rule of a name is asked for.
+/// is asked for.
 #[inline(never)]
 pub(crate) fn read_unnamed_rule<'t>(
     start: &'t [u8],
-    asked: Lookup<'_>,
+    attr: &str,
     max_depth: u8,
 ) -> Option<UnnamedRule<'t>>
     requires { max_depth < 254 }
     ensures { IfSome result (λ rule. (text : List ℕ) → AreLinesFront text start.now
-        → IsUnnamedRule max_depth asked.entry.attr.now text rule.argument.now rule.close.now rule.rest.now) }
+        → IsUnnamedRule max_depth attr.now text rule.argument.now rule.close.now rule.rest.now) }
 {
-    if asked.attr.is_empty() || asked.name.is_some() {
-        return None;
-    }
     let depth = max_depth.checked_sub(1)?;
     let bracket = after_identifier(start)?;
     let argument = after(bracket, b'(')?;
     let close = after_only_argument(argument, depth)?;
     let end = after(close, b')')?;
     let call = before(bracket, end.len())?;
-    let sought = asked.attr.as_bytes();
-    if has_argument_name(call, b"name".as_slice()) || has_argument_name(call, sought) {
+    if has_argument_name(call, b"name".as_slice()) || has_argument_name(call, attr.as_bytes()) {
         return None;
     }
     let rest = after_statement(end)?;
@@ -91,7 +87,8 @@ pub(crate) fn read_unnamed_chunk<'t>(
     ensures { IfOk result (λ known. IfSome known (λ found. (depth : ℕ) (attr : List ℕ)
         → IsUnnamedRule depth attr text.now rule.entry.argument.now rule.entry.close.now rule.entry.rest.now
         → IsCanonical depth attr found.class (option_map (λ name. name.now) found.name)
-        (option_map between found.place) found.chunk.now found.written.now text.now)) }
+        (option_map (λ kind. kind.now) found.kind) (option_map between found.place)
+        found.chunk.now found.written.now text.now)) }
 {
     let Some(parts) = parts_of(text, rule) else {
         return Ok(None);
@@ -156,7 +153,7 @@ impl Parts<'_> {
 
 /// The chunk of a rule, and its place for one more argument in the buffer, which begins there.
 fn chunk_of<'t>(chunk: &'t str, laid: &'t [u8], start: usize) -> Option<CanonicalChunk<'t>>
-    ensures rule { IfSome result (λ found. (found.class ≡ RuleClass) × (found.name ≡ None)) }
+    ensures rule { IfSome result (λ found. (found.class ≡ RuleClass) × (found.name ≡ None) × (found.kind ≡ None)) }
     ensures chunk { IfSome result (λ found. (found.chunk.now ≡ chunk.now) × (found.written.now ≡ chunk.now)) }
     ensures place { IfSome result (λ found. option_map between found.place
         ≡ Some (record { before = take start laid.now; lines = []; after = drop start laid.now })) }
@@ -170,6 +167,7 @@ fn chunk_of<'t>(chunk: &'t str, laid: &'t [u8], start: usize) -> Option<Canonica
         written: chunk,
         class: Class::Rule,
         name: None,
+        kind: None,
         place: Some(ArgumentPlace {
             before,
             lines: "",

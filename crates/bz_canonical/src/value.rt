@@ -1,13 +1,13 @@
-//! Values that stand as they would be written: operands, calls of names, and sums of them.
+//! Values that stand as they would be written: operands, their members and calls, and operators between them.
 
 ghost use Rattle.std.specs.Prelude.{◌≡◌, ◌+◌, ◌<◌, ◌||◌, ℕ, Bool, List, IfSome, false};
 ghost use Rattle.bz_token.specs.declared.token.Kind.TheVariants.{String};
-ghost use Rattle.bz_canonical.specs.private.Chains.{Chains, IsTermFront};
+ghost use Rattle.bz_canonical.specs.private.Chains.{Chains, IsPrimaryFront, IsTermFront};
 ghost use Rattle.bz_canonical.specs.private.Fronts.{IsTokenFront};
 ghost use Rattle.bz_canonical.specs.private.Values.{AreNodesFront, IsValueFront};
 
 use crate::front::{
-    Word, after, after_identifier, after_number, after_string, after_word, read_simple_string,
+    after, after_identifier, after_infix, after_number, after_string, read_simple_string,
 };
 use crate::group::after_group;
 use bz_tree::GroupKind;
@@ -48,13 +48,13 @@ pub(crate) fn after_leaf(text: &[u8]) -> Option<&[u8]>
     }
 }
 
-/// The text, where no operator begins it.
+/// The text, where no operator and no member begins it.
 #[inline(always)]
 fn without_operator(rest: &[u8]) -> Option<&[u8]>
     ensures { IfSome result (λ same. same.now ≡ rest.now) }
 {
     match rest {
-        [b' ', ..] => None,
+        [b' ' | b'.', ..] => None,
         _ => Some(rest),
     }
 }
@@ -69,7 +69,7 @@ fn after_lone_string(text: &[u8]) -> Option<&[u8]>
     Some(rest)
 }
 
-/// What follows the operand or call here.
+/// What follows the operand or call here. After a name or string there may be members and calls.
 #[cycle(values)]
 #[inline(always)]
 fn after_term(text: &[u8], level: u8, depth: u8) -> Option<Value<'_>>
@@ -85,26 +85,29 @@ fn after_term(text: &[u8], level: u8, depth: u8) -> Option<Value<'_>>
             let read = after_group(GroupKind::Dict, text, level, depth)?;
             Some(read)
         }
-        [b'"' | b'0'..=b'9', ..] => {
-            let rest = after_leaf(text)?;
+        [b'0'..=b'9', ..] => {
+            let rest = after_number(text)?;
             Some(Value { rest, holds: false })
         }
         _ => after_name_or_call(text, level, depth),
     }
 }
 
-/// What follows the name here, or its call.
-#[tactic(auto, using(crate::proofs::Chained::call_term))]
+/// What follows the string or name here, and its members and calls.
 #[cycle(values)]
 #[inline(always)]
 fn after_name_or_call(text: &[u8], level: u8, depth: u8) -> Option<Value<'_>>
     requires { level + depth < 255 }
     ensures { IfSome result (λ v. IsTermFront level depth text.now v.rest.now v.holds) }
 {
-    let end = after_identifier(text)?;
+    let end = after_word_or_string(text)?;
     match end {
         [b'(', ..] => {
             let read = after_group(GroupKind::Call, end, level, depth)?;
+            Some(read)
+        }
+        [b'.', ..] => {
+            let read = after_suffixes(end, level, depth)?;
             Some(read)
         }
         _ => Some(Value {
@@ -112,6 +115,48 @@ fn after_name_or_call(text: &[u8], level: u8, depth: u8) -> Option<Value<'_>>
             holds: false,
         }),
     }
+}
+
+/// What follows the string or name here.
+#[inline(always)]
+fn after_word_or_string(text: &[u8]) -> Option<&[u8]>
+    ensures { IfSome result (λ rest. (level depth : ℕ) → IsPrimaryFront level depth text.now rest.now false) }
+{
+    match text {
+        [b'"', ..] => {
+            let rest = after_string(text)?;
+            Some(rest)
+        }
+        _ => {
+            let rest = after_identifier(text)?;
+            Some(rest)
+        }
+    }
+}
+
+/// What follows the members and calls here, after a string or name.
+#[cycle(values)]
+#[inline(never)]
+fn after_suffixes(text: &[u8], level: u8, depth: u8) -> Option<Value<'_>>
+    requires { level + depth < 255 }
+    ensures { IfSome result (λ v. (all : List ℕ) → IsPrimaryFront level depth all text.now false
+        → IsPrimaryFront level depth all v.rest.now v.holds) }
+{
+    let mut rest = text;
+    let mut holds = false;
+    for _ in 0..text.len() {
+        if let Some(member) = after(rest, b'.') {
+            rest = after_identifier(member)?;
+            continue;
+        }
+        let [b'(', ..] = rest else {
+            return Some(Value { rest, holds });
+        };
+        let call = after_group(GroupKind::Call, rest, level, depth)?;
+        rest = call.rest;
+        holds = either(holds, call.holds);
+    }
+    None
 }
 
 /// What follows the value here.
@@ -158,7 +203,7 @@ fn after_sum(text: &[u8], level: u8, depth: u8) -> Option<Value<'_>>
     ensures { IfSome result (λ v. AreNodesFront level depth text.now v.rest.now v.holds) }
 {
     let first = after_term(text, level, depth)?;
-    match after_word(first.rest, Word::Plus) {
+    match after_infix(first.rest) {
         // Most are one operand.
         None => Some(first),
         Some(operand) => {
@@ -182,7 +227,7 @@ fn after_operands(text: &[u8], before: bool, level: u8, depth: u8) -> Option<Val
     for _ in 0..text.len() {
         let read = after_term(next, level, depth)?;
         holds = either(holds, read.holds);
-        let Some(operand) = after_word(read.rest, Word::Plus) else {
+        let Some(operand) = after_infix(read.rest) else {
             return Some(Value {
                 rest: read.rest,
                 holds,

@@ -71,12 +71,12 @@ few_lines line chunk = omega (arith, count_by-le-length (λ b. b == 10) chunk)
 
 -- the statement that is read of the chunk, laid out
 known_laid : (run : Run) (found : Found) (text : List ℕ) (old new : Progress) (before after : List ℕ) (len : ℕ)
-    → (c : IsCanonical run.max_depth found.attr.now found.chunk.class (option_map (λ name. name.now) found.chunk.name) (option_map between found.chunk.place) found.chunk.chunk.now found.chunk.written.now text)
+    → (c : IsCanonical run.max_depth found.attr.now found.chunk.class (option_map (λ name. name.now) found.chunk.name) (option_map (λ kind. kind.now) found.chunk.kind) (option_map between found.chunk.place) found.chunk.chunk.now found.chunk.written.now text)
     → (known : IsKnownEdited run found old new before after len) → IsLaidOut run (c.read old.line).statement old known.mid before after
 known_laid run found text old new before after len c known =
     let read = c.read old.line in
     let s = read.statement in
-    known.laid s (record { class = chunk_class old.line found.chunk.chunk.now read.read.tokens s read.read.reads.chunk; class_is = read.class_is; named = read.named; written = read.written; has = read.has })
+    known.laid s (record { class = chunk_class old.line found.chunk.chunk.now read.read.tokens s read.read.reads.chunk; class_is = read.class_is; named = read.named; nameless = read.nameless; written = read.written; has = read.has })
 
 all_taken : (chunk rest text : List ℕ) → text ≡ chunk ++ rest → length chunk ≡ length text → chunk ≡ text
 all_taken chunk [] text is size = sym (is ∙ append-nil chunk)
@@ -84,7 +84,7 @@ all_taken chunk (b ∷ bs) text is size = absurd (omega (arith, ap length is, le
 
 -- the chunk is the whole text
 whole_edited : (run : Run) (found : Found) (text : List ℕ) (old new : Progress) (before after : List ℕ) (len : ℕ) → length found.chunk.chunk.now ≡ length text
-    → IsCanonical run.max_depth found.attr.now found.chunk.class (option_map (λ name. name.now) found.chunk.name) (option_map between found.chunk.place) found.chunk.chunk.now found.chunk.written.now text
+    → IsCanonical run.max_depth found.attr.now found.chunk.class (option_map (λ name. name.now) found.chunk.name) (option_map (λ kind. kind.now) found.chunk.kind) (option_map between found.chunk.place) found.chunk.chunk.now found.chunk.written.now text
     → IsKnownEdited run found old new before after len → EditsChunk run text old new before after Done × (new.line ≤ old.line + length text)
 whole_edited run found text old new before after len size c known =
     let chunk : List ℕ = found.chunk.chunk.now in
@@ -103,7 +103,7 @@ no_line n old new is = omega arith
 
 -- where a buffer is taken before it, and given back after it
 pub whole_known : (run : Run) (found : Found) (text : List ℕ) (start old mid new : Progress) (before after : List ℕ) (next : Option ℕ) → length found.chunk.chunk.now ≡ length text
-    → IsCanonical run.max_depth found.attr.now found.chunk.class (option_map (λ name. name.now) found.chunk.name) (option_map between found.chunk.place) found.chunk.chunk.now found.chunk.written.now text
+    → IsCanonical run.max_depth found.attr.now found.chunk.class (option_map (λ name. name.now) found.chunk.name) (option_map (λ kind. kind.now) found.chunk.kind) (option_map between found.chunk.place) found.chunk.chunk.now found.chunk.written.now text
     → old ≡ start → new ≡ mid → Fits mid.kept run.passes → IfSome next (IsKnownEdited run found old mid before after) → IfNone next (DoesNothing old mid before after)
     → EditsWhole run text start new before after (is_some next)
 whole_known run found text start old mid new before after next size c first last fits known none =
@@ -123,7 +123,7 @@ whole_known run found text start old mid new before after next size c first last
 
 canonical_edited : (run : Run) (most : ℕ) (ahead : Ahead) (found : Found) (text : List ℕ) (old new : Progress) (before after : List ℕ) (len : ℕ)
     → IsFewAfter ahead → IsTakenOf text ahead.bytes → length found.chunk.chunk.now ≤ most
-    → IsCanonical run.max_depth found.attr.now found.chunk.class (option_map (λ name. name.now) found.chunk.name) (option_map between found.chunk.place) found.chunk.chunk.now found.chunk.written.now text
+    → IsCanonical run.max_depth found.attr.now found.chunk.class (option_map (λ name. name.now) found.chunk.name) (option_map (λ kind. kind.now) found.chunk.kind) (option_map between found.chunk.place) found.chunk.chunk.now found.chunk.written.now text
     → IsKnownEdited run found old new before after len → IsFirstEdited run most ahead old new before after (done_chunk len)
 canonical_edited run most ahead found text old new before after len few outer size c known =
     let chunk : List ℕ = found.chunk.chunk.now in
@@ -143,7 +143,7 @@ canonical_edited run most ahead found text old new before after len few outer si
 -- where a buffer is taken before it, and given back after it
 pub known_edited : (run : Run) (most : ℕ) (ahead : Ahead) (found : Found) (text : List ℕ) (start old mid new : Progress) (before after : List ℕ) (next : Option ℕ)
     → IsFewAfter ahead → IsTakenOf text ahead.bytes → length found.chunk.chunk.now ≤ most
-    → IsCanonical run.max_depth found.attr.now found.chunk.class (option_map (λ name. name.now) found.chunk.name) (option_map between found.chunk.place) found.chunk.chunk.now found.chunk.written.now text
+    → IsCanonical run.max_depth found.attr.now found.chunk.class (option_map (λ name. name.now) found.chunk.name) (option_map (λ kind. kind.now) found.chunk.kind) (option_map between found.chunk.place) found.chunk.chunk.now found.chunk.written.now text
     → old ≡ start → new ≡ mid → IfSome next (IsKnownEdited run found old mid before after) → IfSome next (λ len. IsFirstEdited run most ahead start new before after (done_chunk len))
 known_edited run most ahead found text start old mid new before after None few outer size c first last known = tt
 known_edited run most ahead found text start old mid new before after (Some len) few outer size c first last known =

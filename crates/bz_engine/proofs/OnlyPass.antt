@@ -33,9 +33,10 @@ use Rattle.bz_engine.specs.Language.{meaning, changes, fails_on, note_told}
 use Rattle.bz_engine.specs.Outcome.{Run, Script, is_query}
 use Rattle.bz_engine.specs.Progress.{Progress, last_class, text_following}
 use Rattle.bz_engine.specs.declared.canonical.Found.{Found}
+use Rattle.bz_engine.specs.declared.failure.Message.{Message}
 use Rattle.bz_engine.specs.declared.rule_passes.OnePass.{OnePass}
 use Rattle.bz_engine.specs.private.Edits.{IsLaidOut}
-use Rattle.bz_engine.specs.private.Found.{FailsOn, HasLogAt, IsForOne, IsFound, IsMarked, KeepsName, Makes, one_log_of, one_pass, one_told, told_line}
+use Rattle.bz_engine.specs.private.Found.{HasLogAt, IsForOne, IsFound, IsMarked, KeepsName, Makes, Tells, log_of, one_log_of, one_pass, one_told, told_line}
 use Rattle.bz_engine.specs.private.NextChunks.{EditsFound}
 use Rattle.bz_engine.specs.private.Rows.{HasKey}
 
@@ -183,18 +184,24 @@ grown_laid run only class s t old mid new before after_it alone fits met makes c
     ∙ (λ i. record { kept = and_at only.at (one_told None) old.kept; changed = or_true old.changed i; failed = or_false old.failed i; last = Some (sym class_is i); line = old.line }))
     (text ∙ ap (λ (p : Progress). before ++ (if is_query run.passes then [] else text_following p.last (Some t ∷ []))) kept)
 
--- The one command fails on s, and the run goes on.
-pub failed_laid : (run : Run) (only : OnePass) (entry : Entry) (class : Class) (s : Statement) (old mid new : Progress) (before after_it : List ℕ)
-    → IsOnly run only s → Fits old.kept run.passes → run.keep_going ≡ true → marks only.target.now s ≡ true → FailsOn only.command.now run.home s entry → s.class ≡ class
-    → mid ≡ record old { kept = and_at only.at (one_log_of (entry ∷ [])) old.kept; failed = true } → new ≡ record mid { last = Some class }
+-- The one command leaves s as it is, tells this message of it, and the run goes on.
+pub told_laid : (run : Run) (only : OnePass) (message : Message) (class : Class) (s : Statement) (old mid new : Progress) (before after_it : List ℕ)
+    → IsOnly run only s → Fits old.kept run.passes → (message.fails ≡ true → run.keep_going ≡ true) → marks only.target.now s ≡ true
+    → Tells only.command.now run.home s (option_map (λ line. line.now) message.line) message.told message.fails → s.class ≡ class
+    → mid ≡ record old { kept = and_at only.at (one_log_of (log_of message)) old.kept; failed = old.failed || message.fails } → new ≡ record mid { last = Some class }
     → after_it ≡ before ++ (if is_query run.passes then [] else text_following mid.last (Some s ∷ []))
     → IsLaidOut run s old new before after_it
-failed_laid run only entry class s old mid new before after_it alone fits goes_on met failing class_is kept is text =
-    let d : Done = record { changed = false; line = None; note = Some failing.note } in
-    only_laid run only s s d old new before after_it alone fits met failing.made.after_is failing.made.done (λ ends. absurd (false≢true (sym ends ∙ goes_on)))
+told_laid run only message class s old mid new before after_it alone fits goes_on met tells class_is kept is text =
+    let line : Option (List ℕ) = option_map (λ line. line.now) message.line in
+    let d : Done = record { changed = false; line = line; note = Some tells.note } in
+    only_laid run only s s d old new before after_it alone fits met tells.made.after_is tells.made.done (λ ends. tells.failed ∙ calm message.fails goes_on ends)
     (is ∙ ap (λ (p : Progress). record p { last = Some class }) kept
-    ∙ (λ i. record { kept = and_at only.at (one_log_of (sym failing.told i)) old.kept; changed = or_false old.changed i; failed = (or_true old.failed ∙ ap (λ b. old.failed || b) (sym failing.failed)) i; last = Some (sym class_is i); line = old.line }))
+    ∙ (λ i. record { kept = and_at only.at (one_log_of (map Line (option_to_list line) ++ sym tells.told i)) old.kept; changed = or_false old.changed i; failed = old.failed || sym tells.failed i; last = Some (sym class_is i); line = old.line }))
     (text ∙ ap (λ (p : Progress). before ++ (if is_query run.passes then [] else text_following p.last (Some s ∷ []))) kept)
+  where
+    calm : (b : Bool) → (b ≡ true → run.keep_going ≡ true) → run.keep_going ≡ false → b ≡ false
+    calm true goes_on ends = absurd (false≢true (sym ends ∙ goes_on refl))
+    calm false goes_on ends = refl
 
 -- the same of what is kept before and after
 pub laid_as : (run : Run) (s : Statement) (old start end new : Progress) (before after_it : List ℕ) → start ≡ old → new ≡ end → IsLaidOut run s start end before after_it

@@ -50,7 +50,7 @@ pub(crate) fn unchanged_by_text<'t>(
     ensures { IfOk result (λ known. IfSome known (LeavesRule command.now env.entry.home.now found.entry)) }
 {
     if let Some(attr) = looked_at(command) {
-        if !is_without(found, attr) {
+        if !is_without(&found, attr) {
             return Ok(None);
         }
         return Ok(Some(Unchanged { line: None }));
@@ -93,8 +93,8 @@ fn printed_by_name<'t>(
 }
 
 /// No argument of the rule has this name, as its place shows.
-pub(crate) fn is_without(found: Found<'_>, attr: &str) -> bool
-    ensures { IsTrue result → (depth : ℕ) (s : Statement) → IsFound depth found.entry s → IsWithout attr.now s }
+pub(crate) fn is_without(found: &Found<'_>, attr: &str) -> bool
+    ensures { IsTrue result → (depth : ℕ) (s : Statement) → IsFound depth found.now s → IsWithout attr.now s }
 {
     match found.chunk.place {
         Some(place) => found.attr == attr && place.lines.is_empty(),
@@ -103,14 +103,17 @@ pub(crate) fn is_without(found: Found<'_>, attr: &str) -> bool
 }
 
 /// The target marks the statement of the chunk, whatever else is in it.
-pub(crate) fn marks_found(target: &Target, found: Found<'_>) -> bool
-    ensures { IsTrue result → (depth : ℕ) → IsMarked depth target.now found.entry }
+pub(crate) fn marks_found(target: &Target, found: &Found<'_>) -> bool
+    ensures { IsTrue result → (depth : ℕ) → IsMarked depth target.now found.now }
 {
     if let Some(name) = found.chunk.name {
         return marks_name(target, name);
     }
+    // What has a kind or a place for arguments is a rule.
+    if let Some(_) = found.chunk.kind {
+        return marks_rules(target);
+    }
     match found.chunk.place {
-        // What has a place for arguments is a rule.
         Some(_) => marks_rules(target),
         None => false,
     }

@@ -20,7 +20,7 @@ ghost use Rattle.bz_engine.specs.private.Rows.{HasKey};
 use crate::answer::{marks_found, unchanged_by_text};
 use crate::argument::{EditedArgument, execute_on_lines};
 use crate::edit::ScriptRun;
-use crate::failure::failure_by_text;
+use crate::failure::message_by_text;
 use crate::progress::Progress;
 use crate::rule_passes::OnePass;
 use crate::rules::Rules;
@@ -117,7 +117,7 @@ fn copy_known(
     ensures none { IfOk result (λ len. IfNone len
         (DoesNothing progress.old progress.new text.old.items text.new.items)) }
 {
-    if is_passed_by(script, found) {
+    if is_passed_by(script, &found) {
         put_canonical(script, found.chunk, progress, text)?;
     } else if !copy_marked(script, &found, progress, text)? {
         progress.fail_look();
@@ -144,25 +144,24 @@ fn find_canonical<'a>(
     written: &'a mut Vec<u8>,
 ) -> Result<Option<Found<'a>>, NoMemory>
     ensures canonical { IfOk result (λ known. IfSome known (λ found. IsCanonical script.entry.max_depth found.attr.now
-        found.chunk.class (option_map (λ name. name.now) found.chunk.name) (option_map between found.chunk.place)
+        found.chunk.class (option_map (λ name. name.now) found.chunk.name)
+        (option_map (λ kind. kind.now) found.chunk.kind) (option_map between found.chunk.place)
         found.chunk.chunk.now found.chunk.written.now text.now)) }
     ensures size { IfOk result (λ known. IfSome known (λ found. length found.chunk.chunk.now ≤ max_statement)) }
 {
     let asked = script.passes.asked();
+    let attr = asked.attr;
     let Some(chunk) = read_canonical(text, asked, script.max_depth, written)? else {
         return Ok(None);
     };
     if chunk.chunk.len() as u64 > max_statement {
         return Ok(None);
     }
-    Ok(Some(Found {
-        chunk,
-        attr: asked.attr,
-    }))
+    Ok(Some(Found { chunk, attr }))
 }
 
-/// Runs the script on the statement of such a chunk, by the first of these: the one command leaves it as it is, fails
-/// on it, or edits one argument. False, with nothing done: the statement is to be seen.
+/// Runs the script on the statement of such a chunk, by the first of these: the one command leaves it as it is, tells a
+/// message of it, or edits one argument. False, with nothing done: the statement is to be seen.
 #[inline(never)]
 fn copy_marked(
     script: ScriptRun<'_>,
@@ -174,7 +173,7 @@ fn copy_marked(
     ensures { IfOk result (EditsFound (run_of script.entry) found.now progress.old progress.new
         text.old.items text.new.items) }
 {
-    let Some(only) = find_one_pass(script, *found) else {
+    let Some(only) = find_one_pass(script, found) else {
         return Ok(false);
     };
     let env = Env {
@@ -187,18 +186,18 @@ fn copy_marked(
         put_canonical(script, found.chunk, progress, text)?;
         return Ok(true);
     }
-    if let Some(entry) = failure_by_text(script, only.command, *found)? {
-        progress.keep_failure(only.at, entry)?;
+    if let Some(message) = message_by_text(script, only.command, found)? {
+        progress.keep_message(only.at, message)?;
         put_canonical(script, found.chunk, progress, text)?;
         return Ok(true);
     }
-    edit_argument(script, only, *found, progress, text)
+    edit_argument(script, only, found, progress, text)
 }
 
 /// The one pass of the script that marks the statement of the chunk, where it has one command.
-fn find_one_pass<'a>(script: ScriptRun<'a>, found: Found<'_>) -> Option<OnePass<'a>>
+fn find_one_pass<'a>(script: ScriptRun<'a>, found: &Found<'_>) -> Option<OnePass<'a>>
     ensures { IfSome result (λ only. IsForOne script.entry.max_depth script.entry.home.now script.entry.passes.now only
-        found.entry) }
+        found.now) }
 {
     let rules = Rules {
         alloc: script.alloc,
@@ -217,13 +216,13 @@ fn find_one_pass<'a>(script: ScriptRun<'a>, found: Found<'_>) -> Option<OnePass<
 fn edit_argument(
     script: ScriptRun<'_>,
     only: OnePass<'_>,
-    found: Found<'_>,
+    found: &Found<'_>,
     progress: &mut Progress,
     text: &mut Vec<u8>,
 ) -> Result<bool, NoMemory>
-    requires only { IsForOne script.max_depth script.home.now script.passes.now only found }
+    requires only { IsForOne script.max_depth script.home.now script.passes.now only found.now }
     requires fits { Fits progress.old.kept script.passes.now }
-    ensures { IfOk result (EditsFound (run_of script.entry) found.entry progress.old progress.new
+    ensures { IfOk result (EditsFound (run_of script.entry) found.now progress.old progress.new
         text.old.items text.new.items) }
 {
     let Some(place) = place_for(only, found) else {
@@ -257,11 +256,11 @@ fn edit_argument(
 
 /// The place of the argument that the command looks at alone. None also for the name where a pass comes after: that may
 /// mark the rule by its new one.
-fn place_for<'a>(only: OnePass<'_>, found: Found<'a>) -> Option<ArgumentPlace<'a>>
-    ensures place { IfSome result (λ place. found.entry.chunk.place ≡ Some place) }
-    ensures attr { IfSome result (λ _. one_attribute only.entry.command.now ≡ Some found.entry.attr.now) }
+fn place_for<'a>(only: OnePass<'_>, found: &Found<'a>) -> Option<ArgumentPlace<'a>>
+    ensures place { IfSome result (λ place. found.now.chunk.place ≡ Some place) }
+    ensures attr { IfSome result (λ _. one_attribute only.entry.command.now ≡ Some found.now.attr.now) }
     ensures name { IfSome result (λ _. only.entry.last ≡ false
-        → bytes_eq found.entry.attr.now (codes "name") ≡ false) }
+        → bytes_eq found.now.attr.now (codes "name") ≡ false) }
 {
     let attr = one_attribute(only.command)?;
     if attr != found.attr || (attr == "name" && !only.last) {
@@ -271,8 +270,8 @@ fn place_for<'a>(only: OnePass<'_>, found: Found<'a>) -> Option<ArgumentPlace<'a
 }
 
 /// No pass of the script may mark the statement.
-fn is_passed_by(script: ScriptRun<'_>, found: Found<'_>) -> bool
-    ensures { IsTrue result → (s : Statement) → IsFound script.entry.max_depth found.entry s
+fn is_passed_by(script: ScriptRun<'_>, found: &Found<'_>) -> bool
+    ensures { IsTrue result → (s : Statement) → IsFound script.entry.max_depth found.now s
         → IsPassedBy (meaning script.entry.home.now) (changes script.entry.home.now) (fails_on script.entry.home.now)
         script.entry.passes.now (Some s) }
 {

@@ -1,30 +1,108 @@
-//! Rules on which the one command of a script fails, by what is known of their text.
+//! Rules of which the one command of a script tells a message, by what is known of their text.
 
-ghost use Rattle.std.specs.Prelude.{◌≡◌, ◌∷◌, ◌++◌, [], ℕ, IfOk, IfSome, OnOk, Some, true};
+ghost use Rattle.std.specs.Prelude.{◌≡◌, ◌∷◌, ◌++◌, [], codes, IfOk, IfSome, IsTrue, Some};
 ghost use Rattle.bz_attribute.specs.Texts.{home_text};
+ghost use Rattle.bz_command.specs.declared.arguments.Field.TheVariants.{ValueOf};
+ghost use Rattle.bz_rule.specs.declared.command.Action.TheVariants.{Print};
 ghost use Rattle.bz_attribute.specs.declared.done.Note.TheVariants.{NoAttribute};
 ghost use Rattle.bz_engine.specs.Language.{note_told};
-ghost use Rattle.bz_engine.specs.private.Found.{FailsRule, needed};
+ghost use Rattle.bz_engine.specs.private.Found.{TellsRule, needed};
 
 use crate::answer::is_without;
 use crate::canonical::Found;
 use crate::edit::ScriptRun;
-use crate::message::note_text;
+use crate::message::{missing_name, note_text};
 use bz_attribute::push_home;
-use bz_command::{Commented, Package};
+use bz_command::{Commented, Field, Package};
 use bz_memory::{NoMemory, push_str};
 use bz_passes::entry::Entry;
 use bz_rule::{Action, Command, Note, Text};
+use bz_token::check_utf8;
 use std::alloc::Global;
 
-/// What the command tells of a rule on which it fails, where failures do not end the run. None: it may do something, or
+/// What is told of a rule that stays as it is, with a message.
+#[derive(Drop)]
+pub(crate) struct Message {
+    /// The line before the message.
+    pub(crate) line: Option<&'static str>,
+    pub(crate) told: Entry,
+    /// It is a failure.
+    pub(crate) fails: bool,
+}
+
+/// What the command tells of a rule, where that has a message and does not end the run. None: it may do something, or
 /// the rule is to be seen.
-pub(crate) fn failure_by_text(
+pub(crate) fn message_by_text(
     script: ScriptRun<'_>,
     command: &Command,
-    found: Found<'_>,
-) -> Result<Option<Entry>, NoMemory>
-    ensures { IfOk result (λ known. IfSome known (FailsRule script.entry.keep_going command.now script.entry.home.now found.entry)) }
+    found: &Found<'_>,
+) -> Result<Option<Message>, NoMemory>
+    ensures { IfOk result (λ known. IfSome known (TellsRule script.entry.keep_going command.now script.entry.home.now
+        found.now)) }
+{
+    match found.chunk.kind {
+        Some(_) => missing_by_text(script, command, found),
+        None => failure_by_text(script, command, found),
+    }
+}
+
+/// What is told of a rule without a name whose name is to be printed.
+fn missing_by_text(
+    script: ScriptRun<'_>,
+    command: &Command,
+    found: &Found<'_>,
+) -> Result<Option<Message>, NoMemory>
+    ensures { IfOk result (λ known. IfSome known (TellsRule script.entry.keep_going command.now script.entry.home.now
+        found.now)) }
+{
+    let Some(kind) = found.chunk.kind else {
+        return Ok(None);
+    };
+    if !prints_name(command) {
+        return Ok(None);
+    }
+    let Ok(kind) = check_utf8(kind) else {
+        return Ok(None);
+    };
+    let text = missing_name(script.alloc, script.home, kind)?;
+    Ok(Some(Message {
+        line: Some("(missing)"),
+        told: Entry::Warning(text),
+        fails: false,
+    }))
+}
+
+/// The command prints the name alone.
+fn prints_name(command: &Command) -> bool
+    ensures { IsTrue result → command.now ≡ Print (ValueOf (codes "name") ∷ []) }
+{
+    match &command.action {
+        Action::Print(fields) => is_name(fields.as_slice()),
+        _ => false,
+    }
+}
+
+/// The name is the one field.
+fn is_name(fields: &[Field]) -> bool
+    ensures { IsTrue result → fields.now ≡ ValueOf (codes "name") ∷ [] }
+{
+    let [field] = fields else {
+        return false;
+    };
+    match field {
+        Field::ValueOf(attr) if attr.as_str() == "name" => true,
+        _ => false,
+    }
+}
+
+/// What the command tells of a rule on which it fails, where failures do not end the run.
+fn failure_by_text(
+    script: ScriptRun<'_>,
+    command: &Command,
+    found: &Found<'_>,
+) -> Result<Option<Message>, NoMemory>
+    ensures { IfOk result (λ known. IfSome known (TellsRule script.entry.keep_going command.now script.entry.home.now
+        found.now)) }
 {
     if !script.keep_going {
         return Ok(None);
@@ -38,8 +116,12 @@ pub(crate) fn failure_by_text(
     let Some(name) = found.chunk.name else {
         return Ok(None);
     };
-    let entry = no_attribute(script.alloc, script.home, name, attr)?;
-    Ok(Some(entry))
+    let told = no_attribute(script.alloc, script.home, name, attr)?;
+    Ok(Some(Message {
+        line: None,
+        told,
+        fails: true,
+    }))
 }
 
 /// The attribute without which the command fails.

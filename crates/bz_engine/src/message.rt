@@ -1,10 +1,12 @@
 //! The texts of messages.
 
-ghost use Rattle.std.specs.Prelude.{◌≡◌, ◌++◌, IfOk};
+ghost use Rattle.std.specs.Prelude.{◌≡◌, ◌++◌, codes, IfOk};
+ghost use Rattle.bz_attribute.specs.Texts.{home_text};
 ghost use Rattle.bz_engine.specs.declared.report.SyntaxFault.TheVariants.{Parse};
 ghost use Rattle.bz_engine.specs.Messages.{not_found_text, note_text, lex_text, fault_text, placed, lined};
 
 use crate::report::SyntaxFault;
+use bz_attribute::push_home;
 use bz_memory::{NoMemory, from_str, push_number, push_str};
 use bz_rule::{Note, Package, Target, Text, label};
 use bz_token::LexFault;
@@ -45,6 +47,19 @@ pub(crate) fn note_text(alloc: Global, rule: &str, note: &Note) -> Result<Text, 
         }
         Note::NoValue { attr, value } => no_value(alloc, rule, attr.as_str(), value.as_str()),
     }
+}
+
+/// The note on a rule of this kind without a name, where that is to be printed.
+pub(crate) fn missing_name(alloc: Global, home: &Package, kind: &str) -> Result<Text, NoMemory>
+    ensures { IfOk result (λ t. t ≡ home_text home.now ++ codes "%" ++ kind.now
+        ++ codes ": no attribute 'name' to print") }
+{
+    let mut text = String::new(alloc);
+    push_home(&mut text, home)?;
+    push_str(&mut text, "%")?;
+    push_str(&mut text, kind)?;
+    push_str(&mut text, ": no attribute 'name' to print")?;
+    Ok(Text::from_string(text))
 }
 
 /// A rule, and what is said of one of its attributes.

@@ -1,17 +1,17 @@
 //! What a run keeps of the chunks that are done.
 
-ghost use Rattle.std.specs.Prelude.{◌≡◌, ◌+◌, ◌<◌, ◌^◌, ◌∷◌, ◌++◌, [], length, map, option_map, option_to_list, OnOk, true};
+ghost use Rattle.std.specs.Prelude.{◌≡◌, ◌+◌, ◌<◌, ◌^◌, ◌++◌, ◌||◌, length, map, option_map, option_to_list, OnOk};
 ghost use Rattle.bz_passes.specs.declared.entry.Entry.TheVariants.{Line};
 ghost use Rattle.bz_token.specs.Places.{line_at};
 ghost use Rattle.bz_passes.specs.Exchange.{pass_and};
 ghost use Rattle.bz_passes.specs.OnePass.{and_at};
-ghost use Rattle.bz_engine.specs.private.Found.{HasLogAt, one_log_of, one_told};
+ghost use Rattle.bz_engine.specs.private.Found.{HasLogAt, log_of, one_log_of, one_told};
 
 use crate::chunk::newlines;
+use crate::failure::Message;
 use crate::looks::Looks;
 use crate::spare::Spare;
 use bz_memory::NoMemory;
-use bz_passes::entry::Entry;
 use bz_passes::kept::Kept;
 use bz_passes::log::Log;
 use bz_tree::Class;
@@ -68,14 +68,16 @@ impl Progress {
         keep_line(&mut self.kept[at], line)
     }
 
-    /// It failed on one statement more, and this was told of it.
-    pub(crate) fn keep_failure(&mut self, at: usize, entry: Entry) -> Result<(), NoMemory>
+    /// It left one statement more as it was, and this was told of it.
+    pub(crate) fn keep_message(&mut self, at: usize, message: Message) -> Result<(), NoMemory>
         requires { HasLogAt self.old.kept at }
-        ensures { OnOk result (self.new
-            ≡ record self.old { kept = and_at at (one_log_of (entry ∷ [])) self.old.kept; failed = true }) }
+        ensures { OnOk result (self.new ≡ record self.old {
+          kept = and_at at (one_log_of (log_of message)) self.old.kept;
+          failed = self.old.failed || message.fails;
+        }) }
     {
-        self.failed = true;
-        keep_entry(&mut self.kept[at], entry)
+        self.failed |= message.fails;
+        keep_message(&mut self.kept[at], message)
     }
 
     /// The buffers, until they are given back.
@@ -159,10 +161,17 @@ fn log_line(line: Option<&str>, log: &mut Log) -> Result<(), NoMemory>
 }
 
 /// The one command of a pass ran on one statement more, which the pass marked, and this was told of it.
-fn keep_entry(kept: &mut Kept, entry: Entry) -> Result<(), NoMemory>
+fn keep_message(kept: &mut Kept, message: Message) -> Result<(), NoMemory>
     requires { length kept.old.logs ≡ 1 }
-    ensures { OnOk result (kept.new ≡ pass_and kept.old (one_log_of (entry ∷ []))) }
+    ensures { OnOk result (kept.new ≡ pass_and kept.old (one_log_of (log_of message))) }
 {
     kept.found = true;
-    kept.logs[0].push(entry)
+    log_message(message, &mut kept.logs[0])
+}
+
+fn log_message(message: Message, log: &mut Log) -> Result<(), NoMemory>
+    ensures { OnOk result (log.new ≡ log.old ++ log_of message) }
+{
+    log_line(message.line, log)?;
+    log.push(message.told)
 }

@@ -8,9 +8,10 @@ ghost use Rattle.bz_engine.specs.private.Found.{one_pass};
 ghost use Rattle.bz_engine.specs.private.Named.{all_named};
 
 use crate::answer::{asked_attribute, is_answerable};
-use bz_canonical::Lookup;
+use bz_canonical::{AsksOfRules, Lookup};
 use bz_command::Pass;
 use bz_memory::{NoMemory, from_str};
+use bz_passes::index::Key;
 use bz_passes::passes::{Keyed, Passes};
 use bz_rule::{Command, Target};
 use std::alloc::Global;
@@ -128,19 +129,21 @@ impl RulePasses {
     }
 
     /// The argument whose place is to be looked for in a text. Its name is empty: there is none.
-    pub(crate) fn asked(&self) -> Lookup<'_> {
+    pub(crate) fn asked(&self) -> Lookup<'_, RulePasses> {
         Lookup {
             attr: self.attr.as_str(),
-            name: self.name_of_one(),
+            rules: self,
         }
     }
+}
 
-    /// The name of the rules that its one pass marks, where it asks for one.
-    fn name_of_one(&self) -> Option<&str> {
-        let [pass] = self.as_slice() else {
-            return None;
+impl AsksOfRules for RulePasses {
+    fn asks_of(&self, name: Option<&str>) -> bool {
+        let key = match name {
+            Some(name) => Key::Name(name),
+            None => Key::NoName,
         };
-        pass.target.asked()
+        self.passes.first_from(key, 0).is_some()
     }
 }
 

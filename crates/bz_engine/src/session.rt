@@ -288,6 +288,7 @@ impl Session {
 
     /// Runs the script on the next chunk for `advance`; none where the input has ended. Where the bytes ahead seem to
     /// end before the chunk (`looks.rt` guesses), more is read first: to look at the front of a chunk would be in vain.
+    /// Where they still seem to, the chunk is long, and its end is found line by line.
     fn edit_next<S: Source>(
         &mut self,
         source: &mut S,
@@ -301,7 +302,9 @@ impl Session {
         ensures fits { OnOk result (Fits self.new.progress.kept self.new.passes) }
         ensures next { IfOk result (IsNext self.old self.new text.old.items text.new.items) }
     {
-        read_short(&mut self.progress, &mut self.ahead, source, self.options)?;
+        if read_short(&mut self.progress, &mut self.ahead, source, self.options)? {
+            return self.edit_by_lines(source, text);
+        }
         self.edit_after_one_read(source, text)
     }
 
@@ -509,13 +512,14 @@ fn find_chunk<S: Source>(
     }
 }
 
-/// Reads once, where the bytes ahead seem to end before their first chunk, and none is sure to end in them.
+/// Reads once, where the bytes ahead seem to end before their first chunk, and none is sure to end in them. Answers
+/// whether they still seem to.
 fn read_short<S: Source>(
     progress: &mut Progress,
     ahead: &mut Ahead,
     source: &mut S,
     options: Options,
-) -> Result<(), RunFault>
+) -> Result<bool, RunFault>
     requires made { ahead.old.reads ≤ options.max_reads }
     requires few { IsFewAfter ahead.old }
     requires bound { length ahead.old.bytes ≤ options.max_statement + 8192 }
@@ -523,13 +527,15 @@ fn read_short<S: Source>(
     ensures finds { Finds S.gave S.failures options progress.old.line source.old source.new ahead.old ahead.new result }
     ensures few { OnOk result (IsFewAfter ahead.new) }
 {
-    if progress.is_likely_short(ahead.bytes()) {
-        let line = progress.line;
-        if !read_more(ahead, source, Search { options, line })? {
-            progress.end_ahead();
-        }
+    if !progress.is_likely_short(ahead.bytes()) {
+        return Ok(false);
     }
-    Ok(())
+    let line = progress.line;
+    if !read_more(ahead, source, Search { options, line })? {
+        progress.end_ahead();
+        return Ok(false);
+    }
+    Ok(progress.is_likely_short(ahead.bytes()))
 }
 
 /// Reads once, where no chunk is sure to end in the bytes ahead; answers whether it did.

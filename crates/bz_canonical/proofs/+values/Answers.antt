@@ -3,10 +3,10 @@ use Rattle.std.specs.Prelude.{codes}
 use Rattle.bz_canonical.specs.private.Values.{AreNodesFront}
 use Rattle.bz_canonical.specs.private.Segments.{Continues, ContinuesFlat, IsSegmentFront}
 use Rattle.bz_canonical.proofs.GroupSegments.{begin, more, finish, begin_flat, more_flat, finish_flat, none_flat, element_segment, positional_segment, keyword_segment, entry_segment, first_of_more, second_of_more, four_or}
-use Rattle.bz_canonical.proofs.Operands.{list_value, dict_value, name_value, broken_group, flat_group}
+use Rattle.bz_canonical.proofs.Operands.{list_value, dict_value, number_value, broken_group, flat_group}
 use Rattle.bz_canonical.proofs.StringLists.{plain_more}
-use Rattle.bz_canonical.specs.private.Chains.{Chains}
-use Rattle.bz_canonical.proofs.Chained.{begin_chain, more_chain, finish_chain, value_term}
+use Rattle.bz_canonical.specs.private.Chains.{Chains, IsPrimaryFront}
+use Rattle.bz_canonical.proofs.Chained.{begin_chain, call_primary, finish_chain, member_primary, more_chain, value_term}
 use Rattle.bz_canonical.proofs.+values.Goals as goal
 
 pub segments::after_segments-loop-count-init : goal.segments::after_segments-loop-count-init
@@ -125,10 +125,28 @@ value::after_term-returns-in_ok-read-in-123 m c =
     let read = c.in_ok-read-in-123.read in
     value_term c.args.level c.args.depth c.args.text.now read.rest.now read.holds (dict_value c.args.level c.args.depth c.args.text.now read.rest.now read.holds c.in_ok-read-in-123.ensures)
 
-pub value::after_name_or_call-returns-in_default : goal.value::after_name_or_call-returns-in_default
-value::after_name_or_call-returns-in_default m c =
-    value_term c.args.level c.args.depth c.args.text.now c.in_ok-end.end.now false (name_value c.args.text.now c.in_ok-end.end.now c.in_ok-end.ensures c.args.level c.args.depth)
+pub value::after_term-returns-in_ok-rest-in-48-to-57 : goal.value::after_term-returns-in_ok-rest-in-48-to-57
+value::after_term-returns-in_ok-rest-in-48-to-57 m c =
+    let rest = c.in_ok-rest-in-48-to-57.rest.now in
+    value_term c.args.level c.args.depth c.args.text.now rest false (number_value c.args.text.now rest c.in_ok-rest-in-48-to-57.ensures c.args.level c.args.depth)
 
-pub value::after_term-returns-in_ok-rest-in-34 : goal.value::after_term-returns-in_ok-rest-in-34
-value::after_term-returns-in_ok-rest-in-34 m c =
-    value_term c.args.level c.args.depth c.args.text.now c.in_ok-rest-in-34.rest.now false (c.in_ok-rest-in-34.ensures c.args.level c.args.depth)
+pub value::after_name_or_call-returns-in_default : goal.value::after_name_or_call-returns-in_default
+value::after_name_or_call-returns-in_default m c = (c.in_ok-end.ensures c.args.level c.args.depth).0
+
+pub value::after_name_or_call-returns-in_ok-read-in-40 : goal.value::after_name_or_call-returns-in_ok-read-in-40
+value::after_name_or_call-returns-in_ok-read-in-40 m c =
+    let read = c.in_ok-read-in-40.read in
+    (call_primary c.args.level c.args.depth c.args.text.now c.in_ok-end.end.now read.rest.now false read.holds (c.in_ok-end.ensures c.args.level c.args.depth) c.in_ok-read-in-40.ensures).0
+
+pub value::after_name_or_call-returns-in_ok-read-in-46 : goal.value::after_name_or_call-returns-in_ok-read-in-46
+value::after_name_or_call-returns-in_ok-read-in-46 m c = (c.in_ok-read-in-46.ensures c.args.text.now (c.in_ok-end.ensures c.args.level c.args.depth)).0
+
+pub value::after_suffixes-loop-preserved-in-Some : goal.value::after_suffixes-loop-preserved-in-Some
+value::after_suffixes-loop-preserved-in-Some m c = λ text p.
+    member_primary c.args.level c.args.depth text c.loop.rest.now c.in-Some.member.now c.in_ok-rest.rest.now c.loop.holds (c.loop.invariant text p) c.in-Some.ensures c.in_ok-rest.ensures
+
+pub value::after_suffixes-loop-preserved : goal.value::after_suffixes-loop-preserved
+value::after_suffixes-loop-preserved m c = λ text p.
+    let call = c.in_ok-call.call in
+    subst (λ h. IsPrimaryFront c.args.level c.args.depth text call.rest.now h) (sym c.either-holds.ensures)
+    (call_primary c.args.level c.args.depth text c.loop.rest.now call.rest.now c.loop.holds call.holds (c.loop.invariant text p) c.in_ok-call.ensures)

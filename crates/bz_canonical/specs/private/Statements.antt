@@ -1,5 +1,5 @@
 -- The statement at the front of a text that stands as it is laid out, for private clauses.
-use Rattle.std.specs.Prelude.{◌≡◌, ◌≤◌, codes, ℕ, List, [], ◌∷◌, ◌++◌, Bool, true, false, if◌then◌else◌, map, Option, None}
+use Rattle.std.specs.Prelude.{◌≡◌, ◌≤◌, codes, ℕ, List, [], ◌∷◌, ◌++◌, Bool, true, false, if◌then◌else◌, map, Option, None, IfNone, IfSome}
 use Rattle.bz_token.specs.declared.token.Kind.TheVariants.{String}
 use Rattle.bz_tree.specs.declared.tree.kinds.Preceding.TheVariants.{Other}
 use Rattle.bz_tree.specs.declared.tree.Class.{Class}
@@ -18,7 +18,7 @@ use Rattle.bz_layout_laws.specs.Spelled.{spelled, spelled_statement}
 use Rattle.bz_layout_laws.specs.TextsOfKinds.{HaveTexts}
 use Rattle.bz_layout_laws.specs.WellFormed.{IsWellFormed}
 use Rattle.bz_attribute.specs.Rules.{first_named, name_in, rule_of}
-use Rattle.bz_canonical.specs.Canonical.{HasArgumentName, HasName, rule_args, rule_name}
+use Rattle.bz_canonical.specs.Canonical.{HasArgumentName, HasName, IsNameless, rule_args, rule_name}
 use Rattle.bz_canonical.specs.private.Fronts.{IsTokenFront}
 use Rattle.bz_canonical.specs.private.Segments.{AreFlatFront, IsGroupFront}
 use Rattle.bz_canonical.specs.private.Values.{AreNodesFront}
@@ -28,6 +28,7 @@ pub record IsRuleCallFront (depth : ℕ) (name : Option (List ℕ)) (text rest :
   pub holds : Bool
   pub group : IsGroupFront RuleCall 0 depth text rest holds
   pub named : name_in (segments group.segs) ≡ name
+  pub none : IfNone name (first_named (codes "name") (segments group.segs) ≡ None)
 
 -- what stands in the bracket of a load, in place, and the closing bracket
 pub record IsLoadFront (inside rest : List ℕ) : Type 0 where
@@ -50,7 +51,7 @@ pub record IsAssignedFront (depth : ℕ) (text rest : List ℕ) : Type 0 where
   pub nodes : AreNodesFront 0 depth value rest holds
 
 -- what well-formed statements ask of the nodes of one, where no string is to be spelled anew
-pub record IsBareFront (depth : ℕ) (class : Class) (name : Option (List ℕ)) (text rest : List ℕ) : Type 0 where
+pub record IsBareFront (depth : ℕ) (class : Class) (name kind : Option (List ℕ)) (text rest : List ℕ) : Type 0 where
   pub nodes : List Item
   pub some : are_some (items_of nodes) ≡ true
   pub texts : HaveTexts (items_of nodes)
@@ -63,6 +64,7 @@ pub record IsBareFront (depth : ℕ) (class : Class) (name : Option (List ℕ)) 
   pub stays : map spelled nodes ≡ nodes
   pub front : text ≡ bytes_of (items_pieces Broken 0 None Closed Start (items_of nodes)) ++ rest
   pub named : rule_name (rule_of nodes) ≡ name
+  pub nameless : IfSome kind (λ k. IsNameless k nodes)
   pub absent : (attr : List ℕ) → (HasArgumentName attr (bytes_of (items_pieces Broken 0 None Closed Start (items_of nodes))) → ⊥)
       → first_named attr (rule_args (rule_of nodes)) ≡ None
 
@@ -70,14 +72,15 @@ pub record IsBareFront (depth : ℕ) (class : Class) (name : Option (List ℕ)) 
 abbrev pub empty_line : Class → List ℕ
 empty_line class = if is_comment class then codes "\n" else []
 
--- The text begins with what is written of a well-formed statement of this class and name, in which no string is to be spelled
+-- The text begins with what is written of a well-formed statement of this class, name and kind, in which no string is to be spelled
 -- anew. `end` follows that, `rest` its chunk.
-pub record IsStatementFront (depth : ℕ) (class : Class) (name : Option (List ℕ)) (text end rest : List ℕ) : Type 0 where
+pub record IsStatementFront (depth : ℕ) (class : Class) (name kind : Option (List ℕ)) (text end rest : List ℕ) : Type 0 where
   pub s : Statement
   pub well : IsWellFormed depth s
   pub stays : spelled_statement s ≡ s
   pub class_is : s.class ≡ class
   pub named : HasName name s
+  pub nameless : IfSome kind (λ k. IsNameless k s.nodes)
   pub front : text ≡ layout_text s ++ end
   pub ends : end ≡ empty_line class ++ rest
   pub absent : (attr : List ℕ) → (HasArgumentName attr (layout_text s) → ⊥) → first_named attr (rule_args (rule_of s.nodes)) ≡ None

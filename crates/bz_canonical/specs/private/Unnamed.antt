@@ -14,7 +14,7 @@ pub record IsStatementEnd (text rest : List ℕ) : Type 0 where
 
 -- The rule, with the text up to its argument, its argument, and what follows that. One more argument puts both on lines.
 pub record IsUnnamedRule (depth : ℕ) (attr text argument close rest : List ℕ) : Type 0 where
-  pub front : IsStatementFront depth RuleClass None text rest rest
+  pub front : IsStatementFront depth RuleClass None None text rest rest
   pub head : List ℕ
   pub inner : List ℕ
   pub end : List ℕ

@@ -1,6 +1,6 @@
 -- What is known of the statement of a chunk that stands as it would be written, and what one command tells of it, for
 -- private clauses.
-use Rattle.std.specs.Prelude.{◌≡◌, ℕ, ◌<◌, length, get_or, List, [], ◌∷◌, Bool, false, true, Option, None, Some, option_map, IfSome, map, option_to_list}
+use Rattle.std.specs.Prelude.{◌≡◌, ℕ, ◌<◌, length, get_or, List, [], ◌∷◌, ◌++◌, Bool, false, true, Option, None, Some, option_map, IfSome, map, option_to_list}
 use Rattle.bz_passes.specs.declared.entry.Entry.TheVariants.{Line}
 use Rattle.bz_tree.specs.Statement.{class_of}
 use Rattle.bz_tree.specs.Tree.{Statement}
@@ -16,7 +16,7 @@ use Rattle.bz_command.specs.Labels.{Package, Target}
 use Rattle.bz_rule.specs.declared.command.Action.TheVariants.{Comment, Remove, Replace}
 use Rattle.bz_attribute.specs.Rules.{first_named, rule_of}
 use Rattle.bz_attribute.specs.Marks.{marks}
-use Rattle.bz_canonical.specs.Canonical.{HasName, HasPlace, between, rule_args, rule_name}
+use Rattle.bz_canonical.specs.Canonical.{HasName, HasPlace, IsNameless, between, rule_args, rule_name}
 use Rattle.bz_rule.specs.Commands.{Command, after, done_of}
 use Rattle.bz_command.specs.Passes.{Pass}
 use Rattle.bz_passes.specs.Exchange.{Kept}
@@ -24,6 +24,7 @@ use Rattle.bz_passes.specs.OnePass.{IsOnlyAt}
 use Rattle.bz_passes.specs.declared.entry.Entry.{Entry}
 use Rattle.bz_engine.specs.declared.answer.Unchanged.{Unchanged}
 use Rattle.bz_engine.specs.declared.canonical.Found.{Found}
+use Rattle.bz_engine.specs.declared.failure.Message.{Message}
 use Rattle.bz_engine.specs.declared.rule_passes.OnePass.{OnePass}
 use Rattle.bz_engine.specs.Outcome.{Script}
 
@@ -48,6 +49,7 @@ pub record IsFound (depth : ℕ) (found : Found) (s : Statement) : Type 0 where
   pub class : s.class ≡ class_of s.nodes
   pub class_is : s.class ≡ found.chunk.class
   pub named : HasName (option_map (λ name. name.now) found.chunk.name) s
+  pub nameless : IfSome (option_map (λ kind. kind.now) found.chunk.kind) (λ k. IsNameless k s.nodes)
   pub written : layout_text s ≡ found.chunk.written.now
   pub has : IfSome (option_map between found.chunk.place) (HasPlace depth found.attr.now s)
 
@@ -79,12 +81,12 @@ pub record Makes (command : Command) (home : Package) (s t : Statement) (told : 
 abbrev pub told_line : Bool → Option (List ℕ) → Done
 told_line changed line = record { changed = changed; line = line; note = None }
 
--- The command fails on a rule, where it tells this of it.
-pub record FailsOn (command : Command) (home : Package) (s : Statement) (entry : Entry) : Type 0 where
+-- The command leaves a rule as it is, and tells this line and this message of it.
+pub record Tells (command : Command) (home : Package) (s : Statement) (line : Option (List ℕ)) (entry : Entry) (failing : Bool) : Type 0 where
   pub note : Note
-  pub made : Makes command home s s (record { changed = false; line = None; note = Some note })
+  pub made : Makes command home s s (record { changed = false; line = line; note = Some note })
   pub told : note_told (shown_text home s) (Some note) ≡ entry ∷ []
-  pub failed : fails (Some note) ≡ true
+  pub failed : fails (Some note) ≡ failing
 
 -- the attribute without which a command fails on a rule
 abbrev pub needed : Command → Option (List ℕ)
@@ -92,10 +94,14 @@ needed (Comment (Attribute attr) text) = Some attr
 needed (Comment (Value attr value) text) = Some attr
 needed _ = None
 
--- The command fails on each rule of which this is known, and the run goes on.
-pub record FailsRule (keep_going : Bool) (command : Command) (home : Package) (found : Found) (entry : Entry) : Type 0 where
-  pub goes_on : keep_going ≡ true
-  pub fails_on : (depth : ℕ) (s : Statement) → IsFound depth found s → FailsOn command home s entry
+-- The command tells this of each rule of which this is known, and the run goes on.
+pub record TellsRule (keep_going : Bool) (command : Command) (home : Package) (found : Found) (message : Message) : Type 0 where
+  pub goes_on : message.fails ≡ true → keep_going ≡ true
+  pub tells : (depth : ℕ) (s : Statement) → IsFound depth found s → Tells command home s (option_map (λ line. line.now) message.line) message.told message.fails
+
+-- what is told with a message
+abbrev pub log_of : Message → List Entry
+log_of message = map Line (option_to_list (option_map (λ line. line.now) message.line)) ++ message.told ∷ []
 
 -- the attribute without which a command leaves a rule as it is
 abbrev pub looked_at : Command → Option (List ℕ)

@@ -195,6 +195,29 @@ f(name = "a", deps = ["x y", "z"], n = 1+2)
 line: //p:a ["x y" z] 1 + 2 (missing)
 message: //p:a: no attribute 'q' to print
 status 3
+---
+print name ! //p:*
+package(a = 1)
+
+# of x
+x(["b"])  # s
+
+f(name = "a")
+
+n.g()
+
+f(name = y)
+->
+=>
+line: (missing)
+line: (missing)
+line: a
+line: (missing)
+line: y
+message: //p:%package: no attribute 'name' to print
+message: //p:%x: no attribute 'name' to print
+message: //p:%n.g: no attribute 'name' to print
+status 3
 "#;
 
 /// What a run wrote, and how it ended.

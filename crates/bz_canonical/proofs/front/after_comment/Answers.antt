@@ -5,5 +5,5 @@ use Rattle.bz_canonical.proofs.front.after_comment.Goals as goal
 
 pub returns : goal.returns
 returns c =
-    let found = c.comment_len.ensures.comment c.in_ok-rest.ensures.some in
-    token_front Comment c.args.text.now c.in_ok-rest.rest.now c.comment_len.result found.1.whole refl c.in_ok-rest.ensures.rest
+    let found = c.any_comment_len.ensures c.in_ok-rest.ensures.some in
+    token_front Comment c.args.text.now c.in_ok-rest.rest.now c.any_comment_len.result found.1.whole refl c.in_ok-rest.ensures.rest

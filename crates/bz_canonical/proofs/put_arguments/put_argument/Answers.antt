@@ -1,6 +1,3 @@
-use Rattle.std.proofs.Common.{arith}
-use Rattle.std.proofs.lemmas.Option.{IfSome_then}
-use Rattle.std.proofs.lemmas.Result.{IfOk-weaker}
 use Rattle.bz_canonical.proofs.Pendings.{pend_more}
 use Rattle.bz_canonical.proofs.PutArguments.{value_read}
 use Rattle.bz_canonical.proofs.put_arguments.put_argument.Goals as goal
@@ -10,7 +7,3 @@ returns-in-Some c = λ attr named head text begun p.
     let at = c.args.at in
     let read = value_read c.args.depth attr at.rest.now c.args.value.now c.in-Some.rest.now named head c.in-Some.ensures in
     (read.0, pend_more text c.args.written.now.items begun at.from.now at.rest.now read.0 c.in-Some.rest.now p read.1, read.2)
-
-pub returns-else-depth-eq0 : goal.returns-else-depth-eq0
-returns-else-depth-eq0 c =
-    IfOk-weaker c.put_list_argument.result _ _ (λ told is. IfSome_then told is (λ next puts. puts c.args.depth (omega (arith, c.if-depth-eq0.false)))) c.put_list_argument.ensures

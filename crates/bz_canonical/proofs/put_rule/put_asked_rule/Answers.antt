@@ -16,9 +16,9 @@ returns c =
     let buffer = c.put_arguments.new.written.items in
     let h = c.requires.head in
     let front = head_of text head.name.now head.inside.now head.rest.now h in
-    let puts = subst (λ (o : Option PutArguments). IfSome o (λ read. Puts c.args.written.now.items (record { from = text; to = head.rest.now }) buffer (pending read.at)
+    let puts = subst (λ (o : Option PutArguments). IfSome o (λ read. Puts c.clear.new.self.items (record { from = text; to = head.rest.now }) buffer (pending read.at)
     (λ begun w. AreArgumentsRead c.args.depth attr head.rest.now read.at.rest.now begun w read.some (option_map put_ends read.place)))) c.in-Some.is c.in_ok-read.ensures in
-    let got = puts text front (rule_begun text head.name.now head.inside.now head.rest.now h c.args.written.now.items c.requires.empty) in
+    let got = puts text front (rule_begun text head.name.now head.inside.now head.rest.now h c.clear.new.self.items c.clear.ensures.items) in
     let ends = c.in_ok-end.ensures in
     let some = subst (λ (o : Option RuleEnd). IfSome o (λ e. IsTrue read.some)) c.in-Some-2.is ends.some in
     let end_is = subst (λ (o : Option RuleEnd). IfSome o (λ e. IsRuleEnd read.at.rest.now e.rest.now)) c.in-Some-2.is ends.end in

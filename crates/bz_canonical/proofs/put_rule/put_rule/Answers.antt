@@ -7,9 +7,8 @@ use Rattle.bz_canonical.proofs.PutRules.{head_of, rule_begun, rule_pending}
 use Rattle.bz_canonical.proofs.put_rule.put_rule.Goals as goal
 
 pub returns : goal.returns
-returns c =
+returns c = λ attr.
     let text = c.args.text.now in
-    let attr = c.args.asked.attr.now in
     let head = c.args.head in
     let read = c.in-Some.read in
     let end = c.in-Some-2.end in

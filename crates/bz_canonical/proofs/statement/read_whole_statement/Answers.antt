@@ -7,5 +7,5 @@ returns-in-Some c = comments_front c.args.max_depth c.args.text.now c.args.start
 
 pub returns : goal.returns
 returns c =
-    statement_front c.args.max_depth c.in_ok-read.read.class (option_map (λ name. name.now) c.in_ok-read.read.name) c.args.text.now c.args.start.now c.in_ok-read.read.rest.now c.in_ok-side.side.rest.now c.in_ok-rest.rest.now c.in_ok-side.side.some
+    statement_front c.args.max_depth c.in_ok-read.read.class (option_map (λ name. name.now) c.in_ok-read.read.name) (option_map (λ kind. kind.now) c.in_ok-read.read.kind) c.args.text.now c.args.start.now c.in_ok-read.read.rest.now c.in_ok-side.side.rest.now c.in_ok-rest.rest.now c.in_ok-side.side.some
     c.requires.lines c.in_ok-read.ensures c.in_ok-side.ensures c.in_ok-rest.ensures

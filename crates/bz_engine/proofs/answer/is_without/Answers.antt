@@ -9,7 +9,7 @@ use Rattle.bz_engine.proofs.answer.is_without.Goals as goal
 
 pub returns-then-eq : goal.returns-then-eq
 returns-then-eq c = λ empty depth s is.
-    let attr : List ℕ = c.args.found.attr.now in
+    let attr : List ℕ = c.args.found.now.attr.now in
     let has : HasPlace depth attr s (between c.in-Some.place) = subst (λ (o : Option ArgumentPlace). IfSome (option_map between o) (HasPlace depth attr s)) c.in-Some.is is.has in
     let none : length c.in-Some.place.lines.now ≡ 0 = grind (arith, tests, empty, c.is_empty.ensures) in
     subst (λ (a : List ℕ). IsWithout a s) (same_bytes attr c.args.attr.now (sym c.if-eq.ensures)) (no_argument depth attr s (between c.in-Some.place) has none)

@@ -18,5 +18,5 @@ returns c =
     let same = sym c.in_ok-only.ensures.at in
     let law = subst (λ (ps : Script). IsOnlyFor (meaning home) asked_by ps key c.in_ok-at.at) c.indexed.ensures c.in_ok-at.ensures.law in
     let within = subst (λ (ps : Script). c.in_ok-at.at < length ps) c.indexed.ensures c.in_ok-at.ensures.within in
-    for_one c.args.script.max_depth home passes only c.args.found key (subst (IsOnlyFor (meaning home) asked_by passes key) same law) (subst (λ (at : ℕ). at < length passes) same within)
+    for_one c.args.script.max_depth home passes only c.args.found.now key (subst (IsOnlyFor (meaning home) asked_by passes key) same law) (subst (λ (at : ℕ). at < length passes) same within)
     c.in_ok-only.ensures.pass c.in_ok-only.ensures.last c.name_key.ensures (c.marks_found.ensures c.if-not-marks_found.false c.args.script.max_depth)
