@@ -5,20 +5,37 @@ use Rattle.std.specs.Simd.Lanes.{zip2, mask_l, top}
 use Rattle.std.specs.Int.Count.{count_trailing_zeros}
 use Rattle.std.proofs.lemmas.List.{length-map, length-take-le, drop-drop, take_all}
 use Rattle.std.proofs.lemmas.List.FromFn.{get_or-map-range_with_len}
+use Rattle.std.proofs.Math.Bool.{or_assoc}
+use Rattle.std.proofs.lemmas.Bool.{cases_lt}  -- `cases_lt` is `lt_or_ge` in other libraries, and gives their `le_total`
+use Rattle.std.proofs.lemmas.Nat.{le_or_l}
+use Rattle.std.proofs.lemmas.Bool.Decides.{nat_tests}
+use Rattle.std.specs.Int.{is_in_range}
 use Rattle.std.proofs.lemmas.Simd.{trailing_mask_l, leading_from_mask_l, mask_l-mod}
 use Rattle.std.proofs.Math.Nat.{div-one, zero-div, div-div-eq-div-mul, pow-succ'}
 use Rattle.bz_token.specs.declared.cutter.marks.Stretch.{Stretch}
 use Rattle.bz_token.specs.declared.cutter.marks.Stretch.TheVariants.{Statement, Text}
-use Rattle.bz_token.specs.declared.cutter.marks.TheConstants.{STATEMENT}
 use Rattle.bz_token.specs.private.Marks.{is_mark, passes}
 use Rattle.bz_token.proofs.Blocks.{ends_in_block, passes_block}
 use Rattle.bz_token.proofs.WordBlocks.{or_lane, and_lane, top_lane}
 
-marks : STATEMENT ≡ map (is_mark Statement) (range_with_len 0 256)
-marks = refl
+-- square and curly brackets, and what is between them, are told apart from others with one bit set
+abbrev by_set : ℕ → Bool
+by_set b = leb 123 (bit_or b 32) && leb (bit_or b 32) 125
 
-pub mark_read : (b : ℕ) → b < 256 → get_or STATEMENT b false ≡ is_mark Statement b
-mark_read b h = ap (λ t. get_or t b false) marks ∙ get_or-map-range_with_len (is_mark Statement) 0 256 b b false h (omega arith)
+abbrev by_ranges : ℕ → Bool
+by_ranges b = is_in_range 91 93 b || is_in_range 123 125 b
+
+low_sets : map by_set (range_with_len 0 126) ≡ map by_ranges (range_with_len 0 126)
+low_sets = refl
+
+by_bit : (b : ℕ) → by_set b ≡ by_ranges b
+by_bit b = elim (cases_lt b 126) [
+  | inl low ↦ sym (get_or-map-range_with_len by_set 0 126 b b false low (omega arith)) ∙ ap (λ t. get_or t b false) low_sets ∙ get_or-map-range_with_len by_ranges 0 126 b b false low (omega arith)
+  | inr high ↦ high_set (bit_or b 32) (le_or_l b 32) high
+]
+  where
+    high_set : (s : ℕ) → b ≤ s → 126 ≤ b → (leb 123 s && leb s 125) ≡ by_ranges b
+    high_set s le high = grind (arith, nat_tests)
 
 -- ---- the lanes that compare with a byte
 
@@ -55,7 +72,9 @@ text_lane a b c = ap (λ n. top 7 (bit_or n (cond c 255 0))) (or_lane a b) ∙ a
 
 statement_tops : (xs : List ℕ) → map (top 7) (statement_lanes (length xs) xs) ≡ map (is_mark Statement) xs
 statement_tops [] = refl
-statement_tops (x ∷ xs) = rw (statement_lane (x == 10) (leb 34 x) (leb x 41) (leb 123 (bit_or x 32)) (leb (bit_or x 32) 125), statement_tops xs) refl
+statement_tops (x ∷ xs) =
+    rw (statement_lane (x == 10) (leb 34 x) (leb x 41) (leb 123 (bit_or x 32)) (leb (bit_or x 32) 125), by_bit x, statement_tops xs)
+    (ap (λ b. b ∷ map (is_mark Statement) xs) (sym (or_assoc (x == 10 || is_in_range 34 41 x) (is_in_range 91 93 x) (is_in_range 123 125 x))))
 
 text_tops : (xs : List ℕ) → map (top 7) (text_lanes (length xs) xs) ≡ map (is_mark Text) xs
 text_tops [] = refl

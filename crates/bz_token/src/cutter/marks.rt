@@ -22,27 +22,6 @@ pub enum Stretch {
     Text,
 }
 
-// The bytes that may change something in a statement.
-#[rattlefmt::skip]
-static STATEMENT: [bool; 256] = [
-    false, false, false, false, false, false, false, false, false, false, true, false, false, false, false, false,
-    false, false, false, false, false, false, false, false, false, false, false, false, false, false, false, false,
-    false, false, true, true, true, true, true, true, true, true, false, false, false, false, false, false,
-    false, false, false, false, false, false, false, false, false, false, false, false, false, false, false, false,
-    false, false, false, false, false, false, false, false, false, false, false, false, false, false, false, false,
-    false, false, false, false, false, false, false, false, false, false, false, true, true, true, false, false,
-    false, false, false, false, false, false, false, false, false, false, false, false, false, false, false, false,
-    false, false, false, false, false, false, false, false, false, false, false, true, true, true, false, false,
-    false, false, false, false, false, false, false, false, false, false, false, false, false, false, false, false,
-    false, false, false, false, false, false, false, false, false, false, false, false, false, false, false, false,
-    false, false, false, false, false, false, false, false, false, false, false, false, false, false, false, false,
-    false, false, false, false, false, false, false, false, false, false, false, false, false, false, false, false,
-    false, false, false, false, false, false, false, false, false, false, false, false, false, false, false, false,
-    false, false, false, false, false, false, false, false, false, false, false, false, false, false, false, false,
-    false, false, false, false, false, false, false, false, false, false, false, false, false, false, false, false,
-    false, false, false, false, false, false, false, false, false, false, false, false, false, false, false, false,
-];
-
 // Whether the byte may change something there. In a statement these are newlines, quotes, brackets, backslashes and what
 // is beside these: `#`, and `$`, `%`, `&` and `|`, which change nothing.
 #[inline(always)]
@@ -50,7 +29,7 @@ fn is_mark(stretch: Stretch, b: u8) -> bool
     ensures { result ≡ is_mark stretch b }
 {
     match stretch {
-        Stretch::Statement => STATEMENT[usize::from(b)],
+        Stretch::Statement => { matches!(b, b'\n' | b'"'..=b')' | b'['..=b']' | b'{'..=b'}') }
         Stretch::Text => b == b'"' || b == b'\n' || b == b'\\',
     }
 }
