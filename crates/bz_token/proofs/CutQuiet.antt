@@ -1,5 +1,5 @@
 -- Bytes that leave the walk where it is.
-use Rattle.std.proofs.Common.{◌≡◌, ℕ, ◌+◌, ◌<◌, ◌==◌, ◌||◌, ◌&&◌, List, [], ◌∷◌, ◌++◌, Bool, true, false, not, cond, take, drop, length, get_or, refl, sym, ap, ◌∙◌, arith, drop-drop, drop-cons, suc, zero, true≢false, inl, inr, length-drop}
+use Rattle.std.proofs.Common.{◌≡◌, ℕ, ◌+◌, ◌<◌, ◌==◌, ◌||◌, ◌&&◌, List, [], ◌∷◌, ◌++◌, Bool, true, false, not, cond, take, drop, length, get_or, refl, sym, ap, ◌∙◌, arith, drop-drop, drop-cons, suc, zero, true≢false, inl, inr, length-drop, ◌⊎◌}
 use Rattle.std.specs.Prelude.{if◌then◌else◌}
 use Rattle.std.specs.List.{prefix_len}
 use Rattle.std.proofs.lemmas.Bool.{and_parts, not-true, cases_Bool, eqb-true}
@@ -10,13 +10,13 @@ use Rattle.bz_token.specs.declared.cutter.scan.LineKind.TheVariants.{Statement}
 use Rattle.bz_token.specs.declared.cutter.scan.Quote.{Quote}
 use Rattle.bz_token.specs.declared.cutter.scan.Quote.TheVariants.{Double}
 use Rattle.bz_token.specs.declared.cutter.scan.CutState.{CutState}
-use Rattle.bz_token.specs.declared.cutter.scan.CutState.TheVariants.{Plain, Comment, Opened, OpenedTwice, Short}
+use Rattle.bz_token.specs.declared.cutter.scan.CutState.TheVariants.{Plain, Comment, Opened, OpenedTwice, Short, Long, LongQuote}
 use Rattle.bz_token.specs.declared.cutter.scan.Scan.{Scan}
 use Rattle.bz_token.specs.private.Scans.{is_plain}
 use Rattle.bz_token.specs.declared.cutter.marks.Stretch.{Stretch}
 use Rattle.bz_token.specs.declared.cutter.marks.Stretch.TheVariants.{Text}
 use Rattle.bz_token.specs.private.Marks.{passes}
-use Rattle.bz_token.specs.private.CutSteps.{byte_of, at, outside, in_short, next, run, IsSame}
+use Rattle.bz_token.specs.private.CutSteps.{byte_of, at, outside, in_short, in_long, next, run, IsSame}
 use Rattle.bz_token.proofs.CutMachine.{run_append}
 
 -- a run of bytes of which each leaves the walk as it is
@@ -83,6 +83,13 @@ short_same q d k b h =
     let quoted = and_parts (not (b == byte_of q)) (not (b == 10)) backslash.0 in
     past (b == byte_of q) s _ _ (not-true _ quoted.0) (past (b == 10) s _ _ (not-true _ quoted.1) (past (b == 92) s _ _ (not-true _ backslash.1) refl))
 
+long_same : (q : Quote) (d : ℕ) (k : LineKind) (b : ℕ) → is_plain (byte_of q) b ≡ true → in_long (LongQuote q) q d k b ≡ at (Long q) d k
+long_same q d k b h =
+    let s : Scan = at (Long q) d k in
+    let backslash = and_parts (not (b == byte_of q) && not (b == 10)) (not (b == 92)) h in
+    let quoted = and_parts (not (b == byte_of q)) (not (b == 10)) backslash.0 in
+    past (b == byte_of q) s _ _ (not-true _ quoted.0) (past (b == 92) s _ _ (not-true _ backslash.1) refl)
+
 comment_same : (d : ℕ) (k : LineKind) (b : ℕ) → not (is_newline b) ≡ true → next (at Comment d k) b ≡ at Comment d k
 comment_same d k b h = past (b == 10) (at Comment d k) _ _ (not-true _ h) refl
 
@@ -105,12 +112,18 @@ statement_state s bytes i j e f same = by s.inside s.kind e f
     by : (t : CutState) (k : LineKind) → t ≡ Plain → k ≡ Statement → IsSame (at t s.depth k) bytes i j
     by t k e f = rw (e, f) same
 
--- in a short string and in a comment
+-- in a string and in a comment
 short_run : (s : Scan) (q : Quote) (bs : List ℕ) → s.inside ≡ Short q → run s (take (prefix_len (is_plain (byte_of q)) bs) bs) ≡ s
 short_run s q bs e = by s.inside s.depth s.kind e
   where
     by : (i : CutState) (d : ℕ) (k : LineKind) → i ≡ Short q → run (at i d k) (take (prefix_len (is_plain (byte_of q)) bs) bs) ≡ at i d k
     by i d k e = rw e (run_same (at (Short q) d k) (is_plain (byte_of q)) (short_same q d k) bs)
+
+long_run : (s : Scan) (q : Quote) (bs : List ℕ) → s.inside ≡ Long q → run s (take (prefix_len (is_plain (byte_of q)) bs) bs) ≡ s
+long_run s q bs e = by s.inside s.depth s.kind e
+  where
+    by : (i : CutState) (d : ℕ) (k : LineKind) → i ≡ Long q → run (at i d k) (take (prefix_len (is_plain (byte_of q)) bs) bs) ≡ at i d k
+    by i d k e = rw e (run_same (at (Long q) d k) (is_plain (byte_of q)) (long_same q d k) bs)
 
 comment_run : (s : Scan) (bs : List ℕ) → s.inside ≡ Comment → run s (take (prefix_len (λ b. not (is_newline b)) bs) bs) ≡ s
 comment_run s bs e = by s.inside s.depth s.kind e
@@ -118,8 +131,9 @@ comment_run s bs e = by s.inside s.depth s.kind e
     by : (i : CutState) (d : ℕ) (k : LineKind) → i ≡ Comment → run (at i d k) (take (prefix_len (λ b. not (is_newline b)) bs) bs) ≡ at i d k
     by i d k e = rw e (run_same (at Comment d k) (λ b. not (is_newline b)) (comment_same d k) bs)
 
-pub short_same_to : (s : Scan) (q : Quote) (bytes : List ℕ) (i : ℕ) → s.inside ≡ Short q → IsSame s bytes i (i + prefix_len (is_plain (byte_of q)) (drop i bytes))
-short_same_to s q bytes i e = same_taken s bytes i (prefix_len (is_plain (byte_of q)) (drop i bytes)) (short_run s q (drop i bytes) e)
+pub text_same_to : (s : Scan) (q : Quote) (bytes : List ℕ) (i : ℕ) → (s.inside ≡ Short q) ⊎ (s.inside ≡ Long q) → IsSame s bytes i (i + prefix_len (is_plain (byte_of q)) (drop i bytes))
+text_same_to s q bytes i e =
+    same_taken s bytes i (prefix_len (is_plain (byte_of q)) (drop i bytes)) (elim e [ inl short ↦ short_run s q (drop i bytes) short | inr long ↦ long_run s q (drop i bytes) long ])
 
 pub comment_same_to : (s : Scan) (bytes : List ℕ) (i : ℕ) → s.inside ≡ Comment → IsSame s bytes i (i + prefix_len (λ b. not (is_newline b)) (drop i bytes))
 comment_same_to s bytes i e = same_taken s bytes i (prefix_len (λ b. not (is_newline b)) (drop i bytes)) (comment_run s (drop i bytes) e)

@@ -261,7 +261,9 @@ fn same_end(scan: Scan, bytes: &[u8], start: usize) -> usize
             LineKind::Statement => statement_end(scan.depth, bytes, start),
             _ => start,
         },
-        CutState::Short(quote) => start + plain_len(byte_of(quote), &bytes[start..]),
+        CutState::Short(quote) | CutState::Long(quote) => {
+            start + plain_len(byte_of(quote), &bytes[start..])
+        }
         CutState::Comment => start + line_len(&bytes[start..]),
         _ => start,
     }
