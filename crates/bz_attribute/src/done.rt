@@ -51,8 +51,9 @@ impl Done {
         ensures { result ≡ spec.done (Some note) false }
     {
         Done {
+            changed: false,
+            line: None,
             note: Some(note),
-            ..Done::quiet(false)
         }
     }
 

@@ -29,7 +29,7 @@ fn name_in<'a>(parts: &[Part<'a>]) -> Option<&'a str>
 fn begins_with(parts: &[Part<'_>], name: &str) -> bool
     ensures { result ≡ is_text name.now (spec.flat_name (map part_view parts.now)) }
 {
-    name_in(parts).is_some_and(|other| other == name)
+    matches!(name_in(parts), Some(other) if other == name)
 }
 
 /// Where the first argument of a name begins among the parts of a rule, after the comments above it. Of other parts, the

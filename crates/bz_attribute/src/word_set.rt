@@ -48,15 +48,11 @@ impl<'a> WordSet<'a> {
         if self.labels.are_of(home) {
             return self.labels.contains(value);
         }
-        self.words
-            .iter()
-            .any(|word| is_same(home, value, word.as_str()))
+        for word in self.words {
+            if same_label(home, value, Bytes::Plain(word.as_str().as_bytes())) {
+                return true;
+            }
+        }
+        false
     }
-}
-
-fn is_same(home: &Package, value: Bytes<'_>, word: &str) -> bool
-    requires { IsTrue (is_good value) }
-    ensures { result ≡ same home.now (left value.entry) word.now }
-{
-    same_label(home, value, Bytes::Plain(word.as_bytes()))
 }

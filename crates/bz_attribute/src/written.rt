@@ -28,9 +28,8 @@ pub fn push_string(alloc: Global, value: &str, written: &mut Parts<'_>) -> Resul
     ensures { OnOk result (map part_view written.new.items
         ≡ map part_view written.old.items ++ a_token StringKind (quoted value.now) ∷ []) }
 {
-    let bump = *written.allocator();
-    let literal = alloc_str(bump, quote(alloc, value)?.as_str())?;
-    push(written, Part::Token(Kind::String, literal))
+    let literal = quote(alloc, value)?;
+    push_token(Kind::String, literal.as_str(), written)
 }
 
 /// Appends an element that is a string. `Err`: memory was refused, and its literal may have been appended.

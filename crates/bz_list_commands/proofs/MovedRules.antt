@@ -1,6 +1,7 @@
 -- What `move` makes of a rule: elements go, and then come to another list.
 use Rattle.std.proofs.Common.{◌≡◌, ℕ, List, [], ◌∷◌, ◌++◌, Bool, true, false, if◌then◌else◌, Option, Some, None, is_some, filter, length, take, refl, ap, sym, ◌∙◌, arith, append-nil, take-append-drop}
 use Rattle.std.specs.List.{list_all, flat_map}
+use Rattle.std.proofs.lemmas.Bool.{false≢true}
 use Rattle.std.proofs.lemmas.List.{drop_all}
 use Rattle.bz_tree.specs.Rows.{RowPart, parts_of, segs_parts}
 use Rattle.bz_tree.specs.Tree.{Item, Segment, Statement, segs_of}
@@ -20,7 +21,7 @@ use Rattle.bz_attribute.specs.declared.edit.Edit.{Edit}
 use Rattle.bz_attribute.specs.declared.place.Place.{Place}
 use Rattle.bz_attribute.proofs.EditedAt.{none_first, with_args_at}
 use Rattle.bz_attribute.proofs.EditedRules.{row_after, rule_with, with_args_twice}
-use Rattle.bz_attribute.proofs.RowEdits.{changed, unchanged}
+use Rattle.bz_attribute.proofs.RowEdits.{changed}
 use Rattle.bz_list_commands.specs.declared.arrivals.Lists.{Lists}
 use Rattle.bz_list_commands.specs.private.ListPlaces.{HasNoListPart, HaveArrivals, IsListAt, IsTarget, parts_at}
 use Rattle.bz_list_commands.specs.private.StringEdits.{changes, become_all, is_meant}
@@ -91,9 +92,13 @@ tells : (home : Package) (old : List ℕ) (chosen : Moved) (p : Option (List ℕ
     → gone.done.changed ≡ b → IsRuleRow s r ps → moves home old chosen r.args ≡ b
 tells home old chosen p s r ps one gone b same edit is h = sym (told_first home chosen p (first_named old r.args) same) ∙ sym (ap (λ (d : Done). d.changed) (edit.done s r h)) ∙ is
 
-pub not_moved : (home : Package) (old new : List ℕ) (chosen : Moved) (p : Option (List ℕ) → Bool) (ps one : List RowPart) (gone e : Edit) → is_meant p ≡ is_chosen home chosen → IsRowEdit (gone_from old p) (told_gone old p) ps one gone → gone.done.changed ≡ false
-    → e ≡ record { done = done None false; place = record { from = 0; to = 0 } } → IsRowEdit (λ x0. if moves home old chosen x0 then moved home old new chosen x0 else x0) (λ args. done None (moves home old chosen args)) ps one e
-not_moved home old new chosen p ps one gone e same edit quiet is = unchanged _ _ ps one (done None false) e is refl (λ s r h. ap (done None) (sym (tells home old chosen p s r ps one gone false same edit quiet h)))
+pub not_moved : (home : Package) (old new : List ℕ) (chosen : Moved) (p : Option (List ℕ) → Bool) (ps one : List RowPart) (gone : Edit) → is_meant p ≡ is_chosen home chosen → IsRowEdit (gone_from old p) (told_gone old p) ps one gone → gone.done.changed ≡ false
+    → IsRowEdit (λ x0. if moves home old chosen x0 then moved home old new chosen x0 else x0) (λ args. done None (moves home old chosen args)) ps one gone
+not_moved home old new chosen p ps one gone same edit quiet = record {
+  within = edit.within;
+  parts = λ s r h changed. absurd (false≢true (sym quiet ∙ changed));
+  done = λ s r h. edit.done s r h ∙ ap (done None) (told_first home chosen p (first_named old r.args) same);
+}
 
 pub has_moved : (home : Package) (old new : List ℕ) (chosen : Moved) (p : Option (List ℕ) → Bool) (at : Lists) (ps one left out : List RowPart) (places : List Place) (gone e : Edit) → is_meant p ≡ is_chosen home chosen
     → IsRowEdit (gone_from old p) (told_gone old p) ps one gone → gone.done.changed ≡ true → left ≡ replaced_at gone.place one ps

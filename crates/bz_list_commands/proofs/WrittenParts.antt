@@ -1,6 +1,6 @@
 -- Parts that are written anew, where some places of them make way.
-use Rattle.std.proofs.Common.{◌≡◌, ℕ, ◌+◌, ◌-◌, ◌≤◌, List, [], ◌++◌, Bool, true, false, ◌||◌, Option, None, Some, is_some, length, map, take, drop, ap, sym, ◌∙◌, arith, rules, append_assoc, append-nil, take-add, drop-drop}
-use Rattle.std.specs.Prelude.{Result, Ok, Err, IfOk}
+use Rattle.std.proofs.Common.{◌≡◌, ℕ, ◌+◌, ◌-◌, ◌≤◌, List, [], ◌++◌, Bool, true, false, ◌||◌, if◌then◌else◌, Option, None, Some, is_some, length, map, take, drop, ap, sym, ◌∙◌, arith, rules, append_assoc, append-nil, take-add, drop-drop}
+use Rattle.std.specs.Prelude.{Result, Ok, Err, IfOk, OnOk, is_ok}
 use Rattle.std.proofs.lemmas.List.{map-append}
 use Rattle.std.proofs.Math.Bool.{or-false}
 use Rattle.std.proofs.Math.Seq.{take-append_seam}
@@ -80,3 +80,8 @@ none_more was b none = sym (ap (λ (c : Bool). was || c) none ∙ or-false was)
 pub ok_as : {T E : Type 0} {P Q : T → Type 0} → ((x : T) → P x → Q x) → (r : Result T E) → IfOk r P → IfOk r Q
 ok_as f (Ok x) p = f x p
 ok_as f (Err e) p = search rules
+
+-- what stands where a call's `Result` is returned as it is
+pub on_ok_by : {T E A Q : Type 0} {x y : A} (z : A) (r : Result T E) → x ≡ (if is_ok r then y else z) → (x ≡ y → Q) → OnOk r Q
+on_ok_by z (Ok t) is f = f is
+on_ok_by z (Err e) is f = search rules

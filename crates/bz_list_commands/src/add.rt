@@ -54,7 +54,6 @@ pub fn add<'a>(
 
 // The elements for the values that are missing in some list parts. Each is looked up in a set of the values before it and
 // of the elements that are among the values: no other element needs to be in it.
-#[tactic(auto, using(crate::proofs::Adding::adding_begins, crate::proofs::Known::known_first))]
 fn write_missing<'s>(
     env: Env<'s>,
     values: &'s [Text],

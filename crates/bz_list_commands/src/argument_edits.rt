@@ -94,8 +94,7 @@ pub fn edit_in<'a>(
     let mut at = place.from;
     let mut written = None;
     while at < front.len() {
-        let next = edit_argument(edit, front, at, &mut written, new)?;
-        at = next;
+        at = edit_argument(edit, front, at, &mut written, new)?;
     }
     match written {
         None => Ok(Edit::none(Done::quiet(false))),

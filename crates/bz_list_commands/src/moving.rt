@@ -105,12 +105,15 @@ fn move_meant<'a>(
 {
     let old = argument_place(parts, change.old);
     let strings = ArgumentEdit::Strings(edit);
-    let gone = edit_in(strings, parts, old, written)?;
-    if !gone.done.changed {
-        return Ok(Edit::none(Done::quiet(false)));
-    }
+    let place = {
+        let gone = edit_in(strings, parts, old, written)?;
+        if !gone.done.changed {
+            return Ok(gone);
+        }
+        gone.place
+    };
     let bump = *written.allocator();
-    let left = replaced(bump, parts, gone.place, written)?;
+    let left = replaced(bump, parts, place, written)?;
     let arriving = arrivals(bump, edit, lists, &*parts)?;
     write_with(change.new, parts, &arriving, &left, written)?;
     Ok(Edit::at(Place {
@@ -169,20 +172,20 @@ fn write_with<'a>(
 {
     written.clear();
     match list_place(left, attr) {
-        ListPlace::NoList => Ok(extend_from_slice(written, left)?),
+        ListPlace::NoList => extend_from_slice(written, left),
         ListPlace::Absent => {
             let place = new_place(left);
             extend_from_slice(written, &left[..place.from])?;
             open_attribute(attr, written)?;
             push_places(parts, elements, written)?;
             close_attribute(written)?;
-            Ok(extend_from_slice(written, &left[place.to..])?)
+            extend_from_slice(written, &left[place.to..])
         }
         ListPlace::At(list) => {
             let end = elements_end(left, list);
             extend_from_slice(written, &left[..end])?;
             push_places(parts, elements, written)?;
-            Ok(extend_from_slice(written, &left[end..])?)
+            extend_from_slice(written, &left[end..])
         }
     }
 }

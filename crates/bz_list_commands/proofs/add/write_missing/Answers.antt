@@ -5,8 +5,9 @@ use Rattle.bz_tree.specs.Rows.{RowPart, part_view, segs_parts}
 use Rattle.bz_tree.specs.Tree.{segs_of}
 use Rattle.bz_attribute.specs.Effects.{string}
 use Rattle.bz_list_commands.specs.Add.{new_elements}
-use Rattle.bz_list_commands.proofs.Adding.{adding_ends, adding_more, adding_none}
+use Rattle.bz_list_commands.proofs.Adding.{adding_begins, adding_ends, adding_more, adding_none}
 use Rattle.bz_list_commands.proofs.Meanings.{one_alone}
+use Rattle.bz_list_commands.proofs.Known.{known_first}
 use Rattle.bz_list_commands.proofs.add.write_missing.Goals as goal
 use Rattle.bz_list_commands.proofs.add.write_missing.Goals.{then-branch+in_ok-push_element, else-branch}
 
@@ -39,3 +40,10 @@ returns-in-len1 c =
     one_alone c.args.values.now c.word-item.result _ (omega (arith, c.in-len1.len_at_least)) (omega (arith, c.in-len1.len_below)) c.word-item.is ∙ ap (λ (v : List ℕ). v ∷ []) (sym c.as_str.ensures) in
     on_ok_weaker c.write_if_missing.result (λ written. λ lists are.
     written lists are ∙ ap (λ (vs : List (List ℕ)). map part_view c.args.written.now.items ++ segs_parts (segs_of (new_elements c.args.env.home.now lists vs))) (sym one)) c.write_if_missing.ensures
+
+pub loop-word-init : goal.loop-word-init
+loop-word-init c = λ lists are.
+    let home = c.args.env.home.now in
+    let values = c.args.values.now in
+    adding_begins home lists values c.in_ok-labels.labels (map part_view c.args.written.now.items)
+    (known_first home lists values c.in_ok-words.words.words.now c.in_ok-labels.labels c.in_ok-words.ensures c.in_ok-labels.ensures.home (c.in_ok-labels.ensures.all lists are))

@@ -17,10 +17,10 @@ loop-at-init c = record {
 
 pub loop-at-preserved : goal.loop-at-preserved
 loop-at-preserved c = record {
-  within = c.in_ok-next.ensures.within.1;
-  up_to = c.in_ok-next.ensures.up_to;
+  within = c.in_ok-at.ensures.within.1;
+  up_to = c.in_ok-at.ensures.up_to;
   left = λ args are.
-      one_edited (edit_by c.args.edit) (changes_by c.args.edit) args _ c.args.place.from c.loop-at.at c.in_ok-next.next _ _ _ _ (c.loop-at.invariant.left args are) (omega (arith, c.loop-at-test.true, length-map (take c.args.place.to c.args.parts.now) part_view)) c.in_ok-next.ensures.edited;
+      one_edited (edit_by c.args.edit) (changes_by c.args.edit) args _ c.args.place.from c.loop-at.at c.in_ok-at.at _ _ _ _ (c.loop-at.invariant.left args are) (omega (arith, c.loop-at-test.true, length-map (take c.args.place.to c.args.parts.now) part_view)) c.in_ok-at.ensures.edited;
 }
 
 pub returns-in-None : goal.returns-in-None

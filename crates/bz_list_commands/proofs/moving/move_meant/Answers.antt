@@ -5,7 +5,6 @@ use Rattle.bz_tree.specs.Rows.{RowPart, part_view}
 use Rattle.bz_attribute.specs.Effects.{done, edit_first, filtered}
 use Rattle.bz_attribute.specs.RowEdits.{IsRowEdit, replaced_at}
 use Rattle.bz_attribute.specs.Rules.{is_named}
-use Rattle.bz_attribute.specs.declared.done.Done.{Done}
 use Rattle.bz_attribute.specs.declared.place.Place.{Place}
 use Rattle.bz_list_commands.specs.private.ListPlaces.{HaveArrivals}
 use Rattle.bz_list_commands.specs.private.StringEdits.{become_all, literal_of, means}
@@ -22,8 +21,7 @@ returns-then-not-gone c moved plain same =
     let named = named_row p (literal_of c.args.edit) c.args.change.old.now c.argument_place-old.result ps one c.in_ok-gone.gone c.in_ok-gone.ensures c.argument_place-old.ensures.place in
     let gone : IsRowEdit (gone_from c.args.change.old.now (means c.args.edit)) (told_gone c.args.change.old.now (means c.args.edit)) (map part_view c.args.parts.now) (map part_view c.edit_in.new.new.items) c.in_ok-gone.gone =
     subst (λ (literal : Option (List ℕ)). IsRowEdit (edit_first (is_named c.args.change.old.now) (filtered (become_all p literal))) (told_gone c.args.change.old.now p) ps one c.in_ok-gone.gone) plain named in
-    not_moved home c.args.change.old.now c.args.change.new.now moved p ps one c.in_ok-gone.gone _ same gone (not-true c.in_ok-gone.gone.done.changed c.if-not-gone.true)
-    (c.none.ensures ∙ ap (λ (d : Done). record { done = d; place = record { from = 0; to = 0 } }) c.quiet.ensures)
+    not_moved home c.args.change.old.now c.args.change.new.now moved p ps one c.in_ok-gone.gone same gone (not-true c.in_ok-gone.gone.done.changed c.if-not-gone.true)
 
 pub returns : goal.returns
 returns c moved plain same =
