@@ -169,8 +169,7 @@ impl<R: Files<File = File>> OnDisk<R> {
             .read(true)
             .write(true)
             .open(&self.files, path)?;
-        file.lock()?;
-        Ok(file)
+        file.lock().and(Ok(file))
     }
 
     /// Closes the file that was made last. Is it at the path, with all that was written? Without

@@ -76,4 +76,9 @@ ends_block-requires-clause-block g c =
     subst (λ l. IsBlock l) front (c.in-Block.ensures.cut newline (take e bytes) after)
 
 pub line-requires-clause-room : goal.line-requires-clause-room
-line-requires-clause-room g c = let e = c.args.line.from in let line = take (c.args.line.end - e) (drop e c.bytes.result.now) in (take e c.args.ahead.now.bytes, c.requires.goes_on.after (some_after c.args.ahead.now e c.args.line.end c.requires.some c.requires.line), omega (arith, c.requires.line.within, length-take e c.args.ahead.now.bytes, length-take (c.args.line.end - e) (drop e c.bytes.result.now)))
+line-requires-clause-room g c =
+    let e = c.args.line.from in
+    let n = c.args.line.end in
+    let bytes = c.args.ahead.now.bytes in
+    let after = c.requires.goes_on.after (some_after c.args.ahead.now e n c.requires.some c.requires.line) in
+    (take e bytes, after, omega (arith, c.requires.line.within, length-take e bytes, length-take (n - e) (drop e c.bytes.result.now)))
