@@ -33,6 +33,5 @@ pub fn read_value(alloc: Global, text: &str) -> Result<Option<String>, NoMemory>
     if !is_at_end(left) {
         return Ok(None);
     }
-    push_str(&mut value, &run[..run.len() - left.rest.len()])?;
-    Ok(Some(value))
+    push_str(&mut value, &run[..run.len() - left.rest.len()]).and(Ok(Some(value)))
 }

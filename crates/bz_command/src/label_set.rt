@@ -41,8 +41,6 @@ impl<'a> LabelSet<'a> {
         ensures err { OnErr result ((other : List ℕ) → spec.has self.new other ≡ spec.has self.old other) }
         ensures home { self.new.home.now ≡ self.old.home.now }
     {
-        let label = Label::new(self.home, text);
-        let new = insert(&mut self.labels, label)?;
-        Ok(new)
+        insert(&mut self.labels, Label::new(self.home, text))
     }
 }

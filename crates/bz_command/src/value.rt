@@ -28,8 +28,7 @@ pub fn quote(alloc: Global, value: &str) -> Result<String, NoMemory>
     for c in value.chars() {
         push_written(&mut text, c)?;
     }
-    push_char(&mut text, '"')?;
-    Ok(text)
+    push_char(&mut text, '"').and(Ok(text))
 }
 
 fn push_written(text: &mut String, c: char) -> Result<(), NoMemory>

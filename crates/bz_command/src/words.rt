@@ -42,7 +42,7 @@ fn keep(words: &mut Vec<Text>, word: String) -> Result<(), NoMemory>
     ensures { OnOk result (words.new.items ≡ words.old.items ++ kept (string_bytes word)) }
 {
     if word.len() > 0 {
-        push(words, Text::from_string(word))?;
+        return push(words, Text::from_string(word));
     }
     Ok(())
 }

@@ -80,7 +80,7 @@ fn make_room(bytes: &mut Vec<u8>, end: usize, most: usize) -> Result<(), NoMemor
     }
     let room = bytes.len() - end;
     if room < most {
-        lengthen(bytes, most - room)?;
+        return lengthen(bytes, most - room);
     }
     Ok(())
 }

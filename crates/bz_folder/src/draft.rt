@@ -87,8 +87,7 @@ impl<D: Folder> Draft<D> {
         self.waiting.clear();
         self.temporary.clear();
         push_str(&mut self.temporary, file)?;
-        push_str(&mut self.temporary, ".buildozer.tmp")?;
-        Ok(())
+        push_str(&mut self.temporary, ".buildozer.tmp")
     }
 
     /// Writes the bytes that wait, in the temporary file, which it makes if need be.

@@ -147,8 +147,7 @@ impl<R: Files<File = File>> OnDisk<R> {
         let there = fs::symlink_metadata(&self.files, path)?;
         if there.is_symlink() {
             let file = self.files.canonicalize(self.alloc, path)?.into_string();
-            require_regular(&fs::symlink_metadata(&self.files, &file)?)?;
-            return Ok(file);
+            return require_regular(&fs::symlink_metadata(&self.files, &file)?).and(Ok(file));
         }
         require_regular(&there)?;
         Ok(from_str(self.alloc, path)?)
@@ -170,8 +169,7 @@ impl<R: Files<File = File>> OnDisk<R> {
             .read(true)
             .write(true)
             .open(&self.files, path)?;
-        file.lock()?;
-        Ok(file)
+        file.lock().and(Ok(file))
     }
 
     /// Closes the file that was made last. Is it at the path, with all that was written? Without

@@ -59,13 +59,12 @@ impl Index {
             ++ (if is_none (option_map (λ text. text.now) asked.entry) then position ∷ [] else [])) }
     {
         match asked {
-            None => push(&mut self.others, position)?,
+            None => push(&mut self.others, position),
             Some(name) => {
                 let place = self.place_for(alloc, name)?;
-                add_named(alloc, &mut self.buckets[place], name, position)?;
+                add_named(alloc, &mut self.buckets[place], name, position)
             }
         }
-        Ok(())
     }
 
     /// The positions of the passes that ask for this name, in order.
@@ -122,6 +121,5 @@ fn add_named(
 {
     let name = from_str(alloc, name)?;
     let positions = entry(named, name)?.or_insert(Vec::new(alloc));
-    push(positions, position)?;
-    Ok(())
+    push(positions, position)
 }

@@ -8,7 +8,7 @@ ghost use Rattle.bz_passes.specs.private.Logs.{kind_of};
 
 use crate::entry::{Entry, EntryKind};
 use crate::texts::Texts;
-use bz_memory::{NoMemory, append, push, reserve};
+use bz_memory::{NoMemory, append, reserve};
 use std::alloc::Global;
 use std::marker::Model;
 
@@ -58,7 +58,7 @@ impl Log {
     {
         reserve(&mut self.parts.kinds, 1)?;
         self.parts.put_text(&entry)?;
-        push(&mut self.parts.kinds, kind_of(&entry))?;
+        self.parts.kinds.push_reserved(kind_of(&entry));
         Ok(())
     }
 
@@ -68,7 +68,7 @@ impl Log {
     {
         reserve(&mut self.parts.kinds, 1)?;
         self.parts.lines.push(line)?;
-        push(&mut self.parts.kinds, EntryKind::Line)?;
+        self.parts.kinds.push_reserved(EntryKind::Line);
         Ok(())
     }
 

@@ -2,7 +2,7 @@
 
 ghost use Rattle.std.specs.Prelude.{◌≡◌, ℕ, List, [], ◌∷◌, ◌++◌, length, ◌==◌, OnOk, OnErr, IfSome, IfNone};
 
-use bz_memory::{NoMemory, extend_from_slice, push, push_str, reserve, reserve_for};
+use bz_memory::{NoMemory, extend_from_slice, push_str, reserve, reserve_for};
 use std::alloc::Global;
 use std::marker::Model;
 
@@ -56,7 +56,7 @@ impl Texts {
     {
         reserve(&mut self.lens, 1)?;
         push_str(&mut self.joined, text)?;
-        push(&mut self.lens, text.len())?;
+        self.lens.push_reserved(text.len());
         Ok(())
     }
 

@@ -1,4 +1,5 @@
 use Rattle.std.proofs.Common.{◌≡◌, ◌∷◌, ◌++◌, true, false, ap, sym, ◌∙◌, arith}
+use Rattle.std.proofs.lemmas.Grind.{common_steps}
 use Rattle.std.specs.List.{flat_map}
 use Rattle.std.specs.Ordering.{is_ne, nat_cmp}
 use Rattle.std.specs.Cmp.Lexicographic.{slice_cmp}
@@ -39,3 +40,6 @@ loop-byte-preserved-in-Plain-b c =
           ∙ sym (fronts_decide c.in-Some.byte c.in-Some-next_in.other (chain_bytes c.loop-byte.a) (chain_bytes c.loop-byte.b) c.in-Plain-Plain.x.now c.in-Plain-Plain.y.now f g c.split_at.result.1.now c.split_at-in-Plain-Plain.result.1.now r s (omega (arith, c.if-byte-other.false)) (c.split_at.ensures.front_len ∙ sym c.split_at-in-Plain-Plain.ensures.front_len) first second c.split_at.ensures.by_index.0 c.split_at-in-Plain-Plain.ensures.by_index.0)
           ∙ c.loop-byte.invariant.same;
     }
+
+pub loop-byte-smaller-in-Plain-b : goal.loop-byte-smaller-in-Plain-b
+loop-byte-smaller-in-Plain-b c = grind (arith, common_steps)

@@ -1,4 +1,5 @@
 use Rattle.std.proofs.Common.{◌≡◌, ◌∙◌, ◌++◌, ◌∷◌, [], ◌-◌, List, ℕ, length, take, string_bytes, encode_utf8, sym, ap, arith}
+use Rattle.std.proofs.lemmas.Grind.{common_steps}
 use Rattle.std.proofs.lemmas.Str.{encode_ascii}
 use Rattle.bz_command.specs.private.ByteSteps.{StandsIn}
 use Rattle.bz_command.proofs.Decoding.{read, start, escaped, before_escape, after_escape, past_escape, past_byte}
@@ -53,3 +54,9 @@ loop-byte-preserved c = record {
   some = rw c.in-Some-next_in.ensures.quotes c.loop-byte.invariant.some;
   ascii = rw c.in-Some-next_in.ensures.quotes c.loop-byte.invariant.ascii;
 }
+
+pub range-requires-2-clause-end_boundary : goal.range-requires-2-clause-end_boundary
+range-requires-2-clause-end_boundary c = grind (arith, common_steps)
+
+pub returns : goal.returns
+returns c = grind (arith, common_steps)

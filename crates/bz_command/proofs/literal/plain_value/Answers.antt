@@ -1,4 +1,5 @@
 use Rattle.std.proofs.Common.{◌≡◌, ◌∙◌, ◌≤◌, ◌<◌, ◌+◌, ◌-◌, ◌++◌, List, ℕ, [], ◌∷◌, get_or, length, true, false, refl, sym, ap, take, arith}
+use Rattle.std.proofs.lemmas.Grind.{common_steps}
 use Rattle.std.specs.List.{list_all}
 use Rattle.std.proofs.lemmas.List.{take_all, take_more}
 use Rattle.bz_command.specs.Values.{is_plain}
@@ -33,3 +34,9 @@ returns-then-last-quote-clause-none c = λ value (q, quotes, rest, plain).
       | then-last-quote-via-then-last-quote w ↦ w.if-last-quote.true is.0
       | then-last-quote-via-else-last-quote+then-not-are_plain w ↦ let clash : true ≡ false = sym is.1 ∙ sym w.are_plain.ensures ∙ w.if-not-are_plain.true in absurd (cc)
     ]
+
+pub returns-in_default-rest-clause-none : goal.returns-in_default-rest-clause-none
+returns-in_default-rest-clause-none c = grind (arith, common_steps)
+
+pub returns-clause-back : goal.returns-clause-back
+returns-clause-back c = grind (arith, common_steps)

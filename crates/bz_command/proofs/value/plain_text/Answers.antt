@@ -1,4 +1,5 @@
-use Rattle.std.proofs.Common.{rules, ◌≡◌, None}
+use Rattle.std.proofs.Common.{rules, ◌≡◌, None, arith}
+use Rattle.std.proofs.lemmas.Grind.{common_steps}
 use Rattle.bz_command.specs.private.ByteSteps.{IsOpened, StandsIn}
 use Rattle.bz_command.proofs.Opened.{if_none, read_whole}
 use Rattle.bz_command.proofs.value.plain_text.Goals as goal
@@ -19,3 +20,6 @@ pub returns-clause-none : goal.returns-clause-none
 returns-clause-none c =
     let stands : StandsIn c.args.text.now c.in_ok-literal.literal = rw c.as_bytes.ensures.value at c.in_ok-literal.ensures.place in
     read_whole c.args.text.now c.in_ok-value.value.now c.in_ok-literal.literal _ _ c.get.result c.utf8.text stands c.in_ok-value.ensures.back c.get.ensures.cases
+
+pub returns-clause-value : goal.returns-clause-value
+returns-clause-value c = grind (arith, common_steps)

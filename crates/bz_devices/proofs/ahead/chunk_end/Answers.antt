@@ -1,4 +1,5 @@
 use Rattle.std.proofs.Common.{◌≤◌, length, subst, arith}
+use Rattle.std.proofs.lemmas.Grind.{common_steps}
 use Rattle.std.proofs.lemmas.Result.{err_from_is_err_and}
 use Rattle.bz_devices.specs.private.AheadSteps.{IsLineAt}
 use Rattle.bz_devices.proofs.Searches.{searches_nothing, searches_then, searches_found, searches_failed}
@@ -76,3 +77,15 @@ loop-next-preserved g c =
       goes_on = c.in_ok-is_end.ensures.goes c.if-is_end.false;
       within = omega (arith, line.line.within, grows c.args.limits.reads c.read_line.new.ahead c.ends_chunk.new.ahead read.pieces read.read);
     }
+
+pub loop-next-smaller : goal.loop-next-smaller
+loop-next-smaller g c = grind (arith, common_steps)
+
+pub ends_chunk-requires-clause-line : goal.ends_chunk-requires-clause-line
+ends_chunk-requires-clause-line g c = c.in_ok-next.ensures.line
+
+pub ends_chunk-requires-clause-few : goal.ends_chunk-requires-clause-few
+ends_chunk-requires-clause-few g c = c.in_ok-next.ensures.searches.few
+
+pub ends_chunk-requires-clause-bound : goal.ends_chunk-requires-clause-bound
+ends_chunk-requires-clause-bound g c = c.in_ok-next.ensures.searches.bound

@@ -1,4 +1,4 @@
-use Rattle.std.proofs.Common.{◌≡◌, ◌<◌, ◌∷◌, ◌++◌, ◌-◌, [], take, drop, length, refl, ap, sym, subst}
+use Rattle.std.proofs.Common.{◌≡◌, ◌<◌, ◌∷◌, ◌++◌, ◌-◌, [], take, drop, length, refl, ap, sym, subst, length-take, arith}
 use Rattle.bz_token.specs.Chunks.{chunks}
 use Rattle.bz_token.specs.Cuts.{IsPart, IsBlock, EndsBefore, ends_in_newline}
 use Rattle.bz_token.specs.CutterState.{IsAfter}
@@ -74,3 +74,11 @@ ends_block-requires-clause-block g c =
     let front = front_line bytes line e n (ap (λ l. take (n - e) (drop e l)) c.bytes.ensures) c.requires.line.after in
     let newline = block_line (ends_in_newline line) (λ f. (c.in-Block.ensures.last f (take e bytes) after).0) in
     subst (λ l. IsBlock l) front (c.in-Block.ensures.cut newline (take e bytes) after)
+
+pub line-requires-clause-room : goal.line-requires-clause-room
+line-requires-clause-room g c =
+    let e = c.args.line.from in
+    let n = c.args.line.end in
+    let bytes = c.args.ahead.now.bytes in
+    let after = c.requires.goes_on.after (some_after c.args.ahead.now e n c.requires.some c.requires.line) in
+    (take e bytes, after, omega (arith, c.requires.line.within, length-take e bytes, length-take (n - e) (drop e c.bytes.result.now)))

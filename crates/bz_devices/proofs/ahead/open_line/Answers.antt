@@ -1,4 +1,5 @@
 use Rattle.std.proofs.Common.{◌≡◌, ◌<◌, ◌+◌, ◌-◌, ◌∷◌, [], length, take, drop, ap, sym, subst, arith}
+use Rattle.std.proofs.lemmas.Grind.{common_steps}
 use Rattle.bz_token.specs.Chunks.{chunks}
 use Rattle.bz_token.specs.Cuts.{IsPart, ends_in_newline}
 use Rattle.bz_token.specs.CutterState.{IsAfter}
@@ -60,3 +61,9 @@ loop-n-preserved c =
           (λ f. subst (λ l. 0 < length l → chunks l ≡ l ∷ []) front (more.last f (take e ahead.bytes) after).1);
       within = at.within;
     }
+
+pub line-requires-clause-room : goal.line-requires-clause-room
+line-requires-clause-room c = grind (arith, common_steps)
+
+pub returns-clause-open : goal.returns-clause-open
+returns-clause-open c = grind (arith, common_steps)

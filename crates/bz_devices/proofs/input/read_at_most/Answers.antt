@@ -11,3 +11,9 @@ returns-in-Ok-clause-read g c =
     let within : n ≤ length c.read.new.buf = c.in-Ok.ensures.within in
     let front : take end c.deref_mut.result.now ≡ take end before = grind (arith, common_steps, c.deref_mut.ensures.value, c.in_ok-make_room.ensures.front, c.make_room.ensures.front) in
     (take n c.read.new.buf, c.in-Ok.ensures.ok, read_after c.deref_mut.result.now (take end before) c.read.new.buf _ _ end n c.make_room.new.bytes.len front (length-take-le end before c.requires.within) within (grind (arith, common_steps)), grind (arith, common_steps), grind (arith, common_steps))
+
+pub returns-in-Ok-clause-within : goal.returns-in-Ok-clause-within
+returns-in-Ok-clause-within g c = grind (arith, common_steps)
+
+pub returns-in-Err-clause-err : goal.returns-in-Err-clause-err
+returns-in-Err-clause-err g c = grind (arith, common_steps)
