@@ -21,17 +21,18 @@ pub fn put_argument(
     ensures nothing { IfOk result (λ put. IsFalse put → out.new.items ≡ out.old.items) }
 {
     match new_of(attr, words, false) {
-        New::Number(word) | New::Constant(word) => put_line(attr, "", word, "", out)?,
-        New::String(word) => put_line(attr, "", quote(alloc, word)?.as_str(), "", out)?,
+        New::Number(word) | New::Constant(word) => put_line(attr, " = ", word, ",", out),
+        New::String(word) => put_line(attr, " = ", quote(alloc, word)?.as_str(), ",", out),
         New::Strings([word]) => {
-            put_line(attr, "[", quote(alloc, word.as_str())?.as_str(), "]", out)?
+            let word = quote(alloc, word.as_str())?;
+            put_line(attr, " = [", word.as_str(), "],", out)
         }
         New::Strings(_) => return Ok(false),
-    }
+    }?;
     Ok(true)
 }
 
-// Writes an argument on a line of its own, whose value is these texts one after another.
+// Writes an argument on a line of its own: its name, and then these texts one after another.
 fn put_line(
     attr: &str,
     left: &str,
@@ -39,16 +40,12 @@ fn put_line(
     right: &str,
     out: &mut Vec<u8>,
 ) -> Result<(), NoMemory>
-    ensures { OnOk result
-        (out.new.items ≡ out.old.items ++ (codes "\n    " ++ (attr.now ++ (codes " = "
-        ++ ((left.now ++ (value.now ++ right.now)) ++ codes ","))))) }
+    ensures { OnOk result (out.new.items ≡ out.old.items ++ (codes "\n    "
+        ++ (attr.now ++ (left.now ++ (value.now ++ right.now))))) }
 {
     extend_from_slice(out, b"\n    ")?;
     extend_from_slice(out, attr.as_bytes())?;
-    extend_from_slice(out, b" = ")?;
     extend_from_slice(out, left.as_bytes())?;
     extend_from_slice(out, value.as_bytes())?;
-    extend_from_slice(out, right.as_bytes())?;
-    extend_from_slice(out, b",")?;
-    Ok(())
+    extend_from_slice(out, right.as_bytes())
 }

@@ -72,10 +72,10 @@ pub fn print_name<'t>(
         return Ok(None);
     };
     let line = match field {
-        Field::Label => print_label(env.home, name, buffer)?,
-        Field::ValueOf(attr) if attr.as_str() == "name" => print_word(env.alloc, name, buffer)?,
+        Field::Label => print_label(env.home, name, buffer),
+        Field::ValueOf(attr) if attr.as_str() == "name" => print_word(env.alloc, name, buffer),
         _ => return Ok(None),
-    };
+    }?;
     Ok(Some(line))
 }
 

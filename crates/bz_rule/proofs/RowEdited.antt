@@ -53,6 +53,13 @@ next_of (Comment Above text) home s r ps is are =
     record { are = are; rule = rule_class s.nodes r is; before = omega (arith, more); same = refl; start = refl; end = refl }
 next_of c home s r ps is are = next_args (args_after c home) s r ps is are
 
+pub slot_after : (c : Command) (home : Package) (s : Statement) → is_edit c ≡ true → Some (rule_after c home s) ≡ after c home (Some s)
+slot_after (Set (ToKind kind)) home s h = refl
+slot_after (Comment Above text) home s h = refl
+slot_after Delete home s h = absurd (false≢true h)
+slot_after (Print fields) home s h = absurd (false≢true h)
+slot_after c home s h = refl
+
 -- where it tells no change, the rule stays
 pub edit_stays : (c : Command) (home : Package) (s : Statement) → is_edit c ≡ true → (done_of c home (Some s)).changed ≡ false → Some s ≡ after c home (Some s)
 edit_stays c home s h quiet = sym ((lawful c home).stays (Some s) quiet)

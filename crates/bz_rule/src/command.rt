@@ -7,7 +7,6 @@ ghost use Rattle.bz_tree.specs.Rows.{part_view};
 ghost use Rattle.bz_attribute.specs.RowEdits.{IsRowEdit};
 ghost use Rattle.bz_rule.specs.Commands as spec;
 ghost use Rattle.bz_rule.specs.OneAttribute.{one_attribute};
-ghost use Rattle.bz_rule.specs.declared.command.Action.TheVariants.{Rename};
 ghost use Rattle.bz_rule.specs.declared.command.CommandFault.TheVariants.{OutOfMemory};
 ghost use Rattle.bz_rule.specs.private.RowEdits.{edits_arguments};
 
@@ -144,18 +143,18 @@ pub(crate) fn read_named(
     ensures { result ≢ Err (CommandFault.OutOfMemory no_memory) → result ≡ spec.named_command name.now words.items }
 {
     let action = match name {
-        "add" => read_add(words)?,
-        "remove" => read_remove(words)?,
-        "set" => read_set(words)?,
-        "set_if_absent" => read_set_if_absent(words)?,
-        "delete" => read_delete(words)?,
-        "rename" => read_rename(words)?,
-        "move" => read_move(words)?,
-        "replace" => read_replace(words)?,
-        "comment" => read_comment(words)?,
-        "print" => read_print(alloc, words)?,
+        "add" => read_add(words),
+        "remove" => read_remove(words),
+        "set" => read_set(words),
+        "set_if_absent" => read_set_if_absent(words),
+        "delete" => read_delete(words),
+        "rename" => read_rename(words),
+        "move" => read_move(words),
+        "replace" => read_replace(words),
+        "comment" => read_comment(words),
+        "print" => read_print(alloc, words),
         _ => return Ok(None),
-    };
+    }?;
     Ok(Some(action))
 }
 
@@ -258,21 +257,6 @@ fn read_print(alloc: Global, words: Vec<Text>) -> Result<Action, CommandFault>
     Ok(Action::Print(Seq::from_vec(fields)))
 }
 
-// `rename` as its command, so that `edit_arguments` needs no answer for it.
-fn rename_argument<'a>(
-    env: Env<'_>,
-    change: Change<'_>,
-    parts: &[Part<'a>],
-    new: &mut Parts<'a>,
-) -> Result<Edit, NoMemory>
-    ensures { IfOk result (IsRowEdit
-        (spec.args_after (Rename change.entry.old.now change.entry.new.now) env.entry.home.now)
-        (spec.args_done (Rename change.entry.old.now change.entry.new.now) env.entry.home.now)
-        (map part_view parts.now) (map part_view new.new.items)) }
-{
-    rename(env.alloc, change.old, change.new, parts, new)
-}
-
 /// What a command makes of the arguments of a rule, by its parts. The new parts go into a list.
 pub(crate) fn edit_arguments<'a>(
     env: Env<'_>,
@@ -290,16 +274,17 @@ pub(crate) fn edit_arguments<'a>(
             remove(env, attributes, values.as_slice(), parts, written)
         }
         Action::Replace(attributes, old, new) => {
-            let (old, new) = (old.as_str(), new.as_str());
+            let old = old.as_str();
+            let new = new.as_str();
             replace(env, attributes, Change { old, new }, parts, written)
         }
         Action::Move(old, new, moved) => {
-            let (old, new) = (old.as_str(), new.as_str());
+            let old = old.as_str();
+            let new = new.as_str();
             move_elements(env, Move { old, new, moved }, parts, written)
         }
         Action::Rename(old, new) => {
-            let (old, new) = (old.as_str(), new.as_str());
-            rename_argument(env, Change { old, new }, parts, written)
+            rename(env.alloc, old.as_str(), new.as_str(), parts, written)
         }
         Action::Set(Setting::ToValues(attr, words)) => {
             set(env.alloc, attr.as_str(), words.as_slice(), parts, written)

@@ -6,10 +6,11 @@ ghost use Rattle.bz_attribute.specs.Effects as spec;
 ghost use Rattle.bz_rule.specs.Commands as commands;
 
 use crate::command::Command;
-use crate::statement_row::{StatementRow, execute};
+use crate::statement_row::{StatementRow, done_unless, execute};
 use bumpalo::Bump;
 use bz_attribute::{Done, Env, Executed, is_rule};
 use bz_command::Package;
+use bz_memory::NoMemory;
 use bz_tree::Stmt;
 use std::alloc::Global;
 
@@ -37,10 +38,22 @@ pub fn apply<'a>(
         return Ok(Done::quiet(false));
     }
     let mut row = Some(StatementRow::of_stmt(alloc, bump, stmt)?);
-    let done = execute(Env { alloc, home }, command, &mut row)?;
+    let done = execute(Env { alloc, home }, command, &mut row);
+    done_unless(put_back(alloc, row, slot), done)
+}
+
+// Puts the tree of a row into a slot. An `Err` leaves the slot as it was.
+fn put_back<'a>(
+    alloc: Global,
+    row: Option<StatementRow<'a>>,
+    slot: &mut Option<Stmt<'a>>,
+) -> Result<(), NoMemory>
+    ensures ok { OnOk result (slot_view slot.new ≡ row.entry) }
+    ensures err { OnErr result (slot_view slot.new ≡ slot_view slot.old) }
+{
     *slot = match row {
         None => None,
-        Some(row) => Some(row.tree(alloc)?),
+        Some(row) => Some(row.into_tree(alloc)?),
     };
-    Ok(done)
+    Ok(())
 }

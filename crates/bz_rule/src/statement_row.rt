@@ -1,6 +1,7 @@
 //! A statement as its row, with the head of the rule that it is: commands put other parts in places of it. bz_engine
 //! makes one of each chunk that it reads, and calls `execute` for each command. `apply` (`slot.rt`) does so for a tree.
 
+ghost use Rattle.std.specs.Result.{result_and};
 ghost use Rattle.std.specs.Prelude.{◌≡◌, ◌++◌, ℕ, List, IfOk, IsOk, OnOk, OnErr, Some, false, true, map, option_map, is_some, string_bytes};
 ghost use Rattle.bz_tree.specs.Tree.{Statement};
 ghost use Rattle.bz_tree.specs.Statement.{class_of};
@@ -158,10 +159,10 @@ impl<'a> StatementRow<'a> {
     }
 
     /// Its tree. `Err`: memory was refused.
-    pub(crate) fn tree(&self, alloc: Global) -> Result<Stmt<'a>, NoMemory>
-        ensures { IfOk result (λ stmt. view stmt ≡ self.now) }
+    pub(crate) fn into_tree(self, alloc: Global) -> Result<Stmt<'a>, NoMemory>
+        ensures { IfOk result (λ stmt. view stmt ≡ self.entry) }
     {
-        let row = &self.row;
+        let row = self.row;
         stmt_of_parts(alloc, row.parts.as_slice(), row.class, row.start, row.end)
     }
 
@@ -214,14 +215,22 @@ impl<'a> StatementRow<'a> {
     {
         let mut new = mem::replace(&mut self.spare, Vec::new(self.bump));
         let edit = edit_rule(env, command, self, &mut new)?;
-        if !edit.done.changed {
-            self.spare = new;
-            return Ok(edit.done);
-        }
-        self.change(env, command, edit.place, &new)?;
+        let changed = if edit.done.changed {
+            self.change(env, command, edit.place, &new)
+        } else {
+            Ok(())
+        };
         self.spare = new;
-        Ok(edit.done)
+        done_unless(changed, Ok(edit.done))
     }
+}
+
+// `put.and(done)`: only here is it proved how what was done is dropped.
+pub(crate) fn done_unless(put: Result<(), NoMemory>, done: Executed) -> Executed
+    ensures { result ≡ result_and put done }
+{
+    put?;
+    done
 }
 
 /// Applies a command to what a slot holds, as `apply` does. An `Err` leaves the slot as it was.

@@ -1,4 +1,5 @@
-use Rattle.std.proofs.Common.{◌≡◌, ◌≤◌, ◌<◌, ◌∷◌, [], ◌++◌, ◌∙◌, ℕ, List, Option, None, Some, option_and_then, option_map, length, get_or, false, ap, refl, sym, arith, rules}
+use Rattle.std.proofs.Common.{◌≡◌, ◌≤◌, ◌<◌, ◌∷◌, [], ◌++◌, ◌∙◌, ℕ, List, Option, None, Some, option_and_then, option_map, length, get_or, false, ap, refl, sym, arith, rules, IfOk}
+use Rattle.std.proofs.lemmas.Result.{IfOk-weaker}
 use Rattle.std.specs.Prelude.{codes}
 use Rattle.bz_token.specs.Common.{map_or}
 use Rattle.bz_tree.specs.Tree.{Segment, Statement}
@@ -10,7 +11,7 @@ use Rattle.bz_attribute.specs.Texts.{home_text}
 use Rattle.bz_attribute.specs.declared.done.Done.{Done}
 use Rattle.bz_attribute_commands.specs.Print.{field_text, list_text, prints, value_text, word_form}
 use Rattle.bz_attribute_commands.proofs.print.print_name.Goals as goal
-use Rattle.bz_attribute_commands.proofs.print.print_name.Goals.{in-Label+in_ok-line-in-Label, in-ValueOf+in_ok-line-in-ValueOf}
+use Rattle.bz_attribute_commands.proofs.print.print_name.Goals.{in-Label, in-ValueOf}
 
 one_field : (fields : List Field) (f : Field) → 1 ≤ length fields → length fields < 2 → f ≡ get_or fields 0 f → fields ≡ f ∷ []
 one_field [] f few more at = absurd (omega arith)
@@ -33,14 +34,14 @@ returns-clause-line c s r is named =
     let home = c.args.env.home.now in
     let fields = c.args.fields.now in
     let name = c.args.name.now in
-    let line = c.match-field.line.now in
     let one = one_field fields c.field-item.result c.in-len1.len_at_least c.in-len1.len_below c.field-item.is in
-    elim c.match-field.branch [
-      | in-Label+in_ok-line-in-Label w ↦
-          let text : line ≡ home_text home ++ name = search rules in
-          one_printed home c.field-item.result fields s r line one is (ap (λ (f : Field). field_text home s r f) w.in-Label.is ∙ ap (option_map (λ (n : List ℕ). home_text home ++ n)) named ∙ ap Some (sym text))
-      | in-ValueOf+in_ok-line-in-ValueOf w ↦
-          let text : line ≡ word_form name = search rules in
+    let told : IfOk c.match-field.branch' (λ line. prints home fields (Some s) ≡ line_alone line.now) = elim c.match-field.branch [
+      | in-Label w ↦
+          rw w.branch'-is (IfOk-weaker w.print_label.result _ _ (λ line text.
+          one_printed home c.field-item.result fields s r line.now one is (ap (λ (f : Field). field_text home s r f) w.in-Label.is ∙ ap (option_map (λ (n : List ℕ). home_text home ++ n)) named ∙ ap Some (sym text))) w.print_label.ensures)
+      | in-ValueOf w ↦
           let field : c.field-item.result ≡ ValueOf (codes "name") = search rules in
-          one_printed home c.field-item.result fields s r line one is (ap (λ (f : Field). field_text home s r f) field ∙ name_told home s r name named ∙ ap Some (sym text))
-    ]
+          rw w.branch'-is (IfOk-weaker w.print_word.result _ _ (λ line text.
+          one_printed home c.field-item.result fields s r line.now one is (ap (λ (f : Field). field_text home s r f) field ∙ name_told home s r name named ∙ ap Some (sym text))) w.print_word.ensures)
+    ] in
+    rw c.in_ok-line.was at told

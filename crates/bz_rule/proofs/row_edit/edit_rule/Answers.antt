@@ -1,11 +1,12 @@
-use Rattle.std.proofs.Common.{◌≡◌, ◌-◌, ◌+◌, ◌∙◌, ◌++◌, ◌≤◌, [], ℕ, List, true, length, map, take, drop, ap, refl, sym, subst, IfOk, rules}
+use Rattle.std.proofs.Common.{◌≡◌, ◌-◌, ◌+◌, ◌∙◌, ◌++◌, ◌≤◌, [], ℕ, List, true, length, map, take, drop, ap, refl, sym, subst, IfOk, rules, arith}
+use Rattle.std.proofs.lemmas.List.{length-drop, length-map}
 use Rattle.std.proofs.lemmas.Result.{IfOk-weaker}
 use Rattle.bz_tree.specs.Tree.{Statement}
 use Rattle.bz_tree.specs.Rows.{RowPart, above, part_view, parts_of}
 use Rattle.bz_token.specs.Common.{map_or}
 use Rattle.bz_attribute.specs.Heads.{HasHead}
 use Rattle.bz_attribute.specs.Rules.{kind_text, rule_of}
-use Rattle.bz_attribute.specs.RowEdits.{replaced_at}
+use Rattle.bz_attribute.specs.RowEdits.{IsWithin, replaced_at}
 use Rattle.bz_attribute.specs.RowPlaces.{IsRuleRow}
 use Rattle.bz_attribute.proofs.Slices.{rest_seen}
 use Rattle.bz_rule.specs.private.RowEdits.{edits_arguments}
@@ -15,6 +16,35 @@ use Rattle.bz_rule.proofs.Below.{after_off, below, first_off, fits_parts, parts_
 use Rattle.bz_rule.proofs.RowEdited.{IsEditOf, arguments_edited, comment_edited, kind_known, some_rule}
 use Rattle.bz_rule.proofs.row_edit.edit_rule.Goals as goal
 use Rattle.bz_rule.proofs.row_edit.edit_rule.Goals.{in-None, in-Some, in-Set-ToKind, in-Comment-Rule-default, in_default, in_default-via-in-Set+in_default, in_default-via-in-Comment+in_default, in_default-via-in_default}
+
+parts_len : (c : goal.In_ok-edit) → length (parts_of c.args.stmt.now) ≡ length c.deref.result.now
+parts_len c = sym (ap length (ap (map part_view) c.deref.ensures.value ∙ c.stmt.invariant.are ∙ ap parts_of c.stmt.view_is)) ∙ length-map c.deref.result.now part_view
+
+-- the place that the command told, behind the comments
+placed : (c : goal.In_ok-edit) → (c.in_ok-edit.edit.place.from ≤ c.in_ok-edit.edit.place.to) × (c.stmt.inside.comments + c.in_ok-edit.edit.place.to ≤ length (parts_of c.args.stmt.now))
+placed c =
+    let s = c.args.stmt.now in
+    let n : ℕ = c.stmt.inside.comments in
+    let items = c.deref.result.now in
+    let rest : List RowPart = map part_view (take (length items - n) (drop n items)) in
+    let are : map part_view items ≡ parts_of s = ap (map part_view) c.deref.ensures.value ∙ c.stmt.invariant.are ∙ ap parts_of c.stmt.view_is in
+    let fits = fits_parts n s (subst (λ (z : Statement). n ≤ length z.before) c.stmt.view_is c.stmt.invariant.below) in
+    let told : IfOk c.match-command.branch' (λ e. IsWithin e.place rest) = elim c.match-command.branch [
+      | in-Set-ToKind w ↦ rw w.branch'-is w.set_kind.ensures.within
+      | in-Comment-Rule-default w ↦ rw w.branch'-is w.comment_rule.ensures.within
+      | in_default w ↦ rw w.branch'-is (IfOk-weaker w.edit_arguments.result _ _ (λ e h. h.within) w.edit_arguments.ensures)
+    ] in
+    let within = rw c.in_ok-edit.was at told in
+    (within.0, omega (arith, within.1, fits, ap length (rest_seen items n), length-drop n (map part_view items), ap length are))
+
+pub overflow_add-edit : goal.overflow_add-edit
+overflow_add-edit c = let p = placed c in omega (arith, parts_len c)
+
+pub overflow_add-edit-2 : goal.overflow_add-edit-2
+overflow_add-edit-2 c = let p = placed c in omega (arith, parts_len c)
+
+pub returns-clause-within : goal.returns-clause-within
+returns-clause-within c = let p = placed c in (omega arith, p.1)
 
 pub returns-clause-edit : goal.returns-clause-edit
 returns-clause-edit c =

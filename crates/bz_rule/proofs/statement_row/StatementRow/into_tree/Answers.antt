@@ -2,7 +2,7 @@ use Rattle.std.proofs.Common.{◌∙◌, ap, map}
 use Rattle.std.proofs.lemmas.Result.{IfOk-weaker}
 use Rattle.bz_tree.specs.Rows.{part_view}
 use Rattle.bz_rule.specs.RowViews.{row_statement, row_value}
-use Rattle.bz_rule.proofs.statement_row.StatementRow.tree.Goals as goal
+use Rattle.bz_rule.proofs.statement_row.StatementRow.into_tree.Goals as goal
 
 pub returns : goal.returns
 returns c =
