@@ -40,7 +40,7 @@ from Never xs = false
 from End xs = is_empty xs
 from Lost xs = false
 
-abbrev naming_item : Naming → Item → Naming
+abbrev pub naming_item : Naming → Item → Naming
 naming_item n (leaf kind text) = named n kind text
 naming_item n (group kind segs one_comma end) = called n kind
 

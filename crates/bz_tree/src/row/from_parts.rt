@@ -188,7 +188,6 @@ impl<'a> Stmt<'a> {
     {
         let mut parts = Vec::new(alloc);
         push_parts(self, &mut parts)?;
-        let stmt = stmt_of_parts(alloc, &parts, self.class, self.start, self.end)?;
-        Ok(stmt)
+        stmt_of_parts(alloc, &parts, self.class, self.start, self.end)
     }
 }

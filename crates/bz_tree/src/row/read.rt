@@ -22,11 +22,11 @@ use bz_token::Token;
 use std::alloc::Global;
 
 // The row of a statement that has a tree.
-fn row_of_tree<'a>(bump: &'a Bump, stmt: &Stmt<'a>) -> Result<Row<'a>, NoMemory>
-    ensures { IfOk result (IsRowOf (view stmt.now)) }
+fn row_of_tree<'a>(bump: &'a Bump, stmt: Stmt<'a>) -> Result<Row<'a>, NoMemory>
+    ensures { IfOk result (IsRowOf (view stmt.entry)) }
 {
     let mut parts = Vec::new(bump);
-    push_parts(stmt, &mut parts)?;
+    push_parts(&stmt, &mut parts)?;
     Ok(Row {
         parts,
         class: stmt.class,
@@ -53,7 +53,7 @@ pub fn read_statement<'a>(
     }
     match parse_tokens(alloc, text, first_line, tokens)? {
         None => Ok(None),
-        Some(stmt) => Ok(Some(row_of_tree(bump, &stmt)?)),
+        Some(stmt) => Ok(Some(row_of_tree(bump, stmt)?)),
     }
 }
 
@@ -78,6 +78,6 @@ pub fn read_text<'a>(
     }
     match parse(alloc, text, first_line, max_depth)? {
         None => Ok(None),
-        Some(stmt) => Ok(Some(row_of_tree(bump, &stmt)?)),
+        Some(stmt) => Ok(Some(row_of_tree(bump, stmt)?)),
     }
 }

@@ -120,27 +120,20 @@ impl<'a> RowWalk<'a> {
         ensures { IfOk result (λ some. then_some some (row_state self.new)
             ≡ comment_next (here_view self.old.top.here) token.now.line token.now.text.now (row_state self.old)) }
     {
-        match self.top.here {
-            Here::Nothing => {
-                push(&mut self.parts, Part::Above(token.text))?;
-                Ok(true)
-            }
-            Here::Comma(end) => {
-                push(&mut self.parts, comment_part(end == token.line, token.text))?;
-                self.top.here = Here::Nothing;
-                Ok(true)
-            }
+        let part = match self.top.here {
             Here::Node(begin, text) => {
-                self.add_last_comment(ends_on(begin, newlines(text), token.line), token.text)
+                let on_line = ends_on(begin, newlines(text), token.line);
+                return self.add_last_comment(on_line, token.text);
             }
-            Here::Ended => {
-                if self.top.kind.is_none() {
-                    return Ok(false);
-                }
-                push(&mut self.parts, Part::Above(token.text))?;
-                Ok(true)
+            Here::Ended if self.top.kind.is_none() => return Ok(false),
+            Here::Comma(end) => {
+                self.top.here = Here::Nothing;
+                comment_part(end == token.line, token.text)
             }
-        }
+            Here::Nothing | Here::Ended => Part::Above(token.text),
+        };
+        push(&mut self.parts, part)?;
+        Ok(true)
     }
 
     // A new bracket is here, in which nothing stands yet. The one around it keeps its marks until the new one closes.

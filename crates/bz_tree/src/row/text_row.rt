@@ -63,23 +63,17 @@ pub(crate) fn row_of_text<'a>(
         if !reader.read()? {
             return Ok(None);
         }
-        first = first.or(first_token(reader.tokens()));
-        last = last_token(reader.tokens()).or(last);
-        if !is_upright(first) {
-            return Ok(None);
-        }
-        if !walk.add_tokens(reader.tokens())? {
+        let tokens = reader.tokens();
+        first = first.or(first_token(tokens));
+        last = last_token(tokens).or(last);
+        if !is_upright(first) || !walk.add_tokens(tokens)? {
             return Ok(None);
         }
     }
-    let Some(first) = first else {
-        return Ok(None);
-    };
-    let Some(last) = last else {
-        return Ok(None);
-    };
-    if !reader.is_complete() {
-        return Ok(None);
+    match (first, last) {
+        (Some(first), Some(last)) if reader.is_complete() => {
+            Ok(walk.finish(first.line, end_line(&last)))
+        }
+        _ => Ok(None),
     }
-    Ok(walk.finish(first.line, end_line(&last)))
 }

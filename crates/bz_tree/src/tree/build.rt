@@ -128,17 +128,18 @@ impl<'a> State<'a> {
         ensures value { IfOk result (λ some. then_some some (state self.new)
             ≡ next (placed token.now) (state self.old)) }
     {
-        match mark_of(token) {
-            Mark::Newline => {}
-            Mark::Plain => self.top.add_leaf(token)?,
-            Mark::Comma => self.top.add_comma(alloc, token)?,
-            Mark::Comment => self.top.walk.add_comment(token.line, token.text)?,
+        let added = match mark_of(token) {
+            Mark::Newline => Ok(()),
+            Mark::Plain => self.top.add_leaf(token),
+            Mark::Comma => self.top.add_comma(alloc, token),
+            Mark::Comment => self.top.walk.add_comment(token.line, token.text),
             Mark::Open(shape) => {
                 let frame = Frame::new(alloc, Some(group_kind(shape, self.top.at)));
-                push(&mut self.outer, mem::replace(&mut self.top, frame))?;
+                push(&mut self.outer, mem::replace(&mut self.top, frame))
             }
             Mark::Close(shape) => return self.close(shape, token),
-        }
+        };
+        added?;
         Ok(true)
     }
 }

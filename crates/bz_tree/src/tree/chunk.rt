@@ -29,16 +29,16 @@ fn plain_statement<'a>(alloc: Global, tokens: &[Token<'a>]) -> Result<Option<Stm
     ensures statement { IfOk result (λ o. IfSome o (λ s. IsPlain (map placed tokens.now) (view s))) }
     ensures none { IfOk result (λ o. IfNone o ((t : Statement) → IsPlain (map placed tokens.now) t → ⊥)) }
 {
+    let Some(end) = counted_end_of(tokens) else {
+        // The condition rules it out.
+        return Ok(None);
+    };
     let Some(seg) = run(alloc, tokens)? else {
         return Ok(None);
     };
     if !accepts(Stage::Statement, &seg.nodes) {
         return Ok(None);
     }
-    let Some(end) = counted_end_of(tokens) else {
-        // The condition rules it out.
-        return Ok(None);
-    };
     let class = class_of(&seg.nodes);
     Ok(Some(Stmt {
         before: seg.before,

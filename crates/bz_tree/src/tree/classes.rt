@@ -49,7 +49,6 @@ pub(crate) fn called(naming: Naming, kind: GroupKind) -> Naming
     }
 }
 
-#[tactic(auto, using(crate::proofs::Rows::RowClass::from_step))]
 fn is_rule(nodes: &[Node<'_>]) -> bool
     ensures { result ≡ is_rule (nodes_view nodes.now) }
 {

@@ -5,68 +5,62 @@ use Rattle.bz_token.specs.Places.{placed}
 use Rattle.bz_tree.specs.Statement.{first_token, last_token}
 use Rattle.bz_tree.specs.private.RowSteps.{row_state, row_run, is_upright}
 use Rattle.bz_tree.proofs.Rows.RowBatches.{goes_on, last_fits, row_of_batches, faulty, indented, stopped, nothing_first, nothing_last, incomplete, unfinished}
+use Rattle.bz_tree.proofs.row.text_row.row_of_text.Goals.{in_default-via-in-Some-Some+else-is_complete, in_default-via-in-Some+in_default, in_default-via-in_default, then-not-is_upright-via-then-not-is_upright, then-not-is_upright-via-else-not-is_upright+in_ok-add_tokens+then-not-branch-2}
 use Rattle.bz_tree.proofs.row.text_row.row_of_text.Goals as goal
 
 pub loop-reader-preserved : goal.loop-reader-preserved
 loop-reader-preserved c =
     let i = c.loop-reader.invariant in
-    let read = c.in_ok-read.ensures.given c.args.first_line c.args.max_depth c.args.text.now i.given i.read (search rules) in
+    let read = c.in_ok-read.ensures.given c.args.first_line c.args.max_depth c.args.text.now i.given i.read c.if-not-branch.false in
     let upright = ap (λ o. is_upright (option_map placed o)) (sym c.or-first.ensures) ∙ sym c.is_upright.ensures ∙ c.if-not-is_upright.false in
     rw (c.or-first.ensures, c.or-last.ensures)
     (goes_on c.args.first_line c.args.max_depth c.args.text.now c.loop-reader.reader c.read.new.self c.loop-reader.walk c.add_tokens.new.self c.loop-reader.first c.loop-reader.last c.first_token.result c.last_token.result i read
-    (λ rest. c.in_ok-add_tokens.ensures.some rest (search rules) ∙ ap (λ ts. row_run (row_state c.loop-reader.walk) (ts ++ rest)) c.tokens-in-loop-reader-2.ensures)
-    (c.first_token.ensures ∙ ap first_token c.tokens.ensures) (c.last_token.ensures ∙ ap last_token c.tokens-in-loop-reader.ensures) upright)
-
-pub end_line-requires : goal.end_line-requires
-end_line-requires c =
-    let i = c.loop-reader.invariant in
-    let are = ((c.is_complete.ensures c.args.first_line c.args.max_depth c.args.text.now i.given i.read).0 (search rules)).1 in
-    last_fits c.args.first_line c.args.max_depth c.args.text.now i.given c.in-Some-last.last are c.requires (sym (ap (option_map placed) c.in-Some-last.is) ∙ i.end_is)
-
-pub returns-clause-row : goal.returns-clause-row
-returns-clause-row c =
-    let i = c.loop-reader.invariant in
-    let are = ((c.is_complete.ensures c.args.first_line c.args.max_depth c.args.text.now i.given i.read).0 (search rules)).1 in
-    row_of_batches c.args.first_line c.args.max_depth c.args.text.now c.loop-reader.reader c.loop-reader.walk c.loop-reader.first c.loop-reader.last c.in-Some.first c.in-Some-last.last c.finish.result c.end_line.result
-    i c.in-Some.is c.in-Some-last.is are c.finish.ensures.row c.finish.ensures.lines c.end_line.ensures
-
-pub returns-clause-none : goal.returns-clause-none
-returns-clause-none c =
-    let done : left c.loop-reader.reader ≡ 0 = search rules in
-    unfinished c.args.first_line c.args.max_depth c.args.text.now c.loop-reader.reader c.loop-reader.walk c.loop-reader.first c.loop-reader.last c.finish.result c.loop-reader.invariant done c.finish.ensures.row
+    (λ rest. c.in_ok-add_tokens.ensures.some rest c.if-not-branch-2.false ∙ ap (λ ts. row_run (row_state c.loop-reader.walk) (ts ++ rest)) c.tokens-tokens.ensures)
+    (c.first_token.ensures ∙ ap first_token c.tokens-tokens.ensures) (c.last_token.ensures ∙ ap last_token c.tokens-tokens.ensures) upright)
 
 pub returns-then-not-branch-clause-none : goal.returns-then-not-branch-clause-none
 returns-then-not-branch-clause-none c =
     let i = c.loop-reader.invariant in
-    faulty c.args.first_line c.args.max_depth c.args.text.now (c.in_ok-read.ensures.fault c.args.first_line c.args.max_depth c.args.text.now i.given i.read (search rules))
+    faulty c.args.first_line c.args.max_depth c.args.text.now (c.in_ok-read.ensures.fault c.args.first_line c.args.max_depth c.args.text.now i.given i.read c.if-not-branch.true)
+
+pub end_line-requires : goal.end_line-requires
+end_line-requires c =
+    let i = c.loop-reader.invariant in
+    let are = ((c.is_complete.ensures c.args.first_line c.args.max_depth c.args.text.now i.given i.read).0 c.if-is_complete.true).1 in
+    last_fits c.args.first_line c.args.max_depth c.args.text.now i.given c.in-Some-Some.last are c.requires (sym (ap (option_map placed) c.in-Some-Some.is-1) ∙ i.end_is)
+
+pub returns-in-Some-Some-clause-row : goal.returns-in-Some-Some-clause-row
+returns-in-Some-Some-clause-row c =
+    let i = c.loop-reader.invariant in
+    let are = ((c.is_complete.ensures c.args.first_line c.args.max_depth c.args.text.now i.given i.read).0 c.if-is_complete.true).1 in
+    row_of_batches c.args.first_line c.args.max_depth c.args.text.now c.loop-reader.reader c.loop-reader.walk c.loop-reader.first c.loop-reader.last c.in-Some-Some.first c.in-Some-Some.last c.finish.result c.end_line.result
+    i c.in-Some-Some.is-0 c.in-Some-Some.is-1 are c.finish.ensures.row c.finish.ensures.lines c.end_line.ensures
+
+pub returns-in-Some-Some-clause-none : goal.returns-in-Some-Some-clause-none
+returns-in-Some-Some-clause-none c =
+    let done : left c.loop-reader.reader ≡ 0 = search rules in
+    unfinished c.args.first_line c.args.max_depth c.args.text.now c.loop-reader.reader c.loop-reader.walk c.loop-reader.first c.loop-reader.last c.finish.result c.loop-reader.invariant done c.finish.ensures.row
+
+pub returns-clause-none : goal.returns-clause-none
+returns-clause-none c =
+    let i = c.loop-reader.invariant in
+    let done : left c.loop-reader.reader ≡ 0 = search rules in
+    elim c.in_default.branch [
+      | in_default-via-in-Some-Some+else-is_complete w ↦
+          incomplete c.args.first_line c.args.max_depth c.args.text.now c.loop-reader.reader c.loop-reader.walk c.loop-reader.first c.loop-reader.last i done (λ are. false≢true (sym w.if-is_complete.false ∙ (w.is_complete.ensures c.args.first_line c.args.max_depth c.args.text.now i.given i.read).1 (done, are)))
+      | in_default-via-in-Some+in_default w ↦ nothing_last c.args.first_line c.args.max_depth c.args.text.now c.loop-reader.reader c.loop-reader.walk c.loop-reader.first c.loop-reader.last i done w.in_default.is-1
+      | in_default-via-in_default w ↦ nothing_first c.args.first_line c.args.max_depth c.args.text.now c.loop-reader.reader c.loop-reader.walk c.loop-reader.first c.loop-reader.last i done w.in_default.is-0
+    ]
 
 pub returns-then-not-is_upright-clause-none : goal.returns-then-not-is_upright-clause-none
 returns-then-not-is_upright-clause-none c =
     let i = c.loop-reader.invariant in
-    let read = c.in_ok-read.ensures.given c.args.first_line c.args.max_depth c.args.text.now i.given i.read (search rules) in
-    let off = ap (λ o. is_upright (option_map placed o)) (sym c.or-first.ensures) ∙ sym c.is_upright.ensures ∙ c.if-not-is_upright.true in
-    indented c.args.first_line c.args.max_depth c.args.text.now c.loop-reader.reader c.read.new.self c.loop-reader.walk c.loop-reader.first c.loop-reader.last c.first_token.result i read (c.first_token.ensures ∙ ap first_token c.tokens.ensures) off
-
-pub returns-in_default-clause-none : goal.returns-in_default-clause-none
-returns-in_default-clause-none c =
-    let done : left c.loop-reader.reader ≡ 0 = search rules in
-    nothing_first c.args.first_line c.args.max_depth c.args.text.now c.loop-reader.reader c.loop-reader.walk c.loop-reader.first c.loop-reader.last c.loop-reader.invariant done c.in_default.is
-
-pub returns-in_default-last-clause-none : goal.returns-in_default-last-clause-none
-returns-in_default-last-clause-none c =
-    let done : left c.loop-reader.reader ≡ 0 = search rules in
-    nothing_last c.args.first_line c.args.max_depth c.args.text.now c.loop-reader.reader c.loop-reader.walk c.loop-reader.first c.loop-reader.last c.loop-reader.invariant done c.in_default-last.is
-
-pub returns-then-not-is_complete-clause-none : goal.returns-then-not-is_complete-clause-none
-returns-then-not-is_complete-clause-none c =
-    let i = c.loop-reader.invariant in
-    let done : left c.loop-reader.reader ≡ 0 = search rules in
-    incomplete c.args.first_line c.args.max_depth c.args.text.now c.loop-reader.reader c.loop-reader.walk c.loop-reader.first c.loop-reader.last i done
-    (λ are. false≢true (sym c.if-not-is_complete.true ∙ (c.is_complete.ensures c.args.first_line c.args.max_depth c.args.text.now i.given i.read).1 (done, are)))
-
-pub returns-then-not-branch-2-clause-none : goal.returns-then-not-branch-2-clause-none
-returns-then-not-branch-2-clause-none c =
-    let i = c.loop-reader.invariant in
-    let read = c.in_ok-read.ensures.given c.args.first_line c.args.max_depth c.args.text.now i.given i.read (search rules) in
-    stopped c.args.first_line c.args.max_depth c.args.text.now c.loop-reader.reader c.read.new.self c.loop-reader.walk c.loop-reader.first c.loop-reader.last i read
-    (λ rest. ap (λ ts. row_run (row_state c.loop-reader.walk) (ts ++ rest)) (sym c.tokens-in-loop-reader-2.ensures) ∙ c.in_ok-add_tokens.ensures.none rest (search rules))
+    let read = c.in_ok-read.ensures.given c.args.first_line c.args.max_depth c.args.text.now i.given i.read c.if-not-branch.false in
+    elim c.then-not-is_upright.branch [
+      | then-not-is_upright-via-then-not-is_upright w ↦
+          let off = ap (λ o. is_upright (option_map placed o)) (sym c.or-first.ensures) ∙ sym c.is_upright.ensures ∙ w.if-not-is_upright.true in
+          indented c.args.first_line c.args.max_depth c.args.text.now c.loop-reader.reader c.read.new.self c.loop-reader.walk c.loop-reader.first c.loop-reader.last c.first_token.result i read (c.first_token.ensures ∙ ap first_token c.tokens-tokens.ensures) off
+      | then-not-is_upright-via-else-not-is_upright+in_ok-add_tokens+then-not-branch-2 w ↦
+          stopped c.args.first_line c.args.max_depth c.args.text.now c.loop-reader.reader c.read.new.self c.loop-reader.walk c.loop-reader.first c.loop-reader.last i read
+          (λ rest. ap (λ ts. row_run (row_state c.loop-reader.walk) (ts ++ rest)) (sym c.tokens-tokens.ensures) ∙ w.in_ok-add_tokens.ensures.none rest w.if-not-branch-2.true)
+    ]

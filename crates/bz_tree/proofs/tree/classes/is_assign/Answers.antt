@@ -1,17 +1,12 @@
-use Rattle.std.proofs.Common.{◌≡◌, rules, ap, sym, ◌∙◌}
-use Rattle.bz_tree.specs.declared.tree.Leaf.{Leaf}
-use Rattle.bz_tree.specs.declared.tree.Node.{Token, the_lemmas}
-use Rattle.bz_tree.specs.Tree.{leaf}
+use Rattle.std.proofs.Common.{ap, sym, ◌∙◌}
 use Rattle.bz_tree.specs.View.{node_view}
 use Rattle.bz_tree.specs.Grammar.{is_assignment}
 use Rattle.bz_tree.specs.Statement.{is_assign}
 use Rattle.bz_tree.proofs.Rows.RowClass.{leaf_assigns}
+use Rattle.bz_tree.proofs.Trees.Walking.{view-Token}
 use Rattle.bz_tree.proofs.tree.classes.is_assign.Goals as goal
-
-view_token : (t : Leaf) → node_view (Token t) ≡ leaf t.kind t.text.now
-view_token t = search (rules, the_lemmas)
 
 pub returns-in-Token : goal.returns-in-Token
 returns-in-Token c =
     c.is_assignment.ensures ∙ ap is_assignment c.token_role.ensures ∙ leaf_assigns c.in-Token.leaf.kind c.in-Token.leaf.text.now
-    ∙ ap is_assign (sym (view_token c.in-Token.leaf)) ∙ ap (λ n. is_assign (node_view n)) (sym c.in-Token.is)
+    ∙ ap is_assign (sym (view-Token c.in-Token.leaf)) ∙ ap (λ n. is_assign (node_view n)) (sym c.in-Token.is)

@@ -1,0 +1,41 @@
+use Rattle.std.proofs.Common.{arith, ◌≡◌, List, [], ◌∷◌, ◌++◌, map, cond, Some, None, option_map, refl, ap, sym, ◌∙◌}
+use Rattle.std.proofs.lemmas.List.{map-append}
+use Rattle.std.proofs.lemmas.Result.{IfOk-from_err}
+use Rattle.bz_tree.specs.declared.tree.Node.{Node}
+use Rattle.bz_tree.specs.declared.tree.owners.Walk.{Walk}
+use Rattle.bz_tree.specs.Tree.{Segment}
+use Rattle.bz_tree.specs.View.{seg_view, texts}
+use Rattle.bz_tree.specs.Owners.{Inside}
+use Rattle.bz_tree.specs.private.Steps.{done, walked}
+use Rattle.bz_tree.proofs.Trees.Views.{view-seg}
+use Rattle.bz_tree.proofs.Trees.Walking.{none_in, some_in}
+use Rattle.bz_tree.proofs.tree.owners.Walk.finish.Goals.{then-not-is_empty+in_ok-push, else-not-is_empty}
+use Rattle.bz_tree.proofs.tree.owners.Walk.finish.Goals as goal
+
+abbrev ended : Walk → List Segment → Inside
+ended w ss = record { segs = ss; trailing = w.trailing; end = texts w.after.items }
+
+no_nodes : (w : Walk) → w.here.nodes.items ≡ [] → done (walked w) ≡ ended w (map seg_view w.segs.items)
+no_nodes w e = rw e refl
+
+nodes : (w : Walk) (x : Node) (xs : List Node) → w.here.nodes.items ≡ x ∷ xs → done (walked w) ≡ ended w (map seg_view w.segs.items ++ seg_view w.here ∷ [])
+nodes w x xs e = rw (view-seg w.here, e) refl
+
+pub returns-then-not-self : goal.returns-then-not-self
+returns-then-not-self c = record { value = ap (λ b. option_map done (cond b (Some (walked c.args.self)) None)) (sym c.if-not-self.true) }
+
+pub returns-in_err-push : goal.returns-in_err-push
+returns-in_err-push c = record { value = IfOk-from_err _ _ c.from_residual.ensures.0 }
+
+pub returns : goal.returns
+returns c =
+    let self = c.args.self in
+    let inside : ended self (map seg_view c.if-not-is_empty.segs.items) ≡ done (walked self) = elim c.if-not-is_empty.branch [
+      | then-not-is_empty+in_ok-push w ↦
+          let some = some_in self.here.nodes.items _ c.is_empty.result (omega (arith, self.here.nodes.ok.0)) c.is_empty.ensures w.if-not-is_empty.true in
+          ap (λ v. ended self (map seg_view v.items)) w.segs-is
+          ∙ (ap (λ ss. ended self ss) (ap (map seg_view) w.in_ok-push.ensures.items ∙ map-append seg_view self.segs.items (self.here ∷ [])) ∙ sym (nodes self some.0 some.1 some.2))
+      | else-not-is_empty w ↦
+          ap (λ v. ended self (map seg_view v.items)) w.segs-is ∙ sym (no_nodes self (none_in _ _ c.is_empty.result (omega (arith, self.here.nodes.ok.0)) c.is_empty.ensures w.if-not-is_empty.false))
+    ] in
+    record { value = ap Some inside ∙ ap (λ b. option_map done (cond b (Some (walked self)) None)) (sym c.if-not-self.false) }
