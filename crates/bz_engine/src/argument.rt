@@ -212,12 +212,12 @@ fn removed_by(command: &Command) -> Option<ListValue<'_>>
     let Action::Remove(Attributes::Named(attr), values) = &command.action else {
         return None;
     };
-    let [value] = values.as_slice() else {
+    let [old] = values.as_slice() else {
         return None;
     };
     Some(ListValue {
         attr: attr.as_str(),
-        value: value.as_str(),
+        value: old.as_str(),
     })
 }
 

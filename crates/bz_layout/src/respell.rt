@@ -56,7 +56,7 @@ pub(crate) fn put_written<T: Append>(kind: Kind, text: &str, out: &mut T) -> Res
 {
     match (kind, text.as_bytes()) {
         (Kind::String, [b'\'', ..]) => put_single(text, out),
-        (Kind::Operator, _) => out.put_short(text),
+        (Kind::Operator | Kind::Integer, _) => out.put_short(text),
         _ => out.put(text),
     }
 }
