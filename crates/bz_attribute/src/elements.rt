@@ -63,7 +63,7 @@ fn is_joint(part: &Part<'_>) -> bool
 {
     match part {
         Part::Token(Kind::Keyword, _) => false,
-        Part::Token(Kind::Operator, text) => *text == "+" || *text == ".",
+        Part::Token(Kind::Operator, text) => matches!(*text, "+" | "."),
         _ => true,
     }
 }

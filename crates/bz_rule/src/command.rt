@@ -274,18 +274,14 @@ pub(crate) fn edit_arguments<'a>(
             remove(env, attributes, values.as_slice(), parts, written)
         }
         Action::Replace(attributes, old, new) => {
-            let old = old.as_str();
-            let new = new.as_str();
+            let (old, new) = (old.as_str(), new.as_str());
             replace(env, attributes, Change { old, new }, parts, written)
         }
         Action::Move(old, new, moved) => {
-            let old = old.as_str();
-            let new = new.as_str();
+            let (old, new) = (old.as_str(), new.as_str());
             move_elements(env, Move { old, new, moved }, parts, written)
         }
-        Action::Rename(old, new) => {
-            rename(env.alloc, old.as_str(), new.as_str(), parts, written)
-        }
+        Action::Rename(old, new) => rename(env.alloc, old.as_str(), new.as_str(), parts, written),
         Action::Set(Setting::ToValues(attr, words)) => {
             set(env.alloc, attr.as_str(), words.as_slice(), parts, written)
         }
