@@ -212,12 +212,20 @@ fn removed_by(command: &Command) -> Option<ListValue<'_>>
     let Action::Remove(Attributes::Named(attr), values) = &command.action else {
         return None;
     };
-    let [old] = values.as_slice() else {
+    let old = one_value(attr, values.as_slice())?;
+    Some(old)
+}
+
+/// The attribute, and the value where there is one alone.
+fn one_value<'c>(attr: &'c Text, values: &'c [Text]) -> Option<ListValue<'c>>
+    ensures { IfSome result (λ one. (one.attr.now ≡ attr.now) × (values.now ≡ one.value.now ∷ [])) }
+{
+    let [value] = values else {
         return None;
     };
     Some(ListValue {
         attr: attr.as_str(),
-        value: old.as_str(),
+        value: value.as_str(),
     })
 }
 
@@ -270,13 +278,8 @@ fn added_by(command: &Command) -> Option<ListValue<'_>>
     let Action::Add(attr, values) = &command.action else {
         return None;
     };
-    let [value] = values.as_slice() else {
-        return None;
-    };
-    Some(ListValue {
-        attr: attr.as_str(),
-        value: value.as_str(),
-    })
+    let new = one_value(attr, values.as_slice())?;
+    Some(new)
 }
 
 /// The argument that the command adds to a rule that has none of its name.
