@@ -7,6 +7,7 @@ ghost use Rattle.bz_tree.specs.Rows.{part_view};
 ghost use Rattle.bz_attribute.specs.RowEdits.{IsRowEdit};
 ghost use Rattle.bz_rule.specs.Commands as spec;
 ghost use Rattle.bz_rule.specs.OneAttribute.{one_attribute};
+ghost use Rattle.bz_rule.specs.declared.command.Action.TheVariants.{Rename};
 ghost use Rattle.bz_rule.specs.declared.command.CommandFault.TheVariants.{OutOfMemory};
 ghost use Rattle.bz_rule.specs.private.RowEdits.{edits_arguments};
 
@@ -257,6 +258,21 @@ fn read_print(alloc: Global, words: Vec<Text>) -> Result<Action, CommandFault>
     Ok(Action::Print(Seq::from_vec(fields)))
 }
 
+// `rename` as its command, so that `edit_arguments` needs no answer for it.
+fn rename_argument<'a>(
+    env: Env<'_>,
+    change: Change<'_>,
+    parts: &[Part<'a>],
+    new: &mut Parts<'a>,
+) -> Result<Edit, NoMemory>
+    ensures { IfOk result (IsRowEdit
+        (spec.args_after (Rename change.entry.old.now change.entry.new.now) env.entry.home.now)
+        (spec.args_done (Rename change.entry.old.now change.entry.new.now) env.entry.home.now)
+        (map part_view parts.now) (map part_view new.new.items)) }
+{
+    rename(env.alloc, change.old, change.new, parts, new)
+}
+
 /// What a command makes of the arguments of a rule, by its parts. The new parts go into a list.
 pub(crate) fn edit_arguments<'a>(
     env: Env<'_>,
@@ -281,7 +297,10 @@ pub(crate) fn edit_arguments<'a>(
             let (old, new) = (old.as_str(), new.as_str());
             move_elements(env, Move { old, new, moved }, parts, written)
         }
-        Action::Rename(old, new) => rename(env.alloc, old.as_str(), new.as_str(), parts, written),
+        Action::Rename(old, new) => {
+            let (old, new) = (old.as_str(), new.as_str());
+            rename_argument(env, Change { old, new }, parts, written)
+        }
         Action::Set(Setting::ToValues(attr, words)) => {
             set(env.alloc, attr.as_str(), words.as_slice(), parts, written)
         }

@@ -12,9 +12,6 @@ returns-in-Replace c = rw c.in-Replace.is (rw (c.as_str-old.ensures, c.as_str-ne
 pub returns-in-Move : goal.returns-in-Move
 returns-in-Move c = rw c.in-Move.is (rw (c.as_str-old-in-Move.ensures, c.as_str-new-in-Move.ensures) at c.move_elements.ensures)
 
-pub returns-in-Rename : goal.returns-in-Rename
-returns-in-Rename c = rw c.in-Rename.is (rw (c.as_str-in-Rename.ensures, c.as_str-in-Rename-2.ensures) at c.rename.ensures)
-
 pub returns-in-SetIfAbsent : goal.returns-in-SetIfAbsent
 returns-in-SetIfAbsent c = rw c.in-SetIfAbsent.is (rw (c.as_str-in-SetIfAbsent.ensures, c.as_slice-in-SetIfAbsent.ensures) at c.set_if_absent.ensures)
 
