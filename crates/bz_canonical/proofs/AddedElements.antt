@@ -12,7 +12,7 @@ use Rattle.bz_canonical.proofs.GroupSegments.{or_no}
 pub search_none : (home : Package) (word : List ℕ) (lines : Bool) (text : List ℕ) → AreSearched home word lines text text false false false
 search_none home word lines text = record { written = []; broken = false; passed = passed_none lines text; equal_is = refl; same = λ no. refl }
 
-has_one_more : (home : Package) (word : List ℕ) (es : List Element) (e : Element) (k d : Bool) → k ≡ have_word home word es → d ≡ is_word home word e.token → (k || d) ≡ have_word home word (es ++ e ∷ [])
+pub has_one_more : (home : Package) (word : List ℕ) (es : List Element) (e : Element) (k d : Bool) → k ≡ have_word home word es → d ≡ is_word home word e.token → (k || d) ≡ have_word home word (es ++ e ∷ [])
 has_one_more home word es e k d some more =
     (λ i. some i || (more ∙ sym (or_no (is_word home word e.token))) i) ∙ sym (list_any-append (λ (x : Element). is_word home word x.token) es (e ∷ []))
 

@@ -104,13 +104,13 @@ list_written one value (e ∷ es) is =
 
 -- the argument of these lines
 
-head_front : (attr text inside : List ℕ) → (h : IsHeadRead attr text (91 ∷ inside) true) → text ≡ (bytes_of (comments 1 h.notes) ++ (10 ∷ (indent 1 ++ (h.word ++ codes " = [")))) ++ inside
+pub head_front : (attr text inside : List ℕ) → (h : IsHeadRead attr text (91 ∷ inside) true) → text ≡ (bytes_of (comments 1 h.notes) ++ (10 ∷ (indent 1 ++ (h.word ++ codes " = [")))) ++ inside
 head_front attr text inside h = h.front ∙ start (bytes_of (comments 1 h.notes))
   where
     start : (C : List ℕ) → C ++ (10 ∷ (indent 1 ++ (h.word ++ (codes " = " ++ (91 ∷ inside))))) ≡ (C ++ (10 ∷ (indent 1 ++ (h.word ++ codes " = [")))) ++ inside
     start C = simp append_assoc
 
-abbrev list_told : (depth : ℕ) (attr text inside end w written : List ℕ) (one b : Bool) → 1 < depth → IsHeadRead attr text (91 ∷ inside) true → AreElementsRead inside end w one b → IsLast end → written ≡ take (length text - length inside) text ++ w
+abbrev pub list_told : (depth : ℕ) (attr text inside end w written : List ℕ) (one b : Bool) → 1 < depth → IsHeadRead attr text (91 ∷ inside) true → AreElementsRead inside end w one b → IsLast end → written ≡ take (length text - length inside) text ++ w
     → IsListTold depth attr text end written one
 list_told depth attr text inside end w written one b deep h t last written_is =
     let d : ℕ = depth - 1 in
@@ -162,7 +162,7 @@ value_present depth home attr value text list f there args reads =
       present = ap (adds home (value ∷ [])) first ∙ ap (λ (ss : List Segment). not (is_empty ss)) (new_is home value f.found.read.elements true (sym there ∙ f.found.equal_is));
     })
 
-chooses_is : (home : Package) (attr value word : List ℕ) (notes : List (List ℕ)) (es : List Element) (suffix : Option (List ℕ)) → bytes_eq attr word ≡ true
+pub chooses_is : (home : Package) (attr value word : List ℕ) (notes : List (List ℕ)) (es : List Element) (suffix : Option (List ℕ)) → bytes_eq attr word ≡ true
     → map_or false (chooses home (Values (value ∷ []))) (first_named attr (list_arg notes word es suffix ∷ [])) ≡ have_word home value es
 chooses_is home attr value word notes es suffix named =
     ap (map_or false (chooses home (Values (value ∷ [])))) (first_is attr word notes es suffix named)

@@ -20,6 +20,8 @@ pub mod AddedElements
 pub mod PutArguments
 pub mod PutRules
 pub mod AddedLines
+pub mod KeptElements
+pub mod RemovedLines
 pub mod CommentedLines
 pub mod UnnamedRules
 pub mod SimpleBlocks

@@ -1,4 +1,5 @@
 pub mod Canonical
 pub mod Added
 pub mod Commented
+pub mod Removed
 pub mod private

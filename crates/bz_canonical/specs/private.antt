@@ -7,4 +7,5 @@ pub mod Statements
 pub mod Rewritten
 pub mod Added
 pub mod Commented
+pub mod Removed
 pub mod Unnamed

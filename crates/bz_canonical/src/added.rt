@@ -112,7 +112,7 @@ fn find_list<'t>(
 }
 
 /// What follows the bracket of the list that is the value of the argument here.
-fn list_of<'t>(text: &'t [u8], attr: &[u8]) -> Option<&'t [u8]>
+pub(crate) fn list_of<'t>(text: &'t [u8], attr: &[u8]) -> Option<&'t [u8]>
     ensures { IfSome result (λ inside. IsHeadRead attr.now text.now (91 ∷ inside.now) true) }
 {
     let read = read_argument_head(text, attr)?;
@@ -154,7 +154,7 @@ fn find_elements<'t>(home: &Package, inside: &'t [u8], value: &str) -> Option<Fo
 
 /// The string equals the value. None: it is not known.
 #[inline(always)]
-fn is_value(home: &Package, token: &[u8], value: &str) -> Option<bool>
+pub(crate) fn is_value(home: &Package, token: &[u8], value: &str) -> Option<bool>
     ensures { IfSome result (λ equal. equal ≡ is_word home.now value.now token.now) }
 {
     if literal_apart(token, value.as_bytes()) {

@@ -165,7 +165,7 @@ pub(crate) struct ReadElement<'t> {
 
 /// Writes an element on lines of its own.
 #[inline(always)]
-fn put_element(read: ReadElement<'_>, written: &mut Vec<u8>) -> Result<(), NoMemory>
+pub(crate) fn put_element(read: ReadElement<'_>, written: &mut Vec<u8>) -> Result<(), NoMemory>
     ensures { OnOk result (written.new.items ≡ written.old.items ++ element_written read.entry) }
 {
     extend_from_slice(written, read.front)?;

@@ -14,8 +14,7 @@ use Rattle.bz_command.specs.Values.{quoted}
 use Rattle.bz_attribute.specs.declared.done.Done.{Done}
 use Rattle.bz_attribute.specs.Effects.{chooses, done, is_chosen, slot_done, with_args}
 use Rattle.bz_attribute.specs.Lists.{equals, parts}
-use Rattle.bz_list_commands.specs.Remove.{removes}
-use Rattle.bz_list_commands.specs.Replace.{is_replaced, replaces, replaces_in}
+use Rattle.bz_list_commands.specs.Replace.{is_replaced, replaces_in}
 use Rattle.bz_attribute.specs.RowPlaces.{LooksAt}
 use Rattle.bz_attribute.specs.Rules.{Rule, first_named, is_text, rule_of, string_value, value}
 use Rattle.std.specs.List.{list_any}
@@ -23,6 +22,9 @@ use Rattle.bz_attribute_commands.specs.Argument.{new_argument}
 use Rattle.bz_canonical.specs.Added.{AddsToLines, LacksInLines}
 use Rattle.bz_canonical.specs.declared.added.Added.{Added}
 use Rattle.bz_canonical.specs.declared.added.Added.TheVariants.{Present, New}
+use Rattle.bz_canonical.specs.Removed.{RemovesFromLines}
+use Rattle.bz_canonical.specs.declared.removed.Removed.{Removed}
+use Rattle.bz_canonical.specs.declared.removed.Removed.TheVariants.{Absent, Gone}
 use Rattle.bz_canonical.specs.Canonical.{AreReadAlone, Between, HasPlace, argument_lines, first_args, rule_args, small_text}
 use Rattle.bz_canonical.proofs.SmallRules.{small_after, small_told}
 use Rattle.bz_rule.specs.declared.command.Action.TheVariants.{Add, Remove, Replace, Set, SetIfAbsent}
@@ -33,7 +35,7 @@ use Rattle.bz_engine.specs.declared.argument.EditedArgument.{EditedArgument}
 use Rattle.bz_engine.specs.declared.argument.EditedArgument.TheVariants.{Unchanged, Lines}
 use Rattle.bz_engine.specs.declared.argument.EditedList.{EditedList}
 use Rattle.bz_engine.specs.declared.argument.EditedList.TheVariants.{Unchanged as Unlisted}
-use Rattle.bz_engine.specs.private.ArgumentEdits.{AddsArgument, AreLinesAfter, ChangesArgs, EditsLines, EditsList, EditsSmallRule, Setting, list_argument, list_edit, set_by, sought_by}
+use Rattle.bz_engine.specs.private.ArgumentEdits.{AddsArgument, AreLinesAfter, ChangesArgs, EditsLines, EditsList, EditsSmallRule, Setting, list_argument, list_edit, removed_edit, set_by}
 use Rattle.bz_engine.specs.private.Found.{Makes, told_line}
 use Rattle.bz_engine.proofs.TextAnswers.{no_args, none_has, stays_by}
 use Rattle.bz_token.specs.Common.{is_empty, map_or}
@@ -93,23 +95,25 @@ none_replaced home old new None none = refl
 none_replaced home old new (Some a) none =
     none_less (list_any (is_replaced home old new)) (list_any (is_chosen home (Values (old ∷ [])))) (λ ss. none_less (is_replaced home old new) (is_chosen home (Values (old ∷ []))) (not_replaced home old new) ss) (parts (value a)) none
 
-abbrev first_word : List (List ℕ) → List ℕ
-first_word [] = []
-first_word (w ∷ ws) = w
+pub leaves_lines : (depth : ℕ) (command : Command) (home : Package) (attr old new lines written : List ℕ) → command ≡ Replace (Named attr) old new → LacksInLines depth home attr old lines → EditsList depth command home lines written Unlisted
+leaves_lines depth command home attr old new lines written is none =
+    subst (λ c. EditsList depth c home lines written Unlisted) (sym is) (λ args reads. ap (done None) (none_replaced home old new (first_named attr args) (none args reads)))
 
-leaves_list : (command : Command) (home : Package) (attr value : List ℕ) (args : List Segment) → sought_by command ≡ Some (record { attr = attr; words = value ∷ [] }) → map_or false (chooses home (Values (value ∷ []))) (first_named attr args) ≡ false
-    → args_done command home args ≡ told_line false None
-leaves_list (Remove (Named a) (v ∷ [])) home attr value args is none =
-    let same : record { attr = a; words = v ∷ [] } ≡ record { attr = attr; words = value ∷ [] } = cc in
-    ap (λ (s : Setting). done None (removes home (Named s.attr) s.words args)) same ∙ ap (done None) none
-leaves_list (Replace (Named a) old new) home attr value args is none =
-    let same : record { attr = a; words = old ∷ [] } ≡ record { attr = attr; words = value ∷ [] } = cc in
-    ap (λ (s : Setting). done None (replaces home (Named s.attr) (first_word s.words) new args)) same ∙ ap (done None) (none_replaced home value new (first_named attr args) none)
-leaves_list _ home attr value args is none = absurd cc
+-- a list from which a value goes
+removes_listed : (depth : ℕ) (home : Package) (attr value lines written : List ℕ) (removed : Removed) → RemovesFromLines depth home attr value lines written removed
+    → EditsList depth (Remove (Named attr) (value ∷ [])) home lines written (removed_edit removed)
+removes_listed depth home attr value lines written Absent removes = λ args reads. ap (done None) (removes args reads)
+removes_listed depth home attr value lines written Gone removes = λ args reads.
+    let is = removes args reads in
+    record { told = ap (done None) is.removed; some = is.some; lines_are = is.lines_are }
 
-pub leaves_lines : (depth : ℕ) (command : Command) (home : Package) (attr value lines written : List ℕ) → sought_by command ≡ Some (record { attr = attr; words = value ∷ [] }) → LacksInLines depth home attr value lines
-    → EditsList depth command home lines written Unlisted
-leaves_lines depth command home attr value lines written is none = λ args reads. leaves_list command home attr value args is (none args reads)
+pub removes_from_list : (depth : ℕ) (command : Command) (home : Package) (attr value lines written : List ℕ) → command ≡ Remove (Named attr) (value ∷ []) → (told : Option Removed) → IfSome told (RemovesFromLines depth home attr value lines written)
+    → (edited : Option EditedList) → option_map removed_edit told ≡ edited → IfSome edited (EditsList depth command home lines written)
+removes_from_list depth command home attr value lines written is told known edited edits = subst (λ o. IfSome o (EditsList depth command home lines written)) edits (by told known)
+  where
+    by : (told : Option Removed) → IfSome told (RemovesFromLines depth home attr value lines written) → IfSome (option_map removed_edit told) (EditsList depth command home lines written)
+    by None known = tt
+    by (Some removed) known = subst (λ c. EditsList depth c home lines written (removed_edit removed)) (sym is) (removes_listed depth home attr value lines written removed known)
 
 list_line : (attr value : List ℕ) → argument_lines (list_argument attr value ∷ []) ≡ codes "\n    " ++ (attr ++ (codes " = [" ++ (quoted value ++ codes "],")))
 list_line attr value = refl

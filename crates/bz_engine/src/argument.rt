@@ -4,17 +4,20 @@
 ghost use Rattle.std.specs.Prelude.{◌≡◌, ◌++◌, ◌∷◌, ℕ, List, [], codes, option_map, string_bytes, IfOk, IfSome, IsTrue, OnOk, Some};
 ghost use Rattle.bz_canonical.specs.Canonical.{argument_lines, small_text};
 ghost use Rattle.bz_rule.specs.OneAttribute.{one_attribute};
+ghost use Rattle.bz_command.specs.declared.arguments.Attributes.TheVariants.{Named};
 ghost use Rattle.bz_command.specs.declared.arguments.Commented.TheVariants.{Attribute};
-ghost use Rattle.bz_rule.specs.declared.command.Action.TheVariants.{Add, Comment};
+ghost use Rattle.bz_rule.specs.declared.command.Action.TheVariants.{Add, Comment, Remove, Replace};
 ghost use Rattle.bz_engine.specs.declared.argument.EditedList.TheVariants.{Unchanged};
-ghost use Rattle.bz_engine.specs.private.ArgumentEdits.{AddsArgument, AreLinesAfter, EditsLines, EditsList, EditsSmallRule, list_argument, list_edit, new_of, set_by, sought_by, sought_of};
+ghost use Rattle.bz_engine.specs.private.ArgumentEdits.{AddsArgument, AreLinesAfter, EditsLines, EditsList, EditsSmallRule, list_argument, list_edit, new_of, removed_edit, set_by};
 
 use crate::edit::ScriptRun;
 use crate::spare::Spare;
 use bz_attribute::Env;
 use bz_attribute_commands::argument::put_argument;
 use bz_attribute_commands::comment::comment_line;
-use bz_canonical::{Added, ListValue, NewComment, lacks, put_added, put_commented};
+use bz_canonical::{
+    Added, ListValue, NewComment, Removed, lacks, put_added, put_commented, put_removed,
+};
 use bz_command::{Attributes, Commented, Setting, quote};
 use bz_memory::{NoMemory, extend_from_slice, push_str};
 use bz_rule::{Action, Command, Done, StatementRow, Text, execute};
@@ -88,9 +91,9 @@ pub(crate) fn execute_on_lines<'s>(
     execute_on_small_rule(script, command, spare)
 }
 
-/// What the command makes of the argument that has these lines, where it adds one value to a list of strings, looks for
-/// one that is not in it, or puts a comment above. None: it may be another command, or another argument; then the
-/// buffer does not count.
+/// What the command makes of the argument that has these lines, where it adds one value to a list of strings, removes
+/// one, replaces one that is not in it, or puts a comment above. None: it may be another command, or another argument;
+/// then the buffer does not count.
 fn execute_on_list(
     script: ScriptRun<'_>,
     command: &Command,
@@ -108,6 +111,10 @@ fn execute_on_list(
         let added = put_added(env, lines, new, script.max_depth, written)?;
         return Ok(list_edit_of(added));
     }
+    if let Some(old) = removed_by(command) {
+        let removed = put_removed(script.home, lines, old, script.max_depth, written)?;
+        return Ok(removed_edit_of(removed));
+    }
     if let Some(comment) = comment_by(command) {
         return execute_comment(script, comment, lines, written);
     }
@@ -117,7 +124,7 @@ fn execute_on_list(
     Ok(None)
 }
 
-/// The command removes or replaces a value that is not in this list.
+/// The command replaces a value that is not in this list.
 fn is_lacking(script: ScriptRun<'_>, command: &Command, lines: &str) -> bool
     ensures { IsTrue result → (written : List ℕ)
         → EditsList script.entry.max_depth command.now script.entry.home.now lines.now written Unchanged }
@@ -126,8 +133,8 @@ fn is_lacking(script: ScriptRun<'_>, command: &Command, lines: &str) -> bool
     if lines.len() > LONGEST {
         return false;
     }
-    match sought_by(command) {
-        Some(sought) => lacks(script.home, lines, sought, script.max_depth),
+    match replaced_by(command) {
+        Some(old) => lacks(script.home, lines, old, script.max_depth),
         None => false,
     }
 }
@@ -138,6 +145,15 @@ fn list_edit_of(added: Option<Added>) -> Option<EditedList>
     match added? {
         Added::Present => Some(EditedList::Unchanged),
         Added::New => Some(EditedList::Written),
+    }
+}
+
+fn removed_edit_of(removed: Option<Removed>) -> Option<EditedList>
+    ensures { option_map removed_edit removed ≡ result }
+{
+    match removed? {
+        Removed::Absent => Some(EditedList::Unchanged),
+        Removed::Gone => Some(EditedList::Written),
     }
 }
 
@@ -176,24 +192,41 @@ fn execute_comment(
     Ok(None)
 }
 
-/// The one value without which the command leaves a list as it is.
-fn sought_by(command: &Command) -> Option<ListValue<'_>>
-    ensures { IfSome result (λ sought. sought_by command.now ≡ Some (sought_of sought)) }
+/// The value that the command replaces.
+fn replaced_by(command: &Command) -> Option<ListValue<'_>>
+    ensures { IfSome result (λ old. (new : List ℕ) × (command.now ≡ Replace (Named old.attr.now) old.value.now new)) }
 {
-    match &command.action {
-        Action::Remove(Attributes::Named(attr), values) => match values.as_slice() {
-            [value] => Some(ListValue {
-                attr: attr.as_str(),
-                value: value.as_str(),
-            }),
-            _ => None,
-        },
-        Action::Replace(Attributes::Named(attr), old, _) => Some(ListValue {
-            attr: attr.as_str(),
-            value: old.as_str(),
-        }),
-        _ => None,
-    }
+    let Action::Replace(Attributes::Named(attr), old, _new) = &command.action else {
+        return None;
+    };
+    Some(ListValue {
+        attr: attr.as_str(),
+        value: old.as_str(),
+    })
+}
+
+/// The one value that the command removes.
+fn removed_by(command: &Command) -> Option<ListValue<'_>>
+    ensures { IfSome result (λ old. command.now ≡ Remove (Named old.attr.now) (old.value.now ∷ [])) }
+{
+    let Action::Remove(Attributes::Named(attr), values) = &command.action else {
+        return None;
+    };
+    let old = one_value(attr, values.as_slice())?;
+    Some(old)
+}
+
+/// The attribute, and the value where there is one alone.
+fn one_value<'c>(attr: &'c Text, values: &'c [Text]) -> Option<ListValue<'c>>
+    ensures { IfSome result (λ one. (one.attr.now ≡ attr.now) × (values.now ≡ one.value.now ∷ [])) }
+{
+    let [value] = values else {
+        return None;
+    };
+    Some(ListValue {
+        attr: attr.as_str(),
+        value: value.as_str(),
+    })
 }
 
 // Where there is no argument to put a comment at, it fails, and its note is told of the rule.
@@ -245,13 +278,8 @@ fn added_by(command: &Command) -> Option<ListValue<'_>>
     let Action::Add(attr, values) = &command.action else {
         return None;
     };
-    let [value] = values.as_slice() else {
-        return None;
-    };
-    Some(ListValue {
-        attr: attr.as_str(),
-        value: value.as_str(),
-    })
+    let new = one_value(attr, values.as_slice())?;
+    Some(new)
 }
 
 /// The argument that the command adds to a rule that has none of its name.

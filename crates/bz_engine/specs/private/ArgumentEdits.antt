@@ -4,15 +4,15 @@ use Rattle.bz_tree.specs.Tree.{Segment, Statement}
 use Rattle.bz_layout.specs.Layout.{layout_text}
 use Rattle.bz_attribute.specs.declared.done.Done.{Done}
 use Rattle.bz_attribute.specs.Effects.{argument, list_item, string}
-use Rattle.bz_command.specs.declared.arguments.Attributes.TheVariants.{Named}
 use Rattle.bz_command.specs.declared.arguments.Setting.TheVariants.{ToValues}
 use Rattle.bz_command.specs.Labels.{Package}
 use Rattle.bz_canonical.specs.Canonical.{AreReadAlone, argument_lines, small_text}
 use Rattle.bz_canonical.specs.declared.added.Added.{Added}
 use Rattle.bz_canonical.specs.declared.added.Added.TheVariants.{Present, New}
-use Rattle.bz_canonical.specs.declared.added.ListValue.{ListValue}
+use Rattle.bz_canonical.specs.declared.removed.Removed.{Removed}
+use Rattle.bz_canonical.specs.declared.removed.Removed.TheVariants.{Absent, Gone}
 use Rattle.bz_rule.specs.Commands.{Command, args_after, args_done}
-use Rattle.bz_rule.specs.declared.command.Action.TheVariants.{Remove, Replace, Set, SetIfAbsent}
+use Rattle.bz_rule.specs.declared.command.Action.TheVariants.{Set, SetIfAbsent}
 use Rattle.bz_engine.specs.declared.argument.EditedArgument.{EditedArgument}
 use Rattle.bz_engine.specs.declared.argument.EditedArgument.TheVariants.{Unchanged as Stays, Lines}
 use Rattle.bz_engine.specs.declared.argument.EditedList.{EditedList}
@@ -67,14 +67,9 @@ abbrev pub list_edit : Added → EditedList
 list_edit Present = Unchanged
 list_edit New = Written
 
--- the attribute and the value without which a command leaves a list as it is
-abbrev pub sought_by : Command → Option Setting
-sought_by (Remove (Named attr) (value ∷ [])) = Some (record { attr = attr; words = value ∷ [] })
-sought_by (Replace (Named attr) old new) = Some (record { attr = attr; words = old ∷ [] })
-sought_by _ = None
-
-abbrev pub sought_of : ListValue → Setting
-sought_of sought = record { attr = sought.attr.now; words = sought.value.now ∷ [] }
+abbrev pub removed_edit : Removed → EditedList
+removed_edit Absent = Unchanged
+removed_edit Gone = Written
 
 -- what stands in the small rule, where this was told
 abbrev pub AreLinesAfter : Done → Option Statement → EditedArgument → Type 0
