@@ -107,13 +107,16 @@ removes_listed depth home attr value lines written Gone removes = λ args reads.
     let is = removes args reads in
     record { told = ap (done None) is.removed; some = is.some; lines_are = is.lines_are }
 
-pub removes_from_list : (depth : ℕ) (command : Command) (home : Package) (attr value lines written : List ℕ) → command ≡ Remove (Named attr) (value ∷ []) → (told : Option Removed) → IfSome told (RemovesFromLines depth home attr value lines written)
-    → (edited : Option EditedList) → option_map removed_edit told ≡ edited → IfSome edited (EditsList depth command home lines written)
-removes_from_list depth command home attr value lines written is told known edited edits = subst (λ o. IfSome o (EditsList depth command home lines written)) edits (by told known)
+pub removes_from_list : (depth : ℕ) (home : Package) (attr value lines written : List ℕ) (told : Option Removed) → IfSome told (RemovesFromLines depth home attr value lines written)
+    → (edited : Option EditedList) → option_map removed_edit told ≡ edited → IfSome edited (EditsList depth (Remove (Named attr) (value ∷ [])) home lines written)
+removes_from_list depth home attr value lines written told known edited edits = subst (λ o. IfSome o (EditsList depth (Remove (Named attr) (value ∷ [])) home lines written)) edits (by told known)
   where
-    by : (told : Option Removed) → IfSome told (RemovesFromLines depth home attr value lines written) → IfSome (option_map removed_edit told) (EditsList depth command home lines written)
+    by : (told : Option Removed) → IfSome told (RemovesFromLines depth home attr value lines written) → IfSome (option_map removed_edit told) (EditsList depth (Remove (Named attr) (value ∷ [])) home lines written)
     by None known = tt
-    by (Some removed) known = subst (λ c. EditsList depth c home lines written (removed_edit removed)) (sym is) (removes_listed depth home attr value lines written removed known)
+    by (Some removed) known = removes_listed depth home attr value lines written removed known
+
+pub lacking_stays : (depth : ℕ) (home : Package) (attr value lines written : List ℕ) → LacksInLines depth home attr value lines → EditsList depth (Remove (Named attr) (value ∷ [])) home lines written Unlisted
+lacking_stays depth home attr value lines written lacking = λ args reads. ap (done None) (lacking args reads)
 
 list_line : (attr value : List ℕ) → argument_lines (list_argument attr value ∷ []) ≡ codes "\n    " ++ (attr ++ (codes " = [" ++ (quoted value ++ codes "],")))
 list_line attr value = refl

@@ -112,8 +112,7 @@ fn execute_on_list(
         return Ok(list_edit_of(added));
     }
     if let Some(old) = removed_by(command) {
-        let removed = put_removed(script.home, lines, old, script.max_depth, written)?;
-        return Ok(removed_edit_of(removed));
+        return execute_remove(script, old, lines, written);
     }
     if let Some(comment) = comment_by(command) {
         return execute_comment(script, comment, lines, written);
@@ -155,6 +154,25 @@ fn removed_edit_of(removed: Option<Removed>) -> Option<EditedList>
         Removed::Absent => Some(EditedList::Unchanged),
         Removed::Gone => Some(EditedList::Written),
     }
+}
+
+/// The same of a value that is removed.
+fn execute_remove(
+    script: ScriptRun<'_>,
+    old: ListValue<'_>,
+    lines: &str,
+    written: &mut Vec<u8>,
+) -> Result<Option<EditedList>, NoMemory>
+    ensures { IfOk result (λ known. IfSome known (EditsList script.entry.max_depth
+        (Remove (Named old.entry.attr.now) (old.entry.value.now ∷ [])) script.entry.home.now lines.now
+        written.new.items)) }
+{
+    // Most lists lack it, and of these nothing has to be written. A long one is gone over once.
+    if lines.len() <= LONGEST && lacks(script.home, lines, old, script.max_depth) {
+        return Ok(Some(EditedList::Unchanged));
+    }
+    let removed = put_removed(script.home, lines, old, script.max_depth, written)?;
+    Ok(removed_edit_of(removed))
 }
 
 /// The comment that the command puts above an attribute.

@@ -1,4 +1,4 @@
-use Rattle.bz_engine.proofs.ArgumentAnswers.{adds_to_list, removes_from_list}
+use Rattle.bz_engine.proofs.ArgumentAnswers.{adds_to_list}
 use Rattle.bz_engine.proofs.argument.execute_on_list.Goals as goal
 
 pub returns-in-Some : goal.returns-in-Some
@@ -7,10 +7,7 @@ returns-in-Some c =
     c.list_edit_of.result c.list_edit_of.ensures
 
 pub returns-in-Some-removed_by : goal.returns-in-Some-removed_by
-returns-in-Some-removed_by c =
-    let old = c.in-Some-removed_by.old in
-    removes_from_list c.args.script.max_depth c.args.command.now c.args.script.home.now old.attr.now old.value.now c.args.lines.now c.put_removed.new.written.items c.in-Some-removed_by.ensures c.in_ok-removed.removed c.in_ok-removed.ensures
-    c.removed_edit_of.result c.removed_edit_of.ensures
+returns-in-Some-removed_by c = rw c.in-Some-removed_by.ensures c.execute_remove.ensures
 
 pub returns-then-is_lacking : goal.returns-then-is_lacking
 returns-then-is_lacking c = c.is_lacking.ensures c.if-is_lacking.true c.args.written.now.items
