@@ -1,12 +1,13 @@
 //! The chunk that a text begins with, where it stands as it would be written.
 
-ghost use Rattle.std.specs.Prelude.{◌≡◌, ◌-◌, ◌<◌, ℕ, List, length, option_map, take, IfOk, IfSome};
+ghost use Rattle.std.specs.Prelude.{◌≡◌, ◌-◌, ◌<◌, ℕ, List, Option, false, length, option_map, take, IfOk, IfSome, IsFalse, IsTrue};
 ghost use Rattle.bz_canonical.specs.Canonical.{IsCanonical, between};
+ghost use Rattle.bz_canonical.specs.private.Rewritten.{IsNamedRule};
 ghost use Rattle.bz_canonical.specs.private.Segments.{AreLinesFront};
 
 use crate::comments::after_comments_above;
 use crate::put_rule::read_rule_head;
-use crate::rewrite::{is_asked, read_asked_chunk, read_rule_chunk};
+use crate::rewrite::{NamedRule, name_in, read_asked_chunk, read_rule_chunk};
 use crate::statement::read_whole_statement;
 use crate::unnamed::{read_unnamed_chunk, read_unnamed_rule};
 use bz_memory::NoMemory;
@@ -21,6 +22,8 @@ pub struct CanonicalChunk<'t> {
     pub written: &'t str,
     /// The class of its statement.
     pub class: Class,
+    /// It is a rule of which nothing is asked.
+    pub left: bool,
     /// The name of a rule. None: it is no rule, or has no name.
     pub name: Option<&'t str>,
     /// The bytes of the kind of a rule without an argument `name`. None: it is not known.
@@ -38,10 +41,14 @@ pub struct ArgumentPlace<'t> {
     pub after: &'t str,
 }
 
-/// Says of which rules the place of an argument is asked for. No contract hangs on it.
+/// Says of which rules something is asked: of those alone the place of an argument.
 pub trait AsksOfRules {
-    /// Whether it is of a rule of this name, or of one without a name.
-    fn asks_of(&self, name: Option<&str>) -> bool;
+    // What is known of a name of which nothing is asked. None: a rule without a name.
+    ghost leaves: { Self → Option (List ℕ) → Type 0 };
+
+    /// Whether something is asked of a rule of this name, or of one without a name.
+    fn asks_of(&self, name: Option<&str>) -> bool
+        ensures { IsFalse result → leaves self.now (option_map (λ text. text.now) name.entry) };
 }
 
 /// The argument whose place is asked for: its name, and of which rules. An empty name: none is asked for.
@@ -72,21 +79,51 @@ pub fn read_canonical<'t, R: AsksOfRules>(
     max_depth: u8,
     written: &'t mut Vec<u8>,
 ) -> Result<Option<CanonicalChunk<'t>>, NoMemory>
-    ensures { IfOk result (λ known. IfSome known (λ found. IsCanonical max_depth asked.entry.attr.now found.class
+    ensures chunk { IfOk result (λ known. IfSome known (λ found. IsCanonical max_depth asked.entry.attr.now found.class
         (option_map (λ name. name.now) found.name) (option_map (λ kind. kind.now) found.kind)
         (option_map between found.place) found.chunk.now found.written.now text.now)) }
+    ensures left { IfOk result (λ known. IfSome known (λ found. IsTrue found.left
+        → R.leaves asked.entry.rules.now (option_map (λ name. name.now) found.name))) }
 {
     if max_depth > DEEPEST {
         return Ok(None);
     }
     let start = after_comments_above(text.as_bytes());
     match read_rule_head(start) {
-        Some(head) if is_asked(text, head, &asked) => {
-            read_asked_chunk(text, head, asked.attr, max_depth, written)
-        }
-        Some(head) => read_rule_chunk(text, head, max_depth, written),
+        Some(head) => match name_in(text, head) {
+            Some(name) => {
+                let rule = NamedRule { text, head, name };
+                read_named_chunk(rule, asked, max_depth, written)
+            }
+            None => Ok(None),
+        },
         None => read_rarer_chunk(text, start, asked, max_depth, written),
     }
+}
+
+/// The same of the rule whose name is on a line of its own.
+#[inline(always)]
+fn read_named_chunk<'t, R: AsksOfRules>(
+    rule: NamedRule<'t>,
+    asked: Lookup<'_, R>,
+    max_depth: u8,
+    written: &'t mut Vec<u8>,
+) -> Result<Option<CanonicalChunk<'t>>, NoMemory>
+    requires depth { max_depth < 254 }
+    requires head { IsNamedRule rule }
+    ensures chunk { IfOk result (λ known. IfSome known (λ found. IsCanonical max_depth asked.entry.attr.now found.class
+        (option_map (λ name. name.now) found.name) (option_map (λ kind. kind.now) found.kind)
+        (option_map between found.place) found.chunk.now found.written.now rule.entry.text.now)) }
+    ensures left { IfOk result (λ known. IfSome known (λ found. IsTrue found.left
+        → R.leaves asked.entry.rules.now (option_map (λ name. name.now) found.name))) }
+{
+    if !asked.rules.asks_of(Some(rule.name)) {
+        return read_rule_chunk(rule, true, max_depth, written);
+    }
+    if asked.attr.is_empty() {
+        return read_rule_chunk(rule, false, max_depth, written);
+    }
+    read_asked_chunk(rule, asked.attr, max_depth, written)
 }
 
 /// The same of what does not begin as a rule whose name is on a line of its own.
@@ -100,9 +137,10 @@ fn read_rarer_chunk<'t, R: AsksOfRules>(
 ) -> Result<Option<CanonicalChunk<'t>>, NoMemory>
     requires depth { max_depth < 254 }
     requires lines { AreLinesFront text.now start.now }
-    ensures { IfOk result (λ known. IfSome known (λ found. IsCanonical max_depth asked.entry.attr.now found.class
+    ensures chunk { IfOk result (λ known. IfSome known (λ found. IsCanonical max_depth asked.entry.attr.now found.class
         (option_map (λ name. name.now) found.name) (option_map (λ kind. kind.now) found.kind)
         (option_map between found.place) found.chunk.now found.written.now text.now)) }
+    ensures left { IfOk result (λ known. IfSome known (λ found. found.left ≡ false)) }
 {
     if asked.asks_of(None) {
         if let Some(rule) = read_unnamed_rule(start, asked.attr, max_depth) {
@@ -117,9 +155,10 @@ fn read_rarer_chunk<'t, R: AsksOfRules>(
 fn read_other_chunk<'t>(text: &'t str, start: &'t [u8], max_depth: u8) -> Option<CanonicalChunk<'t>>
     requires depth { max_depth < 254 }
     requires lines { AreLinesFront text.now start.now }
-    ensures { IfSome result (λ found. (attr : List ℕ) → IsCanonical max_depth attr found.class
+    ensures chunk { IfSome result (λ found. (attr : List ℕ) → IsCanonical max_depth attr found.class
         (option_map (λ name. name.now) found.name) (option_map (λ kind. kind.now) found.kind)
         (option_map between found.place) found.chunk.now found.written.now text.now) }
+    ensures left { IfSome result (λ found. found.left ≡ false) }
 {
     let read = read_whole_statement(text.as_bytes(), start, max_depth)?;
     let chunk = without(text, read.rest.len())?;
@@ -132,6 +171,7 @@ fn read_other_chunk<'t>(text: &'t str, start: &'t [u8], max_depth: u8) -> Option
             name: None,
             kind: read.kind,
             place: None,
+            left: false,
         }),
         Some(bytes) => {
             let Ok(name) = check_utf8(bytes) else {
@@ -144,6 +184,7 @@ fn read_other_chunk<'t>(text: &'t str, start: &'t [u8], max_depth: u8) -> Option
                 name: Some(name),
                 kind: read.kind,
                 place: None,
+                left: false,
             })
         }
     }

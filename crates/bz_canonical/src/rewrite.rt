@@ -1,89 +1,83 @@
 //! The rule that a text begins with, as a chunk.
 
-ghost use Rattle.std.specs.Prelude.{◌≡◌, ◌-◌, ◌<◌, ℕ, List, length, take, option_map, if◌then◌else◌, IfOk, IfSome};
+ghost use Rattle.std.specs.Prelude.{◌≡◌, ◌-◌, ◌<◌, ℕ, List, false, length, take, option_map, if◌then◌else◌, IfOk, IfSome};
 ghost use Rattle.bz_canonical.specs.Canonical.{IsCanonical, between};
-ghost use Rattle.bz_canonical.specs.private.Rewritten.{IsPutPlaceIn, IsRuleHead, IsRuleRead, put_ends};
+ghost use Rattle.bz_canonical.specs.private.Rewritten.{IsNamedChunk, IsNamedRule, IsPutPlaceIn, IsRuleHead, IsRuleRead, put_ends};
 
-use crate::chunk::{ArgumentPlace, AsksOfRules, CanonicalChunk, Lookup, without};
+use crate::chunk::{ArgumentPlace, CanonicalChunk, without};
 use crate::put_arguments::PutPlace;
 use crate::put_rule::{PutRule, RuleHead, put_asked_rule, put_rule};
 use bz_memory::NoMemory;
 use bz_token::check_utf8;
 use bz_tree::Class;
 
-/// The chunk of the rule that begins with this head, where it stands as it would be written but for arguments whose
-/// value is a list of strings. If there are such, what is written goes into the buffer, whose bytes are lost. The place
-/// of no argument is asked for.
+/// A rule whose name is on a line of its own, by the text that begins with it.
+#[derive(Clone, Copy)]
+pub(crate) struct NamedRule<'t> {
+    pub(crate) text: &'t str,
+    pub(crate) head: RuleHead<'t>,
+    pub(crate) name: &'t str,
+}
+
+/// The chunk of this rule, where it stands as it would be written but for arguments whose value is a list of strings. If
+/// there are such, what is written goes into the buffer, whose bytes are lost. The place of no argument is asked for.
 #[inline(always)]
 pub(crate) fn read_rule_chunk<'t>(
-    text: &'t str,
-    head: RuleHead<'t>,
+    rule: NamedRule<'t>,
+    left: bool,
     max_depth: u8,
     written: &'t mut Vec<u8>,
 ) -> Result<Option<CanonicalChunk<'t>>, NoMemory>
     requires deep { max_depth < 254 }
-    requires head { IsRuleHead text.now head.name.now head.inside.now head.rest.now }
-    ensures { IfOk result (λ known. IfSome known (λ found. (attr : List ℕ) → IsCanonical max_depth attr found.class
+    requires rule { IsNamedRule rule }
+    ensures chunk { IfOk result (λ known. IfSome known (λ found. (attr : List ℕ) → IsCanonical max_depth attr found.class
         (option_map (λ name. name.now) found.name) (option_map (λ kind. kind.now) found.kind)
-        (option_map between found.place) found.chunk.now found.written.now text.now)) }
+        (option_map between found.place) found.chunk.now found.written.now rule.entry.text.now)) }
+    ensures name { IfOk result (λ known. IfSome known (λ found. IsNamedChunk rule.entry left found)) }
 {
     let Some(depth) = max_depth.checked_sub(1) else {
         return Ok(None);
     };
-    let Some(read) = put_rule(text.as_bytes(), head, depth, written)? else {
+    let Some(read) = put_rule(rule.text.as_bytes(), rule.head, depth, written)? else {
         return Ok(None);
     };
-    let Some(name) = name_in(text, head) else {
-        return Ok(None);
-    };
-    Ok(chunk_of(text, name, written.as_slice(), read))
+    Ok(chunk_of(rule, left, written.as_slice(), read))
 }
 
 /// The same, where the place of an argument is asked for.
 #[inline(never)]
 pub(crate) fn read_asked_chunk<'t>(
-    text: &'t str,
-    head: RuleHead<'t>,
+    rule: NamedRule<'t>,
     attr: &str,
     max_depth: u8,
     written: &'t mut Vec<u8>,
 ) -> Result<Option<CanonicalChunk<'t>>, NoMemory>
     requires deep { max_depth < 254 }
-    requires head { IsRuleHead text.now head.name.now head.inside.now head.rest.now }
-    ensures { IfOk result (λ known. IfSome known (λ found. IsCanonical max_depth attr.now found.class
+    requires rule { IsNamedRule rule }
+    ensures chunk { IfOk result (λ known. IfSome known (λ found. IsCanonical max_depth attr.now found.class
         (option_map (λ name. name.now) found.name) (option_map (λ kind. kind.now) found.kind)
-        (option_map between found.place) found.chunk.now found.written.now text.now)) }
+        (option_map between found.place) found.chunk.now found.written.now rule.entry.text.now)) }
+    ensures name { IfOk result (λ known. IfSome known (λ found. IsNamedChunk rule.entry false found)) }
 {
     let Some(depth) = max_depth.checked_sub(1) else {
         return Ok(None);
     };
-    let Some(read) = put_asked_rule(text.as_bytes(), head, attr.as_bytes(), depth, written)? else {
+    let Some(read) = put_asked_rule(
+        rule.text.as_bytes(),
+        rule.head,
+        attr.as_bytes(),
+        depth,
+        written,
+    )?
+    else {
         return Ok(None);
     };
-    let Some(name) = name_in(text, head) else {
-        return Ok(None);
-    };
-    Ok(chunk_of(text, name, written.as_slice(), read))
-}
-
-/// Whether the place of an argument is asked for in the rule that begins with this head.
-#[inline(always)]
-pub(crate) fn is_asked<R: AsksOfRules>(
-    text: &str,
-    head: RuleHead<'_>,
-    asked: &Lookup<'_, R>,
-) -> bool
-    requires { IsRuleHead text.now head.name.now head.inside.now head.rest.now }
-{
-    match name_in(text, head) {
-        Some(name) => asked.asks_of(Some(name)),
-        None => false,
-    }
+    Ok(chunk_of(rule, false, written.as_slice(), read))
 }
 
 /// The name as text, by its place.
 #[inline(always)]
-fn name_in<'t>(text: &'t str, head: RuleHead<'_>) -> Option<&'t str>
+pub(crate) fn name_in<'t>(text: &'t str, head: RuleHead<'_>) -> Option<&'t str>
     requires { IsRuleHead text.now head.name.now head.inside.now head.rest.now }
     ensures { IfSome result (λ name. name.now ≡ head.entry.name.now) }
 {
@@ -95,30 +89,33 @@ fn name_in<'t>(text: &'t str, head: RuleHead<'_>) -> Option<&'t str>
     Some(name)
 }
 
-/// The chunk of the rule of this name, which is in the buffer if it stands otherwise than it is written.
+/// The chunk of this rule, which is in the buffer if it stands otherwise than it is written.
 #[inline(always)]
 fn chunk_of<'t>(
-    text: &'t str,
-    name: &'t str,
+    rule: NamedRule<'t>,
+    left: bool,
     buffer: &'t [u8],
     read: PutRule<'t>,
 ) -> Option<CanonicalChunk<'t>>
-    ensures { IfSome result (λ found. (depth : ℕ) (attr : List ℕ) → IsRuleRead depth attr name.now text.now
-        read.entry.rest.now
-        (if read.entry.as_is then take (length text.now - length read.entry.rest.now) text.now else buffer.now)
+    ensures chunk { IfSome result (λ found. (depth : ℕ) (attr : List ℕ) → IsRuleRead depth attr rule.entry.name.now
+        rule.entry.text.now read.entry.rest.now (if read.entry.as_is
+        then take (length rule.entry.text.now - length read.entry.rest.now) rule.entry.text.now else buffer.now)
         (option_map put_ends read.entry.place) → IsCanonical depth attr found.class
         (option_map (λ name. name.now) found.name) (option_map (λ kind. kind.now) found.kind)
-        (option_map between found.place) found.chunk.now found.written.now text.now) }
+        (option_map between found.place) found.chunk.now found.written.now rule.entry.text.now) }
+    ensures name { IfSome result (λ found. IsNamedChunk rule.entry left found) }
 {
+    let text = rule.text;
     let chunk = without(text, read.rest.len())?;
     let written = written_of(chunk, buffer, read.as_is)?;
     Some(CanonicalChunk {
         chunk,
         written,
         class: Class::Rule,
-        name: Some(name),
+        name: Some(rule.name),
         kind: None,
         place: place_in_both(text, written, read.place),
+        left,
     })
 }
 

@@ -84,11 +84,12 @@ pub(crate) fn read_unnamed_chunk<'t>(
     rule: UnnamedRule<'t>,
     written: &'t mut Vec<u8>,
 ) -> Result<Option<CanonicalChunk<'t>>, NoMemory>
-    ensures { IfOk result (λ known. IfSome known (λ found. (depth : ℕ) (attr : List ℕ)
+    ensures chunk { IfOk result (λ known. IfSome known (λ found. (depth : ℕ) (attr : List ℕ)
         → IsUnnamedRule depth attr text.now rule.entry.argument.now rule.entry.close.now rule.entry.rest.now
         → IsCanonical depth attr found.class (option_map (λ name. name.now) found.name)
         (option_map (λ kind. kind.now) found.kind) (option_map between found.place)
         found.chunk.now found.written.now text.now)) }
+    ensures left { IfOk result (λ known. IfSome known (λ found. found.left ≡ false)) }
 {
     let Some(parts) = parts_of(text, rule) else {
         return Ok(None);
@@ -157,6 +158,7 @@ fn chunk_of<'t>(chunk: &'t str, laid: &'t [u8], start: usize) -> Option<Canonica
     ensures chunk { IfSome result (λ found. (found.chunk.now ≡ chunk.now) × (found.written.now ≡ chunk.now)) }
     ensures place { IfSome result (λ found. option_map between found.place
         ≡ Some (record { before = take start laid.now; lines = []; after = drop start laid.now })) }
+    ensures left { IfSome result (λ found. found.left ≡ false) }
 {
     let Ok(laid) = check_utf8(laid) else {
         return None;
@@ -173,5 +175,6 @@ fn chunk_of<'t>(chunk: &'t str, laid: &'t [u8], start: usize) -> Option<Canonica
             lines: "",
             after,
         }),
+        left: false,
     })
 }

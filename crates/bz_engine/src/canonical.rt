@@ -14,6 +14,7 @@ ghost use Rattle.bz_engine.specs.Outcome.{is_query};
 ghost use Rattle.bz_engine.specs.Progress.{text_following};
 ghost use Rattle.bz_engine.specs.private.Edits.{DoesNothing, EditsWhole, run_of};
 ghost use Rattle.bz_engine.specs.private.Found.{IsFound, IsForOne};
+ghost use Rattle.bz_engine.specs.private.Named.{IsNamePassedBy};
 ghost use Rattle.bz_engine.specs.private.NextChunks.{EditsFound, IsFirstEdited, IsKnownEdited, done_chunk};
 ghost use Rattle.bz_engine.specs.private.Rows.{HasKey};
 
@@ -26,7 +27,7 @@ use crate::rule_passes::OnePass;
 use crate::rules::Rules;
 use crate::written::{begin_statement, put_canonical};
 use bz_attribute::Env;
-use bz_canonical::{ArgumentPlace, CanonicalChunk, read_canonical};
+use bz_canonical::{ArgumentPlace, AsksOfRules, CanonicalChunk, Lookup, read_canonical};
 use bz_devices::ahead::Ahead;
 use bz_memory::{NoMemory, extend_from_slice};
 use bz_passes::index::Key;
@@ -111,6 +112,8 @@ fn copy_known(
 ) -> Result<Option<usize>, NoMemory>
     requires fits { Fits progress.old.kept script.passes.now }
     requires lines { progress.old.line + length found.chunk.chunk.now < 2 ^ 64 }
+    requires left { IsTrue found.chunk.left → IsNamePassedBy script.home.now script.passes.now
+        (option_map (λ name. name.now) found.chunk.name) }
     ensures fits { OnOk result (Fits progress.new.kept script.entry.passes.now) }
     ensures chunk { IfOk result (λ len. IfSome len (IsKnownEdited (run_of script.entry) found.entry
         progress.old progress.new text.old.items text.new.items)) }
@@ -148,9 +151,15 @@ fn find_canonical<'a>(
         (option_map (λ kind. kind.now) found.chunk.kind) (option_map between found.chunk.place)
         found.chunk.chunk.now found.chunk.written.now text.now)) }
     ensures size { IfOk result (λ known. IfSome known (λ found. length found.chunk.chunk.now ≤ max_statement)) }
+    ensures left { IfOk result (λ known. IfSome known (λ found. IsTrue found.chunk.left
+        → IsNamePassedBy script.entry.home.now script.entry.passes.now
+        (option_map (λ name. name.now) found.chunk.name))) }
 {
-    let asked = script.passes.asked();
-    let attr = asked.attr;
+    let attr = script.passes.attr();
+    let asked = Lookup {
+        attr,
+        rules: &script,
+    };
     let Some(chunk) = read_canonical(text, asked, script.max_depth, written)? else {
         return Ok(None);
     };
@@ -271,22 +280,36 @@ fn place_for<'a>(only: OnePass<'_>, found: &Found<'a>) -> Option<ArgumentPlace<'
 
 /// No pass of the script may mark the statement.
 fn is_passed_by(script: ScriptRun<'_>, found: &Found<'_>) -> bool
+    requires { IsTrue found.now.chunk.left → IsNamePassedBy script.home.now script.passes.now
+        (option_map (λ name. name.now) found.now.chunk.name) }
     ensures { IsTrue result → (s : Statement) → IsFound script.entry.max_depth found.now s
         → IsPassedBy (meaning script.entry.home.now) (changes script.entry.home.now) (fails_on script.entry.home.now)
         script.entry.passes.now (Some s) }
 {
     match found.chunk.class {
-        Class::Rule => script.passes.ask_for_names() && is_name_passed_by(script, found.chunk.name),
+        Class::Rule => {
+            found.chunk.left
+                || (script.passes.ask_for_names() && is_name_passed_by(script, found.chunk.name))
+        }
         // Targets mark rules alone.
         _ => true,
     }
 }
 
+impl AsksOfRules for ScriptRun<'_> {
+    ghost use Rattle.bz_engine.specs.private.Named.{IsNamePassedBy};
+
+    ghost leaves = { λ script name. IsNamePassedBy script.home.now script.passes.now name };
+
+    fn asks_of(&self, name: Option<&str>) -> bool {
+        !is_name_passed_by(*self, name)
+    }
+}
+
 /// No pass of the script may mark a statement of this name.
 fn is_name_passed_by(script: ScriptRun<'_>, name: Option<&str>) -> bool
-    ensures { IsTrue result → (s : Statement) → HasName (option_map (λ name. name.now) name.entry) s
-        → IsPassedBy (meaning script.entry.home.now) (changes script.entry.home.now) (fails_on script.entry.home.now)
-        script.entry.passes.now (Some s) }
+    ensures { IsTrue result → IsNamePassedBy script.entry.home.now script.entry.passes.now
+        (option_map (λ name. name.now) name.entry) }
 {
     let rules = Rules {
         alloc: script.alloc,

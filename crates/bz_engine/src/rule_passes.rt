@@ -8,10 +8,8 @@ ghost use Rattle.bz_engine.specs.private.Found.{one_pass};
 ghost use Rattle.bz_engine.specs.private.Named.{all_named};
 
 use crate::answer::{asked_attribute, is_answerable};
-use bz_canonical::{AsksOfRules, Lookup};
 use bz_command::Pass;
 use bz_memory::{NoMemory, from_str};
-use bz_passes::index::Key;
 use bz_passes::passes::{Keyed, Passes};
 use bz_rule::{Command, Target};
 use std::alloc::Global;
@@ -128,22 +126,9 @@ impl RulePasses {
         self.may_be_known
     }
 
-    /// The argument whose place is to be looked for in a text. Its name is empty: there is none.
-    pub(crate) fn asked(&self) -> Lookup<'_, RulePasses> {
-        Lookup {
-            attr: self.attr.as_str(),
-            rules: self,
-        }
-    }
-}
-
-impl AsksOfRules for RulePasses {
-    fn asks_of(&self, name: Option<&str>) -> bool {
-        let key = match name {
-            Some(name) => Key::Name(name),
-            None => Key::NoName,
-        };
-        self.passes.first_from(key, 0).is_some()
+    /// The name of the argument whose place is to be looked for in a text. Empty: there is none.
+    pub(crate) fn attr(&self) -> &str {
+        self.attr.as_str()
     }
 }
 

@@ -1,5 +1,5 @@
 -- Lists of strings, and rules with such lists, that stand otherwise than they are written, for private clauses.
-use Rattle.std.specs.Prelude.{◌≡◌, ◌≤◌, ◌-◌, ◌==◌, ◌&&◌, ◌||◌, not, ℕ, List, [], ◌∷◌, ◌++◌, codes, length, map, flat_map, take, drop, bytes_eq, Bool, true, false, if◌then◌else◌, Option, None, Some, IfSome, is_some, nat_le}
+use Rattle.std.specs.Prelude.{◌≡◌, ◌≤◌, ◌-◌, ◌==◌, ◌&&◌, ◌||◌, not, ℕ, List, [], ◌∷◌, ◌++◌, codes, length, map, flat_map, take, drop, bytes_eq, Bool, true, false, if◌then◌else◌, Option, None, Some, IfSome, is_some, nat_le, option_map}
 use Rattle.std.specs.List.{list_any}
 use Rattle.bz_token.specs.Common.{is_filled}
 use Rattle.bz_token.specs.Lexical.{is_text}
@@ -23,10 +23,12 @@ use Rattle.bz_attribute.specs.Effects.{has}
 use Rattle.bz_attribute.specs.RowPlaces.{IsLocal}
 use Rattle.bz_attribute.specs.Rules.{first_named, is_named, rule_of}
 use Rattle.bz_canonical.specs.Canonical.{Between, HasArgumentName, HasName, HasPlace, argument_lines, rule_args}
+use Rattle.bz_canonical.specs.declared.chunk.CanonicalChunk.{CanonicalChunk}
 use Rattle.bz_canonical.specs.declared.lists.ReadElement.{ReadElement}
 use Rattle.bz_canonical.specs.declared.lists.ReadString.{ReadString}
 use Rattle.bz_canonical.specs.declared.put_arguments.Pending.{Pending}
 use Rattle.bz_canonical.specs.declared.put_arguments.PutPlace.{PutPlace}
+use Rattle.bz_canonical.specs.declared.rewrite.NamedRule.{NamedRule}
 use Rattle.bz_canonical.specs.private.Arguments.{Ends, alone}
 use Rattle.bz_canonical.specs.private.Fronts.{IsQuotedFront}
 use Rattle.bz_canonical.specs.private.Segments.{AreOf, IsBesideFront}
@@ -300,6 +302,16 @@ pub record IsRuleHead (text name inside rest : List ℕ) : Type 0 where
   pub name_is : IsQuotedFront (34 ∷ (name ++ 34 ∷ (44 ∷ rest))) name (44 ∷ rest)
   pub front : text ≡ bytes_of (comment_lines notes) ++ (kind ++ (40 ∷ inside))
   pub lines : inside ≡ 10 ∷ (indent 1 ++ (codes "name" ++ (codes " = " ++ (34 ∷ (name ++ 34 ∷ (44 ∷ rest))))))
+
+-- it begins with its head, and has the name that stands there
+pub record IsNamedRule (rule : NamedRule) : Type 0 where
+  pub head : IsRuleHead rule.text.now rule.head.name.now rule.head.inside.now rule.head.rest.now
+  pub named : rule.name.now ≡ rule.head.name.now
+
+-- what is told of its chunk: the name, and whether nothing is asked of it
+pub record IsNamedChunk (rule : NamedRule) (left : Bool) (found : CanonicalChunk) : Type 0 where
+  pub named : option_map (λ name. name.now) found.name ≡ Some rule.name.now
+  pub left_is : found.left ≡ left
 
 -- the bracket that closes a rule, the comment beside it and the newline
 pub record IsRuleEnd (text rest : List ℕ) : Type 0 where

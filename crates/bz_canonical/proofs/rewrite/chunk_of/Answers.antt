@@ -5,13 +5,13 @@ use Rattle.bz_canonical.specs.private.Rewritten.{IsRuleRead, put_ends}
 use Rattle.bz_canonical.proofs.PutRules.{rule_chunk}
 use Rattle.bz_canonical.proofs.rewrite.chunk_of.Goals as goal
 
-pub returns : goal.returns
-returns c = λ depth attr read.
+pub returns-clause-chunk : goal.returns-clause-chunk
+returns-clause-chunk c = λ depth attr read.
     let r = c.args.read in
-    let text = c.args.text.now in
+    let text = c.args.rule.text.now in
     let chunk = c.in_ok-chunk.chunk.now in
     let written = c.in_ok-written.written.now in
     let place = option_map between c.place_in_both.result in
     let ends = option_map put_ends r.place in
     let same : (if r.as_is then take (length text - length r.rest.now) text else c.args.buffer.now) ≡ written = ap (λ (t : List ℕ). if r.as_is then t else c.args.buffer.now) (sym c.in_ok-chunk.ensures) ∙ sym c.in_ok-written.ensures in
-    rule_chunk depth attr c.args.name.now text r.rest.now written chunk ends place (subst (λ (t : List ℕ). IsRuleRead depth attr c.args.name.now text r.rest.now t ends) same read) c.in_ok-chunk.ensures c.place_in_both.ensures
+    rule_chunk depth attr c.args.rule.name.now text r.rest.now written chunk ends place (subst (λ (t : List ℕ). IsRuleRead depth attr c.args.rule.name.now text r.rest.now t ends) same read) c.in_ok-chunk.ensures c.place_in_both.ensures

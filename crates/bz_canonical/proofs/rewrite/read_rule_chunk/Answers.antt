@@ -6,20 +6,20 @@ use Rattle.bz_canonical.specs.private.Rewritten.{IsRuleRead, put_ends}
 use Rattle.bz_canonical.specs.declared.put_rule.PutRule.{PutRule}
 use Rattle.bz_canonical.proofs.rewrite.read_rule_chunk.Goals as goal
 
-pub returns : goal.returns
-returns c =
+pub returns-clause-chunk : goal.returns-clause-chunk
+returns-clause-chunk c =
     let depth : ℕ = c.in-Some.depth + 1 in
     let deep : depth ≡ c.args.max_depth = omega (arith, c.in-Some.ensures) in
-    let text = c.args.text.now in
-    let name = c.in-Some-name_in.name.now in
-    let head : List ℕ = c.args.head.name.now in
+    let text = c.args.rule.text.now in
+    let name = c.args.rule.name.now in
+    let head : List ℕ = c.args.rule.head.name.now in
     let bytes : List ℕ = c.as_bytes.result.now in
     let written : List ℕ = c.put_rule.new.written.items in
     let r = c.in-Some-2.read in
     let read = subst (λ (o : Option PutRule). IfSome o (λ r. (attr : List ℕ) → IsRuleRead depth attr head bytes r.rest.now
     (if r.as_is then take (length bytes - length r.rest.now) bytes else written) (option_map put_ends r.place))) c.in-Some-2.is c.in_ok-read.ensures in
-    IfSome_then c.chunk_of.result c.chunk_of.ensures (λ found of attr.
-    let named = subst (λ (n : List ℕ). IsRuleRead depth attr n bytes r.rest.now (if r.as_is then take (length bytes - length r.rest.now) bytes else written) (option_map put_ends r.place)) (sym c.in-Some-name_in.ensures) (read attr) in
+    IfSome_then c.chunk_of.result c.chunk_of.ensures.chunk (λ found of attr.
+    let named = subst (λ (n : List ℕ). IsRuleRead depth attr n bytes r.rest.now (if r.as_is then take (length bytes - length r.rest.now) bytes else written) (option_map put_ends r.place)) (sym c.requires.rule.named) (read attr) in
     let within = subst (λ (t : List ℕ). IsRuleRead depth attr name t r.rest.now (if r.as_is then take (length t - length r.rest.now) t else written) (option_map put_ends r.place)) c.as_bytes.ensures.value named in
     let put = subst (λ (b : List ℕ). IsRuleRead depth attr name text r.rest.now (if r.as_is then take (length text - length r.rest.now) text else b) (option_map put_ends r.place)) (sym c.as_slice.ensures.value) within in
     subst (λ (d : ℕ). IsCanonical d attr found.class (option_map (λ name. name.now) found.name) (option_map (λ kind. kind.now) found.kind) (option_map between found.place) found.chunk.now found.written.now text) deep (of depth attr put))

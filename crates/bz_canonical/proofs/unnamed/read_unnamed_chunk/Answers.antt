@@ -2,8 +2,8 @@ use Rattle.std.proofs.Common.{◌∙◌}
 use Rattle.bz_canonical.proofs.UnnamedRules.{canonical_of}
 use Rattle.bz_canonical.proofs.unnamed.read_unnamed_chunk.Goals as goal
 
-pub returns : goal.returns
-returns c =
+pub returns-clause-chunk : goal.returns-clause-chunk
+returns-clause-chunk c =
     let rule = c.args.rule in
     let parts = c.in-Some.parts in
     canonical_of c.args.text.now rule.argument.now rule.close.now rule.rest.now parts.chunk.now parts.head.now parts.argument.now parts.end.now c.as_slice.result.now c.in_ok-start.start
