@@ -10,5 +10,5 @@ use bumpalo::Bump;
 pub fn alloc_str<'a>(bump: &'a Bump, text: &str) -> Result<&'a str, NoMemory>
     ensures { IfOk result (λ s. s.now ≡ text.now) }
 {
-    bump.try_alloc_str(text).map_err(|_| refused())
+    bump.try_alloc_str(text).map_err(refused)
 }

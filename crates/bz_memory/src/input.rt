@@ -29,7 +29,7 @@ pub fn words(rt: &HostRuntime) -> Result<Args, WordsFault> {
         Ok(words) => Ok(words),
         Err(error) => match error.kind() {
             ErrorKind::InvalidData => Err(WordsFault::NotUtf8),
-            _ => Err(WordsFault::OutOfMemory(refused())),
+            _ => Err(WordsFault::OutOfMemory(refused(error))),
         },
     }
 }
@@ -62,7 +62,7 @@ fn first_bytes<R: Read + Drop>(alloc: Global, reader: R, most: u64) -> Result<Ve
 
 fn bytes_fault(error: io::Error) -> BytesFault {
     match error.kind() {
-        ErrorKind::OutOfMemory => BytesFault::OutOfMemory(refused()),
+        ErrorKind::OutOfMemory => BytesFault::OutOfMemory(refused(error)),
         _ => BytesFault::Failed,
     }
 }

@@ -14,7 +14,7 @@ pub fn push<T: Drop, A: Allocator>(list: &mut Vec<T, A>, value: T) -> Result<(),
     ensures items { list.new.items ≡ (if is_ok result then list.old.items ++ value ∷ [] else list.old.items) }
     ensures full { OnErr result (vec_capacity list.old ≤ vec_len list.old) }
 {
-    list.push(value).map_err(|_| refused())
+    list.push(value).map_err(refused)
 }
 
 /// Puts copies of some values at the end of a list.
@@ -26,7 +26,7 @@ pub fn extend_from_slice<T: Copy, A: Allocator>(
     ensures items { list.new.items ≡ (if is_ok result then list.old.items ++ values.now else list.old.items) }
     ensures full { OnErr result (vec_capacity list.old < vec_len list.old + length values.now) }
 {
-    list.extend_from_slice(values).map_err(|_| refused())
+    list.extend_from_slice(values).map_err(refused)
 }
 
 /// Puts the values of another list at the end of a list.
@@ -36,7 +36,7 @@ pub fn append<T, A: Allocator>(list: &mut Vec<T, A>, other: &mut Vec<T, A>) -> R
     ensures other_items { other.new.items ≡ (if is_ok result then [] else other.old.items) }
     ensures full { OnErr result (vec_capacity list.old < vec_len list.old + vec_len other.old) }
 {
-    list.append(other).map_err(|_| refused())
+    list.append(other).map_err(refused)
 }
 
 /// Makes room for a few values more.
@@ -47,7 +47,7 @@ pub fn reserve<T, A: Allocator>(list: &mut Vec<T, A>, few: usize) -> Result<(), 
     ensures ok { OnOk result (vec_len list.new + few ≤ vec_capacity list.new) }
     ensures full { OnErr result (vec_capacity list.old < vec_len list.old + few) }
 {
-    list.reserve(few).map_err(|_| refused())
+    list.reserve(few).map_err(refused)
 }
 
 /// Makes room for as many values more as another list has.
@@ -57,7 +57,7 @@ pub fn reserve_for<T, A: Allocator>(list: &mut Vec<T, A>, like: &[T]) -> Result<
     ensures ok { OnOk result (vec_len list.new + length like.now ≤ vec_capacity list.new) }
     ensures full { OnErr result (vec_capacity list.old < vec_len list.old + length like.now) }
 {
-    list.reserve(like.len()).map_err(|_| refused())
+    list.reserve(like.len()).map_err(refused)
 }
 
 /// An empty list with room for a few values.
@@ -67,7 +67,7 @@ pub fn with_capacity<T, A: Allocator>(alloc: A, few: usize) -> Result<Vec<T, A>,
     ensures items { IfOk result (λ v. v.items ≡ []) }
     ensures capacity { IfOk result (λ v. few ≤ vec_capacity v) }
 {
-    Vec::with_capacity(alloc, few).map_err(|_| refused())
+    Vec::with_capacity(alloc, few).map_err(refused)
 }
 
 /// An empty list with room for as many values as another list has, and a few.
@@ -123,7 +123,7 @@ fn held<U>(list: &[U]) -> usize {
 fn with_capacity_of<T, A: Allocator>(alloc: A, room: usize) -> Result<Vec<T, A>, NoMemory>
     ensures { IfOk result (λ v. v.items ≡ []) }
 {
-    Vec::with_capacity(alloc, room).map_err(|_| refused())
+    Vec::with_capacity(alloc, room).map_err(refused)
 }
 
 /// Makes bytes longer by so many zeros; at most a piece of an input.
@@ -135,7 +135,7 @@ pub fn lengthen<A: Allocator>(bytes: &mut Vec<u8, A>, more: usize) -> Result<(),
     ensures same { OnErr result (bytes.new.items ≡ bytes.old.items) }
 {
     let start = bytes.len();
-    bytes.resize(start + more, 0).map_err(|_| refused())
+    bytes.resize(start + more, 0).map_err(refused)
 }
 
 /// The items of an iterator.
@@ -147,5 +147,5 @@ pub fn collect<T: Drop, I: Iterator<Item = T> + Drop>(
     requires finite { IsFinite (I.remaining items) }
     ensures ran { IfOk result (λ v. (xs : List T) × DrainsIf I.next_gives ⊤ items xs × ((v.items ≡ xs) × (vec_len v ≡ length xs))) }
 {
-    items.collect(alloc).map_err(|_| refused())
+    items.collect(alloc).map_err(refused)
 }

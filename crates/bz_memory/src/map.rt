@@ -22,7 +22,7 @@ pub fn insert<K: Ord + Drop, A: Allocator + Clone>(
     ensures updates { OnOk result (Updates K.cmp set.old set.new key true) }
     ensures err { OnErr result (IsUnchanged set.old set.new) }
 {
-    set.insert(key).map_err(|_| refused())
+    set.insert(key).map_err(refused)
 }
 
 /// The place of a key in a map, where a value can be put.
@@ -36,7 +36,7 @@ pub fn entry<'m, K: Ord + Drop, V>(
     ensures unchanged { IfOk result (λ e. btree.IsUnchanged map.old (entry_map_ref e).now) }
     ensures update { IfOk result (IsEntryFor K.cmp map.old key) }
 {
-    map.entry(key).map_err(|_| refused())
+    map.entry(key).map_err(refused)
 }
 
 /// Puts a value at a key. A new key goes last.
@@ -49,6 +49,6 @@ pub fn insert_last<K: Eq + Hash + Drop, V: Drop>(
 {
     match map.insert(key, value) {
         Ok(_) => Ok(()),
-        Err(_) => Err(refused()),
+        Err(_) => Err(refused(())),
     }
 }

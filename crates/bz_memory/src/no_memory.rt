@@ -8,8 +8,9 @@ pub struct NoMemory {
     seen: (),
 }
 
-/// The one place where the evidence is made: where std has refused.
-pub(crate) fn refused() -> NoMemory {
+/// The one place where the evidence is made: where std has refused. It takes what std answered, so that `map_err` can
+/// name it: a closure at each call would be proved at each.
+pub(crate) fn refused<E: Drop>(_: E) -> NoMemory {
     NoMemory { seen: () }
 }
 

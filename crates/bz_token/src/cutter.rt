@@ -14,7 +14,7 @@ use block::{ChunkPhase, Opener, block_goes_on, opener_at, phase_step};
 use scan::{CutState, LineKind, Scan, is_ended, read};
 
 /// What a physical line says of its chunk.
-#[derive(Clone, Copy, Debug, PartialEq, Eq)]
+#[derive(Clone, Copy)]
 pub enum Cut {
     /// The chunk goes on after the line, or the file ends there.
     More,

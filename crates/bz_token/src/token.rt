@@ -22,7 +22,7 @@ pub enum Kind {
 }
 
 /// A token of a text, with its line and column.
-#[derive(Clone, Copy, Debug, PartialEq, Eq)]
+#[derive(Clone, Copy)]
 pub struct Token<'a> {
     /// The token's bytes, a slice of the text.
     pub text: &'a str,

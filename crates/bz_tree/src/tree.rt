@@ -13,7 +13,7 @@ pub mod span;
 use bz_token::Kind;
 
 /// The kind of a bracket group.
-#[derive(Clone, Copy, Debug, PartialEq, Eq)]
+#[derive(Clone, Copy, PartialEq, Eq)]
 pub enum GroupKind {
     /// The arguments of a call.
     Call,
@@ -34,7 +34,7 @@ pub enum GroupKind {
 }
 
 /// A token of a statement: its kind and its text.
-#[derive(Debug, PartialEq, Eq, Drop)]
+#[derive(Drop)]
 pub struct Leaf<'a> {
     pub kind: Kind,
     pub text: &'a str,
@@ -42,7 +42,7 @@ pub struct Leaf<'a> {
 
 /// A node of a statement: a token, or a bracket with what stands in it.
 #[cycle(tree)]
-#[derive(Debug, PartialEq, Eq, Drop)]
+#[derive(Drop)]
 pub enum Node<'a> {
     Token(Leaf<'a>),
     Group(Group<'a>),
@@ -50,7 +50,7 @@ pub enum Node<'a> {
 
 /// A bracket with what stands in it: segments, with commas between them.
 #[cycle(tree)]
-#[derive(Debug, PartialEq, Eq, Drop)]
+#[derive(Drop)]
 pub struct Group<'a> {
     pub kind: GroupKind,
     pub segs: Vec<Seg<'a>>,
@@ -62,7 +62,7 @@ pub struct Group<'a> {
 
 /// A segment: what stands between two commas of a bracket.
 #[cycle(tree)]
-#[derive(Debug, PartialEq, Eq, Drop)]
+#[derive(Drop)]
 pub struct Seg<'a> {
     /// The comments above it.
     pub before: Vec<&'a str>,
@@ -88,7 +88,7 @@ pub enum Class {
 }
 
 /// A statement: its nodes, and the comments that belong to it.
-#[derive(Debug, PartialEq, Eq, Drop)]
+#[derive(Drop)]
 pub struct Stmt<'a> {
     /// The comments above it.
     pub before: Vec<&'a str>,

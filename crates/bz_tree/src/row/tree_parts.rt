@@ -1,12 +1,12 @@
 //! The parts of a statement that has a tree, in the order in which they are written.
 
-ghost use Rattle.std.specs.Prelude.{◌≡◌, ◌++◌, OnOk, map, option_map};
-ghost use Rattle.bz_tree.specs.Tree.{items_of};
-ghost use Rattle.bz_tree.specs.View.{text_of, texts, view, nodes_view, group_view};
-ghost use Rattle.bz_tree.specs.Rows.{above, beside_part, item_parts, items_parts, parts_of, part_view};
+ghost use Rattle.std.specs.Prelude.{◌≡◌, [], ◌∷◌, ◌++◌, OnOk, map, option_map};
+ghost use Rattle.bz_tree.specs.Tree.{items_of, segs_of};
+ghost use Rattle.bz_tree.specs.View.{text_of, texts, view, nodes_view, group_view, segs_view};
+ghost use Rattle.bz_tree.specs.Rows.{above, beside_part, item_parts, items_parts, segs_parts, parts_of, part_view};
 
 use crate::row::Part;
-use crate::tree::{Group, Node, Stmt};
+use crate::tree::{Group, Node, Seg, Stmt};
 use bz_memory::{NoMemory, push};
 use std::alloc::Allocator;
 
@@ -51,6 +51,20 @@ pub fn push_beside<'a, A: Allocator>(
 }
 
 #[cycle(parts)]
+fn push_segment<'a, A: Allocator>(
+    seg: &Seg<'a>,
+    parts: &mut Vec<Part<'a>, A>,
+) -> Result<(), NoMemory>
+    ensures { OnOk result (map part_view parts.new.items
+        ≡ map part_view parts.old.items ++ segs_parts (segs_of (segs_view (seg.now ∷ [])))) }
+{
+    push_above(&seg.before, parts)?;
+    push_nodes(&seg.nodes, parts)?;
+    push(parts, Part::End)?;
+    push_beside(seg.suffix, parts)
+}
+
+#[cycle(parts)]
 fn push_group<'a, A: Allocator>(
     group: &Group<'a>,
     parts: &mut Vec<Part<'a>, A>,
@@ -60,14 +74,10 @@ fn push_group<'a, A: Allocator>(
 {
     push(parts, Part::Open(group.kind))?;
     for seg in &group.segs {
-        push_above(&seg.before, parts)?;
-        push_nodes(&seg.nodes, parts)?;
-        push(parts, Part::End)?;
-        push_beside(seg.suffix, parts)?;
+        push_segment(seg, parts)?;
     }
     push_above(&group.end, parts)?;
-    push(parts, Part::Close(group.one_comma))?;
-    Ok(())
+    push(parts, Part::Close(group.one_comma))
 }
 
 /// Appends the parts of these nodes. `Err`: memory was refused, and some of them may have been appended.

@@ -1,6 +1,6 @@
 //! The walk over the tokens of a statement, with a stack of open brackets. `chunk.rt` runs it to make a tree.
 
-ghost use Rattle.std.specs.Prelude.{◌≡◌, true, false, map, IfOk, OnOk, Some, None, [], option_map};
+ghost use Rattle.std.specs.Prelude.{◌≡◌, true, false, map, IfOk, IsTrue, OnOk, Some, None, [], option_map};
 ghost use Rattle.std.specs.Bool.{then_some};
 ghost use Rattle.bz_token.specs.Places.{placed};
 ghost use Rattle.bz_tree.specs.View.{node_view, group_view, seg_view};
@@ -8,8 +8,8 @@ ghost use Rattle.bz_tree.specs.Kinds.{group_kind, is_for_at};
 ghost use Rattle.bz_tree.specs.Owners.{node};
 ghost use Rattle.bz_tree.specs.Brackets.{leaf_of, own_of};
 ghost use Rattle.bz_tree.specs.declared.tree.kinds.Mark.TheVariants.{Close, Comma, Comment, Plain};
-ghost use Rattle.bz_tree.specs.Statement.{one_segment};
-ghost use Rattle.bz_tree.specs.private.Steps.{inside_view, level, levels, with_own, new_level, next, next_at, run, state};
+ghost use Rattle.bz_tree.specs.Statement.{one_segment, segment_with};
+ghost use Rattle.bz_tree.specs.private.Steps.{done, inside_view, level, levels, with_own, new_level, next, next_at, run, so_far, state};
 
 use crate::tree::classes::with_rule_call;
 use crate::tree::kinds::{
@@ -142,6 +142,22 @@ impl<'a> State<'a> {
         added?;
         Ok(true)
     }
+
+    // Reads all tokens of a statement. False: there is no tree, or a bracket is still open.
+    fn read(&mut self, alloc: Global, tokens: &[Token<'a>]) -> Result<bool, NoMemory>
+        ensures some { IfOk result (λ some. IsTrue some
+            → option_map segment_with (option_map done (so_far self.new.top.walk))
+            ≡ run (state self.old).0 (state self.old).1 (map placed tokens.now)) }
+        ensures none { IfOk result (λ some. some ≡ false
+            → run (state self.old).0 (state self.old).1 (map placed tokens.now) ≡ None) }
+    {
+        for token in tokens {
+            if !self.step(alloc, token)? {
+                return Ok(false);
+            }
+        }
+        Ok(self.top.kind.is_none() && self.outer.is_empty())
+    }
 }
 
 // At depth 0 a statement is one segment, and all comments but its suffix stand before it.
@@ -159,6 +175,18 @@ fn one_segment<'a>(alloc: Global, inside: Inside<'a>) -> Result<Seg<'a>, NoMemor
     Ok(seg)
 }
 
+// The segment of a statement whose tokens were walked over. None: a segment is empty.
+fn whole_segment<'a>(alloc: Global, walk: Walk<'a>) -> Result<Option<Seg<'a>>, NoMemory>
+    ensures value { IfOk result (λ o. option_map seg_view o
+        ≡ option_map segment_with (option_map done (so_far walk.entry))) }
+{
+    let Some(inside) = walk.finish()? else {
+        return Ok(None);
+    };
+    let seg = one_segment(alloc, inside)?;
+    Ok(Some(with_rule_call(seg)))
+}
+
 /// The statement's segment. None: there is no tree: brackets do not match, or a segment is empty.
 pub(crate) fn run<'a>(alloc: Global, tokens: &[Token<'a>]) -> Result<Option<Seg<'a>>, NoMemory>
     ensures value { IfOk result (λ o. option_map seg_view o ≡ run (new_level None) [] (map placed tokens.now)) }
@@ -167,17 +195,8 @@ pub(crate) fn run<'a>(alloc: Global, tokens: &[Token<'a>]) -> Result<Option<Seg<
         outer: Vec::new(alloc),
         top: Frame::new(alloc, None),
     };
-    for token in tokens {
-        if !state.step(alloc, token)? {
-            return Ok(None);
-        }
-    }
-    if state.top.kind.is_some() || !state.outer.is_empty() {
+    if !state.read(alloc, tokens)? {
         return Ok(None);
     }
-    let Some(inside) = state.top.walk.finish()? else {
-        return Ok(None);
-    };
-    let seg = one_segment(alloc, inside)?;
-    Ok(Some(with_rule_call(seg)))
+    whole_segment(alloc, state.top.walk)
 }

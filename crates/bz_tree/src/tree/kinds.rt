@@ -9,7 +9,7 @@ use crate::tree::GroupKind;
 use bz_token::{Kind, Token};
 
 /// The shape of a bracket.
-#[derive(Clone, Copy, PartialEq, Eq)]
+#[derive(Clone, Copy)]
 pub enum Shape {
     Round,
     Square,

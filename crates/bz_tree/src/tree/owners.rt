@@ -146,10 +146,7 @@ impl<'a> Walk<'a> {
                 Ok(())
             }
             Before::Comma(end) if end == line => add_to_last(&mut self.segs, text),
-            _ => {
-                push(&mut self.after, text)?;
-                Ok(())
-            }
+            _ => push(&mut self.after, text),
         }
     }
 

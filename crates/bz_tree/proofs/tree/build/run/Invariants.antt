@@ -1,7 +1,0 @@
-use Rattle.std.proofs.Common.{◌≡◌, drop, map}
-use Rattle.bz_token.specs.Places.{placed}
-use Rattle.bz_tree.specs.private.Steps.{run, state}
-use Rattle.bz_tree.proofs.tree.build.run.Given as goal
-
-abbrev pub invariant-loop-token : goal.invariant-loop-token
-invariant-loop-token l = run (state l.state).0 (state l.state).1 (map placed (drop l.token-index l.tokens)) ≡ run (state l.initial.state).0 (state l.initial.state).1 (map placed l.tokens)
