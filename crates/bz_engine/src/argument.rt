@@ -14,10 +14,7 @@ use crate::edit::ScriptRun;
 use crate::spare::Spare;
 use bz_attribute::Env;
 use bz_attribute_commands::argument::put_argument;
-use bz_attribute_commands::comment::comment_line;
-use bz_canonical::{
-    Added, ListValue, NewComment, Removed, lacks, put_added, put_commented, put_removed,
-};
+use bz_canonical::{Added, ListValue, Removed, lacks, put_added, put_removed};
 use bz_command::{Attributes, Commented, Setting, quote};
 use bz_memory::{NoMemory, extend_from_slice, push_str};
 use bz_rule::{Action, Command, Done, StatementRow, Text, execute};
@@ -42,9 +39,9 @@ enum EditedList {
 
 /// What `comment` puts above an attribute.
 #[derive(Clone, Copy)]
-struct AttributeComment<'c> {
+pub(crate) struct AttributeComment<'c> {
     attr: &'c str,
-    text: &'c str,
+    pub(crate) text: &'c str,
 }
 
 /// An argument that `set` adds.
@@ -78,9 +75,6 @@ pub(crate) fn execute_on_lines<'s>(
         Some(EditedList::Written) => return Ok(Some(EditedArgument::Lines(spare.laid.as_slice()))),
         None => {}
     }
-    if lines.is_empty() && is_comment(command) {
-        return Ok(None);
-    }
     if lines.is_empty() && put_new(script.alloc, command, &mut spare.laid)? {
         return Ok(Some(EditedArgument::Lines(spare.laid.as_slice())));
     }
@@ -91,8 +85,7 @@ pub(crate) fn execute_on_lines<'s>(
     execute_on_small_rule(script, command, spare)
 }
 
-/// What the command makes of the argument that has these lines, where it adds one value to a list of strings, removes
-/// one, replaces one that is not in it, or puts a comment above. None: it may be another command, or another argument;
+/// What the command makes of the argument that has these lines, where it adds one value to a list of strings, XX None: it may be another command, or another argument;
 /// then the buffer does not count.
 fn execute_on_list(
     script: ScriptRun<'_>,
@@ -113,9 +106,6 @@ fn execute_on_list(
     }
     if let Some(old) = removed_by(command) {
         return execute_remove(script, old, lines, written);
-    }
-    if let Some(comment) = comment_by(command) {
-        return execute_comment(script, comment, lines, written);
     }
     if is_lacking(script, command, lines) {
         return Ok(Some(EditedList::Unchanged));
@@ -176,7 +166,7 @@ fn execute_remove(
 }
 
 /// The comment that the command puts above an attribute.
-fn comment_by(command: &Command) -> Option<AttributeComment<'_>>
+pub(crate) fn comment_by(command: &Command) -> Option<AttributeComment<'_>>
     ensures { IfSome result (λ new. command.now ≡ Comment (Attribute new.attr.now) new.text.now) }
 {
     let Action::Comment(Commented::Attribute(attr), text) = &command.action else {
@@ -186,28 +176,6 @@ fn comment_by(command: &Command) -> Option<AttributeComment<'_>>
         attr: attr.as_str(),
         text: text.as_str(),
     })
-}
-
-/// The same of a comment.
-fn execute_comment(
-    script: ScriptRun<'_>,
-    comment: AttributeComment<'_>,
-    lines: &str,
-    written: &mut Vec<u8>,
-) -> Result<Option<EditedList>, NoMemory>
-    ensures { IfOk result (λ known. IfSome known (EditsList script.entry.max_depth
-        (Comment (Attribute comment.entry.attr.now) comment.entry.text.now) script.entry.home.now lines.now
-        written.new.items)) }
-{
-    let line = comment_line(script.alloc, comment.text)?;
-    let new = NewComment {
-        attr: comment.attr,
-        line: line.as_str(),
-    };
-    if put_commented(lines, new, script.max_depth, written)? {
-        return Ok(Some(EditedList::Written));
-    }
-    Ok(None)
 }
 
 /// The value that the command replaces.
@@ -245,11 +213,6 @@ fn one_value<'c>(attr: &'c Text, values: &'c [Text]) -> Option<ListValue<'c>>
         attr: attr.as_str(),
         value: value.as_str(),
     })
-}
-
-// Where there is no argument to put a comment at, it fails, and its note is told of the rule.
-fn is_comment(command: &Command) -> bool {
-    matches!(command.action, Action::Comment(_, _))
 }
 
 /// The lines of the argument that the command adds where none has its name. False: they are not easily written.

@@ -18,7 +18,7 @@ ghost use Rattle.bz_engine.specs.private.NextChunks.{EditsFound, IsFirstEdited, 
 ghost use Rattle.bz_engine.specs.private.Rows.{HasKey};
 
 use crate::answer::{marks_found, unchanged_by_text};
-use crate::argument::{EditedArgument, execute_on_lines};
+use crate::argument::{EditedArgument, comment_by, execute_on_lines};
 use crate::edit::ScriptRun;
 use crate::failure::message_by_text;
 use crate::progress::Progress;
@@ -26,7 +26,8 @@ use crate::rule_passes::OnePass;
 use crate::rules::Rules;
 use crate::written::{begin_statement, put_canonical};
 use bz_attribute::Env;
-use bz_canonical::{ArgumentPlace, CanonicalChunk, read_canonical};
+use bz_attribute_commands::comment::comment_line;
+use bz_canonical::{ArgumentPlace, CanonicalChunk, comment_place, read_canonical};
 use bz_devices::ahead::Ahead;
 use bz_memory::{NoMemory, extend_from_slice};
 use bz_passes::index::Key;
@@ -228,6 +229,9 @@ fn edit_argument(
     let Some(place) = place_for(only, found) else {
         return Ok(false);
     };
+    if let Some(comment) = comment_by(only.command) {
+        return put_comment(script, only.at, comment.text, found.chunk, place, progress, text);
+    }
     let mut spare = progress.take_spare(script.alloc);
     match execute_on_lines(script, only.command, place.lines, &mut spare)? {
         None => {
@@ -244,14 +248,40 @@ fn edit_argument(
             progress.keep_line(only.at, None)?;
             let changed = Changed {
                 class: found.chunk.class,
-                place,
+                before: place.before,
                 lines,
+                after: place.after,
             };
             changed.put(script, progress, text)?;
             progress.give_back(spare);
             Ok(true)
         }
     }
+}
+
+fn put_comment(
+    script: ScriptRun<'_>,
+    at: usize,
+    comment: &str,
+    chunk: CanonicalChunk<'_>,
+    place: ArgumentPlace<'_>,
+    progress: &mut Progress,
+    text: &mut Vec<u8>,
+) -> Result<bool, NoMemory>
+{
+    let Some(found) = comment_place(chunk.written, place) else {
+        return Ok(false);
+    };
+    let line = comment_line(script.alloc, comment)?;
+    progress.keep_line(at, None)?;
+    let changed = Changed {
+        class: chunk.class,
+        before: found.above,
+        lines: line.as_bytes(),
+        after: found.below,
+    };
+    changed.put(script, progress, text)?;
+    Ok(true)
 }
 
 /// The place of the argument that the command looks at alone. None also for the name where a pass comes after: that may
@@ -309,8 +339,9 @@ fn name_key(name: Option<&str>) -> Key<'_>
 #[derive(Clone, Copy)]
 struct Changed<'t> {
     class: Class,
-    place: ArgumentPlace<'t>,
+    before: &'t str,
     lines: &'t [u8],
+    after: &'t str,
 }
 
 impl Changed<'_> {
@@ -323,14 +354,14 @@ impl Changed<'_> {
     ) -> Result<(), NoMemory>
         ensures last { OnOk result (progress.new ≡ record progress.old { last = Some self.entry.class; changed = true }) }
         ensures text { OnOk result ((s : Statement) → s.class ≡ self.entry.class
-            → layout_text s ≡ self.entry.place.before.now ++ (self.entry.lines.now ++ self.entry.place.after.now)
+            → layout_text s ≡ self.entry.before.now ++ (self.entry.lines.now ++ self.entry.after.now)
             → text.new.items ≡ text.old.items
             ++ (if is_query script.entry.passes.now then [] else text_following progress.old.last (Some s ∷ []))) }
     {
         if begin_statement(script, self.class, progress, text)? {
-            extend_from_slice(text, self.place.before.as_bytes())?;
+            extend_from_slice(text, self.before.as_bytes())?;
             extend_from_slice(text, self.lines)?;
-            extend_from_slice(text, self.place.after.as_bytes())?;
+            extend_from_slice(text, self.after.as_bytes())?;
         }
         progress.changed = true;
         Ok(())
