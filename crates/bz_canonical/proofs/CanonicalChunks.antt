@@ -5,10 +5,11 @@ use Rattle.bz_token.specs.Chunks.{chunks}
 use Rattle.bz_token.specs.Cuts.{IsChunk}
 use Rattle.bz_tree.specs.declared.tree.Class.{Class}
 use Rattle.bz_tree.specs.Chunk.{IsStatementIn}
-use Rattle.bz_tree.specs.Tree.{Statement}
+use Rattle.bz_tree.specs.Tree.{Statement, segs_of}
 use Rattle.bz_layout.specs.Layout.{is_comment, layout_text}
 use Rattle.bz_attribute.specs.Effects.{with_args}
 use Rattle.bz_attribute.specs.Rules.{first_named, rule_of}
+use Rattle.bz_layout_laws.specs.TextsOfKinds.{SegsHaveTexts}
 use Rattle.bz_layout_laws.specs.Lineless.{lineless}
 use Rattle.bz_layout_laws.specs.Spelled.{spelled_statement}
 use Rattle.bz_layout_laws.specs.WellFormed.{IsWellFormed}
@@ -46,6 +47,7 @@ place_same depth attr s t b same has = record {
   rule_is = ap (λ (z : Statement). rule_of z.nodes) same ∙ has.rule_is;
   none = has.none ∙ ap (λ (z : Statement). is_empty (first_args attr z)) (sym same);
   reads = subst (AreReadAlone depth b.lines) (ap (λ (z : Statement). first_args attr z) (sym same)) has.reads;
+  texts = subst (λ xs. SegsHaveTexts (segs_of xs)) (ap (λ (z : Statement). first_args attr z) (sym same)) has.texts;
   takes = λ f local some. ap (λ (z : Statement). layout_text (with_args f z)) same ∙ has.takes f local (ap (λ (z : Statement). is_empty (f (first_args attr z))) (sym same) ∙ some)
       ∙ ap (λ (z : Statement). b.before ++ (argument_lines (f (first_args attr z)) ++ b.after)) (sym same);
 }

@@ -1,30 +1,31 @@
--- What `comment` makes of the lines of an argument.
-use Rattle.std.proofs.Common.{◌≡◌, ◌<◌, ◌==◌, ℕ, suc, List, [], ◌∷◌, ◌++◌, Bool, true, false, refl, sym, ap, ◌∙◌, append_assoc, append-nil, subst, bytes_eq}
+-- Where a comment line goes that is put above an argument.
+use Rattle.std.proofs.Common.{◌≡◌, ◌-◌, ◌==◌, ℕ, List, [], ◌∷◌, ◌++◌, Bool, true, false, ◌||◌, not, if◌then◌else◌, length, nat_eq, take, drop, refl, sym, ap, ◌∙◌, append_assoc, append-nil, subst, arith}
+use Rattle.std.proofs.Math.Seq.{drop-append_seam}
 use Rattle.std.proofs.lemmas.Bool.{and_parts, eqb-true, false≢true}
-use Rattle.std.proofs.lemmas.List.{append_cancel_left}
+use Rattle.std.proofs.lemmas.List.{append_cancel_left, length-append}
+use Rattle.std.specs.List.{list_any}
+use Rattle.std.specs.Prelude.{codes, Option, Some, None, option_to_list}
 use Rattle.bz_token.specs.Common.{is_empty}
-use Rattle.std.specs.Prelude.{codes, Option, Some}
-use Rattle.bz_token.specs.Lexical.{is_comment}
-use Rattle.bz_token.specs.declared.token.Kind.TheVariants.{Operator}
+use Rattle.bz_token.specs.Lexical.{is_comment, is_name, is_newline, is_text, is_word_byte}
+use Rattle.bz_token.specs.declared.token.Kind.TheVariants.{Identifier, Operator}
 use Rattle.bz_tree.specs.declared.tree.GroupKind.TheVariants.{RuleCall}
-use Rattle.bz_tree.specs.Tree.{Segment, items_of}
+use Rattle.bz_tree.specs.Tree.{Item, Segment, Statement, items_of, leaf, segs_of}
 use Rattle.bz_layout.specs.declared.broken.Style.TheVariants.{Broken}
 use Rattle.bz_layout.specs.declared.spacing.Edge.TheVariants.{Start}
 use Rattle.bz_layout.specs.declared.spacing.Gap.TheVariants.{Closed, Line}
-use Rattle.bz_layout.specs.Layout.{items_pieces}
+use Rattle.bz_layout.specs.Layout.{items_pieces, layout_text}
 use Rattle.bz_layout.specs.Pieces.{Piece, piece, bytes_of, comments, indent, suffix_piece}
 use Rattle.bz_layout.proofs.Pieces.{bytes_append}
 use Rattle.bz_layout_laws.specs.Legible.{AreComments}
-use Rattle.bz_attribute.specs.Effects.{with_comment}
-use Rattle.bz_attribute.specs.Rules.{is_named}
-use Rattle.bz_canonical.specs.Canonical.{argument_lines}
-use Rattle.bz_canonical.specs.Commented.{CommentsLines, IsCommented, commented}
-use Rattle.bz_canonical.specs.private.Added.{list_arg}
-use Rattle.bz_canonical.specs.private.Commented.{IsHeadBelow, IsListBelow}
-use Rattle.bz_canonical.specs.private.Rewritten.{Element, IsHeadRead, IsListRead, IsValueEnd, Placed, placed_lines}
+use Rattle.bz_layout_laws.specs.TextsOfKinds.{HaveTexts, SegsHaveTexts}
+use Rattle.bz_attribute.specs.Effects.{has, with_args, with_comment}
+use Rattle.bz_attribute.specs.RowPlaces.{IsLocal}
+use Rattle.bz_attribute.specs.Rules.{Rule, first_named, ident_of, is_named, is_operator_item, is_text as is_named_so, name_of, rule_of}
+use Rattle.bz_attribute.proofs.Locals.{edit_local, is_first_named, kept_first}
+use Rattle.bz_attribute.proofs.RuleNodes.{rule_nodes}
+use Rattle.bz_canonical.specs.Canonical.{Between, HasPlace, argument_lines, first_args, rule_args}
+use Rattle.bz_canonical.specs.Commented.{TakesComment, commented}
 use Rattle.bz_canonical.specs.private.Segments.{AreNotesFront}
-use Rattle.bz_canonical.proofs.AddedLines.{read_same}
-use Rattle.bz_canonical.proofs.PutArguments.{argument_bytes, laid, list_is_placed, list_lines, list_placed, standing, value_read}
 use Rattle.bz_canonical.proofs.Taken.{taken}
 
 -- a comment begins with a number sign
@@ -40,90 +41,162 @@ no_notes (n ∷ ns) line tail rest first are is begins other =
     let same : first ≡ 35 = cc in
     absurd (false≢true (sym other ∙ ap (λ b. b == 35) same))
 
-pub head_below : (attr text line value rest : List ℕ) (first : ℕ) (d : Bool) → AreNotesFront 1 text line d → IsHeadRead attr line value true → line ≡ 10 ∷ (indent 1 ++ first ∷ rest) → (first == 35) ≡ false → IsHeadBelow attr text line value
-head_below attr text line value rest first d above h begins other =
-    let none : h.notes ≡ [] = no_notes h.notes line _ rest first h.are h.front begins other in
-    record {
-      notes = above.notes;
-      are = above.are;
-      word = h.word;
-      is = h.is;
-      front = above.front;
-      line_is = h.front ∙ ap (λ ns. bytes_of (comments 1 ns) ++ (10 ∷ (indent 1 ++ (h.word ++ (codes " = " ++ value))))) none;
-      named = h.named_is;
-    }
+-- and holds no newline
+not_true : (b : Bool) → not b ≡ true → b ≡ false
+not_true true h = absurd (false≢true h)
+not_true false h = refl
+
+one_line : (text : List ℕ) → is_comment text ≡ true → list_any is_newline text ≡ false
+one_line text h = not_true (list_any is_newline text) (and_parts _ (not (list_any is_newline text)) (and_parts _ _ h).0).1
+
+or_none : (a b : Bool) → (a || b) ≡ false → (a ≡ false) × (b ≡ false)
+or_none true b none = absurd (false≢true (sym none))
+or_none false b none = (refl, none)
+
+line_same : (n m x y : List ℕ) → list_any is_newline n ≡ false → list_any is_newline m ≡ false → n ++ (10 ∷ x) ≡ m ++ (10 ∷ y) → n ≡ m
+line_same [] [] x y hn hm is = refl
+line_same [] (b ∷ m) x y hn hm is =
+    let same : 10 ≡ b = cc in
+    absurd (false≢true (sym (or_none (is_newline b) (list_any is_newline m) hm).0 ∙ ap is_newline (sym same)))
+line_same (a ∷ n) [] x y hn hm is =
+    let same : 10 ≡ a = cc in
+    absurd (false≢true (sym (or_none (is_newline a) (list_any is_newline n) hn).0 ∙ ap is_newline (sym same)))
+line_same (a ∷ n) (b ∷ m) x y hn hm is =
+    let first : a ≡ b = cc in
+    let rest : n ++ (10 ∷ x) ≡ m ++ (10 ∷ y) = cc in
+    let same : n ≡ m = line_same n m x y (or_none (is_newline a) (list_any is_newline n) hn).1 (or_none (is_newline b) (list_any is_newline m) hm).1 rest in
+    λ i. first i ∷ same i
+
+begin_line : (ns : List (List ℕ)) (x rest : List ℕ) → x ≡ 10 ∷ rest → (more : List ℕ) × (bytes_of (comments 1 ns) ++ x ≡ 10 ∷ more)
+begin_line [] x rest is = (rest, is)
+begin_line (n ∷ ns) x rest is = (_, refl)
+
+-- so what begins with comments and a line of another kind does so in one way
+notes_same : (ns ms : List (List ℕ)) (x y xs ys : List ℕ) (f g : ℕ) → AreComments ns → AreComments ms → x ≡ 10 ∷ (indent 1 ++ f ∷ xs) → (f == 35) ≡ false → y ≡ 10 ∷ (indent 1 ++ g ∷ ys) → (g == 35) ≡ false
+    → bytes_of (comments 1 ns) ++ x ≡ bytes_of (comments 1 ms) ++ y → ns ≡ ms
+notes_same [] [] x y xs ys f g an am hx hf hy hg is = refl
+notes_same [] (m ∷ ms) x y xs ys f g an am hx hf hy hg is = sym (no_notes (m ∷ ms) x y xs f am is hx hf)
+notes_same (n ∷ ns) [] x y xs ys f g an am hx hf hy hg is = no_notes (n ∷ ns) y x ys g an (sym is) hy hg
+notes_same (n ∷ ns) (m ∷ ms) x y xs ys f g an am hx hf hy hg is =
+    let two = and_parts (is_comment n) _ an in
+    let twice = and_parts (is_comment m) _ am in
+    let N : List ℕ = bytes_of (comments 1 ns) in
+    let M : List ℕ = bytes_of (comments 1 ms) in
+    let whole : 10 ∷ (indent 1 ++ ((n ++ N) ++ x)) ≡ 10 ∷ (indent 1 ++ ((m ++ M) ++ y)) = is in
+    let inner : (n ++ N) ++ x ≡ (m ++ M) ++ y = cc in
+    let apart : n ++ (N ++ x) ≡ m ++ (M ++ y) = sym (append_assoc n N x) ∙ inner ∙ append_assoc m M y in
+    let p = begin_line ns x (indent 1 ++ f ∷ xs) hx in
+    let q = begin_line ms y (indent 1 ++ g ∷ ys) hy in
+    let first : n ≡ m = line_same n m p.0 q.0 (one_line n two.0) (one_line m twice.0) (ap (λ (t : List ℕ). n ++ t) (sym p.1) ∙ apart ∙ ap (λ (t : List ℕ). m ++ t) q.1) in
+    let rest : N ++ x ≡ M ++ y = append_cancel_left n (N ++ x) (M ++ y) (apart ∙ ap (λ (t : List ℕ). t ++ (M ++ y)) (sym first)) in
+    let others : ns ≡ ms = notes_same ns ms x y xs ys f g two.1 twice.1 hx hf hy hg rest in
+    λ i. first i ∷ others i
+
+-- the line of an argument that has a name
+no_sign : (f : ℕ) → is_word_byte f ≡ true → (f == 35) ≡ false
+no_sign f word = by (f == 35) refl
+  where
+    by : (b : Bool) → (f == 35) ≡ b → b ≡ false
+    by true is = absurd (false≢true (ap is_word_byte (sym (eqb-true f 35 is)) ∙ word))
+    by false is = refl
+
+word_first : (word : List ℕ) → is_text Identifier word ≡ true → (f : ℕ) × (rest : List ℕ) × (word ≡ f ∷ rest) × ((f == 35) ≡ false)
+word_first [] h = absurd (false≢true h)
+word_first (f ∷ rest) h = (f, rest, refl, no_sign f (and_parts (is_word_byte f) _ (and_parts _ _ (and_parts (is_name (f ∷ rest)) _ h).0).1).0)
+
+ident_is : (x : Item) (word : List ℕ) → ident_of x ≡ Some word → x ≡ leaf Identifier word
+ident_is (leaf Identifier text) word is = let same : text ≡ word = cc in ap (leaf Identifier) same
+ident_is _ word is = absurd cc
+
+named_is : (name : List ℕ) (o : Option (List ℕ)) → is_named_so name o ≡ true → (word : List ℕ) × (o ≡ Some word)
+named_is name None h = absurd (false≢true h)
+named_is name (Some word) h = (word, refl)
+
+chosen : (b : Bool) (o : Option (List ℕ)) (word : List ℕ) → (if b then o else None) ≡ Some word → o ≡ Some word
+chosen true o word is = is
+chosen false o word is = absurd cc
+
+name_line : (name : List ℕ) (nodes : List Item) (more : List Piece) → is_named_so name (name_of nodes) ≡ true → HaveTexts (items_of nodes)
+    → (f : ℕ) × (rest : List ℕ) × (bytes_of (items_pieces Broken 1 (Some RuleCall) (Line 1) Start (items_of nodes) ++ more) ≡ 10 ∷ (indent 1 ++ f ∷ rest)) × ((f == 35) ≡ false)
+name_line name [] more named have = absurd (false≢true named)
+name_line name (x ∷ []) more named have = absurd (false≢true named)
+name_line name (x ∷ y ∷ nodes) more named have =
+    let word = named_is name (name_of (x ∷ y ∷ nodes)) named in
+    let is : x ≡ leaf Identifier word.0 = ident_is x word.0 (chosen (is_operator_item (codes "=") y) (ident_of x) word.0 word.1) in
+    let texts = subst (λ (z : Item). HaveTexts (items_of (z ∷ y ∷ nodes))) is have in
+    let first = word_first word.0 texts.0.0 in (
+      first.0,
+      _,
+      ap (λ (z : Item). bytes_of (items_pieces Broken 1 (Some RuleCall) (Line 1) Start (items_of (z ∷ y ∷ nodes)) ++ more)) is ∙ ap (λ (t : List ℕ). bytes_of (items_pieces Broken 1 (Some RuleCall) (Line 1) Start (items_of (leaf Identifier t ∷ y ∷ nodes)) ++ more)) first.2,
+      first.3,
+    )
 
 comments_more : (notes : List (List ℕ)) (line : List ℕ) → bytes_of (comments 1 (notes ++ line ∷ [])) ≡ bytes_of (comments 1 notes) ++ (codes "\n    " ++ line)
 comments_more [] line = append-nil (10 ∷ (indent 1 ++ line))
 comments_more (n ∷ ns) line = ap (λ (t : List ℕ). (10 ∷ (indent 1 ++ n)) ++ t) (comments_more ns line) ∙ sym (append_assoc (10 ∷ (indent 1 ++ n)) (bytes_of (comments 1 ns)) (codes "\n    " ++ line))
 
-commented_is : (attr line word : List ℕ) (notes : List (List ℕ)) (es : List Element) (suffix : Option (List ℕ)) → bytes_eq attr word ≡ true
-    → commented attr line (list_arg notes word es suffix ∷ []) ≡ list_arg (notes ++ line ∷ []) word es suffix ∷ []
-commented_is attr line word notes es suffix named = rw named refl
+-- what is written of an argument below its comments
+abbrev below_pieces : Segment → List Piece
+below_pieces a = items_pieces Broken 1 (Some RuleCall) (Line 1) Start (items_of a.nodes) ++ (piece Closed Operator (codes ",") ∷ (suffix_piece a.suffix ++ []))
 
--- what stands above the argument with the comment line
-abbrev pub upper : List ℕ → List ℕ → List ℕ
-upper C line = (C ++ codes "\n    ") ++ line
+lines_below : (a : Segment) (notes : List (List ℕ)) → argument_lines (record a { before = notes } ∷ []) ≡ bytes_of (comments 1 notes) ++ bytes_of (below_pieces a)
+lines_below a notes = bytes_append (comments 1 notes) (below_pieces a)
 
--- its value stands as it is written
+-- an edit that leaves all arguments
+as_is_local : (attr : List ℕ) → IsLocal attr (λ args. args)
+as_is_local attr = record { absent = λ args none. sym (append-nil args); there = λ args a is. kept_first attr args a is }
 
-lines_below : (a : Segment) → (below : List ℕ) × ((notes : List (List ℕ)) → argument_lines (record a { before = notes } ∷ []) ≡ bytes_of (comments 1 notes) ++ below)
-lines_below a =
-    let P : List Piece = items_pieces Broken 1 (Some RuleCall) (Line 1) Start (items_of a.nodes) ++ (piece Closed Operator (codes ",") ∷ (suffix_piece a.suffix ++ [])) in
-    (bytes_of P, λ notes. bytes_append (comments 1 notes) P)
+as_is_same : (s : Statement) (r : Rule) → rule_of s.nodes ≡ Some r → with_args (λ args. args) s ≡ s
+as_is_same s r is = rw is (ap (λ (nodes : List Item). record s { nodes = nodes }) (rule_nodes [] s.nodes r is))
 
-pub lines_copied : (depth : ℕ) (attr line text at value written : List ℕ) → (h : IsHeadBelow attr text at value) → IsValueEnd depth value []
-    → written ≡ upper (bytes_of (comments 1 h.notes)) line ++ at → CommentsLines (suc depth) attr line text written
-lines_copied depth attr line text at value written h v put args reads =
-    let C : List ℕ = bytes_of (comments 1 h.notes) in
-    let head : IsHeadRead attr text value true = record { notes = h.notes; are = h.are; word = h.word; is = h.is; front = h.front ∙ ap (λ (t : List ℕ). C ++ t) h.line_is; named_is = h.named } in
-    let got = value_read depth attr text value [] true head v in
-    let p : Placed = got.2.placed in
-    let a : Segment = p.arg in
-    let below = lines_below a in
-    let same : args ≡ a ∷ [] = read_same depth text args p got.2.is (got.2.front ∙ append-nil (placed_lines p)) reads in
-    let lines : text ≡ C ++ below.0 = got.1 ∙ append-nil got.0 ∙ got.2.spells ∙ below.1 a.before ∙ ap (λ (ns : List (List ℕ)). bytes_of (comments 1 ns) ++ below.0) got.3 in
-    let rest : at ≡ below.0 = append_cancel_left C at below.0 (sym h.front ∙ lines) in
-    let made : commented attr line (a ∷ []) ≡ with_comment line a ∷ [] = made_of a got.2.named_is in
-    subst (λ xs. IsCommented attr line xs written) (sym same) (record {
-      there = rw got.2.named_is refl;
-      some = ap is_empty made;
-      lines_are = put ∙ ap (λ (t : List ℕ). upper C line ++ t) rest ∙ ap (λ (t : List ℕ). t ++ below.0) (append_assoc C (codes "\n    ") line ∙ sym (comments_more h.notes line))
-          ∙ ap (λ (ns : List (List ℕ)). bytes_of (comments 1 (ns ++ line ∷ [])) ++ below.0) (sym got.3) ∙ sym (below.1 (a.before ++ line ∷ [])) ∙ ap argument_lines (sym made);
-    })
+left_of : (text front rest : List ℕ) → text ≡ front ++ rest → drop (length text - length rest) text ≡ rest
+left_of text front rest is = ap (λ t. drop (length t - length rest) t) is ∙ ap (λ n. drop n (front ++ rest)) size ∙ drop-append_seam front rest
   where
-    made_of : (a : Segment) → is_named attr a ≡ true → commented attr line (a ∷ []) ≡ with_comment line a ∷ []
-    made_of a named = rw named refl
+    size : length (front ++ rest) - length rest ≡ length front
+    size = omega (arith, length-append front rest)
 
--- it is a list of strings
+pub some_lines : (text : List ℕ) → nat_eq (length text) 0 ≡ false → is_empty text ≡ false
+some_lines [] some = absurd (false≢true (sym some))
+some_lines (b ∷ text) some = refl
 
-pub lines_commented : (depth : ℕ) (attr line text at value below written : List ℕ) → 0 < depth → (h : IsHeadBelow attr text at value) → IsListBelow at value below
-    → written ≡ upper (bytes_of (comments 1 h.notes)) line ++ below → CommentsLines (suc depth) attr line text written
-lines_commented depth attr line text at value below written deep h b put args reads =
-    let l : IsListRead value b.end b.list = b.read in
-    let es : List Element = l.elements in
-    let suffix : Option (List ℕ) = b.last.suffix in
-    let p : Placed = list_placed h.notes h.word l.breaks es suffix in
-    let C : List ℕ = bytes_of (comments 1 h.notes) in
-    let F : List ℕ = 10 ∷ (indent 1 ++ (h.word ++ codes " = ")) in
-    let S : List ℕ = bytes_of (suffix_piece suffix) in
-    let back : b.end ≡ 44 ∷ S = b.last.front in
-    let front : at ≡ F ++ value = h.line_is ∙ start h.word value in
-    let lines : text ≡ placed_lines p = h.front ∙ ap (λ (x : List ℕ). C ++ x) h.line_is ∙ ap (λ (x : List ℕ). C ++ (10 ∷ (indent 1 ++ (h.word ++ (codes " = " ++ x))))) (l.front ∙ ap (λ (x : List ℕ). (91 ∷ bytes_of (standing l.breaks es)) ++ x) back)
-    ∙ sym (list_lines h.notes h.word l.breaks es suffix) in
-    let same : args ≡ p.arg ∷ [] = read_same depth text args p (list_is_placed depth h.notes h.word l.breaks es suffix deep h.are h.is l.are l.stands b.last.is) lines reads in
-    let made = commented_is attr line h.word h.notes es suffix h.named in
-    subst (λ xs. IsCommented attr line xs written) (sym same) (record {
-      there = rw h.named refl;
-      some = ap is_empty made;
-      lines_are = put ∙ ap (λ (x : List ℕ). upper C line ++ x) (b.spells ∙ (λ i. taken at F value front i ++ (l.spells i ++ back i))) ∙ whole C (91 ∷ bytes_of (laid es)) S
-          ∙ ap (λ (x : List ℕ). x ++ (10 ∷ (indent 1 ++ (h.word ++ (codes " = " ++ ((91 ∷ bytes_of (laid es)) ++ (44 ∷ S))))))) (sym (comments_more h.notes line))
-          ∙ sym (argument_bytes (comments 1 (h.notes ++ line ∷ [])) (laid es) (suffix_piece suffix) h.word) ∙ ap argument_lines (sym made);
-    })
+pub comment_taken : (depth : ℕ) (attr : List ℕ) (s : Statement) (b : Between) (written from line inner above below rest : List ℕ) (first : ℕ) (some : Bool) → is_empty b.lines ≡ false → from ≡ drop (length b.before) written
+    → AreNotesFront 1 from line some → line ≡ 10 ∷ (indent 1 ++ inner) → inner ≡ first ∷ rest → (first == 35) ≡ false → above ≡ take (length written - length inner) written
+    → below ≡ drop (length written - length line) written → layout_text s ≡ written → HasPlace depth attr s b → TakesComment attr s above below
+comment_taken depth attr s b written from line inner above below rest first some filled from_is n line_is inner_is other above_is below_is laid place = by (first_named attr (rule_args (rule_of s.nodes))) refl
   where
-    start : (word value : List ℕ) → 10 ∷ (indent 1 ++ (word ++ (codes " = " ++ value))) ≡ (10 ∷ (indent 1 ++ (word ++ codes " = "))) ++ value
-    start word value = simp append_assoc
+    by : (o : Option Segment) → first_named attr (rule_args (rule_of s.nodes)) ≡ o → TakesComment attr s above below
+    by None is = absurd (false≢true (sym filled ∙ place.none ∙ ap (λ o. is_empty (option_to_list o)) is))
+    by (Some a) is =
+        let first_is : first_args attr s ≡ a ∷ [] = ap option_to_list is in
+        let named : is_named attr a ≡ true = is_first_named attr (rule_args (rule_of s.nodes)) a is in
+        let texts = subst (λ xs. SegsHaveTexts (segs_of xs)) first_is place.texts in
+        let C : List ℕ = bytes_of (comments 1 a.before) in
+        let B : List ℕ = bytes_of (below_pieces a) in
+        let begins = name_line attr a.nodes (piece Closed Operator (codes ",") ∷ (suffix_piece a.suffix ++ [])) named texts.2 in
+        let some_first : is_empty (first_args attr s) ≡ false = ap is_empty first_is in
+        let whole : written ≡ b.before ++ ((C ++ B) ++ b.after) = sym laid ∙ ap layout_text (sym (as_is_same s place.rule place.rule_is)) ∙ place.takes (λ args. args) (as_is_local attr) some_first
+        ∙ ap (λ xs. b.before ++ (argument_lines xs ++ b.after)) first_is ∙ ap (λ (t : List ℕ). b.before ++ (t ++ b.after)) (lines_below a a.before) in
+        let there : from ≡ C ++ (B ++ b.after) = from_is ∙ ap (λ (t : List ℕ). drop (length b.before) t) whole ∙ drop-append_seam b.before ((C ++ B) ++ b.after) ∙ append_assoc C B b.after in
+        let opens : B ++ b.after ≡ 10 ∷ (indent 1 ++ (begins.0 ∷ (begins.1 ++ b.after))) = ap (λ (t : List ℕ). t ++ b.after) begins.2 in
+        let notes : n.notes ≡ a.before =
+        notes_same n.notes a.before line (B ++ b.after) rest (begins.1 ++ b.after) first begins.0 n.are texts.0 (line_is ∙ ap (λ (t : List ℕ). 10 ∷ (indent 1 ++ t)) inner_is) other opens begins.3 (sym n.front ∙ there) in
+        let at : line ≡ B ++ b.after = append_cancel_left C line (B ++ b.after) (ap (λ (ns : List (List ℕ)). bytes_of (comments 1 ns) ++ line) (sym notes) ∙ sym n.front ∙ there) in
+        let up_to_line : written ≡ (b.before ++ C) ++ line = whole ∙ ap (λ (t : List ℕ). b.before ++ t) (append_assoc C B b.after) ∙ sym (append_assoc b.before C (B ++ b.after)) ∙ ap (λ (t : List ℕ). (b.before ++ C) ++ t) (sym at) in
+        let up_to_name : written ≡ ((b.before ++ C) ++ codes "\n    ") ++ inner = up_to_line ∙ ap (λ (t : List ℕ). (b.before ++ C) ++ t) line_is ∙ sym (append_assoc (b.before ++ C) (codes "\n    ") inner) in
+        let above_at : above ≡ (b.before ++ C) ++ codes "\n    " = above_is ∙ taken written ((b.before ++ C) ++ codes "\n    ") inner up_to_name in
+        let below_at : below ≡ B ++ b.after = below_is ∙ left_of written (b.before ++ C) line up_to_line ∙ at in
+        record {
+          there = ap (has attr) first_is ∙ rw named refl;
+          takes = λ new.
+              let made : commented attr new (first_args attr s) ≡ with_comment new a ∷ [] = ap (commented attr new) first_is ∙ made_of new a named in
+              place.takes (commented attr new) (edit_local attr (λ x. with_comment new x ∷ [])) (ap is_empty made)
+              ∙ ap (λ xs. b.before ++ (argument_lines xs ++ b.after)) made
+              ∙ ap (λ (t : List ℕ). b.before ++ (t ++ b.after)) (lines_below a (a.before ++ new ∷ []) ∙ ap (λ (t : List ℕ). t ++ B) (comments_more a.before new))
+              ∙ joined b.before C new B b.after ∙ (λ i. sym above_at i ++ (new ++ sym below_at i));
+        }
+      where
+        made_of : (new : List ℕ) (a : Segment) → is_named attr a ≡ true → commented attr new (a ∷ []) ≡ with_comment new a ∷ []
+        made_of new a named = rw named refl
 
-    whole : (C L S : List ℕ) → upper C line ++ ((10 ∷ (indent 1 ++ (h.word ++ codes " = "))) ++ (L ++ (44 ∷ S)))
-        ≡ (C ++ (codes "\n    " ++ line)) ++ (10 ∷ (indent 1 ++ (h.word ++ (codes " = " ++ (L ++ (44 ∷ S))))))
-    whole C L S = simp append_assoc
+        joined : (F C new B E : List ℕ) → F ++ (((C ++ (codes "\n    " ++ new)) ++ B) ++ E) ≡ ((F ++ C) ++ codes "\n    ") ++ (new ++ (B ++ E))
+        joined F C new B E = simp append_assoc

@@ -43,13 +43,13 @@ second_kept n = by (nat_le 2 n) (nat_le 1 n) (one_of_two n) ∙ second_of_more n
 
 -- what is passed
 
-pub kept_none : (home : Package) (word : List ℕ) (lines : Bool) (front buffer : List ℕ) (at : Pending) → at.from.now ≡ front ++ at.rest.now → buffer ≡ []
-    → AreKept home word lines front at.rest.now buffer (record { at = at; one = false; equal = false; kept = false; several = false })
-kept_none home word lines front buffer at is none = record {
+pub kept_none : (home : Package) (word : List ℕ) (lines : Bool) (front buffer : List ℕ) (at : Pending) → at.from.now ≡ front ++ at.rest.now
+    → AreKept home word lines (buffer ++ front) at.rest.now buffer (record { at = at; one = false; equal = false; kept = false; several = false })
+kept_none home word lines front buffer at is = record {
   written = [];
   broken = false;
   passed = passed_none lines at.rest.now;
-  held = record { part = front; front = is; all_is = append-nil front ∙ ap (λ (t : List ℕ). t ++ front) (sym none); whole = λ empty. refl };
+  held = record { part = front; front = is; all_is = append-nil (buffer ++ front); whole = λ empty. refl };
   equal_is = refl;
   kept_is = refl;
   several_is = refl;

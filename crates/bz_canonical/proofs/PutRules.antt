@@ -18,6 +18,7 @@ use Rattle.bz_layout.specs.declared.broken.Style.TheVariants.{Broken}
 use Rattle.bz_layout.specs.declared.spacing.Edge.TheVariants.{Start}
 use Rattle.bz_layout.specs.declared.spacing.Gap.TheVariants.{Closed, Line, Space}
 use Rattle.bz_layout.proofs.Pieces.{bytes_append}
+use Rattle.bz_layout_laws.specs.TextsOfKinds.{SegsHaveTexts}
 use Rattle.bz_layout_laws.proofs.FreeRead.{free_again, free_chunked}
 use Rattle.bz_layout_laws.specs.FreeLayout.{Choice, SegsStand, broken_by, free, items_by, own, segs_spelled_by, text_by}
 use Rattle.bz_layout_laws.specs.Legible.{are_some, items_depth}
@@ -274,6 +275,7 @@ rule_place depth attr notes kind name placed end suffix text next place begins o
         rule_is = refl;
         none = no_lines_of h.one ∙ ap is_empty (sym first_is);
         reads = subst (AreReadAlone (suc depth) (flat_map placed_lines h.one)) (sym first_is) (placed_alone depth h.one h.are);
+        texts = subst (λ xs. SegsHaveTexts (segs_of xs)) (sym first_is) (args_formed depth h.one h.are).texts;
         takes = λ f local some.
             let splits : (f : List Segment → List Segment) → IsLocal attr f → f (args_of placed) ≡ args_of h.before ++ (f (alone attr (args_of placed)) ++ args_of h.after) =
             λ f local. h.splits f local ∙ ap (λ xs. args_of h.before ++ (f xs ++ args_of h.after)) (sym h.alone_is) in
@@ -320,6 +322,7 @@ name_place depth attr notes kind name args end suffix text inside next place is 
         rule_is = refl;
         none = ap is_empty (sym first_is);
         reads = subst (AreReadAlone (suc depth) L) (sym first_is) (subst (λ (t : List ℕ). AreReadAlone (suc depth) t (n ∷ [])) (line_is name) (read_alone depth (n ∷ []) are));
+        texts = subst (λ xs. SegsHaveTexts (segs_of xs)) (sym first_is) formed.texts;
         takes = λ f local some_new.
             with_group (comment_lines notes) (item_pieces Broken 0 Closed (group RuleCall (segs_of (f (segments (segs_of (n ∷ args))))) false end)) (suffix_piece suffix) kind _
             (first_takes attr n args end same some f local (ap (λ xs. is_empty (f xs)) (sym first_is) ∙ some_new))

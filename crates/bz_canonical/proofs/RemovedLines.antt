@@ -82,36 +82,44 @@ list_bytes notes word es suffix several =
 
 -- the argument of these lines
 
-abbrev kept_of : (depth : ℕ) (home : Package) (attr value text buffer : List ℕ) (list : KeptList) → (l : IsListKept depth home attr value text buffer list)
-    → AreKept home value l.kept.lines (front_of l.head.notes l.head.word) l.inside buffer list.passed
-kept_of depth home attr value text buffer list l = l.kept.kept (front_of l.head.notes l.head.word) (head_front attr text l.inside l.head)
+abbrev kept_of : (depth : ℕ) (home : Package) (attr value text old buffer : List ℕ) (list : KeptList) → (l : IsListKept depth home attr value text old buffer list)
+    → AreKept home value l.kept.lines (old ++ front_of l.head.notes l.head.word) l.inside buffer list.passed
+kept_of depth home attr value text old buffer list l = l.kept.kept (front_of l.head.notes l.head.word) (head_front attr text l.inside l.head)
 
-abbrev kept_told : (depth : ℕ) (home : Package) (attr value text buffer : List ℕ) (list : KeptList) → (l : IsListKept depth home attr value text buffer list)
-    → IsListTold depth attr text list.end.now (take (length text - length l.inside) text ++ (kept_of depth home attr value text buffer list l).written) list.passed.one
-kept_told depth home attr value text buffer list l =
-    let kept = kept_of depth home attr value text buffer list l in
+abbrev kept_told : (depth : ℕ) (home : Package) (attr value text old buffer : List ℕ) (list : KeptList) → (l : IsListKept depth home attr value text old buffer list)
+    → IsListTold depth attr text list.end.now (take (length text - length l.inside) text ++ (kept_of depth home attr value text old buffer list l).written) list.passed.one
+kept_told depth home attr value text old buffer list l =
+    let kept = kept_of depth home attr value text old buffer list l in
     let read = elements_read l.kept.lines list.passed.one kept.broken l.inside list.passed.at.rest.now list.end.now kept.written kept.passed l.kept.ends in
     list_told depth attr text l.inside list.end.now kept.written (take (length text - length l.inside) text ++ kept.written) list.passed.one kept.broken l.deep l.head read l.last refl
 
 -- an element goes, if one equals the value
-pub kept_removes : (depth : ℕ) (home : Package) (attr value text buffer : List ℕ) (list : KeptList) → IsListKept depth home attr value text buffer list
+pub kept_removes : (depth : ℕ) (home : Package) (attr value text old buffer : List ℕ) (list : KeptList) → IsListKept depth home attr value text old buffer list
     → (args : List Segment) → AreReadAlone depth text args → removes home (Named attr) (value ∷ []) args ≡ list.passed.equal
-kept_removes depth home attr value text buffer list l args reads =
-    let a = kept_told depth home attr value text buffer list l in
-    ap (removes home (Named attr) (value ∷ [])) (a.same args reads) ∙ chooses_is home attr value a.name a.notes a.elements a.suffix a.named ∙ sym (kept_of depth home attr value text buffer list l).equal_is
+kept_removes depth home attr value text old buffer list l args reads =
+    let a = kept_told depth home attr value text old buffer list l in
+    ap (removes home (Named attr) (value ∷ [])) (a.same args reads) ∙ chooses_is home attr value a.name a.notes a.elements a.suffix a.named ∙ sym (kept_of depth home attr value text old buffer list l).equal_is
 
-pub value_gone : (depth : ℕ) (home : Package) (attr value text buffer put new : List ℕ) (list : KeptList) → IsListKept depth home attr value text buffer list → list.passed.equal ≡ true → list.passed.several ≡ true
+pub value_gone : (depth : ℕ) (home : Package) (attr value text old buffer put new : List ℕ) (list : KeptList) → IsListKept depth home attr value text old buffer list → list.passed.equal ≡ true → list.passed.several ≡ true
     → ((part : List ℕ) → list.passed.at.from.now ≡ part ++ list.passed.at.rest.now → put ≡ buffer ++ part) → new ≡ (put ++ closed) ++ list.end.now
-    → (args : List Segment) → AreReadAlone depth text args → IsRemoved home attr value args new
-value_gone depth home attr value text buffer put new list l there several pending new_is args reads =
-    let a = kept_told depth home attr value text buffer list l in
-    let kept = kept_of depth home attr value text buffer list l in
+    → (written : List ℕ) × (new ≡ old ++ written) × ((args : List Segment) → AreReadAlone depth text args → IsRemoved home attr value args written)
+value_gone depth home attr value text old buffer put new list l there several pending new_is =
+    let a = kept_told depth home attr value text old buffer list l in
+    let kept = kept_of depth home attr value text old buffer list l in
     let left : List Element = without home value a.elements in
     let two : true ≡ nat_le 2 (length left) = sym several ∙ kept.several_is in
     let removed = remove_is home attr value a.name a.notes a.elements a.suffix a.named (some_of_several left two) in
-    let lines : put ≡ front_of a.notes a.name ++ element_lines (respell String) left = pending kept.held.part kept.held.front ∙ sym kept.held.all_is in
-    subst (λ xs. IsRemoved home attr value xs new) (sym (a.same args reads)) (record {
-      removed = ap (removes home (Named attr) (value ∷ [])) (sym (a.same args reads)) ∙ kept_removes depth home attr value text buffer list l args reads ∙ there;
-      some = ap is_empty removed;
-      lines_are = new_is ∙ (λ i. (lines i ++ closed) ++ a.back i) ∙ sym (list_bytes a.notes a.name left a.suffix two) ∙ ap argument_lines (sym removed);
-    })
+    let F : List ℕ = front_of a.notes a.name in
+    let L : List ℕ = element_lines (respell String) left in
+    let lines : put ≡ (old ++ F) ++ L = pending kept.held.part kept.held.front ∙ sym kept.held.all_is in (
+      ((F ++ L) ++ closed) ++ list.end.now,
+      new_is ∙ ap (λ (t : List ℕ). (t ++ closed) ++ list.end.now) lines ∙ joined F L closed list.end.now,
+      λ args reads. subst (λ xs. IsRemoved home attr value xs (((F ++ L) ++ closed) ++ list.end.now)) (sym (a.same args reads)) (record {
+        removed = ap (removes home (Named attr) (value ∷ [])) (sym (a.same args reads)) ∙ kept_removes depth home attr value text old buffer list l args reads ∙ there;
+        some = ap is_empty removed;
+        lines_are = ap (λ (t : List ℕ). ((F ++ L) ++ closed) ++ t) a.back ∙ sym (list_bytes a.notes a.name left a.suffix two) ∙ ap argument_lines (sym removed);
+      }),
+    )
+  where
+    joined : (F L C E : List ℕ) → (((old ++ F) ++ L) ++ C) ++ E ≡ old ++ (((F ++ L) ++ C) ++ E)
+    joined F L C E = simp append_assoc

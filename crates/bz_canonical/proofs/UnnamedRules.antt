@@ -19,6 +19,7 @@ use Rattle.bz_layout.specs.declared.spacing.Edge.TheVariants.{Start}
 use Rattle.bz_layout.specs.declared.spacing.Gap.{Gap}
 use Rattle.bz_layout.specs.declared.spacing.Gap.TheVariants.{Closed, Line, Space}
 use Rattle.bz_layout.proofs.Pieces.{bytes_append}
+use Rattle.bz_layout_laws.specs.TextsOfKinds.{SegsHaveTexts}
 use Rattle.bz_layout_laws.proofs.SameInside.{items_same}
 use Rattle.bz_attribute.specs.Rules.{first_named, is_named}
 use Rattle.bz_attribute.proofs.Views.{segments_of}
@@ -137,6 +138,7 @@ unnamed_place depth attr notes kind suffix text rest s none =
       rule_is = refl;
       none = ap is_empty (sym first_is);
       reads = subst (AreReadAlone (suc depth) []) (sym first_is) (read_alone depth [] (no_segments RuleCall depth));
+      texts = subst (λ xs. SegsHaveTexts (segs_of xs)) (sym first_is) tt;
       takes = λ f local some.
           with_group (comment_lines notes) (item_pieces Broken 0 Closed (group RuleCall (segs_of (f (n ∷ []))) false [])) (suffix_piece suffix) kind _
           (ap (λ xs. bytes_of (item_pieces Broken 0 Closed (group RuleCall (segs_of (f xs)) false []))) (sym (segments_of (n ∷ [])))

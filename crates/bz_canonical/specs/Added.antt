@@ -1,6 +1,6 @@
 -- Whether a value is in an argument that has these lines, and what `add` of it makes of the lines.
 -- Begin with `AddsToLines`.
-use Rattle.std.specs.Prelude.{◌≡◌, ℕ, List, [], ◌∷◌, true, false, None}
+use Rattle.std.specs.Prelude.{◌≡◌, ℕ, List, [], ◌∷◌, ◌++◌, true, false, None}
 use Rattle.bz_token.specs.Common.{is_empty, map_or}
 use Rattle.bz_tree.specs.Tree.{Segment}
 use Rattle.bz_command.specs.Labels.{Package}
@@ -24,10 +24,10 @@ pub record IsNew (home : Package) (attr value : List ℕ) (args : List Segment) 
   pub some : is_empty (add home attr (value ∷ []) args) ≡ false
   pub lines_are : lines ≡ argument_lines (add home attr (value ∷ []) args)
 
--- of the arguments that are read of these lines alone
-abbrev pub AddsToLines : ℕ → Package → List ℕ → List ℕ → List ℕ → List ℕ → Added → Type 0
-AddsToLines depth home attr value lines written Present = (args : List Segment) → AreReadAlone depth lines args → IsPresent home attr value args
-AddsToLines depth home attr value lines written New = (args : List Segment) → AreReadAlone depth lines args → IsNew home attr value args written
+-- of the arguments that are read of these lines alone; what is written stands after what was in the buffer
+abbrev pub AddsToLines : ℕ → Package → List ℕ → List ℕ → List ℕ → List ℕ → List ℕ → Added → Type 0
+AddsToLines depth home attr value lines old new Present = (args : List Segment) → AreReadAlone depth lines args → IsPresent home attr value args
+AddsToLines depth home attr value lines old new New = (written : List ℕ) × (new ≡ old ++ written) × ((args : List Segment) → AreReadAlone depth lines args → IsNew home attr value args written)
 
 -- Of the arguments that are read of these lines alone, no list of the first of the name has an element that equals the value.
 abbrev pub LacksInLines : ℕ → Package → List ℕ → List ℕ → List ℕ → Type 0

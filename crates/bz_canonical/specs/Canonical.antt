@@ -12,6 +12,7 @@ use Rattle.bz_layout.specs.Layout.{broken_segs, layout_text}
 use Rattle.bz_layout.specs.Pieces.{bytes_of}
 use Rattle.bz_canonical.specs.declared.chunk.ArgumentPlace.{ArgumentPlace}
 use Rattle.bz_layout_laws.specs.Lineless.{lineless}
+use Rattle.bz_layout_laws.specs.TextsOfKinds.{SegsHaveTexts}
 use Rattle.bz_attribute.specs.Effects.{with_args}
 use Rattle.bz_attribute.specs.RowPlaces.{IsLocal}
 use Rattle.bz_attribute.specs.Rules.{Rule, first_named, kind_text, rule_of, name_in}
@@ -78,13 +79,14 @@ pub record Between : Type 0 where
 abbrev pub between : ArgumentPlace → Between
 between place = record { before = place.before.now; lines = place.lines.now; after = place.after.now }
 
--- The lines are those of the first argument of this name in a rule, or there is none. An edit that looks at it alone changes what
--- is written of it alone.
+-- The lines are those of the first argument of this name in a rule, or there is none. Its tokens and comments are texts of their
+-- kinds. An edit that looks at it alone changes what is written of it alone.
 pub record HasPlace (depth : ℕ) (attr : List ℕ) (s : Statement) (place : Between) : Type 0 where
   pub rule : Rule
   pub rule_is : rule_of s.nodes ≡ Some rule
   pub none : is_empty place.lines ≡ is_empty (first_args attr s)
   pub reads : AreReadAlone depth place.lines (first_args attr s)
+  pub texts : SegsHaveTexts (segs_of (first_args attr s))
   pub takes : (f : List Segment → List Segment) → IsLocal attr f → is_empty (f (first_args attr s)) ≡ false
       → layout_text (with_args f s) ≡ place.before ++ (argument_lines (f (first_args attr s)) ++ place.after)
 

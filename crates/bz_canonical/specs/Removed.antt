@@ -1,6 +1,6 @@
 -- What `remove` of one value makes of an argument that has these lines.
 -- Begin with `RemovesFromLines`.
-use Rattle.std.specs.Prelude.{◌≡◌, ℕ, List, [], ◌∷◌, true, false}
+use Rattle.std.specs.Prelude.{◌≡◌, ℕ, List, [], ◌∷◌, ◌++◌, true, false}
 use Rattle.bz_token.specs.Common.{is_empty}
 use Rattle.bz_tree.specs.Tree.{Segment}
 use Rattle.bz_command.specs.Labels.{Package}
@@ -16,7 +16,7 @@ pub record IsRemoved (home : Package) (attr value : List ℕ) (args : List Segme
   pub some : is_empty (remove home (Named attr) (value ∷ []) args) ≡ false
   pub lines_are : lines ≡ argument_lines (remove home (Named attr) (value ∷ []) args)
 
--- of the arguments that are read of these lines alone
-abbrev pub RemovesFromLines : ℕ → Package → List ℕ → List ℕ → List ℕ → List ℕ → Removed → Type 0
-RemovesFromLines depth home attr value lines written Absent = (args : List Segment) → AreReadAlone depth lines args → removes home (Named attr) (value ∷ []) args ≡ false
-RemovesFromLines depth home attr value lines written Gone = (args : List Segment) → AreReadAlone depth lines args → IsRemoved home attr value args written
+-- of the arguments that are read of these lines alone; what is written stands after what was in the buffer
+abbrev pub RemovesFromLines : ℕ → Package → List ℕ → List ℕ → List ℕ → List ℕ → List ℕ → Removed → Type 0
+RemovesFromLines depth home attr value lines old new Absent = (args : List Segment) → AreReadAlone depth lines args → removes home (Named attr) (value ∷ []) args ≡ false
+RemovesFromLines depth home attr value lines old new Gone = (written : List ℕ) × (new ≡ old ++ written) × ((args : List Segment) → AreReadAlone depth lines args → IsRemoved home attr value args written)

@@ -6,6 +6,5 @@ pub mod Chains
 pub mod Statements
 pub mod Rewritten
 pub mod Added
-pub mod Commented
 pub mod Removed
 pub mod Unnamed

@@ -37,8 +37,8 @@ pub enum Added {
 pub(crate) const BRACKETS: u8 = 2;
 
 /// What `add` makes of the argument that has these lines, where its value is one list of strings (`execute_on_list` of
-/// bz_engine asks). `New`: the lines that it has then are in the buffer. None: it may be no such list. Without `New`
-/// the buffer's bytes may be lost. Err: memory is wanting.
+/// bz_engine asks). `New`: the lines that it has then are in the buffer, after its bytes. None: it may be no such list.
+/// Without `New` nothing is said of the buffer's bytes. Err: memory is wanting.
 pub fn put_added(
     env: Env<'_>,
     lines: &str,
@@ -47,7 +47,7 @@ pub fn put_added(
     written: &mut Vec<u8>,
 ) -> Result<Option<Added>, NoMemory>
     ensures { IfOk result (λ known. IfSome known (AddsToLines max_depth env.entry.home.now new.entry.attr.now
-        new.entry.value.now lines.now written.new.items)) }
+        new.entry.value.now lines.now written.old.items written.new.items)) }
 {
     let Some(list) = find_list(env.home, lines, new, max_depth) else {
         return Ok(None);
@@ -175,18 +175,18 @@ struct ListEnd<'t> {
     one: bool,
 }
 
-/// Writes the argument up to the bracket after the elements of its list, each on lines of its own.
+/// Writes the argument up to the bracket after the elements of its list, each on lines of its own, after the buffer's
+/// bytes.
 fn put_list<'t>(
     lines: &'t str,
     list: FoundList<'t>,
     written: &mut Vec<u8>,
 ) -> Result<Option<ListEnd<'t>>, NoMemory>
-    ensures { IfOk result (λ known. IfSome known (λ end. (depth : ℕ) (home : Package) (attr value : List ℕ)
-        → IsListFound depth home attr value lines.now list.entry
-        → IsListTold depth attr lines.now end.rest.now written.new.items end.one)) }
+    ensures { IfOk result (λ known. IfSome known (λ end. (w : List ℕ) × (written.new.items ≡ written.old.items ++ w)
+        × ((depth : ℕ) (home : Package) (attr value : List ℕ) → IsListFound depth home attr value lines.now list.entry
+        → IsListTold depth attr lines.now end.rest.now w end.one))) }
 {
     let text = lines.as_bytes();
-    written.clear();
     if !list.otherwise {
         let Some(plain) = before(text, list.bracket.len()) else {
             return Ok(None);

@@ -31,5 +31,5 @@ mod value;
 
 pub use added::{Added, ListValue, lacks, put_added};
 pub use chunk::{ArgumentPlace, AsksOfRules, CanonicalChunk, Lookup, read_canonical};
-pub use commented::{NewComment, put_commented};
+pub use commented::{CommentPlace, comment_place};
 pub use removed::{Removed, put_removed};

@@ -22,8 +22,9 @@ pub enum Removed {
 }
 
 /// What `remove` makes of the argument that has these lines, where its value is one list of strings (`execute_on_list`
-/// of bz_engine asks). `Gone`: the lines that it has then are in the buffer. None: it may be no such list, or one that
-/// is left with no two elements. Without `Gone` the buffer's bytes may be lost. Err: memory is wanting.
+/// of bz_engine asks). `Gone`: the lines that it has then are in the buffer, after its bytes. None: it may be no such
+/// list, or one that is left with no two elements. Without `Gone` nothing is said of the buffer's bytes. Err: memory is
+/// wanting.
 pub fn put_removed(
     home: &Package,
     lines: &str,
@@ -32,7 +33,7 @@ pub fn put_removed(
     written: &mut Vec<u8>,
 ) -> Result<Option<Removed>, NoMemory>
     ensures { IfOk result (λ known. IfSome known (RemovesFromLines max_depth home.now old.entry.attr.now
-        old.entry.value.now lines.now written.new.items)) }
+        old.entry.value.now lines.now written.old.items written.new.items)) }
 {
     let Some(list) = put_kept_list(home, lines, old, max_depth, written)? else {
         return Ok(None);
@@ -75,8 +76,8 @@ struct KeptList<'t> {
 }
 
 /// Writes the argument of these lines, whose value is one list of strings, without the elements that equal the value,
-/// up to the bracket after them. What stands there as it is written may be pending at the end. The buffer's bytes are
-/// lost.
+/// up to the bracket after them, after the buffer's bytes. What stands there as it is written may be pending at the
+/// end.
 fn put_kept_list<'t>(
     home: &Package,
     lines: &'t str,
@@ -85,7 +86,7 @@ fn put_kept_list<'t>(
     written: &mut Vec<u8>,
 ) -> Result<Option<KeptList<'t>>, NoMemory>
     ensures { IfOk result (λ known. IfSome known (IsListKept max_depth home.now old.entry.attr.now old.entry.value.now
-        lines.now written.new.items)) }
+        lines.now written.old.items written.new.items)) }
 {
     if max_depth < BRACKETS {
         return Ok(None);
@@ -111,9 +112,9 @@ fn put_kept_elements<'t>(
     written: &mut Vec<u8>,
 ) -> Result<Option<KeptList<'t>>, NoMemory>
     ensures { IfOk result (λ known. IfSome known
-        (AreElementsKept home.now value.now begun.entry.from.now begun.entry.rest.now written.new.items)) }
+        (AreElementsKept home.now value.now begun.entry.from.now begun.entry.rest.now written.old.items
+        written.new.items)) }
 {
-    written.clear();
     let lines = is_on_lines(begun.rest);
     let mut passed = Passed {
         at: begun,

@@ -1,24 +1,34 @@
 -- What a command that looks at one argument alone makes of its lines, and so of the rule.
-use Rattle.std.proofs.Common.{◌≡◌, ℕ, ◌-◌, Bool, ◌&&◌, ◌||◌, not, true, false, List, [], ◌∷◌, ◌++◌, length, take, drop, refl, sym, ◌∙◌, ap, subst, arith, append_assoc}
+use Rattle.std.proofs.Common.{◌≡◌, ℕ, ◌-◌, Bool, ◌&&◌, ◌||◌, not, true, false, List, [], ◌∷◌, ◌++◌, length, take, drop, refl, sym, ◌∙◌, ap, subst, arith, append_assoc, append-nil, if◌then◌else◌}
 use Rattle.std.proofs.Math.Seq.{take-append_seam}
+use Rattle.std.proofs.lemmas.Bool.{false≢true}
 use Rattle.std.proofs.lemmas.List.{length-append}
 use Rattle.std.specs.Prelude.{codes, option_map, option_to_list, Option, None, Some, Result, Ok, Err, IfOk, IfSome}
 use Rattle.bz_tree.specs.Chunk.{IsStatementIn}
 use Rattle.bz_tree.specs.Tree.{Segment, Statement}
+use Rattle.bz_layout.specs.Gaps.{gap_text, lines_before}
 use Rattle.bz_layout.specs.Layout.{layout_text}
+use Rattle.bz_tree.specs.declared.tree.Class.{Class}
+use Rattle.bz_engine.specs.Progress.{text_following}
 use Rattle.bz_command.specs.declared.arguments.Attributes.TheVariants.{Named}
+use Rattle.bz_command.specs.declared.arguments.Commented.TheVariants.{Attribute}
 use Rattle.bz_command.specs.declared.arguments.Moved.TheVariants.{Values}
 use Rattle.bz_command.specs.declared.arguments.Setting.TheVariants.{ToValues}
 use Rattle.bz_command.specs.Labels.{Package}
 use Rattle.bz_command.specs.Values.{quoted}
 use Rattle.bz_attribute.specs.declared.done.Done.{Done}
-use Rattle.bz_attribute.specs.Effects.{chooses, done, is_chosen, slot_done, with_args}
+use Rattle.bz_attribute.specs.Effects.{chooses, done, edit_first, has, is_chosen, slot_done, with_args, with_comment}
+use Rattle.bz_attribute.specs.declared.done.Note.TheVariants.{NoAttribute}
+use Rattle.bz_attribute.proofs.EditedAt.{with_args_at}
+use Rattle.bz_attribute.proofs.Locals.{is_there}
 use Rattle.bz_attribute.specs.Lists.{equals, parts}
 use Rattle.bz_list_commands.specs.Replace.{is_replaced, replaces_in}
 use Rattle.bz_attribute.specs.RowPlaces.{LooksAt}
-use Rattle.bz_attribute.specs.Rules.{Rule, first_named, is_text, rule_of, string_value, value}
+use Rattle.bz_attribute.specs.Rules.{Rule, first_named, is_named, is_text, rule_of, string_value, value}
 use Rattle.std.specs.List.{list_any}
 use Rattle.bz_attribute_commands.specs.Argument.{new_argument}
+use Rattle.bz_attribute_commands.specs.Comment.{comment_line}
+use Rattle.bz_canonical.specs.Commented.{TakesComment, commented}
 use Rattle.bz_canonical.specs.Added.{AddsToLines, LacksInLines}
 use Rattle.bz_canonical.specs.declared.added.Added.{Added}
 use Rattle.bz_canonical.specs.declared.added.Added.TheVariants.{Present, New}
@@ -27,15 +37,15 @@ use Rattle.bz_canonical.specs.declared.removed.Removed.{Removed}
 use Rattle.bz_canonical.specs.declared.removed.Removed.TheVariants.{Absent, Gone}
 use Rattle.bz_canonical.specs.Canonical.{AreReadAlone, Between, HasPlace, argument_lines, first_args, rule_args, small_text}
 use Rattle.bz_canonical.proofs.SmallRules.{small_after, small_told}
-use Rattle.bz_rule.specs.declared.command.Action.TheVariants.{Add, Remove, Replace, Set, SetIfAbsent}
+use Rattle.bz_rule.specs.declared.command.Action.TheVariants.{Add, Comment, Remove, Replace, Set, SetIfAbsent}
 use Rattle.bz_rule.specs.Commands.{Command, after, args_after, args_done, done_of}
 use Rattle.bz_rule.specs.OneAttribute.{one_attribute}
 use Rattle.bz_rule.proofs.Commands.{local}
 use Rattle.bz_engine.specs.declared.argument.EditedArgument.{EditedArgument}
 use Rattle.bz_engine.specs.declared.argument.EditedArgument.TheVariants.{Unchanged, Lines}
 use Rattle.bz_engine.specs.declared.argument.EditedList.{EditedList}
-use Rattle.bz_engine.specs.declared.argument.EditedList.TheVariants.{Unchanged as Unlisted}
-use Rattle.bz_engine.specs.private.ArgumentEdits.{AddsArgument, AreLinesAfter, ChangesArgs, EditsLines, EditsList, EditsSmallRule, Setting, list_argument, list_edit, removed_edit, set_by}
+use Rattle.bz_engine.specs.declared.argument.EditedList.TheVariants.{Unchanged as Unlisted, Written as Listed}
+use Rattle.bz_engine.specs.private.ArgumentEdits.{AddsArgument, AreLinesAfter, ChangesArgs, EditsLines, EditsList, EditsPlace, EditsSmallRule, Setting, list_argument, list_edit, removed_edit, set_by}
 use Rattle.bz_engine.specs.private.Found.{Makes, told_line}
 use Rattle.bz_engine.proofs.TextAnswers.{no_args, none_has, stays_by}
 use Rattle.bz_token.specs.Common.{is_empty, map_or}
@@ -61,20 +71,24 @@ pub adds_list : (attr value lines : List ℕ) → lines ≡ argument_lines (list
 adds_list attr value lines lines_are = λ home. record { told = refl; some = refl; lines_are = lines_are }
 
 -- what is added to a list
-listed : (depth : ℕ) (home : Package) (attr value lines written : List ℕ) (added : Added) → AddsToLines depth home attr value lines written added → EditsList depth (Add attr (value ∷ [])) home lines written (list_edit added)
-listed depth home attr value lines written Present adds = λ args reads. let is = adds args reads in λ i. done (is.list i) (is.present i)
-listed depth home attr value lines written New adds = λ args reads.
-    let is = adds args reads in
-    record { told = λ i. done (is.list i) (is.new i); some = is.some; lines_are = is.lines_are }
+listed : (depth : ℕ) (home : Package) (attr value lines old new : List ℕ) (added : Added) → AddsToLines depth home attr value lines old new added → EditsList depth (Add attr (value ∷ [])) home lines old new (list_edit added)
+listed depth home attr value lines old new Present adds = λ args reads. let is = adds args reads in λ i. done (is.list i) (is.present i)
+listed depth home attr value lines old new New adds = (
+  adds.0,
+  adds.1,
+  λ args reads.
+      let is = adds.2 args reads in
+      record { told = λ i. done (is.list i) (is.new i); some = is.some; lines_are = is.lines_are },
+)
 
-adds_listed : (depth : ℕ) (command : Command) (home : Package) (attr value lines written : List ℕ) → command ≡ Add attr (value ∷ []) → (told : Option Added) → IfSome told (AddsToLines depth home attr value lines written)
-    → IfSome (option_map list_edit told) (EditsList depth command home lines written)
-adds_listed depth command home attr value lines written is None known = tt
-adds_listed depth command home attr value lines written is (Some added) known = subst (λ c. EditsList depth c home lines written (list_edit added)) (sym is) (listed depth home attr value lines written added known)
+adds_listed : (depth : ℕ) (command : Command) (home : Package) (attr value lines old new : List ℕ) → command ≡ Add attr (value ∷ []) → (told : Option Added) → IfSome told (AddsToLines depth home attr value lines old new)
+    → IfSome (option_map list_edit told) (EditsList depth command home lines old new)
+adds_listed depth command home attr value lines old new is None known = tt
+adds_listed depth command home attr value lines old new is (Some added) known = subst (λ c. EditsList depth c home lines old new (list_edit added)) (sym is) (listed depth home attr value lines old new added known)
 
-pub adds_to_list : (depth : ℕ) (command : Command) (home : Package) (attr value lines written : List ℕ) → command ≡ Add attr (value ∷ []) → (told : Option Added) → IfSome told (AddsToLines depth home attr value lines written)
-    → (edited : Option EditedList) → option_map list_edit told ≡ edited → IfSome edited (EditsList depth command home lines written)
-adds_to_list depth command home attr value lines written is told known edited edits = subst (λ o. IfSome o (EditsList depth command home lines written)) edits (adds_listed depth command home attr value lines written is told known)
+pub adds_to_list : (depth : ℕ) (command : Command) (home : Package) (attr value lines old new : List ℕ) → command ≡ Add attr (value ∷ []) → (told : Option Added) → IfSome told (AddsToLines depth home attr value lines old new)
+    → (edited : Option EditedList) → option_map list_edit told ≡ edited → IfSome edited (EditsList depth command home lines old new)
+adds_to_list depth command home attr value lines old new is told known edited edits = subst (λ o. IfSome o (EditsList depth command home lines old new)) edits (adds_listed depth command home attr value lines old new is told known)
 
 -- a list that lacks a value
 or_none : (a b : Bool) → (a || b) ≡ false → (a ≡ false) × (b ≡ false)
@@ -95,28 +109,32 @@ none_replaced home old new None none = refl
 none_replaced home old new (Some a) none =
     none_less (list_any (is_replaced home old new)) (list_any (is_chosen home (Values (old ∷ [])))) (λ ss. none_less (is_replaced home old new) (is_chosen home (Values (old ∷ []))) (not_replaced home old new) ss) (parts (value a)) none
 
-pub leaves_lines : (depth : ℕ) (command : Command) (home : Package) (attr old new lines written : List ℕ) → command ≡ Replace (Named attr) old new → LacksInLines depth home attr old lines → EditsList depth command home lines written Unlisted
-leaves_lines depth command home attr old new lines written is none =
-    subst (λ c. EditsList depth c home lines written Unlisted) (sym is) (λ args reads. ap (done None) (none_replaced home old new (first_named attr args) (none args reads)))
+pub leaves_lines : (depth : ℕ) (command : Command) (home : Package) (attr old new lines from to : List ℕ) → command ≡ Replace (Named attr) old new → LacksInLines depth home attr old lines → EditsList depth command home lines from to Unlisted
+leaves_lines depth command home attr old new lines from to is none =
+    subst (λ c. EditsList depth c home lines from to Unlisted) (sym is) (λ args reads. ap (done None) (none_replaced home old new (first_named attr args) (none args reads)))
 
 -- a list from which a value goes
-removes_listed : (depth : ℕ) (home : Package) (attr value lines written : List ℕ) (removed : Removed) → RemovesFromLines depth home attr value lines written removed
-    → EditsList depth (Remove (Named attr) (value ∷ [])) home lines written (removed_edit removed)
-removes_listed depth home attr value lines written Absent removes = λ args reads. ap (done None) (removes args reads)
-removes_listed depth home attr value lines written Gone removes = λ args reads.
-    let is = removes args reads in
-    record { told = ap (done None) is.removed; some = is.some; lines_are = is.lines_are }
+removes_listed : (depth : ℕ) (home : Package) (attr value lines old new : List ℕ) (removed : Removed) → RemovesFromLines depth home attr value lines old new removed
+    → EditsList depth (Remove (Named attr) (value ∷ [])) home lines old new (removed_edit removed)
+removes_listed depth home attr value lines old new Absent removes = λ args reads. ap (done None) (removes args reads)
+removes_listed depth home attr value lines old new Gone removes = (
+  removes.0,
+  removes.1,
+  λ args reads.
+      let is = removes.2 args reads in
+      record { told = ap (done None) is.removed; some = is.some; lines_are = is.lines_are },
+)
 
-pub removes_from_list : (depth : ℕ) (home : Package) (attr value lines written : List ℕ) (told : Option Removed) → IfSome told (RemovesFromLines depth home attr value lines written)
-    → (edited : Option EditedList) → option_map removed_edit told ≡ edited → IfSome edited (EditsList depth (Remove (Named attr) (value ∷ [])) home lines written)
-removes_from_list depth home attr value lines written told known edited edits = subst (λ o. IfSome o (EditsList depth (Remove (Named attr) (value ∷ [])) home lines written)) edits (by told known)
+pub removes_from_list : (depth : ℕ) (home : Package) (attr value lines old new : List ℕ) (told : Option Removed) → IfSome told (RemovesFromLines depth home attr value lines old new)
+    → (edited : Option EditedList) → option_map removed_edit told ≡ edited → IfSome edited (EditsList depth (Remove (Named attr) (value ∷ [])) home lines old new)
+removes_from_list depth home attr value lines old new told known edited edits = subst (λ o. IfSome o (EditsList depth (Remove (Named attr) (value ∷ [])) home lines old new)) edits (by told known)
   where
-    by : (told : Option Removed) → IfSome told (RemovesFromLines depth home attr value lines written) → IfSome (option_map removed_edit told) (EditsList depth (Remove (Named attr) (value ∷ [])) home lines written)
+    by : (told : Option Removed) → IfSome told (RemovesFromLines depth home attr value lines old new) → IfSome (option_map removed_edit told) (EditsList depth (Remove (Named attr) (value ∷ [])) home lines old new)
     by None known = tt
-    by (Some removed) known = removes_listed depth home attr value lines written removed known
+    by (Some removed) known = removes_listed depth home attr value lines old new removed known
 
-pub lacking_stays : (depth : ℕ) (home : Package) (attr value lines written : List ℕ) → LacksInLines depth home attr value lines → EditsList depth (Remove (Named attr) (value ∷ [])) home lines written Unlisted
-lacking_stays depth home attr value lines written lacking = λ args reads. ap (done None) (lacking args reads)
+pub lacking_stays : (depth : ℕ) (home : Package) (attr value lines old new : List ℕ) → LacksInLines depth home attr value lines → EditsList depth (Remove (Named attr) (value ∷ [])) home lines old new Unlisted
+lacking_stays depth home attr value lines old new lacking = λ args reads. ap (done None) (lacking args reads)
 
 list_line : (attr value : List ℕ) → argument_lines (list_argument attr value ∷ []) ≡ codes "\n    " ++ (attr ++ (codes " = [" ++ (quoted value ++ codes "],")))
 list_line attr value = refl
@@ -202,3 +220,61 @@ argument_changes depth command attr home s place lines one rule has changes =
       record { after_is = law.slot s; done = args_told command attr home s one rule ∙ made.told },
       has.takes (args_after command home) law.args made.some ∙ ap (λ (t : List ℕ). place.before ++ (t ++ place.after)) (sym made.lines_are),
     )
+
+-- a list whose lines alone are in the buffer
+pub lines_alone : (depth : ℕ) (command : Command) (home : Package) (lines old new laid : List ℕ) → old ≡ [] → EditsList depth command home lines old new Listed → laid ≡ new
+    → (args : List Segment) → is_empty lines ≡ is_empty args → AreReadAlone depth lines args → ChangesArgs command home args laid
+lines_alone depth command home lines old new laid none edits is args same reads =
+    subst (ChangesArgs command home args) (sym (is ∙ edits.1 ∙ ap (λ (t : List ℕ). t ++ edits.0) none)) (edits.2 args reads)
+
+-- a list whose lines stand in the text of the rule
+pub list_stays : (depth : ℕ) (command : Command) (attr : List ℕ) (home : Package) (s : Statement) (place : Between) (old new : List ℕ) → one_attribute command ≡ Some attr → (r : Rule) × (rule_of s.nodes ≡ Some r) → HasPlace depth attr s place
+    → EditsPlace depth command home place old new Unlisted → Makes command home s s (told_line false None)
+list_stays depth command attr home s place old new one rule has stays = stays_by command home s (args_told command attr home s one rule ∙ stays (first_args attr s) has.reads)
+
+pub list_changes : (depth : ℕ) (command : Command) (attr : List ℕ) (home : Package) (s : Statement) (place : Between) (old new : List ℕ) → one_attribute command ≡ Some attr → (r : Rule) × (rule_of s.nodes ≡ Some r) → HasPlace depth attr s place
+    → EditsPlace depth command home place old new Listed → Makes command home s (with_args (args_after command home) s) (told_line true None) × (new ≡ old ++ layout_text (with_args (args_after command home) s))
+list_changes depth command attr home s place old new one rule has edits =
+    let made = argument_changes depth command attr home s place edits.0 one rule has (λ args same reads. edits.2 args reads) in
+    (made.0, edits.1 ∙ ap (λ (t : List ℕ). old ++ t) (sym made.1))
+
+-- a comment above an argument
+has_of_first : (attr : List ℕ) (s : Statement) (r : Rule) → rule_of s.nodes ≡ Some r → has attr (first_args attr s) ≡ true → has attr r.args ≡ true
+has_of_first attr s r is there = by (first_named attr r.args) refl
+  where
+    first_is : first_args attr s ≡ option_to_list (first_named attr r.args)
+    first_is = ap (λ o. option_to_list (first_named attr (rule_args o))) is
+
+    by : (o : Option Segment) → first_named attr r.args ≡ o → has attr r.args ≡ true
+    by None e = absurd (false≢true (ap (λ o. has attr (option_to_list o)) (sym e) ∙ ap (has attr) (sym first_is) ∙ there))
+    by (Some a) e = is_there attr r.args a e
+
+pub comment_changes : (command : Command) (attr name text : List ℕ) (home : Package) (s : Statement) (above below line : List ℕ) → one_attribute command ≡ Some attr → (r : Rule) × (rule_of s.nodes ≡ Some r)
+    → command ≡ Comment (Attribute name) text → line ≡ comment_line text → TakesComment attr s above below
+    → Makes command home s (with_args (args_after command home) s) (told_line true None) × (layout_text (with_args (args_after command home) s) ≡ above ++ (line ++ below))
+comment_changes command attr name text home s above below line one rule is line_is t =
+    let law = local command home attr one in
+    let named : Some name ≡ Some attr = sym (ap one_attribute is) ∙ one in
+    let same : name ≡ attr = cc in
+    let command_is : command ≡ Comment (Attribute attr) text = is ∙ ap (λ x. Comment (Attribute x) text) same in
+    let first : List Segment = first_args attr s in
+    let told : args_done command home first ≡ told_line true None = ap (λ c. args_done c home first) command_is ∙ ap (λ b. done (if b then None else Some (NoAttribute attr)) true) t.there in
+    let made : args_after command home rule.0.args ≡ commented attr line rule.0.args = ap (λ c. args_after c home rule.0.args) command_is
+    ∙ ap (λ b. if b then edit_first (is_named attr) (λ a. with_comment (comment_line text) a ∷ []) rule.0.args else rule.0.args) (has_of_first attr s rule.0 rule.1 t.there)
+    ∙ ap (λ x. commented attr x rule.0.args) (sym line_is) in (
+      record { after_is = law.slot s; done = args_told command attr home s one rule ∙ told },
+      ap layout_text (with_args_at (args_after command home) (commented attr line) s rule.0 rule.1 made) ∙ t.takes line,
+    )
+
+-- what follows a gap is written
+pub put_following : (b : Bool) (before put new : List ℕ) (first last : Option Class) (class : Class) (t : Statement) → b ≡ false → put ≡ before ++ gap_text (lines_before first class) → first ≡ last → t.class ≡ class
+    → new ≡ put ++ layout_text t → new ≡ before ++ (if b then [] else text_following last (Some t ∷ []))
+put_following true before put new first last class t off put_is first_is class_is new_is = absurd (false≢true (sym off))
+put_following false before put new first last class t off put_is first_is class_is new_is =
+    let G : List ℕ = gap_text (lines_before last t.class) in
+    let gap : gap_text (lines_before first class) ≡ G = λ i. gap_text (lines_before (first_is i) (sym class_is i)) in
+    new_is ∙ ap (λ (x : List ℕ). x ++ layout_text t) (put_is ∙ ap (λ (x : List ℕ). before ++ x) gap) ∙ append_assoc before G (layout_text t) ∙ ap (λ (x : List ℕ). before ++ (G ++ x)) (sym (append-nil (layout_text t)))
+
+pub none_of : (xs : List ℕ) → length xs ≡ 0 → xs ≡ []
+none_of [] none = refl
+none_of (x ∷ xs) none = absurd (omega (arith, none))

@@ -2,22 +2,19 @@
 //! `execute_on_lines` for a rule of which it edits one argument.
 
 ghost use Rattle.std.specs.Prelude.{◌≡◌, ◌++◌, ◌∷◌, ℕ, List, [], codes, option_map, string_bytes, IfOk, IfSome, IsTrue, OnOk, Some};
-ghost use Rattle.bz_canonical.specs.Canonical.{argument_lines, small_text};
+ghost use Rattle.bz_canonical.specs.Canonical.{argument_lines, between, small_text};
 ghost use Rattle.bz_rule.specs.OneAttribute.{one_attribute};
 ghost use Rattle.bz_command.specs.declared.arguments.Attributes.TheVariants.{Named};
 ghost use Rattle.bz_command.specs.declared.arguments.Commented.TheVariants.{Attribute};
 ghost use Rattle.bz_rule.specs.declared.command.Action.TheVariants.{Add, Comment, Remove, Replace};
 ghost use Rattle.bz_engine.specs.declared.argument.EditedList.TheVariants.{Unchanged};
-ghost use Rattle.bz_engine.specs.private.ArgumentEdits.{AddsArgument, AreLinesAfter, EditsLines, EditsList, EditsSmallRule, list_argument, list_edit, new_of, removed_edit, set_by};
+ghost use Rattle.bz_engine.specs.private.ArgumentEdits.{AddsArgument, AreLinesAfter, EditsLines, EditsList, EditsPlace, EditsSmallRule, list_argument, list_edit, new_of, removed_edit, set_by};
 
 use crate::edit::ScriptRun;
 use crate::spare::Spare;
 use bz_attribute::Env;
 use bz_attribute_commands::argument::put_argument;
-use bz_attribute_commands::comment::comment_line;
-use bz_canonical::{
-    Added, ListValue, NewComment, Removed, lacks, put_added, put_commented, put_removed,
-};
+use bz_canonical::{Added, ArgumentPlace, ListValue, Removed, lacks, put_added, put_removed};
 use bz_command::{Attributes, Commented, Setting, quote};
 use bz_memory::{NoMemory, extend_from_slice, push_str};
 use bz_rule::{Action, Command, Done, StatementRow, Text, execute};
@@ -34,17 +31,17 @@ pub(crate) enum EditedArgument<'s> {
 
 /// What a command makes of an argument that is not read.
 #[derive(Clone, Copy)]
-enum EditedList {
+pub(crate) enum EditedList {
     Unchanged,
-    /// Its lines are in the buffer.
+    /// Its lines are in the buffer, after what was there.
     Written,
 }
 
 /// What `comment` puts above an attribute.
 #[derive(Clone, Copy)]
-struct AttributeComment<'c> {
+pub(crate) struct AttributeComment<'c> {
     attr: &'c str,
-    text: &'c str,
+    pub(crate) text: &'c str,
 }
 
 /// An argument that `set` adds.
@@ -62,6 +59,33 @@ const AFTER: &str = "\n    #\n)\n";
 // More bytes are not read alone: they are not worth a copy.
 const LONGEST: usize = 1 << 16;
 
+/// Whether the argument of this place has many lines, which are not worth a copy.
+pub(crate) fn is_long(place: Option<ArgumentPlace<'_>>) -> bool {
+    match place {
+        Some(place) => place.lines.len() > LONGEST,
+        None => false,
+    }
+}
+
+/// What a command makes of the argument of this place, where it is not read: `Written`, it stands in the buffer, with
+/// what is before it and after it. Without that nothing is said of the buffer's bytes.
+pub(crate) fn execute_in_place(
+    script: ScriptRun<'_>,
+    command: &Command,
+    place: ArgumentPlace<'_>,
+    written: &mut Vec<u8>,
+) -> Result<Option<EditedList>, NoMemory>
+    ensures { IfOk result (λ known. IfSome known (EditsPlace script.entry.max_depth command.now script.entry.home.now
+        (between place.entry) written.old.items written.new.items)) }
+{
+    extend_from_slice(written, place.before.as_bytes())?;
+    let Some(edited) = execute_on_list(script, command, place.lines, written)? else {
+        return Ok(None);
+    };
+    extend_from_slice(written, place.after.as_bytes())?;
+    Ok(Some(edited))
+}
+
 /// What a command makes of the argument that has these lines, or, where they are none, adds to a rule that has no
 /// argument of the name. None: the rule is to be seen.
 pub(crate) fn execute_on_lines<'s>(
@@ -73,13 +97,11 @@ pub(crate) fn execute_on_lines<'s>(
     requires { (attr : List ℕ) × (one_attribute command.now ≡ Some attr) }
     ensures { IfOk result (λ known. IfSome known (EditsLines script.entry.max_depth command.now script.entry.home.now lines.now)) }
 {
+    spare.laid.clear();
     match execute_on_list(script, command, lines, &mut spare.laid)? {
         Some(EditedList::Unchanged) => return Ok(Some(EditedArgument::Unchanged)),
         Some(EditedList::Written) => return Ok(Some(EditedArgument::Lines(spare.laid.as_slice()))),
         None => {}
-    }
-    if lines.is_empty() && is_comment(command) {
-        return Ok(None);
     }
     if lines.is_empty() && put_new(script.alloc, command, &mut spare.laid)? {
         return Ok(Some(EditedArgument::Lines(spare.laid.as_slice())));
@@ -92,8 +114,8 @@ pub(crate) fn execute_on_lines<'s>(
 }
 
 /// What the command makes of the argument that has these lines, where it adds one value to a list of strings, removes
-/// one, replaces one that is not in it, or puts a comment above. None: it may be another command, or another argument;
-/// then the buffer does not count.
+/// one, or replaces one that is not in it. None: it may be another command, or another argument. Without `Written`
+/// nothing is said of the buffer's bytes.
 fn execute_on_list(
     script: ScriptRun<'_>,
     command: &Command,
@@ -101,7 +123,7 @@ fn execute_on_list(
     written: &mut Vec<u8>,
 ) -> Result<Option<EditedList>, NoMemory>
     ensures { IfOk result (λ known. IfSome known (EditsList script.entry.max_depth command.now script.entry.home.now
-        lines.now written.new.items)) }
+        lines.now written.old.items written.new.items)) }
 {
     if let Some(new) = added_by(command) {
         let env = Env {
@@ -114,9 +136,6 @@ fn execute_on_list(
     if let Some(old) = removed_by(command) {
         return execute_remove(script, old, lines, written);
     }
-    if let Some(comment) = comment_by(command) {
-        return execute_comment(script, comment, lines, written);
-    }
     if is_lacking(script, command, lines) {
         return Ok(Some(EditedList::Unchanged));
     }
@@ -125,8 +144,8 @@ fn execute_on_list(
 
 /// The command replaces a value that is not in this list.
 fn is_lacking(script: ScriptRun<'_>, command: &Command, lines: &str) -> bool
-    ensures { IsTrue result → (written : List ℕ)
-        → EditsList script.entry.max_depth command.now script.entry.home.now lines.now written Unchanged }
+    ensures { IsTrue result → (old new : List ℕ)
+        → EditsList script.entry.max_depth command.now script.entry.home.now lines.now old new Unchanged }
 {
     // A value that is there would be looked for in vain, in all of the list.
     if lines.len() > LONGEST {
@@ -165,7 +184,7 @@ fn execute_remove(
 ) -> Result<Option<EditedList>, NoMemory>
     ensures { IfOk result (λ known. IfSome known (EditsList script.entry.max_depth
         (Remove (Named old.entry.attr.now) (old.entry.value.now ∷ [])) script.entry.home.now lines.now
-        written.new.items)) }
+        written.old.items written.new.items)) }
 {
     // Most lists lack it, and of these nothing has to be written. A long one is gone over once.
     if lines.len() <= LONGEST && lacks(script.home, lines, old, script.max_depth) {
@@ -176,7 +195,7 @@ fn execute_remove(
 }
 
 /// The comment that the command puts above an attribute.
-fn comment_by(command: &Command) -> Option<AttributeComment<'_>>
+pub(crate) fn comment_by(command: &Command) -> Option<AttributeComment<'_>>
     ensures { IfSome result (λ new. command.now ≡ Comment (Attribute new.attr.now) new.text.now) }
 {
     let Action::Comment(Commented::Attribute(attr), text) = &command.action else {
@@ -186,28 +205,6 @@ fn comment_by(command: &Command) -> Option<AttributeComment<'_>>
         attr: attr.as_str(),
         text: text.as_str(),
     })
-}
-
-/// The same of a comment.
-fn execute_comment(
-    script: ScriptRun<'_>,
-    comment: AttributeComment<'_>,
-    lines: &str,
-    written: &mut Vec<u8>,
-) -> Result<Option<EditedList>, NoMemory>
-    ensures { IfOk result (λ known. IfSome known (EditsList script.entry.max_depth
-        (Comment (Attribute comment.entry.attr.now) comment.entry.text.now) script.entry.home.now lines.now
-        written.new.items)) }
-{
-    let line = comment_line(script.alloc, comment.text)?;
-    let new = NewComment {
-        attr: comment.attr,
-        line: line.as_str(),
-    };
-    if put_commented(lines, new, script.max_depth, written)? {
-        return Ok(Some(EditedList::Written));
-    }
-    Ok(None)
 }
 
 /// The value that the command replaces.
@@ -245,11 +242,6 @@ fn one_value<'c>(attr: &'c Text, values: &'c [Text]) -> Option<ListValue<'c>>
         attr: attr.as_str(),
         value: value.as_str(),
     })
-}
-
-// Where there is no argument to put a comment at, it fails, and its note is told of the rule.
-fn is_comment(command: &Command) -> bool {
-    matches!(command.action, Action::Comment(_, _))
 }
 
 /// The lines of the argument that the command adds where none has its name. False: they are not easily written.

@@ -8,6 +8,8 @@ ghost use Rattle.bz_layout.specs.Layout.{layout_text};
 ghost use Rattle.bz_canonical.specs.Canonical.{HasName, IsCanonical, between};
 ghost use Rattle.bz_passes.specs.Exchange.{Fits, IsPassedBy};
 ghost use Rattle.bz_devices.specs.Ahead.{IsFewAfter};
+ghost use Rattle.bz_command.specs.declared.arguments.Commented.TheVariants.{Attribute};
+ghost use Rattle.bz_rule.specs.declared.command.Action.TheVariants.{Comment};
 ghost use Rattle.bz_rule.specs.OneAttribute.{one_attribute};
 ghost use Rattle.bz_engine.specs.Language.{meaning, changes, fails_on};
 ghost use Rattle.bz_engine.specs.Outcome.{is_query};
@@ -19,7 +21,10 @@ ghost use Rattle.bz_engine.specs.private.NextChunks.{EditsFound, IsFirstEdited, 
 ghost use Rattle.bz_engine.specs.private.Rows.{HasKey};
 
 use crate::answer::{marks_found, unchanged_by_text};
-use crate::argument::{EditedArgument, execute_on_lines};
+use crate::argument::{
+    AttributeComment, EditedArgument, EditedList, comment_by, execute_in_place, execute_on_lines,
+    is_long,
+};
 use crate::edit::ScriptRun;
 use crate::failure::message_by_text;
 use crate::progress::Progress;
@@ -27,8 +32,12 @@ use crate::rule_passes::OnePass;
 use crate::rules::Rules;
 use crate::written::{begin_statement, put_canonical};
 use bz_attribute::Env;
-use bz_canonical::{ArgumentPlace, AsksOfRules, CanonicalChunk, Lookup, read_canonical};
+use bz_attribute_commands::comment::comment_line;
+use bz_canonical::{
+    ArgumentPlace, AsksOfRules, CanonicalChunk, Lookup, comment_place, read_canonical,
+};
 use bz_devices::ahead::Ahead;
+use bz_layout::put_gap;
 use bz_memory::{NoMemory, extend_from_slice};
 use bz_passes::index::Key;
 use bz_passes::script::{only_pass, passes_by};
@@ -200,7 +209,7 @@ fn copy_marked(
         put_canonical(script, found.chunk, progress, text)?;
         return Ok(true);
     }
-    edit_argument(script, only, found, progress, text)
+    edit_marked(script, only, found, progress, text)
 }
 
 /// The one pass of the script that marks the statement of the chunk, where it has one command.
@@ -222,6 +231,102 @@ fn find_one_pass<'a>(script: ScriptRun<'a>, found: &Found<'_>) -> Option<OnePass
 
 /// The one command of a pass on a rule that it alone marks, where it looks at one argument alone, and the lines of that
 /// are known.
+fn edit_marked(
+    script: ScriptRun<'_>,
+    only: OnePass<'_>,
+    found: &Found<'_>,
+    progress: &mut Progress,
+    text: &mut Vec<u8>,
+) -> Result<bool, NoMemory>
+    requires only { IsForOne script.max_depth script.home.now script.passes.now only found.now }
+    requires fits { Fits progress.old.kept script.passes.now }
+    ensures { IfOk result (EditsFound (run_of script.entry) found.now progress.old progress.new
+        text.old.items text.new.items) }
+{
+    if let Some(comment) = comment_by(only.command) {
+        return put_comment(script, only, comment, found, progress, text);
+    }
+    if is_long(found.chunk.place) {
+        return edit_long_argument(script, only, found, progress, text);
+    }
+    edit_argument(script, only, found, progress, text)
+}
+
+/// The command puts a comment above an argument.
+fn put_comment(
+    script: ScriptRun<'_>,
+    only: OnePass<'_>,
+    comment: AttributeComment<'_>,
+    found: &Found<'_>,
+    progress: &mut Progress,
+    text: &mut Vec<u8>,
+) -> Result<bool, NoMemory>
+    requires only { IsForOne script.max_depth script.home.now script.passes.now only found.now }
+    requires fits { Fits progress.old.kept script.passes.now }
+    requires comment { only.command.now ≡ Comment (Attribute comment.attr.now) comment.text.now }
+    ensures { IfOk result (EditsFound (run_of script.entry) found.now progress.old progress.new
+        text.old.items text.new.items) }
+{
+    let Some(place) = place_for(only, found) else {
+        return Ok(false);
+    };
+    let Some(at) = comment_place(found.chunk.written, place) else {
+        return Ok(false);
+    };
+    let line = comment_line(script.alloc, comment.text)?;
+    progress.keep_line(only.at, None)?;
+    let changed = Changed {
+        class: found.chunk.class,
+        before: at.above,
+        lines: line.as_bytes(),
+        after: at.below,
+    };
+    changed.put(script, progress, text)?;
+    Ok(true)
+}
+
+/// The same of an argument of many lines: what the command makes of these is written where it is to stand.
+fn edit_long_argument(
+    script: ScriptRun<'_>,
+    only: OnePass<'_>,
+    found: &Found<'_>,
+    progress: &mut Progress,
+    text: &mut Vec<u8>,
+) -> Result<bool, NoMemory>
+    requires only { IsForOne script.max_depth script.home.now script.passes.now only found.now }
+    requires fits { Fits progress.old.kept script.passes.now }
+    ensures { IfOk result (EditsFound (run_of script.entry) found.now progress.old progress.new
+        text.old.items text.new.items) }
+{
+    let Some(place) = place_for(only, found) else {
+        return Ok(false);
+    };
+    // The text of a chunk begins empty: so all of it may be given up.
+    if !text.is_empty() || script.passes.is_query() {
+        return Ok(false);
+    }
+    put_gap(progress.last, found.chunk.class, text)?;
+    match execute_in_place(script, only.command, place, text)? {
+        None => {
+            text.clear();
+            Ok(false)
+        }
+        Some(EditedList::Unchanged) => {
+            text.clear();
+            progress.keep_line(only.at, None)?;
+            put_canonical(script, found.chunk, progress, text)?;
+            Ok(true)
+        }
+        Some(EditedList::Written) => {
+            progress.keep_line(only.at, None)?;
+            progress.last = Some(found.chunk.class);
+            progress.changed = true;
+            Ok(true)
+        }
+    }
+}
+
+/// The same of another argument.
 fn edit_argument(
     script: ScriptRun<'_>,
     only: OnePass<'_>,
@@ -253,8 +358,9 @@ fn edit_argument(
             progress.keep_line(only.at, None)?;
             let changed = Changed {
                 class: found.chunk.class,
-                place,
+                before: place.before,
                 lines,
+                after: place.after,
             };
             changed.put(script, progress, text)?;
             progress.give_back(spare);
@@ -332,8 +438,9 @@ fn name_key(name: Option<&str>) -> Key<'_>
 #[derive(Clone, Copy)]
 struct Changed<'t> {
     class: Class,
-    place: ArgumentPlace<'t>,
+    before: &'t str,
     lines: &'t [u8],
+    after: &'t str,
 }
 
 impl Changed<'_> {
@@ -346,14 +453,14 @@ impl Changed<'_> {
     ) -> Result<(), NoMemory>
         ensures last { OnOk result (progress.new ≡ record progress.old { last = Some self.entry.class; changed = true }) }
         ensures text { OnOk result ((s : Statement) → s.class ≡ self.entry.class
-            → layout_text s ≡ self.entry.place.before.now ++ (self.entry.lines.now ++ self.entry.place.after.now)
+            → layout_text s ≡ self.entry.before.now ++ (self.entry.lines.now ++ self.entry.after.now)
             → text.new.items ≡ text.old.items
             ++ (if is_query script.entry.passes.now then [] else text_following progress.old.last (Some s ∷ []))) }
     {
         if begin_statement(script, self.class, progress, text)? {
-            extend_from_slice(text, self.place.before.as_bytes())?;
+            extend_from_slice(text, self.before.as_bytes())?;
             extend_from_slice(text, self.lines)?;
-            extend_from_slice(text, self.place.after.as_bytes())?;
+            extend_from_slice(text, self.after.as_bytes())?;
         }
         progress.changed = true;
         Ok(())

@@ -34,16 +34,16 @@ PassesElement p read equal old new more =
     (home : Package) (word : List ℕ) (lines : Bool) (front inside : List ℕ) → AreKept home word lines front inside old p → IsElementRead lines p.one p.at.rest.now read → equal ≡ is_word home word read.string.token.now
     → AreKept home word lines front inside new more
 
--- all elements of a list, which stand in the text after its first bracket
-pub record AreElementsKept (home : Package) (word text inside buffer : List ℕ) (list : KeptList) : Type 0 where
+-- all elements of a list, which stand in the text after its first bracket; what is written stands after what was in the buffer
+pub record AreElementsKept (home : Package) (word text inside old buffer : List ℕ) (list : KeptList) : Type 0 where
   pub lines : Bool
-  pub kept : (front : List ℕ) → text ≡ front ++ inside → AreKept home word lines front inside buffer list.passed
+  pub kept : (front : List ℕ) → text ≡ front ++ inside → AreKept home word lines (old ++ front) inside buffer list.passed
   pub ends : list.passed.at.rest.now ≡ closing lines ++ list.end.now
 
 -- an argument of the name, whose lines are the text
-pub record IsListKept (depth : ℕ) (home : Package) (attr word text buffer : List ℕ) (list : KeptList) : Type 0 where
+pub record IsListKept (depth : ℕ) (home : Package) (attr word text old buffer : List ℕ) (list : KeptList) : Type 0 where
   pub inside : List ℕ
   pub deep : 1 < depth
   pub head : IsHeadRead attr text (91 ∷ inside) true
-  pub kept : AreElementsKept home word text inside buffer list
+  pub kept : AreElementsKept home word text inside old buffer list
   pub last : IsLast list.end.now

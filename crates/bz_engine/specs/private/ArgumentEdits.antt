@@ -1,12 +1,12 @@
 -- What a command makes of the lines of an argument, for private clauses.
-use Rattle.std.specs.Prelude.{◌≡◌, ℕ, List, [], ◌∷◌, false, true, Option, None, Some}
+use Rattle.std.specs.Prelude.{◌≡◌, ℕ, List, [], ◌∷◌, ◌++◌, false, true, Option, None, Some}
 use Rattle.bz_tree.specs.Tree.{Segment, Statement}
 use Rattle.bz_layout.specs.Layout.{layout_text}
 use Rattle.bz_attribute.specs.declared.done.Done.{Done}
 use Rattle.bz_attribute.specs.Effects.{argument, list_item, string}
 use Rattle.bz_command.specs.declared.arguments.Setting.TheVariants.{ToValues}
 use Rattle.bz_command.specs.Labels.{Package}
-use Rattle.bz_canonical.specs.Canonical.{AreReadAlone, argument_lines, small_text}
+use Rattle.bz_canonical.specs.Canonical.{AreReadAlone, Between, argument_lines, small_text}
 use Rattle.bz_canonical.specs.declared.added.Added.{Added}
 use Rattle.bz_canonical.specs.declared.added.Added.TheVariants.{Present, New}
 use Rattle.bz_canonical.specs.declared.removed.Removed.{Removed}
@@ -58,10 +58,16 @@ EditsLines depth command home lines (Lines new) = (args : List Segment) → is_e
 abbrev pub EditsSmallRule : ℕ → Command → Package → List ℕ → EditedArgument → Type 0
 EditsSmallRule depth command home text edited = (lines : List ℕ) → text ≡ small_text lines → EditsLines depth command home lines edited
 
--- the same of a list
-abbrev pub EditsList : ℕ → Command → Package → List ℕ → List ℕ → EditedList → Type 0
-EditsList depth command home lines written Unchanged = (args : List Segment) → AreReadAlone depth lines args → args_done command home args ≡ told_line false None
-EditsList depth command home lines written Written = (args : List Segment) → AreReadAlone depth lines args → ChangesArgs command home args written
+-- the same of a list; what is written stands after what was in the buffer
+abbrev pub EditsList : ℕ → Command → Package → List ℕ → List ℕ → List ℕ → EditedList → Type 0
+EditsList depth command home lines old new Unchanged = (args : List Segment) → AreReadAlone depth lines args → args_done command home args ≡ told_line false None
+EditsList depth command home lines old new Written = (written : List ℕ) × (new ≡ old ++ written) × ((args : List Segment) → AreReadAlone depth lines args → ChangesArgs command home args written)
+
+-- the same, with what stands before the list and after it
+abbrev pub EditsPlace : ℕ → Command → Package → Between → List ℕ → List ℕ → EditedList → Type 0
+EditsPlace depth command home place old new Unchanged = (args : List Segment) → AreReadAlone depth place.lines args → args_done command home args ≡ told_line false None
+EditsPlace depth command home place old new Written =
+    (written : List ℕ) × (new ≡ old ++ (place.before ++ (written ++ place.after))) × ((args : List Segment) → AreReadAlone depth place.lines args → ChangesArgs command home args written)
 
 abbrev pub list_edit : Added → EditedList
 list_edit Present = Unchanged
