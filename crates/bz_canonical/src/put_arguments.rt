@@ -4,13 +4,15 @@
 ghost use Rattle.std.specs.Prelude.{◌≡◌, ◌<◌, ℕ, List, Bool, length, option_map, IfOk, IfSome, true, false};
 ghost use Rattle.bz_tree.specs.declared.tree.GroupKind.TheVariants.{RuleCall};
 ghost use Rattle.bz_canonical.specs.private.Segments.{AreNotesFront, AreSegmentsFront};
+ghost use Rattle.bz_canonical.specs.private.Values.{AreNodesFront};
 ghost use Rattle.bz_canonical.specs.private.Rewritten.{AreArgumentsRead, AreOthersRead, AreRead, IsHeadRead, ArePlacedRead, IsPending, IsValueEnd, Puts, PutsArgument, pending, put_ends};
 
 use crate::comments::after_comments;
 use crate::front::{Word, after_identifier, after_line, after_word, before};
 use crate::lists::{after_comma, put_list};
 use crate::segments::{AfterLines, after_segments};
-use crate::value::{after_nodes, either};
+use crate::string_list::after_string_list;
+use crate::value::{Value, after_first, after_nodes, either};
 use bz_memory::{NoMemory, extend_from_slice};
 use bz_tree::GroupKind;
 
@@ -77,13 +79,32 @@ pub(crate) fn read_argument_head<'t>(text: &'t [u8], attr: &[u8]) -> Option<Argu
     })
 }
 
+/// What follows the value of an argument here.
+#[inline(always)]
+fn after_argument_nodes(value: &[u8], depth: u8) -> Option<Value<'_>>
+    requires { depth < 254 }
+    ensures { IfSome result (λ read. AreNodesFront 1 depth value.now read.rest.now read.holds) }
+{
+    // Most values are lists of strings.
+    match after_string_list(value, depth) {
+        Some(rest) => {
+            let read = after_first(Value { rest, holds: true }, 1, depth)?;
+            Some(read)
+        }
+        None => {
+            let read = after_nodes(value, 1, depth)?;
+            Some(read)
+        }
+    }
+}
+
 /// What follows the value here and its comma, where it stands as it is written.
 #[inline(always)]
 pub(crate) fn after_argument_value(value: &[u8], depth: u8) -> Option<&[u8]>
     requires { depth < 254 }
     ensures { IfSome result (λ rest. IsValueEnd depth value.now rest.now) }
 {
-    let read = after_nodes(value, 1, depth)?;
+    let read = after_argument_nodes(value, depth)?;
     let side = after_comma(read.rest)?;
     Some(side.rest)
 }

@@ -3,17 +3,14 @@
 ghost use Rattle.std.specs.Prelude.{◌≡◌, ◌+◌, ◌<◌, ◌||◌, ◌∷◌, ◌++◌, ℕ, List, codes, IfSome, nat_le, true, false};
 ghost use Rattle.bz_token.specs.declared.token.Kind.TheVariants.{Identifier};
 ghost use Rattle.bz_tree.specs.Statement.{is_call};
-ghost use Rattle.bz_layout.specs.Pieces.{indent};
 ghost use Rattle.bz_canonical.specs.private.Fronts.{IsTokenFront};
 ghost use Rattle.bz_canonical.specs.private.Segments.{AreFlatFront, AreNotesFront, AreSegmentsFront, IsBesideFront, IsSegmentFront};
-ghost use Rattle.bz_canonical.specs.private.Values.{IsValueFront};
+ghost use Rattle.bz_canonical.specs.private.Values.{AreNodesFront};
 
-use crate::comments::{AfterComments, after_comments, after_suffix};
-use crate::front::{
-    Word, after, after_element_line, after_identifier, after_line, after_word, read_simple_string,
-};
-use crate::group::closing;
-use crate::value::{Value, after_leaf, after_nodes, either};
+use crate::comments::{after_comments, after_suffix};
+use crate::front::{Word, after, after_identifier, after_line, after_word};
+use crate::group::{after_group, closing};
+use crate::value::{Value, after_first, after_leaf, after_nodes, either};
 use bz_tree::GroupKind;
 
 /// What follows segments on lines.
@@ -48,12 +45,6 @@ pub(crate) fn after_segments(
     let mut holds = false;
     let mut noted = false;
     for count in 0..text.len() {
-        // Most lines are strings in lists.
-        if let Some(after_string) = after_string_line(kind, rest, level) {
-            rest = after_string.rest;
-            noted = either(noted, after_string.some);
-            continue;
-        }
         let above = after_comments(rest, level);
         let Some(inner) = after_line(above.rest, level) else {
             return Some(AfterLines {
@@ -73,29 +64,6 @@ pub(crate) fn after_segments(
         noted = either(noted, about);
     }
     None
-}
-
-/// What follows the element here of a list that is the value of an argument, on a line of its own, where it is a string
-/// whose bytes stand for themselves, with its comma and the comment beside it.
-#[inline(always)]
-fn after_string_line(kind: GroupKind, text: &[u8], level: u8) -> Option<AfterComments<'_>>
-    ensures { IfSome result (λ side. (inner comma : List ℕ) × (text.now ≡ 10 ∷ (indent level ++ inner))
-        × ((depth : ℕ) → IsSegmentFront kind level depth inner (44 ∷ comma) false)
-        × IsBesideFront comma side.rest.now side.some) }
-{
-    if level != 2 {
-        return None;
-    }
-    match kind {
-        GroupKind::List => {
-            let inner = after_element_line(text)?;
-            let string = read_simple_string(inner)?;
-            let comma = after(string.rest, b',')?;
-            let side = after_suffix(comma)?;
-            Some(side)
-        }
-        _ => None,
-    }
 }
 
 /// What follows segments in place.
@@ -164,23 +132,6 @@ fn after_segment(kind: GroupKind, text: &[u8], level: u8, depth: u8) -> Option<V
             let read = after_nodes(text, level, depth)?;
             Some(read)
         }
-        _ => after_named_segment(kind, text, level, depth),
-    }
-}
-
-/// What follows the entry of a dict here, or the argument of a call.
-#[cycle(values)]
-#[inline(never)]
-pub(crate) fn after_named_segment(
-    kind: GroupKind,
-    text: &[u8],
-    level: u8,
-    depth: u8,
-) -> Option<Value<'_>>
-    requires { level + depth < 255 }
-    ensures { IfSome result (λ read. IsSegmentFront kind level depth text.now read.rest.now read.holds) }
-{
-    match kind {
         GroupKind::Dict => {
             let colon = after_leaf(text)?;
             let value = after_word(colon, Word::Colon)?;
@@ -191,16 +142,51 @@ pub(crate) fn after_named_segment(
             if !is_call(kind) {
                 return None;
             }
-            match after_keyword(text) {
-                Some(value) => {
-                    let read = after_nodes(value, level, depth)?;
+            match text {
+                // Most arguments of `select`.
+                [b'{', ..] => {
+                    let read = after_dict(text, level, depth)?;
                     Some(read)
                 }
-                None => {
-                    let read = after_nodes(text, level, depth)?;
-                    Some(read)
-                }
+                _ => after_argument(kind, text, level, depth),
             }
+        }
+    }
+}
+
+/// What follows the value here that begins with a dict.
+#[cycle(values)]
+#[inline(always)]
+fn after_dict(text: &[u8], level: u8, depth: u8) -> Option<Value<'_>>
+    requires { level + depth < 255 }
+    ensures { IfSome result (λ read. AreNodesFront level depth text.now read.rest.now read.holds) }
+{
+    let first = after_group(GroupKind::Dict, text, level, depth)?;
+    let read = after_first(first, level, depth)?;
+    Some(read)
+}
+
+/// What follows the argument of a call here.
+#[cycle(values)]
+#[inline(never)]
+pub(crate) fn after_argument(
+    kind: GroupKind,
+    text: &[u8],
+    level: u8,
+    depth: u8,
+) -> Option<Value<'_>>
+    requires call { is_call kind ≡ true }
+    requires deep { level + depth < 255 }
+    ensures { IfSome result (λ read. IsSegmentFront kind level depth text.now read.rest.now read.holds) }
+{
+    match after_keyword(text) {
+        Some(value) => {
+            let read = after_nodes(value, level, depth)?;
+            Some(read)
+        }
+        None => {
+            let read = after_nodes(text, level, depth)?;
+            Some(read)
         }
     }
 }
