@@ -9,7 +9,7 @@ ghost use Rattle.bz_canonical.specs.private.Values.{AreNodesFront};
 
 use crate::comments::{after_comments, after_suffix};
 use crate::front::{Word, after, after_identifier, after_line, after_word};
-use crate::group::{after_group, closing};
+use crate::group::{after_broken_group, closing};
 use crate::value::{Value, after_first, after_leaf, after_nodes, either};
 use bz_tree::GroupKind;
 
@@ -144,8 +144,8 @@ fn after_segment(kind: GroupKind, text: &[u8], level: u8, depth: u8) -> Option<V
             }
             match text {
                 // Most arguments of `select`.
-                [b'{', ..] => {
-                    let read = after_dict(text, level, depth)?;
+                [b'{', b'\n', ..] => {
+                    let read = after_broken_dict(text, level, depth)?;
                     Some(read)
                 }
                 _ => after_argument(kind, text, level, depth),
@@ -154,14 +154,18 @@ fn after_segment(kind: GroupKind, text: &[u8], level: u8, depth: u8) -> Option<V
     }
 }
 
-/// What follows the value here that begins with a dict.
+/// What follows the value here that begins with a dict on lines.
 #[cycle(values)]
 #[inline(always)]
-fn after_dict(text: &[u8], level: u8, depth: u8) -> Option<Value<'_>>
+fn after_broken_dict(text: &[u8], level: u8, depth: u8) -> Option<Value<'_>>
     requires { level + depth < 255 }
     ensures { IfSome result (λ read. AreNodesFront level depth text.now read.rest.now read.holds) }
 {
-    let first = after_group(GroupKind::Dict, text, level, depth)?;
+    if depth == 0 {
+        return None;
+    }
+    let inside = after(text, b'{')?;
+    let first = after_broken_group(GroupKind::Dict, inside, level, depth - 1)?;
     let read = after_first(first, level, depth)?;
     Some(read)
 }

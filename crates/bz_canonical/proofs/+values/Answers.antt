@@ -1,7 +1,8 @@
-use Rattle.std.proofs.Common.{true, false, ◌+◌, arith, ◌∙◌, ◌||◌, ◌++◌, refl, sym, subst, ap}
+use Rattle.std.proofs.Common.{true, false, ℕ, List, ◌≡◌, ◌+◌, ◌-◌, arith, ◌∙◌, ◌||◌, ◌∷◌, ◌++◌, refl, sym, subst, ap}
+use Rattle.bz_tree.specs.declared.tree.GroupKind.TheVariants.{Dict}
 use Rattle.std.specs.Prelude.{codes}
 use Rattle.bz_canonical.specs.private.Values.{AreNodesFront}
-use Rattle.bz_canonical.specs.private.Segments.{Continues, ContinuesFlat, IsSegmentFront}
+use Rattle.bz_canonical.specs.private.Segments.{Continues, ContinuesFlat, IsGroupFront, IsSegmentFront}
 use Rattle.bz_canonical.proofs.GroupSegments.{begin, more, finish, begin_flat, more_flat, finish_flat, none_flat, element_segment, positional_segment, keyword_segment, entry_segment, first_of_more, second_of_more, four_or}
 use Rattle.bz_canonical.proofs.Operands.{list_value, dict_value, number_value, broken_group, flat_group}
 use Rattle.bz_canonical.specs.private.Chains.{Chains, IsPrimaryFront}
@@ -104,11 +105,15 @@ segments::after_segment-returns-in_ok-read-in-123 m c =
     positional_segment c.args.kind c.args.level c.args.depth c.args.text.now c.in_ok-read-in-123.read.rest.now c.in_ok-read-in-123.read.holds
     (sym c.is_call.ensures ∙ c.if-not-is_call.false) c.in_ok-read-in-123.ensures
 
-pub segments::after_dict-returns : goal.segments::after_dict-returns
-segments::after_dict-returns m c =
+pub segments::after_broken_dict-returns : goal.segments::after_broken_dict-returns
+segments::after_broken_dict-returns m c =
+    let text : List ℕ = c.args.text.now in
     let first = c.in_ok-first.first in
-    c.in_ok-read.ensures c.args.text.now
-    (value_term c.args.level c.args.depth c.args.text.now first.rest.now first.holds (dict_value c.args.level c.args.depth c.args.text.now first.rest.now first.holds c.in_ok-first.ensures))
+    let deeper : c.args.depth - 1 + 1 ≡ c.args.depth = omega (arith, c.if-depth-eq0.false) in
+    let group : IsGroupFront Dict c.args.level c.args.depth text first.rest.now first.holds =
+        subst (λ (t : List ℕ). IsGroupFront Dict c.args.level c.args.depth t first.rest.now first.holds) (sym c.in_ok-inside.ensures)
+        (subst (λ d. IsGroupFront Dict c.args.level d (123 ∷ c.in_ok-inside.inside.now) first.rest.now first.holds) deeper c.in_ok-first.ensures) in
+    c.in_ok-read.ensures text (value_term c.args.level c.args.depth text first.rest.now first.holds (dict_value c.args.level c.args.depth text first.rest.now first.holds group))
 
 pub segments::after_argument-returns-in_ok-read-in-Some : goal.segments::after_argument-returns-in_ok-read-in-Some
 segments::after_argument-returns-in_ok-read-in-Some m c =

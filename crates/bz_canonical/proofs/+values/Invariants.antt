@@ -44,8 +44,8 @@ decreases-segments::after_flat_segments l = 13 * l.depth + 12
 abbrev pub decreases-segments::after_segment : goal.decreases-segments::after_segment
 decreases-segments::after_segment l = 13 * l.depth + 11
 
-abbrev pub decreases-segments::after_dict : goal.decreases-segments::after_dict
-decreases-segments::after_dict l = 13 * l.depth + 8
+abbrev pub decreases-segments::after_broken_dict : goal.decreases-segments::after_broken_dict
+decreases-segments::after_broken_dict l = 13 * l.depth + 8
 
 abbrev pub decreases-segments::after_argument : goal.decreases-segments::after_argument
 decreases-segments::after_argument l = 13 * l.depth + 10
