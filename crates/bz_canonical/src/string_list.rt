@@ -7,7 +7,7 @@ ghost use Rattle.bz_canonical.specs.private.Chains.{IsTermFront};
 ghost use Rattle.bz_canonical.specs.private.Segments.{IsBesideFront, IsSegmentFront};
 
 use crate::comments::{AfterComments, after_suffix};
-use crate::front::{after, after_element_line, read_simple_string};
+use crate::front::{after, after_element_line, after_simple_string};
 use crate::lists::{after_comma, after_last};
 use crate::value::either;
 
@@ -45,7 +45,7 @@ fn after_string_line(text: &[u8]) -> Option<AfterComments<'_>>
         × IsBesideFront comma side.rest.now side.some) }
 {
     let inner = after_element_line(text)?;
-    let string = read_simple_string(inner)?;
-    let side = after_comma(string.rest)?;
+    let string = after_simple_string(inner)?;
+    let side = after_comma(string)?;
     Some(side)
 }

@@ -7,7 +7,7 @@ ghost use Rattle.bz_canonical.specs.private.Fronts.{IsTokenFront};
 ghost use Rattle.bz_canonical.specs.private.Values.{AreNodesFront, IsValueFront};
 
 use crate::front::{
-    after, after_identifier, after_infix, after_number, after_string, read_simple_string,
+    after, after_identifier, after_infix, after_number, after_string, after_simple_string,
 };
 use crate::group::after_group;
 use bz_tree::GroupKind;
@@ -200,8 +200,8 @@ fn after_short_list(text: &[u8], depth: u8) -> Option<&[u8]>
     match after(inside, b']') {
         Some(rest) => Some(rest),
         None => {
-            let string = read_simple_string(inside)?;
-            let rest = after(string.rest, b']')?;
+            let string = after_simple_string(inside)?;
+            let rest = after(string, b']')?;
             Some(rest)
         }
     }

@@ -9,5 +9,5 @@ returns-in-Some c = λ level.
 
 pub returns-in_ok-rest-in-None : goal.returns-in_ok-rest-in-None
 returns-in_ok-rest-in-None c = λ level.
-    single_list level (c.args.depth - 1) c.args.depth c.args.text.now c.in_ok-inside.inside.now c.in_ok-string-in-None.string.inner.now c.in_ok-string-in-None.string.rest.now c.in_ok-rest-in-None.rest.now
-    (omega (arith, c.if-depth-eq0.false)) c.in_ok-inside.ensures c.in_ok-string-in-None.ensures c.in_ok-rest-in-None.ensures
+    single_list level (c.args.depth - 1) c.args.depth c.args.text.now c.in_ok-inside.inside.now c.in_ok-string-in-None.ensures.0 c.in_ok-string-in-None.string.now c.in_ok-rest-in-None.rest.now
+    (omega (arith, c.if-depth-eq0.false)) c.in_ok-inside.ensures c.in_ok-string-in-None.ensures.1 c.in_ok-rest-in-None.ensures
