@@ -172,7 +172,26 @@ struct PutOthers<'t> {
 }
 
 /// Passes the arguments here up to the first of the name, or to the last that has one.
+#[inline(never)]
 fn put_others<'t>(
+    from: Pending<'t>,
+    asked: Sought<'_>,
+    written: &mut Vec<u8>,
+) -> Known<PutOthers<'t>>
+    requires { asked.depth < 254 }
+    ensures passed { IfOk result (λ known. IfSome known (λ read.
+        Puts written.old.items (pending from.entry) written.new.items (pending read.at)
+        (λ begun w. AreOthersRead asked.entry.depth asked.entry.attr.now from.entry.rest.now read.at.rest.now w
+        read.one))) }
+    ensures named { IfOk result (λ known. IfSome known (λ read. IfSome read.named (λ value.
+        IsHeadRead asked.entry.attr.now read.at.rest.now value.now true))) }
+{
+    pass_others(from, asked, written)
+}
+
+/// The same. `pass_arguments`, which most rules need, has this code in it.
+#[inline(always)]
+fn pass_others<'t>(
     from: Pending<'t>,
     asked: Sought<'_>,
     written: &mut Vec<u8>,
@@ -345,7 +364,7 @@ pub(crate) fn pass_arguments<'t>(
         attr: b"".as_slice(),
         depth,
     };
-    let Some(others) = put_others(from, none, written)? else {
+    let Some(others) = pass_others(from, none, written)? else {
         return Ok(None);
     };
     let Some(last) = after_last_segments(others.at.rest, depth) else {

@@ -3,12 +3,13 @@
 ghost use Rattle.std.specs.Prelude.{◌≡◌, ◌+◌, ◌<◌, ◌||◌, ◌∷◌, ◌++◌, ℕ, List, codes, IfSome, nat_le, true, false};
 ghost use Rattle.bz_token.specs.declared.token.Kind.TheVariants.{Identifier};
 ghost use Rattle.bz_tree.specs.Statement.{is_call};
+ghost use Rattle.bz_layout.specs.Pieces.{indent};
 ghost use Rattle.bz_canonical.specs.private.Fronts.{IsTokenFront};
 ghost use Rattle.bz_canonical.specs.private.Segments.{AreFlatFront, AreNotesFront, AreSegmentsFront, IsBesideFront, IsSegmentFront};
 ghost use Rattle.bz_canonical.specs.private.Values.{AreNodesFront};
 
 use crate::comments::{after_comments, after_suffix};
-use crate::front::{Word, after, after_identifier, after_line, after_word};
+use crate::front::{Word, after, after_element_line, after_identifier, after_line, after_word};
 use crate::group::{after_broken_group, closing};
 use crate::value::{Value, after_first, after_leaf, after_nodes, either};
 use bz_tree::GroupKind;
@@ -46,7 +47,7 @@ pub(crate) fn after_segments(
     let mut noted = false;
     for count in 0..text.len() {
         let above = after_comments(rest, level);
-        let Some(inner) = after_line(above.rest, level) else {
+        let Some(inner) = after_inner_line(above.rest, level) else {
             return Some(AfterLines {
                 rest: above.rest,
                 count,
@@ -64,6 +65,18 @@ pub(crate) fn after_segments(
         noted = either(noted, about);
     }
     None
+}
+
+/// What follows a newline and the indent at this level.
+#[inline(always)]
+fn after_inner_line(text: &[u8], level: u8) -> Option<&[u8]>
+    ensures { IfSome result (λ rest. text.now ≡ 10 ∷ (indent level ++ rest.now)) }
+{
+    match level {
+        // Most groups on lines are values of arguments.
+        2 => after_element_line(text),
+        _ => after_line(text, level),
+    }
 }
 
 /// What follows segments in place.
