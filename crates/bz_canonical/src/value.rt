@@ -7,7 +7,7 @@ ghost use Rattle.bz_canonical.specs.private.Fronts.{IsTokenFront};
 ghost use Rattle.bz_canonical.specs.private.Values.{AreNodesFront, IsValueFront};
 
 use crate::front::{
-    after, after_identifier, after_infix, after_number, after_string, after_simple_string,
+    after, after_identifier, after_infix, after_number, after_simple_string, after_string,
 };
 use crate::group::after_group;
 use bz_tree::GroupKind;

@@ -111,8 +111,8 @@ segments::after_broken_dict-returns m c =
     let first = c.in_ok-first.first in
     let deeper : c.args.depth - 1 + 1 ≡ c.args.depth = omega (arith, c.if-depth-eq0.false) in
     let group : IsGroupFront Dict c.args.level c.args.depth text first.rest.now first.holds =
-        subst (λ (t : List ℕ). IsGroupFront Dict c.args.level c.args.depth t first.rest.now first.holds) (sym c.in_ok-inside.ensures)
-        (subst (λ d. IsGroupFront Dict c.args.level d (123 ∷ c.in_ok-inside.inside.now) first.rest.now first.holds) deeper c.in_ok-first.ensures) in
+    subst (λ (t : List ℕ). IsGroupFront Dict c.args.level c.args.depth t first.rest.now first.holds) (sym c.in_ok-inside.ensures)
+    (subst (λ d. IsGroupFront Dict c.args.level d (123 ∷ c.in_ok-inside.inside.now) first.rest.now first.holds) deeper c.in_ok-first.ensures) in
     c.in_ok-read.ensures text (value_term c.args.level c.args.depth text first.rest.now first.holds (dict_value c.args.level c.args.depth text first.rest.now first.holds group))
 
 pub segments::after_argument-returns-in_ok-read-in-Some : goal.segments::after_argument-returns-in_ok-read-in-Some

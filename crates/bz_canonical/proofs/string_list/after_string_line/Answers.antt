@@ -1,4 +1,4 @@
-use Rattle.std.proofs.Common.{◌≡◌, ◌∷◌, ℕ, List, subst}
+use Rattle.std.proofs.Common.{◌∷◌, ℕ, List, subst}
 use Rattle.bz_canonical.specs.private.Fronts.{IsQuotedFront}
 use Rattle.bz_canonical.proofs.StringLists.{string_element}
 use Rattle.bz_canonical.proofs.string_list.after_string_line.Goals as goal

@@ -1,4 +1,4 @@
-use Rattle.std.proofs.Common.{◌≡◌, ◌+◌, ◌-◌, ◌||◌, ◌∙◌, arith, false, sym, subst}
+use Rattle.std.proofs.Common.{◌+◌, ◌-◌, ◌∙◌, arith, false, sym, subst}
 use Rattle.bz_tree.specs.declared.tree.GroupKind.TheVariants.{List as ListKind}
 use Rattle.bz_canonical.specs.private.Segments.{Continues}
 use Rattle.bz_canonical.proofs.GroupSegments.{begin}
