@@ -1,6 +1,6 @@
 //! What stands at the front of a text: a byte, a word, a token, the beginning of a line.
 
-ghost use Rattle.std.specs.Prelude.{◌≡◌, ◌∷◌, ◌++◌, ◌≤◌, ◌<◌, ◌-◌, length, drop, take, IfSome};
+ghost use Rattle.std.specs.Prelude.{◌≡◌, ◌∷◌, ◌++◌, ◌≤◌, ◌<◌, ◌-◌, ℕ, List, length, drop, take, IfSome};
 ghost use Rattle.std.specs.List.{prefix_len};
 ghost use Rattle.bz_token.specs.declared.token.Kind.TheVariants.{Comment, Identifier, Integer, String};
 ghost use Rattle.bz_token.specs.Lengths.{IsTokenOf};
@@ -8,7 +8,7 @@ ghost use Rattle.bz_layout.specs.Pieces.{indent};
 ghost use Rattle.bz_canonical.specs.private.Fronts.{IsInfixFront, IsQuotedFront, IsTokenFront, is_infix, word_bytes};
 ghost use Rattle.bz_canonical.specs.private.Rewritten.{IsSingleFront, is_plain_inside};
 
-use crate::simple::simple_len;
+use crate::simple::after_simple;
 use bz_token::{comment_len, identifier_len, integer_len, string_len};
 
 /// What follows this byte.
@@ -96,10 +96,10 @@ pub(crate) fn after_string(text: &[u8]) -> Option<&[u8]>
     ensures { IfSome result (λ rest. IsTokenFront String text.now rest.now) }
 {
     // Most stand as they are, in one quote.
-    match read_simple_string(text) {
-        Some(simple) => match simple.rest {
+    match after_simple_string(text) {
+        Some(rest) => match rest {
             [b'"', ..] => after_any_string(text),
-            _ => Some(simple.rest),
+            _ => Some(rest),
         },
         None => match text {
             [b'"', ..] => after_any_string(text),
@@ -180,14 +180,26 @@ fn read_closed_string(inside: &[u8], len: usize, quote: u8) -> Option<SimpleStri
     Some(SimpleString { inner, rest })
 }
 
+/// What follows the string in double quotes here, whose value stands as it is.
+#[inline(always)]
+pub(crate) fn after_simple_string(text: &[u8]) -> Option<&[u8]>
+    ensures { IfSome result (λ rest. (inner : List ℕ) × IsQuotedFront text.now inner rest.now) }
+{
+    let inside = after(text, b'"')?;
+    let rest = after(after_simple(inside), b'"')?;
+    Some(rest)
+}
+
 /// The string in double quotes here, whose value stands as it is.
 #[inline(always)]
 pub(crate) fn read_simple_string(text: &[u8]) -> Option<SimpleString<'_>>
     ensures { IfSome result (λ q. IsQuotedFront text.now q.inner.now q.rest.now) }
 {
+    let rest = after_simple_string(text)?;
     let inside = after(text, b'"')?;
-    let string = read_closed_string(inside, simple_len(inside), b'"')?;
-    Some(string)
+    let closed = before(inside, rest.len())?;
+    let inner = before(closed, 1)?;
+    Some(SimpleString { inner, rest })
 }
 
 fn is_plain(b: u8) -> bool

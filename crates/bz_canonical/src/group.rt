@@ -66,7 +66,12 @@ pub(crate) fn after_group(kind: GroupKind, text: &[u8], level: u8, depth: u8) ->
 /// What follows the group on lines here, its first bracket left out.
 #[cycle(values)]
 #[inline(never)]
-fn after_broken_group(kind: GroupKind, inside: &[u8], level: u8, depth: u8) -> Option<Value<'_>>
+pub(crate) fn after_broken_group(
+    kind: GroupKind,
+    inside: &[u8],
+    level: u8,
+    depth: u8,
+) -> Option<Value<'_>>
     requires commas { (n : ℕ) → has_commas kind false n ≡ true }
     requires deep { level + depth + 1 < 255 }
     ensures { IfSome result (λ v. IsGroupFront kind level (depth + 1) (opening kind ++ inside.now) v.rest.now v.holds) }

@@ -26,6 +26,7 @@ mod rule;
 mod segments;
 mod simple;
 mod statement;
+mod string_list;
 mod unnamed;
 mod value;
 

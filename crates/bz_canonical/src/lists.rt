@@ -247,7 +247,7 @@ pub(crate) fn after_elements(text: &[u8], lines: bool) -> Option<&[u8]>
 
 /// What follows the bracket that closes a list on lines.
 #[inline(always)]
-fn after_last(text: &[u8]) -> Option<&[u8]>
+pub(crate) fn after_last(text: &[u8]) -> Option<&[u8]>
     ensures { IfSome result (λ rest. text.now ≡ 10 ∷ (indent 1 ++ 93 ∷ rest.now)) }
 {
     let end = after_line(text, 1)?;

@@ -4,13 +4,15 @@
 ghost use Rattle.std.specs.Prelude.{◌≡◌, ◌<◌, ℕ, List, Bool, length, option_map, IfOk, IfSome, true, false};
 ghost use Rattle.bz_tree.specs.declared.tree.GroupKind.TheVariants.{RuleCall};
 ghost use Rattle.bz_canonical.specs.private.Segments.{AreNotesFront, AreSegmentsFront};
+ghost use Rattle.bz_canonical.specs.private.Values.{AreNodesFront};
 ghost use Rattle.bz_canonical.specs.private.Rewritten.{AreArgumentsRead, AreOthersRead, AreRead, IsHeadRead, ArePlacedRead, IsPending, IsValueEnd, Puts, PutsArgument, pending, put_ends};
 
 use crate::comments::after_comments;
 use crate::front::{Word, after_identifier, after_line, after_word, before};
 use crate::lists::{after_comma, put_list};
 use crate::segments::{AfterLines, after_segments};
-use crate::value::{after_nodes, either};
+use crate::string_list::after_string_list;
+use crate::value::{Value, after_first, after_nodes, either};
 use bz_memory::{NoMemory, extend_from_slice};
 use bz_tree::GroupKind;
 
@@ -77,13 +79,32 @@ pub(crate) fn read_argument_head<'t>(text: &'t [u8], attr: &[u8]) -> Option<Argu
     })
 }
 
+/// What follows the value of an argument here.
+#[inline(always)]
+fn after_argument_nodes(value: &[u8], depth: u8) -> Option<Value<'_>>
+    requires { depth < 254 }
+    ensures { IfSome result (λ read. AreNodesFront 1 depth value.now read.rest.now read.holds) }
+{
+    // Most values are lists of strings.
+    match after_string_list(value, depth) {
+        Some(rest) => {
+            let read = after_first(Value { rest, holds: true }, 1, depth)?;
+            Some(read)
+        }
+        None => {
+            let read = after_nodes(value, 1, depth)?;
+            Some(read)
+        }
+    }
+}
+
 /// What follows the value here and its comma, where it stands as it is written.
 #[inline(always)]
 pub(crate) fn after_argument_value(value: &[u8], depth: u8) -> Option<&[u8]>
     requires { depth < 254 }
     ensures { IfSome result (λ rest. IsValueEnd depth value.now rest.now) }
 {
-    let read = after_nodes(value, 1, depth)?;
+    let read = after_argument_nodes(value, depth)?;
     let side = after_comma(read.rest)?;
     Some(side.rest)
 }
@@ -151,7 +172,26 @@ struct PutOthers<'t> {
 }
 
 /// Passes the arguments here up to the first of the name, or to the last that has one.
+#[inline(never)]
 fn put_others<'t>(
+    from: Pending<'t>,
+    asked: Sought<'_>,
+    written: &mut Vec<u8>,
+) -> Known<PutOthers<'t>>
+    requires { asked.depth < 254 }
+    ensures passed { IfOk result (λ known. IfSome known (λ read.
+        Puts written.old.items (pending from.entry) written.new.items (pending read.at)
+        (λ begun w. AreOthersRead asked.entry.depth asked.entry.attr.now from.entry.rest.now read.at.rest.now w
+        read.one))) }
+    ensures named { IfOk result (λ known. IfSome known (λ read. IfSome read.named (λ value.
+        IsHeadRead asked.entry.attr.now read.at.rest.now value.now true))) }
+{
+    pass_others(from, asked, written)
+}
+
+/// The same. `pass_arguments`, which most rules need, has this code in it.
+#[inline(always)]
+fn pass_others<'t>(
     from: Pending<'t>,
     asked: Sought<'_>,
     written: &mut Vec<u8>,
@@ -324,7 +364,7 @@ pub(crate) fn pass_arguments<'t>(
         attr: b"".as_slice(),
         depth,
     };
-    let Some(others) = put_others(from, none, written)? else {
+    let Some(others) = pass_others(from, none, written)? else {
         return Ok(None);
     };
     let Some(last) = after_last_segments(others.at.rest, depth) else {

@@ -6,14 +6,12 @@ ghost use Rattle.bz_tree.specs.Statement.{is_call};
 ghost use Rattle.bz_layout.specs.Pieces.{indent};
 ghost use Rattle.bz_canonical.specs.private.Fronts.{IsTokenFront};
 ghost use Rattle.bz_canonical.specs.private.Segments.{AreFlatFront, AreNotesFront, AreSegmentsFront, IsBesideFront, IsSegmentFront};
-ghost use Rattle.bz_canonical.specs.private.Values.{IsValueFront};
+ghost use Rattle.bz_canonical.specs.private.Values.{AreNodesFront};
 
-use crate::comments::{AfterComments, after_comments, after_suffix};
-use crate::front::{
-    Word, after, after_element_line, after_identifier, after_line, after_word, read_simple_string,
-};
-use crate::group::closing;
-use crate::value::{Value, after_leaf, after_nodes, either};
+use crate::comments::{after_comments, after_suffix};
+use crate::front::{Word, after, after_element_line, after_identifier, after_line, after_word};
+use crate::group::{after_broken_group, closing};
+use crate::value::{Value, after_first, after_leaf, after_nodes, either};
 use bz_tree::GroupKind;
 
 /// What follows segments on lines.
@@ -48,14 +46,8 @@ pub(crate) fn after_segments(
     let mut holds = false;
     let mut noted = false;
     for count in 0..text.len() {
-        // Most lines are strings in lists.
-        if let Some(after_string) = after_string_line(kind, rest, level) {
-            rest = after_string.rest;
-            noted = either(noted, after_string.some);
-            continue;
-        }
         let above = after_comments(rest, level);
-        let Some(inner) = after_line(above.rest, level) else {
+        let Some(inner) = after_inner_line(above.rest, level) else {
             return Some(AfterLines {
                 rest: above.rest,
                 count,
@@ -75,26 +67,15 @@ pub(crate) fn after_segments(
     None
 }
 
-/// What follows the element here of a list that is the value of an argument, on a line of its own, where it is a string
-/// whose bytes stand for themselves, with its comma and the comment beside it.
+/// What follows a newline and the indent at this level.
 #[inline(always)]
-fn after_string_line(kind: GroupKind, text: &[u8], level: u8) -> Option<AfterComments<'_>>
-    ensures { IfSome result (λ side. (inner comma : List ℕ) × (text.now ≡ 10 ∷ (indent level ++ inner))
-        × ((depth : ℕ) → IsSegmentFront kind level depth inner (44 ∷ comma) false)
-        × IsBesideFront comma side.rest.now side.some) }
+fn after_inner_line(text: &[u8], level: u8) -> Option<&[u8]>
+    ensures { IfSome result (λ rest. text.now ≡ 10 ∷ (indent level ++ rest.now)) }
 {
-    if level != 2 {
-        return None;
-    }
-    match kind {
-        GroupKind::List => {
-            let inner = after_element_line(text)?;
-            let string = read_simple_string(inner)?;
-            let comma = after(string.rest, b',')?;
-            let side = after_suffix(comma)?;
-            Some(side)
-        }
-        _ => None,
+    match level {
+        // Most groups on lines are values of arguments.
+        2 => after_element_line(text),
+        _ => after_line(text, level),
     }
 }
 
@@ -164,23 +145,6 @@ fn after_segment(kind: GroupKind, text: &[u8], level: u8, depth: u8) -> Option<V
             let read = after_nodes(text, level, depth)?;
             Some(read)
         }
-        _ => after_named_segment(kind, text, level, depth),
-    }
-}
-
-/// What follows the entry of a dict here, or the argument of a call.
-#[cycle(values)]
-#[inline(never)]
-pub(crate) fn after_named_segment(
-    kind: GroupKind,
-    text: &[u8],
-    level: u8,
-    depth: u8,
-) -> Option<Value<'_>>
-    requires { level + depth < 255 }
-    ensures { IfSome result (λ read. IsSegmentFront kind level depth text.now read.rest.now read.holds) }
-{
-    match kind {
         GroupKind::Dict => {
             let colon = after_leaf(text)?;
             let value = after_word(colon, Word::Colon)?;
@@ -191,16 +155,55 @@ pub(crate) fn after_named_segment(
             if !is_call(kind) {
                 return None;
             }
-            match after_keyword(text) {
-                Some(value) => {
-                    let read = after_nodes(value, level, depth)?;
+            match text {
+                // Most arguments of `select`.
+                [b'{', b'\n', ..] => {
+                    let read = after_broken_dict(text, level, depth)?;
                     Some(read)
                 }
-                None => {
-                    let read = after_nodes(text, level, depth)?;
-                    Some(read)
-                }
+                _ => after_argument(kind, text, level, depth),
             }
+        }
+    }
+}
+
+/// What follows the value here that begins with a dict on lines.
+#[cycle(values)]
+#[inline(always)]
+fn after_broken_dict(text: &[u8], level: u8, depth: u8) -> Option<Value<'_>>
+    requires { level + depth < 255 }
+    ensures { IfSome result (λ read. AreNodesFront level depth text.now read.rest.now read.holds) }
+{
+    if depth == 0 {
+        return None;
+    }
+    let inside = after(text, b'{')?;
+    let first = after_broken_group(GroupKind::Dict, inside, level, depth - 1)?;
+    let read = after_first(first, level, depth)?;
+    Some(read)
+}
+
+/// What follows the argument of a call here.
+#[cycle(values)]
+#[inline(never)]
+pub(crate) fn after_argument(
+    kind: GroupKind,
+    text: &[u8],
+    level: u8,
+    depth: u8,
+) -> Option<Value<'_>>
+    requires call { is_call kind ≡ true }
+    requires deep { level + depth < 255 }
+    ensures { IfSome result (λ read. IsSegmentFront kind level depth text.now read.rest.now read.holds) }
+{
+    match after_keyword(text) {
+        Some(value) => {
+            let read = after_nodes(value, level, depth)?;
+            Some(read)
+        }
+        None => {
+            let read = after_nodes(text, level, depth)?;
+            Some(read)
         }
     }
 }

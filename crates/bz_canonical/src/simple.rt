@@ -1,6 +1,6 @@
-//! How many bytes of a string stand for themselves: sixteen are looked at at once.
+//! What follows the bytes of a string that stand for themselves: sixteen are looked at at once.
 
-ghost use Rattle.std.specs.Prelude.{◌≡◌, ◌≤◌, length};
+ghost use Rattle.std.specs.Prelude.{◌≡◌, ◌≤◌, drop, length};
 ghost use Rattle.std.specs.List.{prefix_len};
 ghost use Rattle.bz_canonical.specs.private.Fronts.{IsCounted, is_simple};
 
@@ -39,22 +39,23 @@ fn simple_in_block(bytes: &[u8]) -> Option<usize>
 
 #[inline(always)]
 fn few_simple(bytes: &[u8]) -> usize
-    ensures { result ≡ prefix_len is_simple bytes.now }
+    ensures len { result ≡ prefix_len is_simple bytes.now }
+    ensures within { result ≤ length bytes.now }
 {
     bytes.iter().take_while(|b| is_simple(**b)).count()
 }
 
-/// How many bytes here stand for themselves in a string.
+/// What follows the bytes here that stand for themselves in a string.
 #[inline(always)]
-pub(crate) fn simple_len(bytes: &[u8]) -> usize
-    ensures { result ≡ prefix_len is_simple bytes.now }
+pub(crate) fn after_simple(bytes: &[u8]) -> &[u8]
+    ensures { result.now ≡ drop (prefix_len is_simple bytes.now) bytes.now }
 {
-    let mut len = 0;
-    while bytes.len() - len >= BLOCK {
-        match simple_in_block(&bytes[len..]) {
-            Some(passed) => return len + passed,
-            None => len += BLOCK,
+    let mut rest = bytes;
+    while rest.len() >= BLOCK {
+        match simple_in_block(rest) {
+            Some(passed) => return &rest[passed..],
+            None => rest = &rest[BLOCK..],
         }
     }
-    len + few_simple(&bytes[len..])
+    &rest[few_simple(rest)..]
 }

@@ -11,7 +11,7 @@ use crate::chunk::{ArgumentPlace, CanonicalChunk, without};
 use crate::comments::after_suffix;
 use crate::front::{after, after_identifier, before};
 use crate::rule::has_argument_name;
-use crate::segments::after_named_segment;
+use crate::segments::after_argument;
 use bz_memory::{NoMemory, extend_from_slice};
 use bz_token::check_utf8;
 use bz_tree::{Class, GroupKind};
@@ -61,7 +61,7 @@ fn after_only_argument(text: &[u8], depth: u8) -> Option<&[u8]>
     requires { depth < 253 }
     ensures { IfSome result (λ close. IsSegmentFront RuleCall 1 depth text.now close.now false) }
 {
-    let read = after_named_segment(GroupKind::RuleCall, text, 1, depth)?;
+    let read = after_argument(GroupKind::RuleCall, text, 1, depth)?;
     if read.holds {
         return None;
     }

@@ -7,7 +7,7 @@ ghost use Rattle.bz_canonical.specs.private.Fronts.{IsTokenFront};
 ghost use Rattle.bz_canonical.specs.private.Values.{AreNodesFront, IsValueFront};
 
 use crate::front::{
-    after, after_identifier, after_infix, after_number, after_string, read_simple_string,
+    after, after_identifier, after_infix, after_number, after_simple_string, after_string,
 };
 use crate::group::after_group;
 use bz_tree::GroupKind;
@@ -46,27 +46,6 @@ pub(crate) fn after_leaf(text: &[u8]) -> Option<&[u8]>
             Some(rest)
         }
     }
-}
-
-/// The text, where no operator and no member begins it.
-#[inline(always)]
-fn without_operator(rest: &[u8]) -> Option<&[u8]>
-    ensures { IfSome result (λ same. same.now ≡ rest.now) }
-{
-    match rest {
-        [b' ' | b'.', ..] => None,
-        _ => Some(rest),
-    }
-}
-
-/// What follows the string here, where no operator may follow it.
-#[inline(always)]
-fn after_lone_string(text: &[u8]) -> Option<&[u8]>
-    ensures { IfSome result (λ rest. IsTokenFront String text.now rest.now) }
-{
-    let end = after_string(text)?;
-    let rest = without_operator(end)?;
-    Some(rest)
 }
 
 /// What follows the operand or call here. After a name or string there may be members and calls.
@@ -160,39 +139,72 @@ fn after_suffixes(text: &[u8], level: u8, depth: u8) -> Option<Value<'_>>
 }
 
 /// What follows the value here.
-#[tactic(auto, using(crate::proofs::Operands::string_value, crate::proofs::Chained::value_nodes))]
 #[cycle(values)]
 #[inline(always)]
 pub(crate) fn after_nodes(text: &[u8], level: u8, depth: u8) -> Option<Value<'_>>
     requires { level + depth < 255 }
     ensures { IfSome result (λ v. AreNodesFront level depth text.now v.rest.now v.holds) }
 {
-    // Most values are a string alone, or a list of one.
-    match after_lone_string(text) {
-        Some(rest) => Some(Value { rest, holds: false }),
-        None => match after_lone_list(text, depth) {
-            Some(rest) => Some(Value { rest, holds: false }),
-            None => {
-                let read = after_sum(text, level, depth)?;
-                Some(read)
-            }
-        },
+    // Most values begin with a string alone, or a list of one.
+    match after_short(text, depth) {
+        Some(rest) => {
+            let first = Value { rest, holds: false };
+            let read = after_first(first, level, depth)?;
+            Some(read)
+        }
+        None => {
+            let read = after_sum(text, level, depth)?;
+            Some(read)
+        }
     }
 }
 
-/// What follows the list of one string here, in place, where no operator may follow it.
+/// What follows the string here, where no member of it follows, or the list in place of one string or none.
 #[inline(always)]
-fn after_lone_list(text: &[u8], depth: u8) -> Option<&[u8]>
-    ensures { IfSome result (λ rest. (level : ℕ) → AreNodesFront level depth text.now rest.now false) }
+fn after_short(text: &[u8], depth: u8) -> Option<&[u8]>
+    ensures { IfSome result (λ rest. (level : ℕ) → IsTermFront level depth text.now rest.now false) }
+{
+    match text {
+        [b'[', ..] => {
+            let rest = after_short_list(text, depth)?;
+            Some(rest)
+        }
+        _ => {
+            let rest = after_lone_string(text)?;
+            Some(rest)
+        }
+    }
+}
+
+/// What follows the string here, where no member of it follows.
+#[inline(always)]
+fn after_lone_string(text: &[u8]) -> Option<&[u8]>
+    ensures { IfSome result (λ rest. IsTokenFront String text.now rest.now) }
+{
+    let rest = after_string(text)?;
+    match rest {
+        [b'.', ..] => None,
+        _ => Some(rest),
+    }
+}
+
+/// What follows the list here, in place, of one string or of none.
+#[inline(always)]
+fn after_short_list(text: &[u8], depth: u8) -> Option<&[u8]>
+    ensures { IfSome result (λ rest. (level : ℕ) → IsTermFront level depth text.now rest.now false) }
 {
     if depth == 0 {
         return None;
     }
     let inside = after(text, b'[')?;
-    let string = read_simple_string(inside)?;
-    let end = after(string.rest, b']')?;
-    let rest = without_operator(end)?;
-    Some(rest)
+    match after(inside, b']') {
+        Some(rest) => Some(rest),
+        None => {
+            let string = after_simple_string(inside)?;
+            let rest = after(string, b']')?;
+            Some(rest)
+        }
+    }
 }
 
 /// What follows the operands here, with operators between them.
@@ -203,6 +215,18 @@ fn after_sum(text: &[u8], level: u8, depth: u8) -> Option<Value<'_>>
     ensures { IfSome result (λ v. AreNodesFront level depth text.now v.rest.now v.holds) }
 {
     let first = after_term(text, level, depth)?;
+    let read = after_first(first, level, depth)?;
+    Some(read)
+}
+
+/// What follows the operands of which the first ends here.
+#[cycle(values)]
+#[inline(always)]
+pub(crate) fn after_first(first: Value<'_>, level: u8, depth: u8) -> Option<Value<'_>>
+    requires { level + depth < 255 }
+    ensures { IfSome result (λ v. (all : List ℕ) → IsTermFront level depth all first.entry.rest.now first.entry.holds
+        → AreNodesFront level depth all v.rest.now v.holds) }
+{
     match after_infix(first.rest) {
         // Most are one operand.
         None => Some(first),

@@ -1,10 +1,10 @@
-use Rattle.std.proofs.Common.{true, false, ◌+◌, arith, ◌∙◌, ◌||◌, ◌++◌, refl, sym, subst, ap}
+use Rattle.std.proofs.Common.{true, false, ℕ, List, ◌≡◌, ◌+◌, ◌-◌, arith, ◌∙◌, ◌||◌, ◌∷◌, ◌++◌, refl, sym, subst, ap}
+use Rattle.bz_tree.specs.declared.tree.GroupKind.TheVariants.{Dict}
 use Rattle.std.specs.Prelude.{codes}
 use Rattle.bz_canonical.specs.private.Values.{AreNodesFront}
-use Rattle.bz_canonical.specs.private.Segments.{Continues, ContinuesFlat, IsSegmentFront}
+use Rattle.bz_canonical.specs.private.Segments.{Continues, ContinuesFlat, IsGroupFront, IsSegmentFront}
 use Rattle.bz_canonical.proofs.GroupSegments.{begin, more, finish, begin_flat, more_flat, finish_flat, none_flat, element_segment, positional_segment, keyword_segment, entry_segment, first_of_more, second_of_more, four_or}
 use Rattle.bz_canonical.proofs.Operands.{list_value, dict_value, number_value, broken_group, flat_group}
-use Rattle.bz_canonical.proofs.StringLists.{plain_more}
 use Rattle.bz_canonical.specs.private.Chains.{Chains, IsPrimaryFront}
 use Rattle.bz_canonical.proofs.Chained.{begin_chain, call_primary, finish_chain, member_primary, more_chain, value_term}
 use Rattle.bz_canonical.proofs.+values.Goals as goal
@@ -12,16 +12,19 @@ use Rattle.bz_canonical.proofs.+values.Goals as goal
 pub segments::after_segments-loop-count-init : goal.segments::after_segments-loop-count-init
 segments::after_segments-loop-count-init m c = begin c.args.kind c.args.level c.args.depth c.args.text.now
 
-pub value::after_sum-returns-in-None : goal.value::after_sum-returns-in-None
-value::after_sum-returns-in-None m c =
-    let first = c.in_ok-first.first in
-    finish_chain c.args.level c.args.depth c.args.text.now first.rest.now first.holds (begin_chain c.args.level c.args.depth c.args.text.now first.rest.now first.holds c.in_ok-first.ensures)
+pub value::after_first-returns-in-None : goal.value::after_first-returns-in-None
+value::after_first-returns-in-None m c = λ all t.
+    let first = c.args.first in
+    finish_chain c.args.level c.args.depth all first.rest.now first.holds (begin_chain c.args.level c.args.depth all first.rest.now first.holds t)
 
-pub value::after_sum-returns-in_ok-read-in-Some : goal.value::after_sum-returns-in_ok-read-in-Some
-value::after_sum-returns-in_ok-read-in-Some m c =
-    let first = c.in_ok-first.first in
-    c.in_ok-read-in-Some.ensures c.args.text.now (λ rest k t. more_chain c.args.level c.args.depth c.args.text.now first.rest.now c.in-Some.operand.now rest first.holds k
-    (begin_chain c.args.level c.args.depth c.args.text.now first.rest.now first.holds c.in_ok-first.ensures) c.in-Some.ensures t)
+pub value::after_first-returns-in_ok-read-in-Some : goal.value::after_first-returns-in_ok-read-in-Some
+value::after_first-returns-in_ok-read-in-Some m c = λ all t.
+    let first = c.args.first in
+    c.in_ok-read-in-Some.ensures all (λ rest k last. more_chain c.args.level c.args.depth all first.rest.now c.in-Some.operand.now rest first.holds k
+    (begin_chain c.args.level c.args.depth all first.rest.now first.holds t) c.in-Some.ensures last)
+
+pub value::after_nodes-returns-in_ok-read-in-Some : goal.value::after_nodes-returns-in_ok-read-in-Some
+value::after_nodes-returns-in_ok-read-in-Some m c = c.in_ok-read-in-Some.ensures c.args.text.now (c.in-Some.ensures c.args.level)
 
 pub value::after_operands-loop-init : goal.value::after_operands-loop-init
 value::after_operands-loop-init m c = λ all so. so
@@ -38,25 +41,17 @@ value::after_operands-loop-preserved m c = λ all so rest k t.
     (more_chain c.args.level c.args.depth all c.in_ok-read.read.rest.now c.in-Some.operand.now rest holds k
     (c.loop.invariant all so c.in_ok-read.read.rest.now c.in_ok-read.read.holds c.in_ok-read.ensures) c.in-Some.ensures t)
 
-pub segments::after_segments-loop-count-preserved-in-Some : goal.segments::after_segments-loop-count-preserved-in-Some
-segments::after_segments-loop-count-preserved-in-Some m c =
-    let l = c.loop-count in
-    let side = c.in-Some.after_string in
-    let read = c.in-Some.ensures in
-    subst (λ b. Continues c.args.kind c.args.level c.args.depth c.args.text.now side.rest.now (l.count + 1) l.holds b) (sym c.either-noted.ensures)
-    (plain_more c.args.kind c.args.level c.args.depth c.args.text.now l.rest.now read.0 read.1 side.rest.now l.count l.holds l.noted side.some l.invariant read.2 (read.3 c.args.depth) read.4)
-
 pub segments::after_segments-loop-count-preserved : goal.segments::after_segments-loop-count-preserved
 segments::after_segments-loop-count-preserved m c =
     let l = c.loop-count in
-    let on = more c.args.kind c.args.level c.args.depth c.args.text.now l.rest.now c.after_comments-above.result.rest.now c.in-Some-after_line.inner.now c.in_ok-read.read.rest.now c.in_ok-comma.comma.now c.in_ok-side.side.rest.now
-    l.count l.holds c.in_ok-read.read.holds l.noted c.after_comments-above.result.some c.in_ok-side.side.some l.invariant c.after_comments-above.ensures c.in-Some-after_line.ensures c.in_ok-read.ensures c.in_ok-comma.ensures c.in_ok-side.ensures in
-    subst (λ b. Continues c.args.kind c.args.level c.args.depth c.args.text.now c.in_ok-side.side.rest.now (l.count + 1) b c.either-noted-in-loop-count.result) (sym c.either-holds.ensures)
+    let on = more c.args.kind c.args.level c.args.depth c.args.text.now l.rest.now c.after_comments-above.result.rest.now c.in-Some.inner.now c.in_ok-read.read.rest.now c.in_ok-comma.comma.now c.in_ok-side.side.rest.now
+    l.count l.holds c.in_ok-read.read.holds l.noted c.after_comments-above.result.some c.in_ok-side.side.some l.invariant c.after_comments-above.ensures c.in-Some.ensures c.in_ok-read.ensures c.in_ok-comma.ensures c.in_ok-side.ensures in
+    subst (λ b. Continues c.args.kind c.args.level c.args.depth c.args.text.now c.in_ok-side.side.rest.now (l.count + 1) b c.either-noted.result) (sym c.either-holds.ensures)
     (subst (λ b. Continues c.args.kind c.args.level c.args.depth c.args.text.now c.in_ok-side.side.rest.now (l.count + 1) (l.holds || c.in_ok-read.read.holds) b)
-    (sym (c.either-noted-in-loop-count.ensures ∙ ap (λ b. l.noted || b) c.either-about.ensures)) on)
+    (sym (c.either-noted.ensures ∙ ap (λ b. l.noted || b) c.either-about.ensures)) on)
 
-pub segments::after_segments-returns-in_default-after_line : goal.segments::after_segments-returns-in_default-after_line
-segments::after_segments-returns-in_default-after_line m c =
+pub segments::after_segments-returns-in_default : goal.segments::after_segments-returns-in_default
+segments::after_segments-returns-in_default m c =
     let l = c.loop-count in
     (l.rest.now, finish c.args.kind c.args.level c.args.depth c.args.text.now l.rest.now l.count l.holds l.noted l.invariant, c.after_comments-above.ensures)
 
@@ -99,21 +94,36 @@ segments::after_segment-returns-in_ok-read-in-List m c =
     subst (λ k. IsSegmentFront k c.args.level c.args.depth c.args.text.now c.in_ok-read-in-List.read.rest.now c.in_ok-read-in-List.read.holds) (sym c.in-List.is)
     (element_segment c.args.level c.args.depth c.args.text.now c.in_ok-read-in-List.read.rest.now c.in_ok-read-in-List.read.holds c.in_ok-read-in-List.ensures)
 
-pub segments::after_named_segment-returns-in_ok-read-in-Dict : goal.segments::after_named_segment-returns-in_ok-read-in-Dict
-segments::after_named_segment-returns-in_ok-read-in-Dict m c =
+pub segments::after_segment-returns-in_ok-read-in-Dict : goal.segments::after_segment-returns-in_ok-read-in-Dict
+segments::after_segment-returns-in_ok-read-in-Dict m c =
     subst (λ k. IsSegmentFront k c.args.level c.args.depth c.args.text.now c.in_ok-read-in-Dict.read.rest.now c.in_ok-read-in-Dict.read.holds) (sym c.in-Dict.is)
     (entry_segment c.args.level c.args.depth c.args.text.now c.in_ok-colon-in-Dict.colon.now c.in_ok-read-in-Dict.read.rest.now c.in_ok-value-in-Dict.value.now c.in_ok-read-in-Dict.read.holds
     (c.in_ok-colon-in-Dict.ensures c.args.level c.args.depth) c.in_ok-value-in-Dict.ensures c.in_ok-read-in-Dict.ensures)
 
-pub segments::after_named_segment-returns-in_ok-read-in-Some : goal.segments::after_named_segment-returns-in_ok-read-in-Some
-segments::after_named_segment-returns-in_ok-read-in-Some m c =
-    keyword_segment c.args.kind c.args.level c.args.depth c.args.text.now (codes " = " ++ c.in-Some.value.now) c.in_ok-read-in-Some.read.rest.now c.in-Some.value.now c.in_ok-read-in-Some.read.holds
-    (sym c.is_call.ensures ∙ c.if-not-is_call.false) c.in-Some.ensures refl c.in_ok-read-in-Some.ensures
+pub segments::after_segment-returns-in_ok-read-in-123 : goal.segments::after_segment-returns-in_ok-read-in-123
+segments::after_segment-returns-in_ok-read-in-123 m c =
+    positional_segment c.args.kind c.args.level c.args.depth c.args.text.now c.in_ok-read-in-123.read.rest.now c.in_ok-read-in-123.read.holds
+    (sym c.is_call.ensures ∙ c.if-not-is_call.false) c.in_ok-read-in-123.ensures
 
-pub segments::after_named_segment-returns-in_ok-read-in-None : goal.segments::after_named_segment-returns-in_ok-read-in-None
-segments::after_named_segment-returns-in_ok-read-in-None m c =
+pub segments::after_broken_dict-returns : goal.segments::after_broken_dict-returns
+segments::after_broken_dict-returns m c =
+    let text : List ℕ = c.args.text.now in
+    let first = c.in_ok-first.first in
+    let deeper : c.args.depth - 1 + 1 ≡ c.args.depth = omega (arith, c.if-depth-eq0.false) in
+    let group : IsGroupFront Dict c.args.level c.args.depth text first.rest.now first.holds =
+    subst (λ (t : List ℕ). IsGroupFront Dict c.args.level c.args.depth t first.rest.now first.holds) (sym c.in_ok-inside.ensures)
+    (subst (λ d. IsGroupFront Dict c.args.level d (123 ∷ c.in_ok-inside.inside.now) first.rest.now first.holds) deeper c.in_ok-first.ensures) in
+    c.in_ok-read.ensures text (value_term c.args.level c.args.depth text first.rest.now first.holds (dict_value c.args.level c.args.depth text first.rest.now first.holds group))
+
+pub segments::after_argument-returns-in_ok-read-in-Some : goal.segments::after_argument-returns-in_ok-read-in-Some
+segments::after_argument-returns-in_ok-read-in-Some m c =
+    keyword_segment c.args.kind c.args.level c.args.depth c.args.text.now (codes " = " ++ c.in-Some.value.now) c.in_ok-read-in-Some.read.rest.now c.in-Some.value.now c.in_ok-read-in-Some.read.holds
+    c.requires.call c.in-Some.ensures refl c.in_ok-read-in-Some.ensures
+
+pub segments::after_argument-returns-in_ok-read-in-None : goal.segments::after_argument-returns-in_ok-read-in-None
+segments::after_argument-returns-in_ok-read-in-None m c =
     positional_segment c.args.kind c.args.level c.args.depth c.args.text.now c.in_ok-read-in-None.read.rest.now c.in_ok-read-in-None.read.holds
-    (sym c.is_call.ensures ∙ c.if-not-is_call.false) c.in_ok-read-in-None.ensures
+    c.requires.call c.in_ok-read-in-None.ensures
 
 pub value::after_term-returns-in_ok-read-in-91 : goal.value::after_term-returns-in_ok-read-in-91
 value::after_term-returns-in_ok-read-in-91 m c =

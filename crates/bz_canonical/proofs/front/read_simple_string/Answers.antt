@@ -1,14 +1,15 @@
-use Rattle.std.proofs.Common.{arith, sym, subst}
-use Rattle.std.proofs.lemmas.List.Sums.{prefix_len-le-length}
-use Rattle.bz_canonical.specs.private.Fronts.{IsQuotedFront, is_simple}
-use Rattle.bz_canonical.proofs.Strings.{quoted_front}
+use Rattle.std.proofs.Common.{◌≡◌, ◌∙◌, ◌∷◌, ◌++◌, [], ℕ, List, subst, sym}
+use Rattle.bz_canonical.specs.private.Fronts.{IsQuotedFront}
+use Rattle.bz_canonical.proofs.Taken.{taken}
 use Rattle.bz_canonical.proofs.front.read_simple_string.Goals as goal
-
-pub read_closed_string-requires : goal.read_closed_string-requires
-read_closed_string-requires c = omega (arith, c.simple_len.ensures, prefix_len-le-length is_simple c.in_ok-inside.inside.now)
 
 pub returns : goal.returns
 returns c =
-    let told = c.in_ok-string.ensures in
-    subst (λ xs. IsQuotedFront c.args.text.now xs c.in_ok-string.string.rest.now) (sym told.0)
-    (quoted_front c.args.text.now c.in_ok-inside.inside.now c.in_ok-string.string.rest.now c.simple_len.result c.in_ok-inside.ensures c.simple_len.ensures told.1)
+    let q = c.in_ok-rest.ensures in
+    let rest : List ℕ = c.in_ok-rest.rest.now in
+    let inside : List ℕ = c.in_ok-inside.inside.now in
+    let closed : List ℕ = c.in_ok-closed.closed.now in
+    let is : inside ≡ (q.0 ++ 34 ∷ []) ++ rest = cc (c.in_ok-inside.ensures, q.1.front) in
+    let body : closed ≡ q.0 ++ 34 ∷ [] = c.in_ok-closed.ensures ∙ taken inside (q.0 ++ 34 ∷ []) rest is in
+    let same : c.in_ok-inner.inner.now ≡ q.0 = c.in_ok-inner.ensures ∙ taken closed q.0 (34 ∷ []) body in
+    subst (λ (xs : List ℕ). IsQuotedFront c.args.text.now xs rest) (sym same) q.1

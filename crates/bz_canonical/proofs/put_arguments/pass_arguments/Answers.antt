@@ -13,7 +13,7 @@ returns c = λ attr text begun p.
     let start = c.args.from in
     let others = c.in-Some.others in
     let last = c.in-Some-after_last_segments.last in
-    let buffer = c.put_others.new.written.items in
+    let buffer = c.pass_others.new.written.items in
     let passed = subst (λ (o : Option PutOthers). IfSome o (λ read. Puts c.args.written.now.items (pending start) buffer (pending read.at)
     (λ begun w. AreOthersRead depth c.as_slice.result.now start.rest.now read.at.rest.now w read.one))) c.in-Some.is c.in_ok-others.ensures.passed in
     let one = passed text begun p in
