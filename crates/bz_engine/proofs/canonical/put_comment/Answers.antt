@@ -1,5 +1,5 @@
-use Rattle.std.proofs.Common.{ℕ, List, [], true, refl, ◌∙◌, sym, ap, subst}
-use Rattle.std.specs.Prelude.{Option, None, Some, IfSome, option_map}
+use Rattle.std.proofs.Common.{ℕ, List, [], true, ◌∙◌, sym, ap, subst}
+use Rattle.std.specs.Prelude.{Option, Some, IfSome, option_map}
 use Rattle.bz_attribute.specs.Effects.{with_args}
 use Rattle.bz_canonical.specs.Canonical.{HasPlace, between}
 use Rattle.bz_canonical.specs.declared.chunk.ArgumentPlace.{ArgumentPlace}
