@@ -78,7 +78,7 @@ add_is home attr value word notes es suffix named none =
     ∙ ap (λ ss. record { before = notes; nodes = leaf Identifier word ∷ leaf Operator (codes "=") ∷ group ListKind ss false [] ∷ []; suffix = suffix } ∷ []) (with_new value es)
     )
 
-first_is : (attr word : List ℕ) (notes : List (List ℕ)) (es : List Element) (suffix : Option (List ℕ)) → bytes_eq attr word ≡ true → first_named attr (list_arg notes word es suffix ∷ []) ≡ Some (list_arg notes word es suffix)
+pub first_is : (attr word : List ℕ) (notes : List (List ℕ)) (es : List Element) (suffix : Option (List ℕ)) → bytes_eq attr word ≡ true → first_named attr (list_arg notes word es suffix ∷ []) ≡ Some (list_arg notes word es suffix)
 first_is attr word notes es suffix named = rw named refl
 
 -- its lines

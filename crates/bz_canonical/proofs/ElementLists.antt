@@ -82,12 +82,12 @@ pub elements_append : (xs ys : List Element) → AreElements xs → AreElements 
 elements_append [] ys are more = more
 elements_append (x ∷ xs) ys are more = (are.0, are.1, are.2, elements_append xs ys are.3 more)
 
-pub flat_append : {A : Type 0} (f : A → List ℕ) (xs ys : List A) → flat_map f (xs ++ ys) ≡ flat_map f xs ++ flat_map f ys
+pub flat_append : {A B : Type 0} (f : A → List B) (xs ys : List A) → flat_map f (xs ++ ys) ≡ flat_map f xs ++ flat_map f ys
 flat_append f [] ys = refl
-flat_append f (x ∷ xs) ys = ap (λ (t : List ℕ). f x ++ t) (flat_append f xs ys) ∙ sym (append_assoc (f x) (flat_map f xs) (flat_map f ys))
+flat_append f (x ∷ xs) ys = ap (λ t. f x ++ t) (flat_append f xs ys) ∙ sym (append_assoc (f x) (flat_map f xs) (flat_map f ys))
 
-pub flat_one : {A : Type 0} (f : A → List ℕ) (xs : List A) (y : A) → flat_map f (xs ++ y ∷ []) ≡ flat_map f xs ++ f y
-flat_one f xs y = flat_append f xs (y ∷ []) ∙ ap (λ (t : List ℕ). flat_map f xs ++ t) (append-nil (f y))
+pub flat_one : {A B : Type 0} (f : A → List B) (xs : List A) (y : A) → flat_map f (xs ++ y ∷ []) ≡ flat_map f xs ++ f y
+flat_one f xs y = flat_append f xs (y ∷ []) ∙ ap (λ t. flat_map f xs ++ t) (append-nil (f y))
 
 pub longer : {A : Type 0} (xs : List A) (y : A) → length (xs ++ y ∷ []) ≡ length xs + 1
 longer [] y = refl
@@ -253,13 +253,16 @@ element_read text below inner comma d e read above line front_is s is side back_
     let begins : text ≡ (C ++ (10 ∷ indent 2)) ++ inner = above.front ∙ ap (λ (t : List ℕ). C ++ t) line ∙ sym (append_assoc C (10 ∷ indent 2) inner) in
     let ends : read.string.rest.now ≡ (44 ∷ S) ++ next = is ∙ ap (λ (t : List ℕ). 44 ∷ t) side.front in
     let stands : text ≡ (C ++ (10 ∷ (indent 2 ++ (T ++ (44 ∷ S))))) ++ next = begins ∙ ap (λ (t : List ℕ). (C ++ (10 ∷ indent 2)) ++ t) (s.front ∙ ap (λ (t : List ℕ). T ++ t) ends) ∙ whole C S T next in
-    let puts : element_written read ≡ C ++ (10 ∷ (indent 2 ++ (spelling read.string ++ (44 ∷ S)))) =
-    (λ i. (front_is ∙ taken text (C ++ (10 ∷ indent 2)) inner begins) i ++ (spelling read.string ++ (back_is ∙ taken read.string.rest.now (44 ∷ S) next ends) i)) ∙ append_assoc C (10 ∷ indent 2) (spelling read.string ++ (44 ∷ S)) in
+    let before : read.front.now ≡ C ++ (10 ∷ indent 2) = front_is ∙ taken text (C ++ (10 ∷ indent 2)) inner begins in
+    let after : read.back.now ≡ 44 ∷ S = back_is ∙ taken read.string.rest.now (44 ∷ S) next ends in
+    let puts : element_written read ≡ C ++ (10 ∷ (indent 2 ++ (spelling read.string ++ (44 ∷ S)))) = (λ i. before i ++ (spelling read.string ++ after i)) ∙ append_assoc C (10 ∷ indent 2) (spelling read.string ++ (44 ∷ S)) in
     record {
       element = record { before = above.notes; token = T; suffix = side.note };
       are = (above.are, s.is, side.is, tt);
       token_is = refl;
       string_is = s.spells;
+      front_is = before;
+      back_is = after;
       front = stands;
       spells = puts ∙ ap (λ (t : List ℕ). C ++ (10 ∷ (indent 2 ++ (t ++ (44 ∷ S))))) s.spells;
       noted_is = (λ i. above.some_is i || side.some_is i) ∙ sym noted_is;
@@ -279,6 +282,8 @@ place_read one text inner read is s rest_is front_is back_is noted_is otherwise_
       are = (refl, s.is, refl, tt);
       token_is = refl;
       string_is = s.spells;
+      front_is = front_is;
+      back_is = back_is;
       front = is ∙ ap (λ (t : List ℕ). between one ++ t) (s.front ∙ ap (λ (t : List ℕ). T ++ t) (sym rest_is)) ∙ sym (append_assoc (between one) T read.rest.now);
       spells = λ i. front_is i ++ (s.spells i ++ back_is i);
       noted_is = sym noted_is;

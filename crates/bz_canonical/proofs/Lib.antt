@@ -20,8 +20,10 @@ pub mod AddedElements
 pub mod PutArguments
 pub mod PutRules
 pub mod AddedLines
-pub mod KeptElements
+pub mod EditedElements
+pub mod EditedLines
 pub mod RemovedLines
+pub mod ReplacedLines
 pub mod CommentedLines
 pub mod UnnamedRules
 pub mod SimpleBlocks

@@ -9,8 +9,8 @@ use Rattle.bz_command.specs.declared.arguments.Moved.TheVariants.{Values}
 use Rattle.bz_attribute.specs.Effects.{chooses, not_a_list}
 use Rattle.bz_attribute.specs.Rules.{first_named}
 use Rattle.bz_canonical.specs.Canonical.{AreReadAlone, argument_lines}
-use Rattle.bz_canonical.specs.declared.added.Added.{Added}
-use Rattle.bz_canonical.specs.declared.added.Added.TheVariants.{Present, New}
+use Rattle.bz_canonical.specs.declared.edited.EditedList.{EditedList}
+use Rattle.bz_canonical.specs.declared.edited.EditedList.TheVariants.{Unchanged, Written}
 
 -- the first argument of the name has a list, and an element of it equals the value
 pub record IsPresent (home : Package) (attr value : List ℕ) (args : List Segment) : Type 0 where
@@ -25,9 +25,9 @@ pub record IsNew (home : Package) (attr value : List ℕ) (args : List Segment) 
   pub lines_are : lines ≡ argument_lines (add home attr (value ∷ []) args)
 
 -- of the arguments that are read of these lines alone; what is written stands after what was in the buffer
-abbrev pub AddsToLines : ℕ → Package → List ℕ → List ℕ → List ℕ → List ℕ → List ℕ → Added → Type 0
-AddsToLines depth home attr value lines old new Present = (args : List Segment) → AreReadAlone depth lines args → IsPresent home attr value args
-AddsToLines depth home attr value lines old new New = (written : List ℕ) × (new ≡ old ++ written) × ((args : List Segment) → AreReadAlone depth lines args → IsNew home attr value args written)
+abbrev pub AddsToLines : ℕ → Package → List ℕ → List ℕ → List ℕ → List ℕ → List ℕ → EditedList → Type 0
+AddsToLines depth home attr value lines old new Unchanged = (args : List Segment) → AreReadAlone depth lines args → IsPresent home attr value args
+AddsToLines depth home attr value lines old new Written = (written : List ℕ) × (new ≡ old ++ written) × ((args : List Segment) → AreReadAlone depth lines args → IsNew home attr value args written)
 
 -- Of the arguments that are read of these lines alone, no list of the first of the name has an element that equals the value.
 abbrev pub LacksInLines : ℕ → Package → List ℕ → List ℕ → List ℕ → Type 0

@@ -2,4 +2,5 @@ pub mod Canonical
 pub mod Added
 pub mod Commented
 pub mod Removed
+pub mod Replaced
 pub mod private

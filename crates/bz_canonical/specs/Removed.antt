@@ -7,8 +7,8 @@ use Rattle.bz_command.specs.Labels.{Package}
 use Rattle.bz_command.specs.declared.arguments.Attributes.TheVariants.{Named}
 use Rattle.bz_list_commands.specs.Remove.{remove, removes}
 use Rattle.bz_canonical.specs.Canonical.{AreReadAlone, argument_lines}
-use Rattle.bz_canonical.specs.declared.removed.Removed.{Removed}
-use Rattle.bz_canonical.specs.declared.removed.Removed.TheVariants.{Absent, Gone}
+use Rattle.bz_canonical.specs.declared.edited.EditedList.{EditedList}
+use Rattle.bz_canonical.specs.declared.edited.EditedList.TheVariants.{Unchanged, Written}
 
 -- an element equals the value: the arguments, without those that do, have these lines
 pub record IsRemoved (home : Package) (attr value : List ℕ) (args : List Segment) (lines : List ℕ) : Type 0 where
@@ -17,6 +17,6 @@ pub record IsRemoved (home : Package) (attr value : List ℕ) (args : List Segme
   pub lines_are : lines ≡ argument_lines (remove home (Named attr) (value ∷ []) args)
 
 -- of the arguments that are read of these lines alone; what is written stands after what was in the buffer
-abbrev pub RemovesFromLines : ℕ → Package → List ℕ → List ℕ → List ℕ → List ℕ → List ℕ → Removed → Type 0
-RemovesFromLines depth home attr value lines old new Absent = (args : List Segment) → AreReadAlone depth lines args → removes home (Named attr) (value ∷ []) args ≡ false
-RemovesFromLines depth home attr value lines old new Gone = (written : List ℕ) × (new ≡ old ++ written) × ((args : List Segment) → AreReadAlone depth lines args → IsRemoved home attr value args written)
+abbrev pub RemovesFromLines : ℕ → Package → List ℕ → List ℕ → List ℕ → List ℕ → List ℕ → EditedList → Type 0
+RemovesFromLines depth home attr value lines old new Unchanged = (args : List Segment) → AreReadAlone depth lines args → removes home (Named attr) (value ∷ []) args ≡ false
+RemovesFromLines depth home attr value lines old new Written = (written : List ℕ) × (new ≡ old ++ written) × ((args : List Segment) → AreReadAlone depth lines args → IsRemoved home attr value args written)

@@ -6,5 +6,5 @@ pub mod Chains
 pub mod Statements
 pub mod Rewritten
 pub mod Added
-pub mod Removed
+pub mod Edited
 pub mod Unnamed

@@ -6,6 +6,7 @@ ghost use Rattle.bz_canonical.specs.Added.{AddsToLines, LacksInLines};
 ghost use Rattle.bz_canonical.specs.private.Added.{IsListFound, IsListTold, AreElementsFound, is_word, last_line};
 ghost use Rattle.bz_canonical.specs.private.Rewritten.{IsHeadRead};
 
+use crate::edited::EditedList;
 use crate::front::{after, before};
 use crate::lists::{after_elements, is_last, is_on_lines, put_elements, read_element};
 use crate::put_arguments::read_argument_head;
@@ -24,28 +25,20 @@ pub struct ListValue<'c> {
     pub value: &'c str,
 }
 
-/// What `add` makes of an argument.
-#[derive(Clone, Copy)]
-pub enum Added {
-    /// An element equals the value: the argument stays.
-    Present,
-    /// The value is an element more: the lines are written.
-    New,
-}
-
 // The argument is in two brackets, its own and the rule's.
 pub(crate) const BRACKETS: u8 = 2;
 
 /// What `add` makes of the argument that has these lines, where its value is one list of strings (`execute_on_list` of
-/// bz_engine asks). `New`: the lines that it has then are in the buffer, after its bytes. None: it may be no such list.
-/// Without `New` nothing is said of the buffer's bytes. Err: memory is wanting.
+/// bz_engine asks). `Unchanged`: an element equals the value. `Written`: the value is an element more, and the lines are
+/// in the buffer, after its bytes. None: it may be no such list. Without `Written` nothing is said of the buffer's
+/// bytes. Err: memory is wanting.
 pub fn put_added(
     env: Env<'_>,
     lines: &str,
     new: ListValue<'_>,
     max_depth: u8,
     written: &mut Vec<u8>,
-) -> Result<Option<Added>, NoMemory>
+) -> Result<Option<EditedList>, NoMemory>
     ensures { IfOk result (λ known. IfSome known (AddsToLines max_depth env.entry.home.now new.entry.attr.now
         new.entry.value.now lines.now written.old.items written.new.items)) }
 {
@@ -53,14 +46,14 @@ pub fn put_added(
         return Ok(None);
     };
     if list.equal {
-        return Ok(Some(Added::Present));
+        return Ok(Some(EditedList::Unchanged));
     }
     let Some(put) = put_list(lines, list, written)? else {
         return Ok(None);
     };
     put_last(env.alloc, new.value, put.one, written)?;
     extend_from_slice(written, put.rest)?;
-    Ok(Some(Added::New))
+    Ok(Some(EditedList::Written))
 }
 
 /// The value of the argument that has these lines is one list of strings, none of which equals the value

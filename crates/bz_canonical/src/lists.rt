@@ -173,6 +173,21 @@ pub(crate) fn put_element(read: ReadElement<'_>, written: &mut Vec<u8>) -> Resul
     extend_from_slice(written, read.back)
 }
 
+/// Writes a string in the place of an element's, on lines of its own, with the comments of the element.
+#[inline(always)]
+pub(crate) fn put_element_as(
+    read: ReadElement<'_>,
+    literal: &[u8],
+    written: &mut Vec<u8>,
+) -> Result<(), NoMemory>
+    ensures { OnOk result (written.new.items ≡ written.old.items
+        ++ (read.entry.front.now ++ (literal.now ++ read.entry.back.now))) }
+{
+    extend_from_slice(written, read.front)?;
+    extend_from_slice(written, literal)?;
+    extend_from_slice(written, read.back)
+}
+
 /// The element here, on lines or in place. `one`: there are others before it.
 #[inline(always)]
 pub(crate) fn read_element(text: &[u8], lines: bool, one: bool) -> Option<ReadElement<'_>>

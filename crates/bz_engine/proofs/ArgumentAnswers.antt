@@ -30,11 +30,8 @@ use Rattle.bz_attribute_commands.specs.Argument.{new_argument}
 use Rattle.bz_attribute_commands.specs.Comment.{comment_line}
 use Rattle.bz_canonical.specs.Commented.{TakesComment, commented}
 use Rattle.bz_canonical.specs.Added.{AddsToLines, LacksInLines}
-use Rattle.bz_canonical.specs.declared.added.Added.{Added}
-use Rattle.bz_canonical.specs.declared.added.Added.TheVariants.{Present, New}
 use Rattle.bz_canonical.specs.Removed.{RemovesFromLines}
-use Rattle.bz_canonical.specs.declared.removed.Removed.{Removed}
-use Rattle.bz_canonical.specs.declared.removed.Removed.TheVariants.{Absent, Gone}
+use Rattle.bz_canonical.specs.Replaced.{ReplacesInLines}
 use Rattle.bz_canonical.specs.Canonical.{AreReadAlone, Between, HasPlace, argument_lines, first_args, rule_args, small_text}
 use Rattle.bz_canonical.proofs.SmallRules.{small_after, small_told}
 use Rattle.bz_rule.specs.declared.command.Action.TheVariants.{Add, Comment, Remove, Replace, Set, SetIfAbsent}
@@ -43,9 +40,9 @@ use Rattle.bz_rule.specs.OneAttribute.{one_attribute}
 use Rattle.bz_rule.proofs.Commands.{local}
 use Rattle.bz_engine.specs.declared.argument.EditedArgument.{EditedArgument}
 use Rattle.bz_engine.specs.declared.argument.EditedArgument.TheVariants.{Unchanged, Lines}
-use Rattle.bz_engine.specs.declared.argument.EditedList.{EditedList}
-use Rattle.bz_engine.specs.declared.argument.EditedList.TheVariants.{Unchanged as Unlisted, Written as Listed}
-use Rattle.bz_engine.specs.private.ArgumentEdits.{AddsArgument, AreLinesAfter, ChangesArgs, EditsLines, EditsList, EditsPlace, EditsSmallRule, Setting, list_argument, list_edit, removed_edit, set_by}
+use Rattle.bz_canonical.specs.declared.edited.EditedList.{EditedList}
+use Rattle.bz_canonical.specs.declared.edited.EditedList.TheVariants.{Unchanged as Unlisted, Written as Listed}
+use Rattle.bz_engine.specs.private.ArgumentEdits.{AddsArgument, AreLinesAfter, ChangesArgs, EditsLines, EditsList, EditsPlace, EditsSmallRule, Setting, list_argument, set_by}
 use Rattle.bz_engine.specs.private.Found.{Makes, told_line}
 use Rattle.bz_engine.proofs.TextAnswers.{no_args, none_has, stays_by}
 use Rattle.bz_token.specs.Common.{is_empty, map_or}
@@ -71,9 +68,9 @@ pub adds_list : (attr value lines : List ℕ) → lines ≡ argument_lines (list
 adds_list attr value lines lines_are = λ home. record { told = refl; some = refl; lines_are = lines_are }
 
 -- what is added to a list
-listed : (depth : ℕ) (home : Package) (attr value lines old new : List ℕ) (added : Added) → AddsToLines depth home attr value lines old new added → EditsList depth (Add attr (value ∷ [])) home lines old new (list_edit added)
-listed depth home attr value lines old new Present adds = λ args reads. let is = adds args reads in λ i. done (is.list i) (is.present i)
-listed depth home attr value lines old new New adds = (
+adds_listed : (depth : ℕ) (home : Package) (attr value lines old new : List ℕ) (edited : EditedList) → AddsToLines depth home attr value lines old new edited → EditsList depth (Add attr (value ∷ [])) home lines old new edited
+adds_listed depth home attr value lines old new Unlisted adds = λ args reads. let is = adds args reads in λ i. done (is.list i) (is.present i)
+adds_listed depth home attr value lines old new Listed adds = (
   adds.0,
   adds.1,
   λ args reads.
@@ -81,14 +78,11 @@ listed depth home attr value lines old new New adds = (
       record { told = λ i. done (is.list i) (is.new i); some = is.some; lines_are = is.lines_are },
 )
 
-adds_listed : (depth : ℕ) (command : Command) (home : Package) (attr value lines old new : List ℕ) → command ≡ Add attr (value ∷ []) → (told : Option Added) → IfSome told (AddsToLines depth home attr value lines old new)
-    → IfSome (option_map list_edit told) (EditsList depth command home lines old new)
-adds_listed depth command home attr value lines old new is None known = tt
-adds_listed depth command home attr value lines old new is (Some added) known = subst (λ c. EditsList depth c home lines old new (list_edit added)) (sym is) (listed depth home attr value lines old new added known)
-
-pub adds_to_list : (depth : ℕ) (command : Command) (home : Package) (attr value lines old new : List ℕ) → command ≡ Add attr (value ∷ []) → (told : Option Added) → IfSome told (AddsToLines depth home attr value lines old new)
-    → (edited : Option EditedList) → option_map list_edit told ≡ edited → IfSome edited (EditsList depth command home lines old new)
-adds_to_list depth command home attr value lines old new is told known edited edits = subst (λ o. IfSome o (EditsList depth command home lines old new)) edits (adds_listed depth command home attr value lines old new is told known)
+pub adds_to_list : {E : Type 0} (depth : ℕ) (command : Command) (home : Package) (attr value lines old new : List ℕ) → command ≡ Add attr (value ∷ []) → (r : Result (Option EditedList) E)
+    → IfOk r (λ known. IfSome known (AddsToLines depth home attr value lines old new)) → IfOk r (λ known. IfSome known (EditsList depth command home lines old new))
+adds_to_list depth command home attr value lines old new is (Ok None) known = tt
+adds_to_list depth command home attr value lines old new is (Ok (Some edited)) known = subst (λ c. EditsList depth c home lines old new edited) (sym is) (adds_listed depth home attr value lines old new edited known)
+adds_to_list depth command home attr value lines old new is (Err e) known = known
 
 -- a list that lacks a value
 or_none : (a b : Bool) → (a || b) ≡ false → (a ≡ false) × (b ≡ false)
@@ -109,15 +103,31 @@ none_replaced home old new None none = refl
 none_replaced home old new (Some a) none =
     none_less (list_any (is_replaced home old new)) (list_any (is_chosen home (Values (old ∷ [])))) (λ ss. none_less (is_replaced home old new) (is_chosen home (Values (old ∷ []))) (not_replaced home old new) ss) (parts (value a)) none
 
-pub leaves_lines : (depth : ℕ) (command : Command) (home : Package) (attr old new lines from to : List ℕ) → command ≡ Replace (Named attr) old new → LacksInLines depth home attr old lines → EditsList depth command home lines from to Unlisted
-leaves_lines depth command home attr old new lines from to is none =
-    subst (λ c. EditsList depth c home lines from to Unlisted) (sym is) (λ args reads. ap (done None) (none_replaced home old new (first_named attr args) (none args reads)))
+pub lacking_is_not_replaced : (depth : ℕ) (home : Package) (attr old new lines from to : List ℕ) → LacksInLines depth home attr old lines → EditsList depth (Replace (Named attr) old new) home lines from to Unlisted
+lacking_is_not_replaced depth home attr old new lines from to lacking = λ args reads. ap (done None) (none_replaced home old new (first_named attr args) (lacking args reads))
+
+-- a list of which a value becomes another
+replaces_listed : (depth : ℕ) (home : Package) (attr value other lines old new : List ℕ) (edited : EditedList) → ReplacesInLines depth home attr value other lines old new edited
+    → EditsList depth (Replace (Named attr) value other) home lines old new edited
+replaces_listed depth home attr value other lines old new Unlisted replaces = λ args reads. ap (done None) (replaces args reads)
+replaces_listed depth home attr value other lines old new Listed replaces = (
+  replaces.0,
+  replaces.1,
+  λ args reads.
+      let is = replaces.2 args reads in
+      record { told = ap (done None) is.replaced; some = is.some; lines_are = is.lines_are },
+)
+
+pub replaces_in_list : {E : Type 0} (depth : ℕ) (home : Package) (attr value other lines old new : List ℕ) (r : Result (Option EditedList) E) → IfOk r (λ known. IfSome known (ReplacesInLines depth home attr value other lines old new))
+    → IfOk r (λ known. IfSome known (EditsList depth (Replace (Named attr) value other) home lines old new))
+replaces_in_list depth home attr value other lines old new (Ok None) known = tt
+replaces_in_list depth home attr value other lines old new (Ok (Some edited)) known = replaces_listed depth home attr value other lines old new edited known
+replaces_in_list depth home attr value other lines old new (Err e) known = known
 
 -- a list from which a value goes
-removes_listed : (depth : ℕ) (home : Package) (attr value lines old new : List ℕ) (removed : Removed) → RemovesFromLines depth home attr value lines old new removed
-    → EditsList depth (Remove (Named attr) (value ∷ [])) home lines old new (removed_edit removed)
-removes_listed depth home attr value lines old new Absent removes = λ args reads. ap (done None) (removes args reads)
-removes_listed depth home attr value lines old new Gone removes = (
+removes_listed : (depth : ℕ) (home : Package) (attr value lines old new : List ℕ) (edited : EditedList) → RemovesFromLines depth home attr value lines old new edited → EditsList depth (Remove (Named attr) (value ∷ [])) home lines old new edited
+removes_listed depth home attr value lines old new Unlisted removes = λ args reads. ap (done None) (removes args reads)
+removes_listed depth home attr value lines old new Listed removes = (
   removes.0,
   removes.1,
   λ args reads.
@@ -125,13 +135,11 @@ removes_listed depth home attr value lines old new Gone removes = (
       record { told = ap (done None) is.removed; some = is.some; lines_are = is.lines_are },
 )
 
-pub removes_from_list : (depth : ℕ) (home : Package) (attr value lines old new : List ℕ) (told : Option Removed) → IfSome told (RemovesFromLines depth home attr value lines old new)
-    → (edited : Option EditedList) → option_map removed_edit told ≡ edited → IfSome edited (EditsList depth (Remove (Named attr) (value ∷ [])) home lines old new)
-removes_from_list depth home attr value lines old new told known edited edits = subst (λ o. IfSome o (EditsList depth (Remove (Named attr) (value ∷ [])) home lines old new)) edits (by told known)
-  where
-    by : (told : Option Removed) → IfSome told (RemovesFromLines depth home attr value lines old new) → IfSome (option_map removed_edit told) (EditsList depth (Remove (Named attr) (value ∷ [])) home lines old new)
-    by None known = tt
-    by (Some removed) known = removes_listed depth home attr value lines old new removed known
+pub removes_from_list : {E : Type 0} (depth : ℕ) (home : Package) (attr value lines old new : List ℕ) (r : Result (Option EditedList) E) → IfOk r (λ known. IfSome known (RemovesFromLines depth home attr value lines old new))
+    → IfOk r (λ known. IfSome known (EditsList depth (Remove (Named attr) (value ∷ [])) home lines old new))
+removes_from_list depth home attr value lines old new (Ok None) known = tt
+removes_from_list depth home attr value lines old new (Ok (Some edited)) known = removes_listed depth home attr value lines old new edited known
+removes_from_list depth home attr value lines old new (Err e) known = known
 
 pub lacking_stays : (depth : ℕ) (home : Package) (attr value lines old new : List ℕ) → LacksInLines depth home attr value lines → EditsList depth (Remove (Named attr) (value ∷ [])) home lines old new Unlisted
 lacking_stays depth home attr value lines old new lacking = λ args reads. ap (done None) (lacking args reads)

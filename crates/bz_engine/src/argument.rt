@@ -1,20 +1,23 @@
 //! What a command makes of the lines of an argument, by a small rule that has this argument alone. `canonical.rt` calls
 //! `execute_on_lines` for a rule of which it edits one argument.
 
-ghost use Rattle.std.specs.Prelude.{◌≡◌, ◌++◌, ◌∷◌, ℕ, List, [], codes, option_map, string_bytes, IfOk, IfSome, IsTrue, OnOk, Some};
+ghost use Rattle.std.specs.Prelude.{◌≡◌, ◌++◌, ◌∷◌, ℕ, List, [], codes, string_bytes, IfOk, IfSome, IsTrue, OnOk, Some};
+ghost use Rattle.bz_canonical.specs.Added.{LacksInLines};
 ghost use Rattle.bz_canonical.specs.Canonical.{argument_lines, between, small_text};
 ghost use Rattle.bz_rule.specs.OneAttribute.{one_attribute};
 ghost use Rattle.bz_command.specs.declared.arguments.Attributes.TheVariants.{Named};
 ghost use Rattle.bz_command.specs.declared.arguments.Commented.TheVariants.{Attribute};
 ghost use Rattle.bz_rule.specs.declared.command.Action.TheVariants.{Add, Comment, Remove, Replace};
-ghost use Rattle.bz_engine.specs.declared.argument.EditedList.TheVariants.{Unchanged};
-ghost use Rattle.bz_engine.specs.private.ArgumentEdits.{AddsArgument, AreLinesAfter, EditsLines, EditsList, EditsPlace, EditsSmallRule, list_argument, list_edit, new_of, removed_edit, set_by};
+ghost use Rattle.bz_engine.specs.private.ArgumentEdits.{AddsArgument, AreLinesAfter, EditsLines, EditsList, EditsPlace, EditsSmallRule, list_argument, new_of, set_by};
 
 use crate::edit::ScriptRun;
 use crate::spare::Spare;
 use bz_attribute::Env;
 use bz_attribute_commands::argument::put_argument;
-use bz_canonical::{Added, ArgumentPlace, ListValue, Removed, lacks, put_added, put_removed};
+use bz_canonical::{
+    ArgumentPlace, EditedList, ListValue, ReplacedValue, lacks, put_added, put_removed,
+    put_replaced,
+};
 use bz_command::{Attributes, Commented, Setting, quote};
 use bz_memory::{NoMemory, extend_from_slice, push_str};
 use bz_rule::{Action, Command, Done, StatementRow, Text, execute};
@@ -27,14 +30,6 @@ pub(crate) enum EditedArgument<'s> {
     Unchanged,
     /// These are its lines, or those of what stands in its place: some.
     Lines(&'s [u8]),
-}
-
-/// What a command makes of an argument that is not read.
-#[derive(Clone, Copy)]
-pub(crate) enum EditedList {
-    Unchanged,
-    /// Its lines are in the buffer, after what was there.
-    Written,
 }
 
 /// What `comment` puts above an attribute.
@@ -114,8 +109,8 @@ pub(crate) fn execute_on_lines<'s>(
 }
 
 /// What the command makes of the argument that has these lines, where it adds one value to a list of strings, removes
-/// one, or replaces one that is not in it. None: it may be another command, or another argument. Without `Written`
-/// nothing is said of the buffer's bytes.
+/// one, or replaces one. None: it may be another command, or another argument. Without `Written` nothing is said of the
+/// buffer's bytes.
 fn execute_on_list(
     script: ScriptRun<'_>,
     command: &Command,
@@ -130,48 +125,14 @@ fn execute_on_list(
             alloc: script.alloc,
             home: script.home,
         };
-        let added = put_added(env, lines, new, script.max_depth, written)?;
-        return Ok(list_edit_of(added));
+        return put_added(env, lines, new, script.max_depth, written);
     }
     if let Some(old) = removed_by(command) {
         return execute_remove(script, old, lines, written);
     }
-    if is_lacking(script, command, lines) {
-        return Ok(Some(EditedList::Unchanged));
-    }
-    Ok(None)
-}
-
-/// The command replaces a value that is not in this list.
-fn is_lacking(script: ScriptRun<'_>, command: &Command, lines: &str) -> bool
-    ensures { IsTrue result → (old new : List ℕ)
-        → EditsList script.entry.max_depth command.now script.entry.home.now lines.now old new Unchanged }
-{
-    // A value that is there would be looked for in vain, in all of the list.
-    if lines.len() > LONGEST {
-        return false;
-    }
     match replaced_by(command) {
-        Some(old) => lacks(script.home, lines, old, script.max_depth),
-        None => false,
-    }
-}
-
-fn list_edit_of(added: Option<Added>) -> Option<EditedList>
-    ensures { option_map list_edit added ≡ result }
-{
-    match added? {
-        Added::Present => Some(EditedList::Unchanged),
-        Added::New => Some(EditedList::Written),
-    }
-}
-
-fn removed_edit_of(removed: Option<Removed>) -> Option<EditedList>
-    ensures { option_map removed_edit removed ≡ result }
-{
-    match removed? {
-        Removed::Absent => Some(EditedList::Unchanged),
-        Removed::Gone => Some(EditedList::Written),
+        Some(replaced) => execute_replace(script, replaced, lines, written),
+        None => Ok(None),
     }
 }
 
@@ -186,12 +147,44 @@ fn execute_remove(
         (Remove (Named old.entry.attr.now) (old.entry.value.now ∷ [])) script.entry.home.now lines.now
         written.old.items written.new.items)) }
 {
-    // Most lists lack it, and of these nothing has to be written. A long one is gone over once.
-    if lines.len() <= LONGEST && lacks(script.home, lines, old, script.max_depth) {
+    if is_short_without(script, old, lines) {
         return Ok(Some(EditedList::Unchanged));
     }
-    let removed = put_removed(script.home, lines, old, script.max_depth, written)?;
-    Ok(removed_edit_of(removed))
+    put_removed(script.home, lines, old, script.max_depth, written)
+}
+
+/// The same of a value that becomes another.
+fn execute_replace(
+    script: ScriptRun<'_>,
+    replaced: ReplacedValue<'_>,
+    lines: &str,
+    written: &mut Vec<u8>,
+) -> Result<Option<EditedList>, NoMemory>
+    ensures { IfOk result (λ known. IfSome known (EditsList script.entry.max_depth
+        (Replace (Named replaced.entry.attr.now) replaced.entry.old.now replaced.entry.new.now) script.entry.home.now
+        lines.now written.old.items written.new.items)) }
+{
+    let old = ListValue {
+        attr: replaced.attr,
+        value: replaced.old,
+    };
+    if is_short_without(script, old, lines) {
+        return Ok(Some(EditedList::Unchanged));
+    }
+    let env = Env {
+        alloc: script.alloc,
+        home: script.home,
+    };
+    put_replaced(env, lines, replaced, script.max_depth, written)
+}
+
+/// These lines are few, and have a list that lacks the value. Most lists lack it, and of these nothing has to be
+/// written; a long one is gone over once.
+fn is_short_without(script: ScriptRun<'_>, sought: ListValue<'_>, lines: &str) -> bool
+    ensures { IsTrue result → LacksInLines script.entry.max_depth script.entry.home.now sought.entry.attr.now
+        sought.entry.value.now lines.now }
+{
+    lines.len() <= LONGEST && lacks(script.home, lines, sought, script.max_depth)
 }
 
 /// The comment that the command puts above an attribute.
@@ -207,16 +200,18 @@ pub(crate) fn comment_by(command: &Command) -> Option<AttributeComment<'_>>
     })
 }
 
-/// The value that the command replaces.
-fn replaced_by(command: &Command) -> Option<ListValue<'_>>
-    ensures { IfSome result (λ old. (new : List ℕ) × (command.now ≡ Replace (Named old.attr.now) old.value.now new)) }
+/// The value that the command replaces, and the other.
+fn replaced_by(command: &Command) -> Option<ReplacedValue<'_>>
+    ensures { IfSome result (λ replaced. command.now
+        ≡ Replace (Named replaced.attr.now) replaced.old.now replaced.new.now) }
 {
-    let Action::Replace(Attributes::Named(attr), old, _new) = &command.action else {
+    let Action::Replace(Attributes::Named(attr), old, new) = &command.action else {
         return None;
     };
-    Some(ListValue {
+    Some(ReplacedValue {
         attr: attr.as_str(),
-        value: old.as_str(),
+        old: old.as_str(),
+        new: new.as_str(),
     })
 }
 

@@ -22,8 +22,7 @@ ghost use Rattle.bz_engine.specs.private.Rows.{HasKey};
 
 use crate::answer::{marks_found, unchanged_by_text};
 use crate::argument::{
-    AttributeComment, EditedArgument, EditedList, comment_by, execute_in_place, execute_on_lines,
-    is_long,
+    AttributeComment, EditedArgument, comment_by, execute_in_place, execute_on_lines, is_long,
 };
 use crate::edit::ScriptRun;
 use crate::failure::message_by_text;
@@ -34,7 +33,7 @@ use crate::written::{begin_statement, put_canonical};
 use bz_attribute::Env;
 use bz_attribute_commands::comment::comment_line;
 use bz_canonical::{
-    ArgumentPlace, AsksOfRules, CanonicalChunk, Lookup, comment_place, read_canonical,
+    ArgumentPlace, AsksOfRules, CanonicalChunk, EditedList, Lookup, comment_place, read_canonical,
 };
 use bz_devices::ahead::Ahead;
 use bz_layout::put_gap;

@@ -107,6 +107,8 @@ pub record IsElementRead (lines one : Bool) (text : List ℕ) (read : ReadElemen
   pub are : AreElements (element ∷ [])
   pub token_is : element.token ≡ read.string.token.now
   pub string_is : spelling read.string ≡ respell String element.token
+  pub front_is : read.front.now ≡ bytes_of (comments 2 element.before) ++ (10 ∷ indent 2)
+  pub back_is : read.back.now ≡ 44 ∷ bytes_of (suffix_piece element.suffix)
   pub front : text ≡ element_stands lines one element ++ read.rest.now
   pub spells : element_written read ≡ element_line (respell String) element
   pub noted_is : is_noted element ≡ read.noted

@@ -7,16 +7,12 @@ use Rattle.bz_attribute.specs.Effects.{argument, list_item, string}
 use Rattle.bz_command.specs.declared.arguments.Setting.TheVariants.{ToValues}
 use Rattle.bz_command.specs.Labels.{Package}
 use Rattle.bz_canonical.specs.Canonical.{AreReadAlone, Between, argument_lines, small_text}
-use Rattle.bz_canonical.specs.declared.added.Added.{Added}
-use Rattle.bz_canonical.specs.declared.added.Added.TheVariants.{Present, New}
-use Rattle.bz_canonical.specs.declared.removed.Removed.{Removed}
-use Rattle.bz_canonical.specs.declared.removed.Removed.TheVariants.{Absent, Gone}
+use Rattle.bz_canonical.specs.declared.edited.EditedList.{EditedList}
+use Rattle.bz_canonical.specs.declared.edited.EditedList.TheVariants.{Unchanged, Written}
 use Rattle.bz_rule.specs.Commands.{Command, args_after, args_done}
 use Rattle.bz_rule.specs.declared.command.Action.TheVariants.{Set, SetIfAbsent}
 use Rattle.bz_engine.specs.declared.argument.EditedArgument.{EditedArgument}
 use Rattle.bz_engine.specs.declared.argument.EditedArgument.TheVariants.{Unchanged as Stays, Lines}
-use Rattle.bz_engine.specs.declared.argument.EditedList.{EditedList}
-use Rattle.bz_engine.specs.declared.argument.EditedList.TheVariants.{Unchanged, Written}
 use Rattle.bz_engine.specs.declared.argument.NewArgument.{NewArgument}
 use Rattle.bz_engine.specs.private.Found.{told_line}
 use Rattle.bz_token.specs.Common.{is_empty}
@@ -68,14 +64,6 @@ abbrev pub EditsPlace : ℕ → Command → Package → Between → List ℕ →
 EditsPlace depth command home place old new Unchanged = (args : List Segment) → AreReadAlone depth place.lines args → args_done command home args ≡ told_line false None
 EditsPlace depth command home place old new Written =
     (written : List ℕ) × (new ≡ old ++ (place.before ++ (written ++ place.after))) × ((args : List Segment) → AreReadAlone depth place.lines args → ChangesArgs command home args written)
-
-abbrev pub list_edit : Added → EditedList
-list_edit Present = Unchanged
-list_edit New = Written
-
-abbrev pub removed_edit : Removed → EditedList
-removed_edit Absent = Unchanged
-removed_edit Gone = Written
 
 -- what stands in the small rule, where this was told
 abbrev pub AreLinesAfter : Done → Option Statement → EditedArgument → Type 0

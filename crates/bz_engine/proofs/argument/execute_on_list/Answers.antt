@@ -3,11 +3,11 @@ use Rattle.bz_engine.proofs.argument.execute_on_list.Goals as goal
 
 pub returns-in-Some : goal.returns-in-Some
 returns-in-Some c =
-    adds_to_list c.args.script.max_depth c.args.command.now c.args.script.home.now c.in-Some.new.attr.now c.in-Some.new.value.now c.args.lines.now c.args.written.now.items c.put_added.new.written.items c.in-Some.ensures c.in_ok-added.added c.in_ok-added.ensures
-    c.list_edit_of.result c.list_edit_of.ensures
+    adds_to_list c.args.script.max_depth c.args.command.now c.args.script.home.now c.in-Some.new.attr.now c.in-Some.new.value.now c.args.lines.now c.args.written.now.items c.put_added.new.written.items c.in-Some.ensures
+    c.put_added.result c.put_added.ensures
 
 pub returns-in-Some-removed_by : goal.returns-in-Some-removed_by
 returns-in-Some-removed_by c = rw c.in-Some-removed_by.ensures c.execute_remove.ensures
 
-pub returns-then-is_lacking : goal.returns-then-is_lacking
-returns-then-is_lacking c = c.is_lacking.ensures c.if-is_lacking.true c.args.written.now.items c.args.written.now.items
+pub returns-in-Some-replaced_by : goal.returns-in-Some-replaced_by
+returns-in-Some-replaced_by c = rw c.in-Some-replaced_by.ensures c.execute_replace.ensures

@@ -7,7 +7,7 @@ use Rattle.bz_rule.specs.Commands.{args_after}
 use Rattle.bz_passes.specs.Exchange.{Fits}
 use Rattle.bz_engine.specs.Outcome.{is_query}
 use Rattle.bz_engine.specs.Progress.{Progress, text_following}
-use Rattle.bz_engine.specs.declared.argument.EditedList.{EditedList}
+use Rattle.bz_canonical.specs.declared.edited.EditedList.{EditedList}
 use Rattle.bz_engine.specs.private.ArgumentEdits.{EditsPlace}
 use Rattle.bz_engine.specs.private.Edits.{run_of}
 use Rattle.bz_engine.specs.private.Found.{IsForOne}

@@ -1,0 +1,151 @@
+-- Elements of which some go or become another, and their lines.
+use Rattle.std.proofs.Common.{◌≡◌, ◌+◌, ℕ, List, [], ◌∷◌, ◌++◌, length, Bool, true, false, ◌||◌, ◌&&◌, not, if◌then◌else◌, refl, sym, ap, subst, ◌∙◌, append_assoc, append-nil}
+use Rattle.std.proofs.lemmas.List.Folds.{list_any-append}
+use Rattle.std.specs.Prelude.{codes, nat_le, Option, None, Some}
+use Rattle.bz_command.specs.Labels.{Package}
+use Rattle.bz_command.specs.Values.{quoted}
+use Rattle.bz_layout.specs.Pieces.{bytes_of, comments, indent, suffix_piece}
+use Rattle.bz_layout.specs.Respell.{respell}
+use Rattle.bz_token.specs.declared.token.Kind.TheVariants.{String}
+use Rattle.bz_canonical.specs.declared.edited.ListEdit.{ListEdit}
+use Rattle.bz_canonical.specs.declared.edited.NewString.{NewString}
+use Rattle.bz_canonical.specs.declared.edited.Passed.{Passed}
+use Rattle.bz_canonical.specs.declared.lists.ReadElement.{ReadElement}
+use Rattle.bz_canonical.specs.declared.put_arguments.Pending.{Pending}
+use Rattle.bz_canonical.specs.private.Edited.{AreEdited, IsHeld, become, edited, edited_one, have_meant, is_meant, one_more}
+use Rattle.bz_canonical.specs.private.Rewritten.{Element, IsElementRead, element_line, element_lines, element_written}
+use Rattle.bz_canonical.proofs.ElementLists.{flat_one, longer, one_at_least, one_of_two, or_yes, passed_more, passed_none}
+use Rattle.bz_canonical.proofs.GroupSegments.{or_no, second_of_more}
+use Rattle.bz_canonical.proofs.Pendings.{pend_more, pend_same}
+
+-- one more
+
+meant_more : (home : Package) (edit : ListEdit) (es : List Element) (e : Element) (k b : Bool) → k ≡ have_meant home edit es → b ≡ is_meant home edit e.token → (k || b) ≡ have_meant home edit (es ++ e ∷ [])
+meant_more home edit es e k b some told =
+    (λ i. some i || (told ∙ sym (or_no (is_meant home edit e.token))) i) ∙ sym (list_any-append (λ (x : Element). is_meant home edit x.token) es (e ∷ []))
+
+-- one is left more
+left_more : (home : Package) (edit : ListEdit) (es : List Element) (e x : Element) → edited_one home edit e ≡ x ∷ [] → edited home edit (es ++ e ∷ []) ≡ edited home edit es ++ x ∷ []
+left_more home edit es e x is = flat_one (edited_one home edit) es e ∙ ap (λ (xs : List Element). edited home edit es ++ xs) is
+
+gone_more : (home : Package) (edit : ListEdit) (es : List Element) (e : Element) → edited_one home edit e ≡ [] → edited home edit (es ++ e ∷ []) ≡ edited home edit es
+gone_more home edit es e is = flat_one (edited_one home edit) es e ∙ ap (λ (xs : List Element). edited home edit es ++ xs) is ∙ append-nil (edited home edit es)
+
+lines_more : (front line : List ℕ) (xs ys : List Element) (x : Element) → ys ≡ xs ++ x ∷ [] → line ≡ element_line (respell String) x
+    → (front ++ element_lines (respell String) xs) ++ line ≡ front ++ element_lines (respell String) ys
+lines_more front line xs ys x more is =
+    append_assoc front (element_lines (respell String) xs) line
+    ∙ ap (λ (t : List ℕ). front ++ t) (ap (λ (t : List ℕ). element_lines (respell String) xs ++ t) is ∙ sym (flat_one (element_line (respell String)) xs x) ∙ ap (element_lines (respell String)) (sym more))
+
+second_left : (n : ℕ) → (nat_le 2 n || nat_le 1 n) ≡ nat_le 2 (n + 1)
+second_left n = by (nat_le 2 n) (nat_le 1 n) (one_of_two n) ∙ second_of_more n
+  where
+    by : (t o : Bool) → (t ≡ true → o ≡ true) → (t || o) ≡ o
+    by true o less = sym (less refl)
+    by false o less = refl
+
+-- what an element becomes
+
+stays_one : (home : Package) (edit : ListEdit) (e : Element) → false ≡ is_meant home edit e.token → edited_one home edit e ≡ e ∷ []
+stays_one home edit e told = ap (λ b. if b then become edit.new e else e ∷ []) (sym told)
+
+becomes_one : (home : Package) (edit : ListEdit) (e : Element) → true ≡ is_meant home edit e.token → edited_one home edit e ≡ become edit.new e
+becomes_one home edit e told = ap (λ b. if b then become edit.new e else e ∷ []) (sym told)
+
+-- what is passed
+
+pub edited_none : (home : Package) (edit : ListEdit) (lines : Bool) (front buffer : List ℕ) (at : Pending) → at.from.now ≡ front ++ at.rest.now
+    → AreEdited home edit lines (buffer ++ front) at.rest.now buffer (record { at = at; one = false; meant = false; left = false; several = false })
+edited_none home edit lines front buffer at is = record {
+  written = [];
+  broken = false;
+  passed = passed_none lines at.rest.now;
+  held = record { part = front; front = is; all_is = append-nil (buffer ++ front); whole = λ empty. refl };
+  meant_is = refl;
+  left_is = refl;
+  several_is = refl;
+}
+
+-- it goes
+pub edited_gone : (home : Package) (edit : ListEdit) (lines : Bool) (front inside old new : List ℕ) (p : Passed) (read : ReadElement) → AreEdited home edit lines front inside old p → IsElementRead lines p.one p.at.rest.now read
+    → true ≡ is_meant home edit read.string.token.now → edit.new ≡ None → ((part : List ℕ) → p.at.from.now ≡ part ++ p.at.rest.now → new ≡ old ++ part)
+    → AreEdited home edit lines front inside new (record { at = record { from = read.rest; rest = read.rest }; one = true; meant = true; left = p.left; several = p.several })
+edited_gone home edit lines front inside old new p read k e told none put =
+    let es : List Element = k.passed.elements in
+    let is : true ≡ is_meant home edit e.element.token = told ∙ ap (is_meant home edit) (sym e.token_is) in
+    let same = gone_more home edit es e.element (becomes_one home edit e.element is ∙ ap (λ new. become new e.element) none) in
+    record {
+      written = k.written ++ element_written read;
+      broken = k.broken || (p.one || read.noted);
+      passed = passed_more lines p.one k.broken inside p.at.rest.now k.written read k.passed e;
+      held = record {
+        part = [];
+        front = refl;
+        all_is = ap (λ (xs : List Element). front ++ element_lines (respell String) xs) same ∙ k.held.all_is ∙ sym (put k.held.part k.held.front) ∙ sym (append-nil new);
+        whole = λ empty. refl;
+      };
+      meant_is = sym (or_yes p.meant true refl) ∙ meant_more home edit es e.element p.meant true k.meant_is is;
+      left_is = k.left_is ∙ ap (λ (xs : List Element). nat_le 1 (length xs)) (sym same);
+      several_is = k.several_is ∙ ap (λ (xs : List Element). nat_le 2 (length xs)) (sym same);
+    }
+
+-- one is left more, which is written on this line; what is written up to there is held
+edited_more : (home : Package) (edit : ListEdit) (lines : Bool) (front inside old new line : List ℕ) (p : Passed) (read : ReadElement) (at : Pending) (meant : Bool) → AreEdited home edit lines front inside old p → (e : IsElementRead lines p.one p.at.rest.now read)
+    → (x : Element) → edited_one home edit e.element ≡ x ∷ [] → line ≡ element_line (respell String) x → meant ≡ is_meant home edit e.element.token
+    → ((all : List ℕ) → IsHeld old all p.at → IsHeld new (all ++ line) (record { from = at.from; rest = read.rest })) → AreEdited home edit lines front inside new (one_more p (record { from = at.from; rest = read.rest }) meant)
+edited_more home edit lines front inside old new line p read at meant k e x one line_is told held =
+    let es : List Element = k.passed.elements in
+    let xs : List Element = edited home edit es in
+    let ys : List Element = edited home edit (es ++ e.element ∷ []) in
+    let more : ys ≡ xs ++ x ∷ [] = left_more home edit es e.element x one in
+    let size : length ys ≡ length xs + 1 = ap length more ∙ longer xs x in
+    let all : List ℕ = front ++ element_lines (respell String) xs in
+    record {
+      written = k.written ++ element_written read;
+      broken = k.broken || (p.one || read.noted);
+      passed = passed_more lines p.one k.broken inside p.at.rest.now k.written read k.passed e;
+      held = pend_same at.from.now new (all ++ line) at.from.now read.rest.now (front ++ element_lines (respell String) ys) (held all k.held) (lines_more front line xs ys x more line_is);
+      meant_is = meant_more home edit es e.element p.meant meant k.meant_is told;
+      left_is = one_at_least (length xs) ∙ ap (nat_le 1) (sym size);
+      several_is = (λ i. k.several_is i || k.left_is i) ∙ second_left (length xs) ∙ ap (nat_le 2) (sym size);
+    }
+
+-- it stays as it stands
+pub edited_as_is : (home : Package) (edit : ListEdit) (lines : Bool) (front inside old : List ℕ) (p : Passed) (read : ReadElement) → AreEdited home edit lines front inside old p → IsElementRead lines p.one p.at.rest.now read
+    → false ≡ is_meant home edit read.string.token.now → read.otherwise ≡ false → AreEdited home edit lines front inside old (one_more p (record { from = p.at.from; rest = read.rest }) false)
+edited_as_is home edit lines front inside old p read k e told plain =
+    let is : false ≡ is_meant home edit e.element.token = told ∙ ap (is_meant home edit) (sym e.token_is) in
+    edited_more home edit lines front inside old old (element_written read) p read p.at false k e e.element (stays_one home edit e.element is) e.spells is
+    (λ all h. pend_more p.at.from.now old all p.at.from.now p.at.rest.now (element_written read) read.rest.now h (e.same plain))
+
+-- a line is written after what was pending
+held_put : (old put new line all : List ℕ) (at : Pending) (read : ReadElement) → ((part : List ℕ) → at.from.now ≡ part ++ at.rest.now → put ≡ old ++ part) → new ≡ put ++ line → IsHeld old all at → IsHeld new (all ++ line) (record { from = read.rest; rest = read.rest })
+held_put old put new line all at read pending new_is h = record {
+  part = [];
+  front = refl;
+  all_is = ap (λ (t : List ℕ). t ++ line) (h.all_is ∙ sym (pending h.part h.front)) ∙ sym new_is ∙ sym (append-nil new);
+  whole = λ empty. refl;
+}
+
+-- it stays, otherwise than it stood
+pub edited_put : (home : Package) (edit : ListEdit) (lines : Bool) (front inside old put new : List ℕ) (p : Passed) (read : ReadElement) → AreEdited home edit lines front inside old p → IsElementRead lines p.one p.at.rest.now read
+    → false ≡ is_meant home edit read.string.token.now → ((part : List ℕ) → p.at.from.now ≡ part ++ p.at.rest.now → put ≡ old ++ part) → new ≡ put ++ element_written read
+    → AreEdited home edit lines front inside new (one_more p (record { from = read.rest; rest = read.rest }) false)
+edited_put home edit lines front inside old put new p read k e told pending new_is =
+    let is : false ≡ is_meant home edit e.element.token = told ∙ ap (is_meant home edit) (sym e.token_is) in
+    edited_more home edit lines front inside old new (element_written read) p read (record { from = read.rest; rest = read.rest }) false k e e.element (stays_one home edit e.element is) e.spells is
+    (λ all h. held_put old put new (element_written read) all p.at read pending new_is h)
+
+-- it becomes another
+pub edited_as : (home : Package) (edit : ListEdit) (lines : Bool) (front inside old put new : List ℕ) (p : Passed) (read : ReadElement) (other : NewString) → AreEdited home edit lines front inside old p → IsElementRead lines p.one p.at.rest.now read
+    → true ≡ is_meant home edit read.string.token.now → edit.new ≡ Some other → other.literal.now ≡ quoted other.value.now → ((part : List ℕ) → p.at.from.now ≡ part ++ p.at.rest.now → put ≡ old ++ part)
+    → new ≡ put ++ (read.front.now ++ (other.literal.now ++ read.back.now)) → AreEdited home edit lines front inside new (one_more p (record { from = read.rest; rest = read.rest }) true)
+edited_as home edit lines front inside old put new p read other k e told some quoted_is pending new_is =
+    let is : true ≡ is_meant home edit e.element.token = told ∙ ap (is_meant home edit) (sym e.token_is) in
+    let x : Element = record e.element { token = quoted other.value.now } in
+    let C : List ℕ = bytes_of (comments 2 e.element.before) in
+    let S : List ℕ = bytes_of (suffix_piece e.element.suffix) in
+    let line : List ℕ = read.front.now ++ (other.literal.now ++ read.back.now) in
+    let line_is : line ≡ element_line (respell String) x = (λ i. e.front_is i ++ (quoted_is i ++ e.back_is i)) ∙ append_assoc C (10 ∷ indent 2) (quoted other.value.now ++ (44 ∷ S)) in
+    edited_more home edit lines front inside old new line p read (record { from = read.rest; rest = read.rest }) true k e x (becomes_one home edit e.element is ∙ ap (λ new. become new e.element) some) line_is is
+    (λ all h. held_put old put new line all p.at read pending new_is h)

@@ -1,0 +1,82 @@
+-- What `replace` of a value makes of an argument whose value is one list of strings.
+use Rattle.std.proofs.Common.{◌≡◌, ℕ, List, [], ◌∷◌, ◌++◌, Bool, true, false, ◌||◌, ◌&&◌, not, refl, sym, ap, ◌∙◌, subst, bytes_eq, map}
+use Rattle.std.specs.Prelude.{codes, Option, None, Some, Result, Ok, Err, IfOk, IfSome, if◌then◌else◌}
+use Rattle.std.specs.List.{list_any}
+use Rattle.bz_token.specs.Common.{is_empty, map_or}
+use Rattle.bz_token.specs.declared.token.Kind.TheVariants.{Identifier, Operator, String}
+use Rattle.bz_tree.proofs.Rows.FromParts.{segs_back}
+use Rattle.bz_tree.specs.declared.tree.GroupKind.TheVariants.{List as ListKind}
+use Rattle.bz_tree.specs.Tree.{leaf, group, Segment, segments, segs_of}
+use Rattle.bz_command.specs.Labels.{Package}
+use Rattle.bz_command.specs.Values.{quoted}
+use Rattle.bz_command.specs.declared.arguments.Attributes.TheVariants.{Named}
+use Rattle.bz_list_commands.specs.Replace.{is_replaced, replace, replaced, replaces, replaces_in}
+use Rattle.bz_canonical.specs.Canonical.{argument_lines}
+use Rattle.bz_canonical.specs.Replaced.{IsReplaced, ReplacesInLines}
+use Rattle.bz_canonical.specs.declared.edited.EditedList.{EditedList}
+use Rattle.bz_canonical.specs.declared.edited.EditedList.TheVariants.{Unchanged, Written}
+use Rattle.bz_canonical.specs.declared.edited.ListEdit.{ListEdit}
+use Rattle.bz_canonical.specs.declared.edited.NewString.{NewString}
+use Rattle.bz_canonical.specs.private.Added.{list_arg}
+use Rattle.bz_canonical.specs.private.Edited.{EditsElements, edited, have_meant, is_meant}
+use Rattle.bz_canonical.specs.private.Rewritten.{Element, element_segs}
+use Rattle.bz_canonical.proofs.AddedLines.{first_is}
+use Rattle.bz_canonical.proofs.EditedLines.{segment_of}
+use Rattle.bz_canonical.proofs.GroupSegments.{or_no}
+
+abbrev replacing : ListEdit → NewString → ListEdit
+replacing edit new = record edit { new = Some new }
+
+-- those that are replaced are meant
+have_is : (home : Package) (edit : ListEdit) (new : NewString) (es : List Element) → list_any (is_replaced home edit.word.now new.value.now) (segments (element_segs es)) ≡ have_meant home (replacing edit new) es
+have_is home edit new [] = refl
+have_is home edit new (e ∷ es) = ap (λ b. is_meant home (replacing edit new) e.token || b) (have_is home edit new es)
+
+-- the argument
+
+replaced_are : (home : Package) (edit : ListEdit) (new : NewString) (es : List Element) → map (replaced home edit.word.now new.value.now) (segments (element_segs es)) ≡ segments (element_segs (edited home (replacing edit new) es))
+replaced_are home edit new [] = refl
+replaced_are home edit new (e ∷ es) = by (is_meant home (replacing edit new) e.token) (map (replaced home edit.word.now new.value.now) (segments (element_segs es))) (edited home (replacing edit new) es) (replaced_are home edit new es)
+  where
+    other : Element
+    other = record e { token = quoted new.value.now }
+
+    by : (b : Bool) (ss : List Segment) (left : List Element) → ss ≡ segments (element_segs left) → (if b then segment_of other else segment_of e) ∷ ss ≡ segments (element_segs ((if b then other ∷ [] else e ∷ []) ++ left))
+    by true ss left is = ap (λ (xs : List Segment). segment_of other ∷ xs) is
+    by false ss left is = ap (λ (xs : List Segment). segment_of e ∷ xs) is
+
+replace_is : (home : Package) (edit : ListEdit) (new : NewString) (word : List ℕ) (notes : List (List ℕ)) (es : List Element) (suffix : Option (List ℕ)) → bytes_eq edit.attr.now word ≡ true
+    → replace home (Named edit.attr.now) edit.word.now new.value.now (list_arg notes word es suffix ∷ []) ≡ list_arg notes word (edited home (replacing edit new) es) suffix ∷ []
+replace_is home edit new word notes es suffix named =
+    rw named (ap (λ ss. record { before = notes; nodes = leaf Identifier word ∷ leaf Operator (codes "=") ∷ group ListKind ss false [] ∷ []; suffix = suffix } ∷ [])
+    (ap segs_of (replaced_are home edit new es) ∙ segs_back (element_segs (edited home (replacing edit new) es))))
+
+replaces_is : (home : Package) (edit : ListEdit) (new : NewString) (word : List ℕ) (notes : List (List ℕ)) (es : List Element) (suffix : Option (List ℕ)) → bytes_eq edit.attr.now word ≡ true
+    → replaces home (Named edit.attr.now) edit.word.now new.value.now (list_arg notes word es suffix ∷ []) ≡ have_meant home (replacing edit new) es
+replaces_is home edit new word notes es suffix named =
+    ap (map_or false (replaces_in home edit.word.now new.value.now)) (first_is edit.attr.now word notes es suffix named)
+    ∙ or_no (list_any (is_replaced home edit.word.now new.value.now) (segments (element_segs es))) ∙ have_is home edit new es
+
+-- what is made of its lines
+replaces_lines : (depth : ℕ) (home : Package) (edit : ListEdit) (new : NewString) (lines before after : List ℕ) (told : Option EditedList) → IfSome told (EditsElements depth home (replacing edit new) lines before after)
+    → IfSome told (ReplacesInLines depth home edit.attr.now edit.word.now new.value.now lines before after)
+replaces_lines depth home edit new lines before after None known = tt
+replaces_lines depth home edit new lines before after (Some Unchanged) stays =
+    let a = stays.list in
+    λ args reads. ap (replaces home (Named edit.attr.now) edit.word.now new.value.now) (a.same args reads) ∙ replaces_is home edit new a.name a.notes a.elements a.suffix a.named ∙ stays.none
+replaces_lines depth home edit new lines before after (Some Written) put =
+    let a = put.list in
+    let is = replace_is home edit new a.name a.notes a.elements a.suffix a.named in (
+      put.written,
+      put.put,
+      λ args reads. subst (λ xs. IsReplaced home edit.attr.now edit.word.now new.value.now xs put.written) (sym (a.same args reads)) (record {
+        replaced = replaces_is home edit new a.name a.notes a.elements a.suffix a.named ∙ put.some;
+        some = ap is_empty is;
+        lines_are = put.lines_are ∙ ap argument_lines (sym is);
+      }),
+    )
+
+pub replaces_read : {E : Type 0} (depth : ℕ) (home : Package) (edit : ListEdit) (new : NewString) (lines before after : List ℕ) (r : Result (Option EditedList) E) → IfOk r (λ told. IfSome told (EditsElements depth home (replacing edit new) lines before after))
+    → IfOk r (λ told. IfSome told (ReplacesInLines depth home edit.attr.now edit.word.now new.value.now lines before after))
+replaces_read depth home edit new lines before after (Ok told) known = replaces_lines depth home edit new lines before after told known
+replaces_read depth home edit new lines before after (Err e) known = known

@@ -1,0 +1,113 @@
+-- Lists of strings of which some elements go or become another, for private clauses.
+use Rattle.std.specs.Prelude.{◌≡◌, ◌<◌, ℕ, List, [], ◌∷◌, ◌++◌, Bool, true, false, ◌&&◌, ◌||◌, not, if◌then◌else◌, Option, None, Some, IfSome, bytes_eq, flat_map, length, nat_le}
+use Rattle.std.specs.List.{list_any}
+use Rattle.bz_token.specs.Common.{is_empty}
+use Rattle.bz_token.specs.declared.token.Kind.TheVariants.{String}
+use Rattle.bz_tree.specs.Tree.{Segment}
+use Rattle.bz_command.specs.Labels.{Package}
+use Rattle.bz_command.specs.Values.{quoted, value_of}
+use Rattle.bz_layout.specs.Respell.{respell}
+use Rattle.bz_attribute.specs.Rules.{is_text}
+use Rattle.bz_canonical.specs.Canonical.{AreReadAlone, argument_lines}
+use Rattle.bz_canonical.specs.declared.edited.EditedList.{EditedList}
+use Rattle.bz_canonical.specs.declared.edited.EditedList.TheVariants.{Unchanged, Written}
+use Rattle.bz_canonical.specs.declared.edited.ListEdit.{ListEdit}
+use Rattle.bz_canonical.specs.declared.edited.NewString.{NewString}
+use Rattle.bz_canonical.specs.declared.edited.Passed.{Passed}
+use Rattle.bz_canonical.specs.declared.edited.PassedList.{PassedList}
+use Rattle.bz_canonical.specs.declared.lists.ReadElement.{ReadElement}
+use Rattle.bz_canonical.specs.declared.put_arguments.Pending.{Pending}
+use Rattle.bz_canonical.specs.private.Added.{is_word, list_arg}
+use Rattle.bz_canonical.specs.private.Rewritten.{ArePassed, Element, IsElementRead, IsHeadRead, IsLast, IsPending, closing, element_lines}
+
+-- the string is exactly the new value
+abbrev pub is_new : Option NewString → List ℕ → Bool
+is_new None token = false
+is_new (Some new) token = is_text new.value.now (value_of token)
+
+-- it equals the word, and is not exactly what it would become
+abbrev pub is_meant : Package → ListEdit → List ℕ → Bool
+is_meant home edit token = is_word home edit.word.now token && not (is_new edit.new token)
+
+abbrev pub have_meant : Package → ListEdit → List Element → Bool
+have_meant home edit es = list_any (λ e. is_meant home edit e.token) es
+
+-- what an element that is meant becomes, which keeps its comments, or nothing
+abbrev pub become : Option NewString → Element → List Element
+become None e = []
+become (Some new) e = record e { token = quoted new.value.now } ∷ []
+
+abbrev pub edited_one : Package → ListEdit → Element → List Element
+edited_one home edit e = if is_meant home edit e.token then become edit.new e else e ∷ []
+
+abbrev pub edited : Package → ListEdit → List Element → List Element
+edited home edit es = flat_map (edited_one home edit) es
+
+-- what is written for the new value is its literal
+abbrev pub IsQuoted : ListEdit → Type 0
+IsQuoted edit = IfSome edit.new (λ new. new.literal.now ≡ quoted new.value.now)
+
+-- one was passed more, and one is left more
+abbrev pub one_more : Passed → Pending → Bool → Passed
+one_more p at meant = record { at = at; one = true; meant = p.meant || meant; left = true; several = p.several || p.left }
+
+-- all is written: what is in the buffer, and a part that stands as it is written
+abbrev pub IsHeld : List ℕ → List ℕ → Pending → Type 0
+IsHeld buffer all at = IsPending at.from.now buffer all at.from.now at.rest.now
+
+-- some elements; what they are then is written after what stands before all
+pub record AreEdited (home : Package) (edit : ListEdit) (lines : Bool) (front inside buffer : List ℕ) (p : Passed) : Type 0 where
+  pub written : List ℕ
+  pub broken : Bool
+  pub passed : ArePassed lines inside p.at.rest.now written p.one broken
+  pub held : IsHeld buffer (front ++ element_lines (respell String) (edited home edit passed.elements)) p.at
+  pub meant_is : p.meant ≡ have_meant home edit passed.elements
+  pub left_is : p.left ≡ nat_le 1 (length (edited home edit passed.elements))
+  pub several_is : p.several ≡ nat_le 2 (length (edited home edit passed.elements))
+
+-- one more is passed, which is meant or not
+abbrev pub PassesElement : Passed → ReadElement → Bool → ListEdit → List ℕ → List ℕ → Passed → Type 0
+PassesElement p read meant edit old new more =
+    (home : Package) (lines : Bool) (front inside : List ℕ) → AreEdited home edit lines front inside old p → IsElementRead lines p.one p.at.rest.now read → meant ≡ is_meant home edit read.string.token.now
+    → AreEdited home edit lines front inside new more
+
+-- all elements of a list, which stand in the text after its first bracket; what is written stands after what was in the buffer
+pub record AreElementsEdited (home : Package) (edit : ListEdit) (text inside old buffer : List ℕ) (list : PassedList) : Type 0 where
+  pub lines : Bool
+  pub edited : (front : List ℕ) → text ≡ front ++ inside → AreEdited home edit lines (old ++ front) inside buffer list.passed
+  pub ends : list.passed.at.rest.now ≡ closing lines ++ list.end.now
+
+-- an argument of the name, whose lines are the text
+pub record IsListEdited (depth : ℕ) (home : Package) (edit : ListEdit) (text old buffer : List ℕ) (list : PassedList) : Type 0 where
+  pub inside : List ℕ
+  pub deep : 1 < depth
+  pub head : IsHeadRead edit.attr.now text (91 ∷ inside) true
+  pub all : AreElementsEdited home edit text inside old buffer list
+  pub last : IsLast list.end.now
+
+-- the argument of the name that is read of these lines alone
+pub record IsListRead (depth : ℕ) (attr lines : List ℕ) : Type 0 where
+  pub notes : List (List ℕ)
+  pub name : List ℕ
+  pub elements : List Element
+  pub suffix : Option (List ℕ)
+  pub named : bytes_eq attr name ≡ true
+  pub same : (args : List Segment) → AreReadAlone depth lines args → args ≡ list_arg notes name elements suffix ∷ []
+
+-- its elements are edited, so that some are left, and its lines are written after what was in the buffer
+pub record IsWritten (depth : ℕ) (home : Package) (edit : ListEdit) (lines old new : List ℕ) : Type 0 where
+  pub list : IsListRead depth edit.attr.now lines
+  pub some : have_meant home edit list.elements ≡ true
+  pub left : is_empty (edited home edit list.elements) ≡ false
+  pub written : List ℕ
+  pub put : new ≡ old ++ written
+  pub lines_are : written ≡ argument_lines (list_arg list.notes list.name (edited home edit list.elements) list.suffix ∷ [])
+
+-- its elements stay as they are
+pub record Stays (depth : ℕ) (home : Package) (edit : ListEdit) (lines : List ℕ) : Type 0 where
+  pub list : IsListRead depth edit.attr.now lines
+  pub none : have_meant home edit list.elements ≡ false
+
+abbrev pub EditsElements : ℕ → Package → ListEdit → List ℕ → List ℕ → List ℕ → EditedList → Type 0
+EditsElements depth home edit lines old new Unchanged = Stays depth home edit lines
+EditsElements depth home edit lines old new Written = IsWritten depth home edit lines old new

@@ -1,0 +1,246 @@
+//! Elements of a list of strings that go or become another, by the lines of the argument whose value the list is.
+//! `removed.rt` and `replaced.rt` say which.
+
+ghost use Rattle.std.specs.Prelude.{◌≡◌, ◌++◌, ℕ, List, IfOk, IfSome, IsTrue, OnOk, not, ◌&&◌};
+ghost use Rattle.bz_command.specs.Values.{value_of};
+ghost use Rattle.bz_canonical.specs.private.Edited.{AreElementsEdited, EditsElements, IsListEdited, IsQuoted, PassesElement, is_meant, one_more};
+
+use crate::added::{BRACKETS, is_value, list_of};
+use crate::front::before;
+use crate::lists::{
+    ReadElement, after_elements, is_last, is_on_lines, put_element, put_element_as, read_element,
+};
+use crate::put_arguments::Pending;
+use crate::value::either;
+use bz_command::{Package, has_value};
+use bz_memory::{NoMemory, extend_from_slice};
+
+/// What a command makes of an argument whose value is one list of strings.
+#[derive(Clone, Copy)]
+pub enum EditedList {
+    /// It stays.
+    Unchanged,
+    /// Its lines are in the buffer, after what was there.
+    Written,
+}
+
+/// Which elements of a list a command means: those that equal a word, and are not exactly what they would become.
+#[derive(Clone, Copy)]
+pub(crate) struct ListEdit<'c> {
+    /// The attribute whose list it is.
+    pub(crate) attr: &'c str,
+    pub(crate) word: &'c str,
+    /// What they become; without it they go.
+    pub(crate) new: Option<NewString<'c>>,
+}
+
+/// A value, and the string that is written for it.
+#[derive(Clone, Copy)]
+pub(crate) struct NewString<'c> {
+    pub(crate) value: &'c str,
+    pub(crate) literal: &'c [u8],
+}
+
+/// What the command makes of the argument that has these lines, where its value is one list of strings. `Written`: the
+/// lines that it has then are in the buffer, after its bytes. None: it may be no such list, or one that is left with no
+/// two elements. Without `Written` nothing is said of the buffer's bytes. Err: memory is wanting.
+pub(crate) fn put_edited(
+    home: &Package,
+    lines: &str,
+    edit: ListEdit<'_>,
+    max_depth: u8,
+    written: &mut Vec<u8>,
+) -> Result<Option<EditedList>, NoMemory>
+    requires { IsQuoted edit }
+    ensures { IfOk result (λ known. IfSome known
+        (EditsElements max_depth home.now edit.entry lines.now written.old.items written.new.items)) }
+{
+    let Some(list) = put_list_edited(home, lines, edit, max_depth, written)? else {
+        return Ok(None);
+    };
+    if !list.passed.meant {
+        return Ok(Some(EditedList::Unchanged));
+    }
+    if !list.passed.several {
+        return Ok(None);
+    }
+    if !put_pending(list.passed.at, written)? {
+        return Ok(None);
+    }
+    extend_from_slice(written, b"\n    ]".as_slice())?;
+    extend_from_slice(written, list.end)?;
+    Ok(Some(EditedList::Written))
+}
+
+/// Elements of a list that were passed. The lines of those that are left are in the buffer, or pending.
+#[derive(Clone, Copy)]
+struct Passed<'t> {
+    at: Pending<'t>,
+    /// There was one at least.
+    one: bool,
+    /// One was meant.
+    meant: bool,
+    /// One at least is left.
+    left: bool,
+    /// Two at least are left.
+    several: bool,
+}
+
+impl<'t> Passed<'t> {
+    /// One was passed more, and one is left more.
+    #[inline(always)]
+    fn with_one(self, at: Pending<'t>, meant: bool) -> Passed<'t>
+        ensures { result ≡ one_more self.entry at.entry meant }
+    {
+        Passed {
+            at,
+            one: true,
+            meant: either(self.meant, meant),
+            left: true,
+            several: either(self.several, self.left),
+        }
+    }
+}
+
+/// A list whose elements were passed.
+#[derive(Clone, Copy)]
+struct PassedList<'t> {
+    passed: Passed<'t>,
+    /// What follows the bracket after them.
+    end: &'t [u8],
+}
+
+/// Writes the argument of these lines, whose value is one list of strings, as the command leaves it, up to the bracket
+/// after its elements, after the buffer's bytes. What stands there as it is written may be pending at the end.
+fn put_list_edited<'t>(
+    home: &Package,
+    lines: &'t str,
+    edit: ListEdit<'_>,
+    max_depth: u8,
+    written: &mut Vec<u8>,
+) -> Result<Option<PassedList<'t>>, NoMemory>
+    requires { IsQuoted edit }
+    ensures { IfOk result (λ known. IfSome known
+        (IsListEdited max_depth home.now edit.entry lines.now written.old.items written.new.items)) }
+{
+    if max_depth < BRACKETS {
+        return Ok(None);
+    }
+    let from = lines.as_bytes();
+    let Some(rest) = list_of(from, edit.attr.as_bytes()) else {
+        return Ok(None);
+    };
+    let Some(list) = put_elements_edited(home, Pending { from, rest }, edit, written)? else {
+        return Ok(None);
+    };
+    if !is_last(list.end) {
+        return Ok(None);
+    }
+    Ok(Some(list))
+}
+
+/// The same of the elements here, after what is pending.
+fn put_elements_edited<'t>(
+    home: &Package,
+    begun: Pending<'t>,
+    edit: ListEdit<'_>,
+    written: &mut Vec<u8>,
+) -> Result<Option<PassedList<'t>>, NoMemory>
+    requires { IsQuoted edit }
+    ensures { IfOk result (λ known. IfSome known (AreElementsEdited home.now edit.entry begun.entry.from.now
+        begun.entry.rest.now written.old.items written.new.items)) }
+{
+    let lines = is_on_lines(begun.rest);
+    let mut passed = Passed {
+        at: begun,
+        one: false,
+        meant: false,
+        left: false,
+        several: false,
+    };
+    for _ in 0..begun.rest.len() {
+        if let Some(end) = after_elements(passed.at.rest, lines) {
+            return Ok(Some(PassedList { passed, end }));
+        }
+        let Some(next) = read_element(passed.at.rest, lines, passed.one) else {
+            return Ok(None);
+        };
+        let Some(meant) = is_meant(home, edit, next.string.token) else {
+            return Ok(None);
+        };
+        let Some(more) = pass_element(passed, next, meant, edit, written)? else {
+            return Ok(None);
+        };
+        passed = more;
+    }
+    Ok(None)
+}
+
+/// The command means this string. None: it is not known.
+#[inline(always)]
+fn is_meant(home: &Package, edit: ListEdit<'_>, token: &[u8]) -> Option<bool>
+    ensures { IfSome result (λ meant. meant ≡ is_meant home.now edit.entry token.now) }
+{
+    let equal = is_value(home, token, edit.word)?;
+    match edit.new {
+        Some(new) if equal => Some(!has_value(token, new.value.as_bytes())),
+        _ => Some(equal),
+    }
+}
+
+/// Passes one element more, which the command means or not.
+#[inline(always)]
+fn pass_element<'t>(
+    passed: Passed<'t>,
+    next: ReadElement<'t>,
+    meant: bool,
+    edit: ListEdit<'_>,
+    written: &mut Vec<u8>,
+) -> Result<Option<Passed<'t>>, NoMemory>
+    requires { IsQuoted edit }
+    ensures { IfOk result (λ known. IfSome known
+        (PassesElement passed.entry next.entry meant edit.entry written.old.items written.new.items)) }
+{
+    if !meant && !next.otherwise {
+        let at = Pending {
+            from: passed.at.from,
+            rest: next.rest,
+        };
+        return Ok(Some(passed.with_one(at, false)));
+    }
+    if !put_pending(passed.at, written)? {
+        return Ok(None);
+    }
+    let at = Pending {
+        from: next.rest,
+        rest: next.rest,
+    };
+    if !meant {
+        put_element(next, written)?;
+        return Ok(Some(passed.with_one(at, false)));
+    }
+    let Some(new) = edit.new else {
+        return Ok(Some(Passed {
+            at,
+            one: true,
+            meant: true,
+            left: passed.left,
+            several: passed.several,
+        }));
+    };
+    put_element_as(next, new.literal, written)?;
+    Ok(Some(passed.with_one(at, true)))
+}
+
+/// Writes what is pending. False: more is to be read than the text has.
+#[inline(always)]
+fn put_pending(at: Pending<'_>, written: &mut Vec<u8>) -> Result<bool, NoMemory>
+    ensures { IfOk result (λ put. IsTrue put → (part : List ℕ) → at.entry.from.now ≡ part ++ at.entry.rest.now
+        → written.new.items ≡ written.old.items ++ part) }
+{
+    let Some(part) = before(at.from, at.rest.len()) else {
+        return Ok(false);
+    };
+    extend_from_slice(written, part)?;
+    Ok(true)
+}

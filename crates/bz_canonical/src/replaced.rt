@@ -1,0 +1,46 @@
+//! A value that becomes another in an argument whose value is one list of strings, by the lines of the argument.
+
+ghost use Rattle.std.specs.Prelude.{◌≡◌, ◌++◌, ℕ, List, IfOk, IfSome};
+ghost use Rattle.bz_canonical.specs.Replaced.{ReplacesInLines};
+
+use crate::edited::{EditedList, ListEdit, NewString, put_edited};
+use bz_attribute::Env;
+use bz_command::quote;
+use bz_memory::NoMemory;
+
+/// A value, what it becomes, and the attribute whose list has it or not.
+#[derive(Clone, Copy)]
+pub struct ReplacedValue<'c> {
+    pub attr: &'c str,
+    pub old: &'c str,
+    pub new: &'c str,
+}
+
+/// What `replace` makes of the argument that has these lines, where its value is one list of strings
+/// (`execute_on_list` of bz_engine asks). `Unchanged`: no element equals the old value, but those that are exactly the
+/// new one. `Written`: those that do are the new value, and the lines are in the buffer, after its bytes. None: it may
+/// be no such list, or one that has no two elements. Without `Written` nothing is said of the buffer's bytes. Err:
+/// memory is wanting.
+pub fn put_replaced(
+    env: Env<'_>,
+    lines: &str,
+    replaced: ReplacedValue<'_>,
+    max_depth: u8,
+    written: &mut Vec<u8>,
+) -> Result<Option<EditedList>, NoMemory>
+    ensures { IfOk result (λ known. IfSome known (ReplacesInLines max_depth env.entry.home.now
+        replaced.entry.attr.now replaced.entry.old.now replaced.entry.new.now lines.now written.old.items
+        written.new.items)) }
+{
+    let literal = quote(env.alloc, replaced.new)?;
+    let new = NewString {
+        value: replaced.new,
+        literal: literal.as_bytes(),
+    };
+    let edit = ListEdit {
+        attr: replaced.attr,
+        word: replaced.old,
+        new: Some(new),
+    };
+    put_edited(env.home, lines, edit, max_depth, written)
+}
