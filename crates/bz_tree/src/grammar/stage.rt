@@ -192,6 +192,9 @@ pub(crate) fn advance(stage: &mut Stage, role: Role)
         (Stage::Wants(goal, condition), Role::Name | Role::Value | Role::Bracket) => {
             *stage = Stage::Has(goal, condition);
         }
+        (Stage::Wants(goal, condition), Role::Number) => {
+            *stage = Stage::HasNumber(goal, condition);
+        }
         (Stage::Statement, Role::Name) => *stage = Stage::Has(Goal::Left, false),
         (Stage::Argument, Role::Name) => *stage = Stage::Keyword,
         (Stage::Keyword, Role::Equals) => *stage = Stage::Wants(Goal::Alone, false),

@@ -87,13 +87,13 @@ impl<'a> RowWalk<'a> {
         ensures { IfOk result (λ some. then_some some (row_state self.new)
             ≡ comma_next self.old.top.kind (here_view self.old.top.here) (placed token.now) (row_state self.old)) }
     {
-        if self.top.kind.is_none() {
+        let Some(kind) = self.top.kind else {
             return self.push_other(token);
-        }
+        };
         match self.top.here {
             Here::Node(_, _) if may_end(self.top.read.stage) => {
                 push(&mut self.parts, Part::End)?;
-                self.top.add_comma(token.line);
+                self.top.add_comma(kind, token.line);
                 Ok(true)
             }
             _ => Ok(false),
