@@ -125,6 +125,7 @@ impl RowWriter {
         }
     }
 
+    #[inline(never)]
     fn open<T: NewLine>(&mut self, kind: GroupKind, out: &mut T) -> Result<(), NoMemory>
         requires { self.old.level + 1 < 2 ^ 64 }
         ensures { Lays result (opened kind) self.old (T.bytes out.old) self.new (T.bytes out.new) }
@@ -145,6 +146,7 @@ impl RowWriter {
         Ok(())
     }
 
+    #[inline(never)]
     fn close<T: NewLine>(&mut self, one_comma: bool, out: &mut T) -> Result<(), NoMemory>
         ensures { Lays result (closed_by one_comma) self.old (T.bytes out.old) self.new (T.bytes out.new) }
     {
