@@ -85,8 +85,11 @@ impl RowWriter {
         ensures { Puts result (T.bytes out.old) (T.bytes out.new) (due self.now.here self.now.left
             ++ gap_bytes (gap_for (first_gap self.now.here self.now.level) self.now.left closes)) }
     {
+        // Most tokens of broken brackets begin a line.
+        if self.here.mark.broken && matches!(self.left, Edge::Start) {
+            return out.new_line(self.level);
+        }
         match self.left {
-            Edge::Start if self.here.mark.broken => out.new_line(self.level),
             Edge::Start if self.here.later => out.put(", "),
             Edge::Operator | Edge::Operand if !closes => out.put_short(" "),
             _ => Ok(()),

@@ -199,8 +199,16 @@ pub(crate) fn advance(stage: &mut Stage, role: Role)
         (Stage::Argument, Role::Name) => *stage = Stage::Keyword,
         (Stage::Keyword, Role::Equals) => *stage = Stage::Wants(Goal::Alone, false),
         (Stage::Has(_, _), Role::Suffix) => {}
-        _ => *stage = next(*stage, role),
+        _ => advance_rarely(stage, role),
     }
+}
+
+// What `next` answers is in the memory of this call, so `advance` has none to clear.
+#[inline(never)]
+fn advance_rarely(stage: &mut Stage, role: Role)
+    ensures { stage.new ≡ next stage.old role }
+{
+    *stage = next(*stage, role);
 }
 
 /// The stage in which the first segment of a group begins.
