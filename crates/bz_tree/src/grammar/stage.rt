@@ -203,7 +203,7 @@ pub(crate) fn advance(stage: &mut Stage, role: Role)
     }
 }
 
-// What `next` answers is in the memory of this call, so `advance` has none to clear.
+// `next` answers in memory, which `advance` would have to clear at each token.
 #[inline(never)]
 fn advance_rarely(stage: &mut Stage, role: Role)
     ensures { stage.new ≡ next stage.old role }

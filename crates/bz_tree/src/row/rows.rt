@@ -1,7 +1,7 @@
 //! The row of a chunk's statement: a walk over the tokens that pushes its parts in order. `read.rt` calls `read_row`
 //! with all tokens of a chunk; `text_row.rt` gives them to a `RowWalk` in batches.
 
-ghost use Rattle.std.specs.Prelude.{ℕ, List, [], ◌≡◌, ◌++◌, ◌≤◌, ◌+◌, length, false, map, IfOk, IfSome, IsTrue, option_map, ◌^◌, ◌⊎◌, IfNone, None};
+ghost use Rattle.std.specs.Prelude.{ℕ, List, [], ◌≡◌, ◌↔◌, ◌++◌, ◌≤◌, ◌+◌, length, false, map, IfOk, IfSome, IsTrue, option_map, ◌^◌, ◌⊎◌, IfNone, None};
 ghost use Rattle.std.specs.Bool.{then_some};
 ghost use Rattle.bz_token.specs.Places.{Placed, placed};
 ghost use Rattle.bz_token.specs.Reading.{AreTokensOf};
@@ -291,7 +291,7 @@ fn comment_part<'a>(on_line: bool, text: &'a str) -> Part<'a>
 // Told at a glance, ahead of the other operators.
 #[inline(always)]
 fn is_comma(token: &Token<'_>) -> bool
-    ensures { IsTrue result → mark_of (placed token.now) ≡ Comma }
+    ensures { IsTrue result ↔ (mark_of (placed token.now) ≡ Comma) }
 {
     matches!(
         (token.kind, token.text.as_bytes()),
