@@ -85,8 +85,11 @@ impl RowWriter {
         ensures { Puts result (T.bytes out.old) (T.bytes out.new) (due self.now.here self.now.left
             ++ gap_bytes (gap_for (first_gap self.now.here self.now.level) self.now.left closes)) }
     {
+        // Most tokens of broken brackets begin a line.
+        if self.here.mark.broken && matches!(self.left, Edge::Start) {
+            return out.new_line(self.level);
+        }
         match self.left {
-            Edge::Start if self.here.mark.broken => out.new_line(self.level),
             Edge::Start if self.here.later => out.put(", "),
             Edge::Operator | Edge::Operand if !closes => out.put_short(" "),
             _ => Ok(()),
@@ -125,6 +128,7 @@ impl RowWriter {
         }
     }
 
+    #[inline(never)]
     fn open<T: NewLine>(&mut self, kind: GroupKind, out: &mut T) -> Result<(), NoMemory>
         requires { self.old.level + 1 < 2 ^ 64 }
         ensures { Lays result (opened kind) self.old (T.bytes out.old) self.new (T.bytes out.new) }
@@ -145,6 +149,7 @@ impl RowWriter {
         Ok(())
     }
 
+    #[inline(never)]
     fn close<T: NewLine>(&mut self, one_comma: bool, out: &mut T) -> Result<(), NoMemory>
         ensures { Lays result (closed_by one_comma) self.old (T.bytes out.old) self.new (T.bytes out.new) }
     {

@@ -21,6 +21,7 @@ use Rattle.bz_token.specs.Lexical.{begins, is_word_byte, is_blank, is_newline, i
 use Rattle.bz_token.specs.private.Closing.{closes}
 use Rattle.bz_token.specs.Faults.{IsBadCharacter, IsBadNumber, IsOpenText}
 use Rattle.bz_token.specs.Ends.{stops_at}
+use Rattle.bz_token.specs.Lengths.{front_word, word_length}
 use Rattle.bz_token.specs.private.Scans.{IsScanned}
 use Rattle.bz_token.proofs.Classes.{mark, unknown, can_start, is_mark}
 use Rattle.bz_token.proofs.Openings.{opens_plain, opening_front, closes_last, opening_facts}
@@ -132,6 +133,27 @@ number_scanned (b ∷ bs) first is =
 pub no_number : (bytes : List ℕ) → begins is_ascii_digit bytes ≡ true → is_number (take (prefix_len is_word_byte bytes) bytes) ≡ false → IsBadNumber bytes
 no_number [] first bad = absurd (false≢true first)
 no_number (b ∷ bs) first bad = record { digit = first; none = bad_number b bs first bad }
+
+-- a digit before what is no letter, digit or underscore
+pub one_digit : (bytes : List ℕ) → begins is_ascii_digit bytes ≡ true → 1 < length bytes → is_word_byte (get_or bytes 1 0) ≡ false → word_length Integer bytes ≡ 1
+one_digit [] first more after = absurd (false≢true first)
+one_digit (b ∷ []) first more after = absurd (omega arith)
+one_digit (b ∷ x ∷ bs) first more after =
+    let word : is_word_byte b ≡ true = digit_word b first in
+    let run : prefix_len is_word_byte (b ∷ x ∷ bs) ≡ 1 = rw (word, after) refl in
+    rw (run, first) refl
+
+pub measured_number : (bytes : List ℕ) (n : ℕ) → begins is_ascii_digit bytes ≡ true → n ≡ word_length Integer bytes → 0 < n → IsScanned bytes (record { kind = Integer; len = n; has_newline = false })
+measured_number bytes n first is some = elim (cases_Bool (is_number (front_word bytes))) [
+  | inl valid ↦ subst (λ k. IsScanned bytes (record { kind = Integer; len = k; has_newline = false })) (sym (rw valid at is)) (number_scanned bytes first valid)
+  | inr invalid ↦ absurd (omega (arith, rw invalid at is, some))
+]
+
+pub no_measured_number : (bytes : List ℕ) → begins is_ascii_digit bytes ≡ true → 0 ≡ word_length Integer bytes → IsBadNumber bytes
+no_measured_number bytes first is = elim (cases_Bool (is_number (front_word bytes))) [
+  | inl valid ↦ absurd (omega (arith, rw valid at is, (number_scanned bytes first valid).some))
+  | inr invalid ↦ no_number bytes first invalid
+]
 
 -- a run that begins with no digit
 pub name_scanned : (kind : Kind) (bytes : List ℕ) → opening bytes ≡ None → begins is_word_byte bytes ≡ true → begins is_ascii_digit bytes ≡ false

@@ -1,22 +1,24 @@
 //! The token at a place.
 
 ghost use Rattle.std.specs.Prelude.{◌≡◌, ◌<◌, ◌==◌, ◌||◌, Bool, Some, None, true, false, length, slice_index, IfOk, IfErr, IfSome, IfNone};
-ghost use Rattle.bz_token.specs.declared.token.Kind.TheVariants.{Comment, String};
+ghost use Rattle.bz_token.specs.declared.token.Kind.TheVariants.{Comment, Integer, String};
 ghost use Rattle.std.specs.Char.{is_ascii_digit};
 ghost use Rattle.bz_token.specs.Lexical.{begins, opening, is_word_byte};
 ghost use Rattle.bz_token.specs.Brackets.{is_opening_bracket, is_closing_bracket};
 ghost use Rattle.bz_token.specs.Faults.{IsOpenText};
+ghost use Rattle.bz_token.specs.Lengths.{word_length};
 ghost use Rattle.bz_token.specs.Reading.{begins_gap};
 ghost use Rattle.bz_token.specs.private.Scans.{IsScanned, IsBadPlace};
 ghost use Rattle.bz_token.specs.private.Steps.{IsStep, IsTokenStep, IsBadStep};
 ghost use Rattle.bz_token.specs.private.Tables.{is_single, IsMark};
 
 use crate::gap::{TokenGap, blanks, continued, newline};
-use crate::scan::{is_keyword, is_number, line_comment_len, operator_len};
+use crate::lengths::integer_len;
+use crate::scan::{is_keyword, line_comment_len, operator_len};
 use crate::scan_string::{Opening, closing_row, inside_at, opening_at, quoted_at};
-use crate::table::{ByteClass, class_at};
+use crate::table::{ByteClass, class_at, is_word_byte};
 use crate::token::Kind;
-use crate::word::{short_word_len, word_len};
+use crate::word::word_len;
 
 /// A token's kind and length.
 #[derive(Clone, Copy)]
@@ -86,17 +88,36 @@ fn scan_string(opened: Opening, bytes: &[u8]) -> Result<GapOrToken, Bad>
     }
 }
 
+// This is a call, so that the loop over the tokens stays small.
+#[inline(never)]
+fn long_number_len(bytes: &[u8]) -> usize
+    ensures { result ≡ word_length Integer bytes.now }
+{
+    integer_len(bytes)
+}
+
+// Most numbers have one digit.
+#[inline(always)]
+fn number_len(bytes: &[u8]) -> usize
+    requires { begins is_ascii_digit bytes.now ≡ true }
+    ensures { result ≡ word_length Integer bytes.now }
+{
+    match bytes {
+        [_, b, ..] if !is_word_byte(*b) => 1,
+        _ => long_number_len(bytes),
+    }
+}
+
 #[inline(always)]
 fn scan_number(bytes: &[u8]) -> Result<GapOrToken, Bad>
     requires digit { begins is_ascii_digit bytes.now ≡ true }
     ensures token { IfOk result (λ step. IsTokenStep bytes.now step) }
     ensures bad { IfErr result (λ bad. IsBadPlace bytes.now bad) }
 {
-    let len = short_word_len(bytes);
-    if !is_number(&bytes[..len]) {
-        return Err(Bad::Number);
+    match number_len(bytes) {
+        0 => Err(Bad::Number),
+        len => Ok(GapOrToken::Token(on_one_line(Kind::Integer, len))),
     }
-    Ok(GapOrToken::Token(on_one_line(Kind::Integer, len)))
 }
 
 #[inline(always)]

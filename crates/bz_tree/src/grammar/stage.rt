@@ -192,12 +192,23 @@ pub(crate) fn advance(stage: &mut Stage, role: Role)
         (Stage::Wants(goal, condition), Role::Name | Role::Value | Role::Bracket) => {
             *stage = Stage::Has(goal, condition);
         }
+        (Stage::Wants(goal, condition), Role::Number) => {
+            *stage = Stage::HasNumber(goal, condition);
+        }
         (Stage::Statement, Role::Name) => *stage = Stage::Has(Goal::Left, false),
         (Stage::Argument, Role::Name) => *stage = Stage::Keyword,
         (Stage::Keyword, Role::Equals) => *stage = Stage::Wants(Goal::Alone, false),
         (Stage::Has(_, _), Role::Suffix) => {}
-        _ => *stage = next(*stage, role),
+        _ => advance_rarely(stage, role),
     }
+}
+
+// `next` answers in memory, which `advance` would have to clear at each token.
+#[inline(never)]
+fn advance_rarely(stage: &mut Stage, role: Role)
+    ensures { stage.new ≡ next stage.old role }
+{
+    *stage = next(*stage, role);
 }
 
 /// The stage in which the first segment of a group begins.

@@ -1,7 +1,7 @@
 //! The row of a chunk's statement: a walk over the tokens that pushes its parts in order. `read.rt` calls `read_row`
 //! with all tokens of a chunk; `text_row.rt` gives them to a `RowWalk` in batches.
 
-ghost use Rattle.std.specs.Prelude.{ℕ, List, [], ◌≡◌, ◌++◌, ◌≤◌, ◌+◌, length, false, map, IfOk, IfSome, IsTrue, option_map, ◌^◌, ◌⊎◌, IfNone, None};
+ghost use Rattle.std.specs.Prelude.{ℕ, List, [], ◌≡◌, ◌↔◌, ◌++◌, ◌≤◌, ◌+◌, length, false, map, IfOk, IfSome, IsTrue, option_map, ◌^◌, ◌⊎◌, IfNone, None};
 ghost use Rattle.std.specs.Bool.{then_some};
 ghost use Rattle.bz_token.specs.Places.{Placed, placed};
 ghost use Rattle.bz_token.specs.Reading.{AreTokensOf};
@@ -9,6 +9,7 @@ ghost use Rattle.bz_token.specs.declared.token.Kind.TheVariants.{Operator};
 ghost use Rattle.bz_tree.specs.Tree.{Statement};
 ghost use Rattle.bz_tree.specs.Statement.{end_of};
 ghost use Rattle.bz_tree.specs.Chunk.{IsStatementIn};
+ghost use Rattle.bz_tree.specs.declared.tree.kinds.Mark.TheVariants.{Comma};
 ghost use Rattle.bz_tree.specs.Kinds.{mark_of, group_kind, operator_mark};
 ghost use Rattle.bz_tree.specs.RowReads.{has_row};
 ghost use Rattle.bz_tree.specs.Rows.{IsRowOf, part_view};
@@ -83,17 +84,18 @@ impl<'a> RowWalk<'a> {
         self.push_leaf(token, token.kind, token_role(token.kind, token.text))
     }
 
+    #[inline(always)]
     fn add_comma(&mut self, token: &Token<'a>) -> Result<bool, NoMemory>
         ensures { IfOk result (λ some. then_some some (row_state self.new)
             ≡ comma_next self.old.top.kind (here_view self.old.top.here) (placed token.now) (row_state self.old)) }
     {
-        if self.top.kind.is_none() {
+        let Some(kind) = self.top.kind else {
             return self.push_other(token);
-        }
+        };
         match self.top.here {
             Here::Node(_, _) if may_end(self.top.read.stage) => {
                 push(&mut self.parts, Part::End)?;
-                self.top.add_comma(token.line);
+                self.top.add_comma(kind, token.line);
                 Ok(true)
             }
             _ => Ok(false),
@@ -238,9 +240,20 @@ impl<'a> RowWalk<'a> {
         ensures none { (rest : List Placed) → IfOk result (λ some. some ≡ false
             → row_run (row_state self.old) (map placed tokens.now ++ rest) ≡ None) }
     {
-        for token in tokens {
+        let mut rest = tokens;
+        while let [token, after @ ..] = rest {
             if !self.step(token)? {
                 return Ok(false);
+            }
+            rest = after;
+            // After most nodes a comma is next.
+            if let [comma, after @ ..] = rest
+                && is_comma(comma)
+            {
+                if !self.add_comma(comma)? {
+                    return Ok(false);
+                }
+                rest = after;
             }
         }
         Ok(true)
@@ -273,6 +286,17 @@ fn comment_part<'a>(on_line: bool, text: &'a str) -> Part<'a>
     } else {
         Part::Above(text)
     }
+}
+
+// Told at a glance, ahead of the other operators.
+#[inline(always)]
+fn is_comma(token: &Token<'_>) -> bool
+    ensures { IsTrue result ↔ (mark_of (placed token.now) ≡ Comma) }
+{
+    matches!(
+        (token.kind, token.text.as_bytes()),
+        (Kind::Operator, [b','])
+    )
 }
 
 /// Whether a statement whose first token this is begins in column 1, and is no block; comment lines alone have none.

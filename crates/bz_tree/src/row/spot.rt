@@ -1,6 +1,6 @@
 //! Where the walk that reads a row stands in a bracket, or at the top.
 
-ghost use Rattle.std.specs.Prelude.{◌≡◌, not};
+ghost use Rattle.std.specs.Prelude.{◌≡◌, not, Some};
 ghost use Rattle.std.specs.Bool.{then_some};
 ghost use Rattle.bz_tree.specs.private.Machine.{kind_role};
 ghost use Rattle.bz_tree.specs.private.RowSteps.{here_view, is_ended, shown_kind, start, read_leaf, read_group, new_stand, stand, with_comma, is_lost, read_class, end_class, is_one_comma};
@@ -93,7 +93,9 @@ impl Read {
         if !matches!(self.naming, Naming::Never) {
             self.naming = named(self.naming, kind, text);
         }
-        self.assigns = self.assigns || is_assignment(role);
+        if is_assignment(role) {
+            self.assigns = true;
+        }
     }
 
     #[inline(always)]
@@ -142,7 +144,8 @@ impl<'a> Spot<'a> {
     }
 
     #[inline(always)]
-    pub(crate) fn add_comma(&mut self, line: u64)
+    pub(crate) fn add_comma(&mut self, kind: GroupKind, line: u64)
+        requires { self.old.kind ≡ Some kind }
         ensures { stand self.new ≡ with_comma line (stand self.old) }
     {
         self.done = match self.done {
@@ -150,7 +153,7 @@ impl<'a> Spot<'a> {
             _ => SegmentCount::More,
         };
         self.here = Here::Comma(line);
-        self.read = start(self.kind);
+        self.read = start(Some(kind));
         self.read.stage = later(self.read.stage);
     }
 
