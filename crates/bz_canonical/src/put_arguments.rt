@@ -1,14 +1,14 @@
 //! The arguments of a rule as they would be written, where lists of strings among them stand otherwise. `put_rule.rt`
 //! asks for all of them; `added.rt` and `commented.rt` ask for the head of the one argument whose lines they have.
 
-ghost use Rattle.std.specs.Prelude.{◌≡◌, ◌<◌, ℕ, List, Bool, bytes_eq, length, option_map, IfOk, IfSome, true, false};
+ghost use Rattle.std.specs.Prelude.{◌≡◌, ◌<◌, ℕ, List, Bool, length, option_map, IfOk, IfSome, true, false};
 ghost use Rattle.bz_tree.specs.declared.tree.GroupKind.TheVariants.{RuleCall};
 ghost use Rattle.bz_canonical.specs.private.Segments.{AreNotesFront, AreSegmentsFront};
 ghost use Rattle.bz_canonical.specs.private.Values.{AreNodesFront};
 ghost use Rattle.bz_canonical.specs.private.Rewritten.{AreArgumentsRead, AreOthersRead, AreRead, IsHeadRead, ArePlacedRead, IsPending, IsValueEnd, Puts, PutsArgument, pending, put_ends};
 
 use crate::comments::after_comments;
-use crate::front::{Word, after_identifier, after_line, after_word, before};
+use crate::front::{Word, after_identifier, after_line, after_word, are_same, before};
 use crate::lists::{after_comma, put_list};
 use crate::segments::{AfterLines, after_segments};
 use crate::string_list::after_string_list;
@@ -77,21 +77,6 @@ pub(crate) fn read_argument_head<'t>(text: &'t [u8], attr: &[u8]) -> Option<Argu
         value,
         named: are_same(attr, keyword),
     })
-}
-
-/// Whether these are the same bytes: seldom they are as many.
-#[inline(always)]
-fn are_same(a: &[u8], b: &[u8]) -> bool
-    ensures { result ≡ bytes_eq a.now b.now }
-{
-    a.len() == b.len() && are_equal(a, b)
-}
-
-#[inline(never)]
-fn are_equal(a: &[u8], b: &[u8]) -> bool
-    ensures { result ≡ bytes_eq a.now b.now }
-{
-    a == b
 }
 
 /// What follows the value of an argument here.
