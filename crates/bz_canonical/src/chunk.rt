@@ -89,39 +89,16 @@ pub fn read_canonical<'t, R: AsksOfRules>(
         return Ok(None);
     }
     let start = after_comments_above(text.as_bytes());
-    match read_rule_head(start) {
-        Some(head) => match name_in(text, head) {
-            Some(name) => {
-                let rule = NamedRule { text, head, name };
-                read_named_chunk(rule, asked, max_depth, written)
-            }
-            None => Ok(None),
-        },
-        None => read_rarer_chunk(text, start, asked, max_depth, written),
-    }
-}
-
-/// The same of the rule whose name is on a line of its own.
-#[inline(always)]
-fn read_named_chunk<'t, R: AsksOfRules>(
-    rule: NamedRule<'t>,
-    asked: Lookup<'_, R>,
-    max_depth: u8,
-    written: &'t mut Vec<u8>,
-) -> Result<Option<CanonicalChunk<'t>>, NoMemory>
-    requires depth { max_depth < 254 }
-    requires head { IsNamedRule rule }
-    ensures chunk { IfOk result (λ known. IfSome known (λ found. IsCanonical max_depth asked.entry.attr.now found.class
-        (option_map (λ name. name.now) found.name) (option_map (λ kind. kind.now) found.kind)
-        (option_map between found.place) found.chunk.now found.written.now rule.entry.text.now)) }
-    ensures left { IfOk result (λ known. IfSome known (λ found. IsTrue found.left
-        → R.leaves asked.entry.rules.now (option_map (λ name. name.now) found.name))) }
-{
-    if !asked.rules.asks_of(Some(rule.name)) {
-        return read_rule_chunk(rule, true, max_depth, written);
-    }
-    if asked.attr.is_empty() {
-        return read_rule_chunk(rule, false, max_depth, written);
+    let Some(head) = read_rule_head(start) else {
+        return read_rarer_chunk(text, start, asked, max_depth, written);
+    };
+    let Some(name) = name_in(text, head) else {
+        return Ok(None);
+    };
+    let rule = NamedRule { text, head, name };
+    let left = !asked.rules.asks_of(Some(name));
+    if left || asked.attr.is_empty() {
+        return read_rule_chunk(rule, left, max_depth, written);
     }
     read_asked_chunk(rule, asked.attr, max_depth, written)
 }

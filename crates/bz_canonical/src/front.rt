@@ -1,6 +1,6 @@
 //! What stands at the front of a text: a byte, a word, a token, the beginning of a line.
 
-ghost use Rattle.std.specs.Prelude.{◌≡◌, ◌∷◌, ◌++◌, ◌≤◌, ◌<◌, ◌-◌, ℕ, List, length, drop, take, IfSome};
+ghost use Rattle.std.specs.Prelude.{◌≡◌, ◌∷◌, ◌++◌, ◌≤◌, ◌<◌, ◌-◌, ℕ, List, bytes_eq, length, drop, take, IfSome};
 ghost use Rattle.std.specs.List.{prefix_len};
 ghost use Rattle.bz_token.specs.declared.token.Kind.TheVariants.{Comment, Identifier, Integer, String};
 ghost use Rattle.bz_token.specs.Lengths.{IsTokenOf};
@@ -281,4 +281,20 @@ pub(crate) fn after_line(text: &[u8], level: u8) -> Option<&[u8]>
     let rest = after(text, b'\n')?;
     let inner = after_indent(rest, level)?;
     Some(inner)
+}
+
+/// Whether these are the same bytes: seldom they are as many.
+#[inline(always)]
+pub(crate) fn are_same(a: &[u8], b: &[u8]) -> bool
+    ensures { result ≡ bytes_eq a.now b.now }
+{
+    a.len() == b.len() && are_equal(a, b)
+}
+
+// A comparison of bytes keeps both slices in memory: here that is in nobody's way.
+#[inline(never)]
+pub(crate) fn are_equal(a: &[u8], b: &[u8]) -> bool
+    ensures { result ≡ bytes_eq a.now b.now }
+{
+    a == b
 }

@@ -8,7 +8,7 @@ ghost use Rattle.bz_canonical.specs.private.Values.{AreNodesFront};
 ghost use Rattle.bz_canonical.specs.private.Rewritten.{AreArgumentsRead, AreOthersRead, AreRead, IsHeadRead, ArePlacedRead, IsPending, IsValueEnd, Puts, PutsArgument, pending, put_ends};
 
 use crate::comments::after_comments;
-use crate::front::{Word, after_identifier, after_line, after_word, before};
+use crate::front::{Word, after_identifier, after_line, after_word, are_same, before};
 use crate::lists::{after_comma, put_list};
 use crate::segments::{AfterLines, after_segments};
 use crate::string_list::after_string_list;
@@ -75,7 +75,7 @@ pub(crate) fn read_argument_head<'t>(text: &'t [u8], attr: &[u8]) -> Option<Argu
     let keyword = before(inner, equals.len())?;
     Some(ArgumentHead {
         value,
-        named: attr == keyword,
+        named: are_same(attr, keyword),
     })
 }
 

@@ -5,7 +5,7 @@ ghost use Rattle.bz_canonical.specs.Canonical.{HasArgumentName};
 ghost use Rattle.bz_canonical.specs.private.Statements.{IsRuleCallFront};
 
 use crate::comments::{after_comments, after_suffix};
-use crate::front::{Word, after, after_line, after_word, before, read_simple_string};
+use crate::front::{Word, after, after_line, after_word, are_equal, before, read_simple_string};
 use crate::group::after_group;
 use crate::segments::after_segments;
 use bz_tree::GroupKind;
@@ -113,7 +113,7 @@ fn begins_argument(text: &[u8], name: &[u8]) -> bool
     ensures { IsFalse result → (after : List ℕ) → text.now ≡ name.now ++ (codes " =" ++ after) → ⊥ }
 {
     match text.split_at_checked(name.len()) {
-        Some((front, rest)) => begins_equals(rest) && front == name,
+        Some((front, rest)) => begins_equals(rest) && are_equal(front, name),
         None => false,
     }
 }

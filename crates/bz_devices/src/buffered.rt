@@ -50,6 +50,8 @@ impl<W: Sink> Buffered<W> {
     }
 
     /// Takes all of the bytes, unless the sink fails.
+    // Most are few: a call would take longer than to keep them back.
+    #[inline(always)]
     pub fn put(&mut self, bytes: &[u8])
         ensures took { Took W.took self.old bytes.now self.new }
         ensures stops { Stops W.took W.failures self.old bytes.now self.new }
@@ -140,6 +142,8 @@ impl<W: Sink> Sink for Buffered<W> {
 
     ghost took_more = { λ a b c xs ys p q. took_more_lem W.took W.took_more a b c xs ys p q };
 
+    // Not in the way of a run that writes nothing.
+    #[inline(never)]
     fn write(&mut self, bytes: &[u8]) -> Result<usize, Failed> {
         self.put(bytes);
         if self.failed {

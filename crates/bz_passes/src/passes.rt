@@ -1,6 +1,6 @@
 //! The passes of a script, with an index of what their targets ask for.
 
-ghost use Rattle.std.specs.Prelude.{◌≡◌, ℕ, List, Option, option_map, IfOk, is_none, true};
+ghost use Rattle.std.specs.Prelude.{◌≡◌, ◌<◌, ℕ, List, Option, get_or, length, option_map, IfOk, IsTrue, is_none, None, true};
 ghost use Rattle.std.specs.List.Sorted.{IsNonDecreasingBy};
 ghost use Rattle.bz_passes.specs.Asked.{IsFirstFrom, may_mark};
 ghost use Rattle.bz_passes.specs.private.Indexes as spec;
@@ -62,7 +62,30 @@ impl<T: Keyed, C> Passes<T, C> {
     }
 
     /// The position, `from` or later, of the first pass that may mark what has this key.
+    #[inline(always)]
     pub fn first_from(&self, key: Key<'_>, from: usize) -> Option<usize>
+        ensures { IsFirstFrom (λ pass. may_mark key.entry (T.asked pass.target)) self.now from result }
+    {
+        // Most scripts begin with a target that asks for no name.
+        if from == 0 && self.begins_for_all() {
+            return Some(0);
+        }
+        self.first_by_key(key, from)
+    }
+
+    /// The first pass asks for no name.
+    #[inline(always)]
+    fn begins_for_all(&self) -> bool
+        ensures { IsTrue result → (0 < length self.now) × ((d : _) → T.asked (get_or self.now 0 d).target ≡ None) }
+    {
+        match self.as_slice() {
+            [first, ..] => first.target.asked().is_none(),
+            [] => false,
+        }
+    }
+
+    #[inline(never)]
+    fn first_by_key(&self, key: Key<'_>, from: usize) -> Option<usize>
         ensures { IsFirstFrom (λ pass. may_mark key.entry (T.asked pass.target)) self.now from result }
     {
         if self.passes.len() <= FEW {
