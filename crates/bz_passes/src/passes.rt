@@ -61,16 +61,16 @@ impl<T: Keyed, C> Passes<T, C> {
         self.passes.as_slice()
     }
 
-    /// The position, `from` or later, of the first pass that may mark what has this key.
+    /// The position of the first pass that may mark what has this key.
     #[inline(always)]
-    pub fn first_from(&self, key: Key<'_>, from: usize) -> Option<usize>
-        ensures { IsFirstFrom (λ pass. may_mark key.entry (T.asked pass.target)) self.now from result }
+    pub(crate) fn first(&self, key: Key<'_>) -> Option<usize>
+        ensures { IsFirstFrom (λ pass. may_mark key.entry (T.asked pass.target)) self.now 0 result }
     {
-        // Most scripts begin with a target that asks for no name.
-        if from == 0 && self.begins_for_all() {
+        // Most scripts begin with a target that asks for no name, or have no other.
+        if self.begins_for_all() {
             return Some(0);
         }
-        self.first_by_key(key, from)
+        self.first_from(key, 0)
     }
 
     /// The first pass asks for no name.
@@ -84,8 +84,8 @@ impl<T: Keyed, C> Passes<T, C> {
         }
     }
 
-    #[inline(never)]
-    fn first_by_key(&self, key: Key<'_>, from: usize) -> Option<usize>
+    /// The position, `from` or later, of the first pass that may mark what has this key.
+    pub fn first_from(&self, key: Key<'_>, from: usize) -> Option<usize>
         ensures { IsFirstFrom (λ pass. may_mark key.entry (T.asked pass.target)) self.now from result }
     {
         if self.passes.len() <= FEW {

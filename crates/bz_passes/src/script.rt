@@ -175,7 +175,7 @@ pub fn passes_by<L: Language>(
         → IsKeyOf (L.meaning language.now) L.Target.asked slot key.entry
         → IsPassedBy (L.meaning language.now) (L.changes language.now) (L.fails language.now) passes.now slot }
 {
-    passes.first_from(key, 0).is_none()
+    passes.first(key).is_none()
 }
 
 /// The position of a pass beside which none may mark what has this key: `run_script` on such a slot would do what this
@@ -194,7 +194,7 @@ pub fn only_pass<L: Language>(
     if count == 1 {
         return Some(0);
     }
-    let at = passes.first_from(key, 0)?;
+    let at = passes.first(key)?;
     if at + 1 == count {
         return Some(at);
     }

@@ -50,6 +50,7 @@ impl Texts {
     }
 
     /// Appends a text. `Err`: allocation failed, and nothing changed.
+    #[inline(always)]
     pub fn push(&mut self, text: &str) -> Result<(), NoMemory>
         ensures pushed { OnOk result (self.new ≡ self.old ++ text.now ∷ []) }
         ensures stays { OnErr result (self.new ≡ self.old) }

@@ -6,10 +6,10 @@ use Rattle.bz_passes.proofs.script.passes_by.Goals as goal
 
 pub returns-clause-is : goal.returns-clause-is
 returns-clause-is g c =
-    none_from_start {X = Pass g.row.L-Target.Denot g.row.L-Command.Denot} (λ pass. may_mark c.args.key (g.L.Target.Keyed.asked pass.target)) c.args.passes.now c.first_from.result c.is_none.result
-    c.first_from.ensures c.is_none.ensures
+    none_from_start {X = Pass g.row.L-Target.Denot g.row.L-Command.Denot} (λ pass. may_mark c.args.key (g.L.Target.Keyed.asked pass.target)) c.args.passes.now c.first.result c.is_none.result
+    c.first.ensures c.is_none.ensures
 
 pub returns-clause-law : goal.returns-clause-law
 returns-clause-law g c is slot has =
-    passed_by (g.L.Language.meaning c.args.language.now) (g.L.Language.changes c.args.language.now) (g.L.Language.fails c.args.language.now) g.L.Target.Keyed.asked c.args.passes.now slot c.args.key c.first_from.result
-    c.first_from.ensures (c.is_none.ensures ∙ ap not is) has
+    passed_by (g.L.Language.meaning c.args.language.now) (g.L.Language.changes c.args.language.now) (g.L.Language.fails c.args.language.now) g.L.Target.Keyed.asked c.args.passes.now slot c.args.key c.first.result
+    c.first.ensures (c.is_none.ensures ∙ ap not is) has
