@@ -66,6 +66,14 @@ pub fn is_number(bytes: &[u8]) -> bool
 fn are(bytes: &[u8], word: &[u8]) -> bool
     ensures { result ≡ bytes_eq bytes.now word.now }
 {
+    bytes.len() == word.len() && are_equal(bytes, word)
+}
+
+// A comparison of bytes keeps both slices in memory: here that is in nobody's way.
+#[inline(never)]
+fn are_equal(bytes: &[u8], word: &[u8]) -> bool
+    ensures { result ≡ bytes_eq bytes.now word.now }
+{
     bytes == word
 }
 
