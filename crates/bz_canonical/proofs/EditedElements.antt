@@ -1,7 +1,7 @@
 -- Elements of which some go or become another, and their lines.
-use Rattle.std.proofs.Common.{◌≡◌, ◌+◌, ℕ, List, [], ◌∷◌, ◌++◌, length, Bool, true, false, ◌||◌, ◌&&◌, not, if◌then◌else◌, refl, sym, ap, subst, ◌∙◌, append_assoc, append-nil}
+use Rattle.std.proofs.Common.{◌≡◌, ◌+◌, ℕ, List, [], ◌∷◌, ◌++◌, length, Bool, true, false, ◌||◌, if◌then◌else◌, refl, sym, ap, ◌∙◌, append_assoc, append-nil}
 use Rattle.std.proofs.lemmas.List.Folds.{list_any-append}
-use Rattle.std.specs.Prelude.{codes, nat_le, Option, None, Some}
+use Rattle.std.specs.Prelude.{nat_le, None, Some}
 use Rattle.bz_command.specs.Labels.{Package}
 use Rattle.bz_command.specs.Values.{quoted}
 use Rattle.bz_layout.specs.Pieces.{bytes_of, comments, indent, suffix_piece}
@@ -51,6 +51,17 @@ stays_one home edit e told = ap (λ b. if b then become edit.new e else e ∷ []
 
 becomes_one : (home : Package) (edit : ListEdit) (e : Element) → true ≡ is_meant home edit e.token → edited_one home edit e ≡ become edit.new e
 becomes_one home edit e told = ap (λ b. if b then become edit.new e else e ∷ []) (sym told)
+
+-- where none is meant, all stay
+pub stay_all : (home : Package) (edit : ListEdit) (es : List Element) → have_meant home edit es ≡ false → edited home edit es ≡ es
+stay_all home edit [] none = refl
+stay_all home edit (e ∷ es) none =
+    let both = or_neither (is_meant home edit e.token) (have_meant home edit es) none in
+    ap (λ (xs : List Element). xs ++ edited home edit es) (stays_one home edit e (sym both.0)) ∙ ap (λ (xs : List Element). e ∷ xs) (stay_all home edit es both.1)
+  where
+    or_neither : (a b : Bool) → (a || b) ≡ false → (a ≡ false) × (b ≡ false)
+    or_neither true b none = absurd cc
+    or_neither false b none = (refl, none)
 
 -- what is passed
 
@@ -137,15 +148,15 @@ edited_put home edit lines front inside old put new p read k e told pending new_
     (λ all h. held_put old put new (element_written read) all p.at read pending new_is h)
 
 -- it becomes another
-pub edited_as : (home : Package) (edit : ListEdit) (lines : Bool) (front inside old put new : List ℕ) (p : Passed) (read : ReadElement) (other : NewString) → AreEdited home edit lines front inside old p → IsElementRead lines p.one p.at.rest.now read
-    → true ≡ is_meant home edit read.string.token.now → edit.new ≡ Some other → other.literal.now ≡ quoted other.value.now → ((part : List ℕ) → p.at.from.now ≡ part ++ p.at.rest.now → put ≡ old ++ part)
-    → new ≡ put ++ (read.front.now ++ (other.literal.now ++ read.back.now)) → AreEdited home edit lines front inside new (one_more p (record { from = read.rest; rest = read.rest }) true)
-edited_as home edit lines front inside old put new p read other k e told some quoted_is pending new_is =
+pub edited_as : (home : Package) (edit : ListEdit) (lines : Bool) (front inside old put new literal : List ℕ) (p : Passed) (read : ReadElement) (other : NewString) → AreEdited home edit lines front inside old p → IsElementRead lines p.one p.at.rest.now read
+    → true ≡ is_meant home edit read.string.token.now → edit.new ≡ Some other → literal ≡ quoted other.value.now → ((part : List ℕ) → p.at.from.now ≡ part ++ p.at.rest.now → put ≡ old ++ part)
+    → new ≡ put ++ (read.front.now ++ (literal ++ read.back.now)) → AreEdited home edit lines front inside new (one_more p (record { from = read.rest; rest = read.rest }) true)
+edited_as home edit lines front inside old put new literal p read other k e told some quoted_is pending new_is =
     let is : true ≡ is_meant home edit e.element.token = told ∙ ap (is_meant home edit) (sym e.token_is) in
     let x : Element = record e.element { token = quoted other.value.now } in
     let C : List ℕ = bytes_of (comments 2 e.element.before) in
     let S : List ℕ = bytes_of (suffix_piece e.element.suffix) in
-    let line : List ℕ = read.front.now ++ (other.literal.now ++ read.back.now) in
+    let line : List ℕ = read.front.now ++ (literal ++ read.back.now) in
     let line_is : line ≡ element_line (respell String) x = (λ i. e.front_is i ++ (quoted_is i ++ e.back_is i)) ∙ append_assoc C (10 ∷ indent 2) (quoted other.value.now ++ (44 ∷ S)) in
     edited_more home edit lines front inside old new line p read (record { from = read.rest; rest = read.rest }) true k e x (becomes_one home edit e.element is ∙ ap (λ new. become new e.element) some) line_is is
     (λ all h. held_put old put new line all p.at read pending new_is h)

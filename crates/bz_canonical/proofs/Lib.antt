@@ -19,9 +19,10 @@ pub mod Pendings
 pub mod AddedElements
 pub mod PutArguments
 pub mod PutRules
-pub mod AddedLines
+pub mod ListLines
 pub mod EditedElements
 pub mod EditedLines
+pub mod AddedLines
 pub mod RemovedLines
 pub mod ReplacedLines
 pub mod CommentedLines

@@ -1,9 +1,8 @@
 -- What `remove` of one value makes of an argument whose value is one list of strings.
 use Rattle.std.proofs.Common.{◌≡◌, ℕ, List, [], ◌∷◌, ◌++◌, Bool, true, false, ◌||◌, ◌&&◌, not, refl, sym, ap, ◌∙◌, subst, bytes_eq}
 use Rattle.std.specs.Prelude.{codes, Option, None, Some, Result, Ok, Err, IfOk, IfSome, if◌then◌else◌}
-use Rattle.std.specs.List.{list_any}
 use Rattle.bz_token.specs.Common.{is_empty}
-use Rattle.bz_token.specs.declared.token.Kind.TheVariants.{Identifier, Operator, String}
+use Rattle.bz_token.specs.declared.token.Kind.TheVariants.{Identifier, Operator}
 use Rattle.bz_tree.proofs.Rows.FromParts.{segs_back}
 use Rattle.bz_tree.specs.declared.tree.GroupKind.TheVariants.{List as ListKind}
 use Rattle.bz_tree.specs.Tree.{leaf, group, Segment, segments, segs_of}
@@ -14,34 +13,22 @@ use Rattle.bz_list_commands.specs.Remove.{remove, removes}
 use Rattle.bz_attribute.specs.Effects.{filtered, unchosen}
 use Rattle.bz_attribute.specs.Lists.{edit_parts, with_value}
 use Rattle.bz_attribute.specs.Rules.{value}
-use Rattle.bz_canonical.specs.Canonical.{AreReadAlone, argument_lines}
+use Rattle.bz_canonical.specs.Canonical.{argument_lines}
 use Rattle.bz_canonical.specs.Removed.{IsRemoved, RemovesFromLines}
 use Rattle.bz_canonical.specs.declared.edited.EditedList.{EditedList}
 use Rattle.bz_canonical.specs.declared.edited.EditedList.TheVariants.{Unchanged, Written}
 use Rattle.bz_canonical.specs.declared.edited.ListEdit.{ListEdit}
-use Rattle.bz_canonical.specs.private.Added.{have_word, is_word, list_arg}
+use Rattle.bz_canonical.specs.private.Added.{is_word, list_arg}
 use Rattle.bz_canonical.specs.private.Edited.{EditsElements, edited, have_meant}
 use Rattle.bz_canonical.specs.private.Rewritten.{Element, element_segs}
-use Rattle.bz_canonical.proofs.AddedLines.{chooses_is}
-use Rattle.bz_canonical.proofs.EditedLines.{segment_of}
-
-abbrev removing : ListEdit → ListEdit
-removing edit = record edit { new = None }
-
--- those that equal the value are meant
-have_is : (home : Package) (edit : ListEdit) (es : List Element) → have_meant home (removing edit) es ≡ have_word home edit.word.now es
-have_is home edit [] = refl
-have_is home edit (e ∷ es) = λ i. by (is_word home edit.word.now e.token) i || have_is home edit es i
-  where
-    by : (b : Bool) → (b && true) ≡ b
-    by true = refl
-    by false = refl
+use Rattle.bz_canonical.proofs.EditedLines.{have_is, no_new, segment_of}
+use Rattle.bz_canonical.proofs.ListLines.{chooses_is}
 
 -- the argument
 
-unchosen_is : (home : Package) (edit : ListEdit) (es : List Element) → unchosen home (Values (edit.word.now ∷ [])) (segments (element_segs es)) ≡ segments (element_segs (edited home (removing edit) es))
+unchosen_is : (home : Package) (edit : ListEdit) (es : List Element) → unchosen home (Values (edit.word.now ∷ [])) (segments (element_segs es)) ≡ segments (element_segs (edited home (no_new edit) es))
 unchosen_is home edit [] = refl
-unchosen_is home edit (e ∷ es) = by (is_word home edit.word.now e.token) (unchosen home (Values (edit.word.now ∷ [])) (segments (element_segs es))) (edited home (removing edit) es) (unchosen_is home edit es)
+unchosen_is home edit (e ∷ es) = by (is_word home edit.word.now e.token) (unchosen home (Values (edit.word.now ∷ [])) (segments (element_segs es))) (edited home (no_new edit) es) (unchosen_is home edit es)
   where
     by : (b : Bool) (ss : List Segment) (left : List Element) → ss ≡ segments (element_segs left) → (if not (b || false) then segment_of e ∷ ss else ss) ≡ segments (element_segs ((if b && true then [] else e ∷ []) ++ left))
     by true ss left is = is
@@ -62,17 +49,17 @@ filtered_is f word notes es left suffix is some =
     ap (λ b. if b then [] else with_value (edit_parts f (value a)) a ∷ []) (loses_none (is_empty (segments (element_segs es))) (is_empty (f (segments (element_segs es)))) (ap is_empty is ∙ some_segments left some))
     ∙ ap (λ ss. record { before = notes; nodes = leaf Identifier word ∷ leaf Operator (codes "=") ∷ group ListKind ss false [] ∷ []; suffix = suffix } ∷ []) (ap segs_of is ∙ segs_back (element_segs left))
 
-remove_is : (home : Package) (edit : ListEdit) (word : List ℕ) (notes : List (List ℕ)) (es : List Element) (suffix : Option (List ℕ)) → bytes_eq edit.attr.now word ≡ true → is_empty (edited home (removing edit) es) ≡ false
-    → remove home (Named edit.attr.now) (edit.word.now ∷ []) (list_arg notes word es suffix ∷ []) ≡ list_arg notes word (edited home (removing edit) es) suffix ∷ []
+remove_is : (home : Package) (edit : ListEdit) (word : List ℕ) (notes : List (List ℕ)) (es : List Element) (suffix : Option (List ℕ)) → bytes_eq edit.attr.now word ≡ true → is_empty (edited home (no_new edit) es) ≡ false
+    → remove home (Named edit.attr.now) (edit.word.now ∷ []) (list_arg notes word es suffix ∷ []) ≡ list_arg notes word (edited home (no_new edit) es) suffix ∷ []
 remove_is home edit word notes es suffix named some =
-    rw named (ap (λ (xs : List Segment). xs ++ []) (filtered_is (unchosen home (Values (edit.word.now ∷ []))) word notes es (edited home (removing edit) es) suffix (unchosen_is home edit es) some))
+    rw named (ap (λ (xs : List Segment). xs ++ []) (filtered_is (unchosen home (Values (edit.word.now ∷ []))) word notes es (edited home (no_new edit) es) suffix (unchosen_is home edit es) some))
 
 removes_is : (home : Package) (edit : ListEdit) (word : List ℕ) (notes : List (List ℕ)) (es : List Element) (suffix : Option (List ℕ)) → bytes_eq edit.attr.now word ≡ true
-    → removes home (Named edit.attr.now) (edit.word.now ∷ []) (list_arg notes word es suffix ∷ []) ≡ have_meant home (removing edit) es
+    → removes home (Named edit.attr.now) (edit.word.now ∷ []) (list_arg notes word es suffix ∷ []) ≡ have_meant home (no_new edit) es
 removes_is home edit word notes es suffix named = chooses_is home edit.attr.now edit.word.now word notes es suffix named ∙ sym (have_is home edit es)
 
 -- what is made of its lines
-removes_lines : (depth : ℕ) (home : Package) (edit : ListEdit) (lines old new : List ℕ) (told : Option EditedList) → IfSome told (EditsElements depth home (removing edit) lines old new)
+removes_lines : (depth : ℕ) (home : Package) (edit : ListEdit) (lines old new : List ℕ) (told : Option EditedList) → IfSome told (EditsElements depth home (no_new edit) lines old new)
     → IfSome told (RemovesFromLines depth home edit.attr.now edit.word.now lines old new)
 removes_lines depth home edit lines old new None known = tt
 removes_lines depth home edit lines old new (Some Unchanged) stays =
@@ -90,7 +77,7 @@ removes_lines depth home edit lines old new (Some Written) put =
       }),
     )
 
-pub removes_read : {E : Type 0} (depth : ℕ) (home : Package) (edit : ListEdit) (lines old new : List ℕ) (r : Result (Option EditedList) E) → IfOk r (λ told. IfSome told (EditsElements depth home (removing edit) lines old new))
+pub removes_read : {E : Type 0} (depth : ℕ) (home : Package) (edit : ListEdit) (lines old new : List ℕ) (r : Result (Option EditedList) E) → IfOk r (λ told. IfSome told (EditsElements depth home (no_new edit) lines old new))
     → IfOk r (λ told. IfSome told (RemovesFromLines depth home edit.attr.now edit.word.now lines old new))
 removes_read depth home edit lines old new (Ok told) known = removes_lines depth home edit lines old new told known
 removes_read depth home edit lines old new (Err e) known = known

@@ -1,9 +1,9 @@
 -- What `replace` of a value makes of an argument whose value is one list of strings.
-use Rattle.std.proofs.Common.{◌≡◌, ℕ, List, [], ◌∷◌, ◌++◌, Bool, true, false, ◌||◌, ◌&&◌, not, refl, sym, ap, ◌∙◌, subst, bytes_eq, map}
+use Rattle.std.proofs.Common.{◌≡◌, ℕ, List, [], ◌∷◌, ◌++◌, Bool, true, false, ◌||◌, refl, sym, ap, ◌∙◌, subst, bytes_eq, map}
 use Rattle.std.specs.Prelude.{codes, Option, None, Some, Result, Ok, Err, IfOk, IfSome, if◌then◌else◌}
 use Rattle.std.specs.List.{list_any}
 use Rattle.bz_token.specs.Common.{is_empty, map_or}
-use Rattle.bz_token.specs.declared.token.Kind.TheVariants.{Identifier, Operator, String}
+use Rattle.bz_token.specs.declared.token.Kind.TheVariants.{Identifier, Operator}
 use Rattle.bz_tree.proofs.Rows.FromParts.{segs_back}
 use Rattle.bz_tree.specs.declared.tree.GroupKind.TheVariants.{List as ListKind}
 use Rattle.bz_tree.specs.Tree.{leaf, group, Segment, segments, segs_of}
@@ -20,9 +20,9 @@ use Rattle.bz_canonical.specs.declared.edited.NewString.{NewString}
 use Rattle.bz_canonical.specs.private.Added.{list_arg}
 use Rattle.bz_canonical.specs.private.Edited.{EditsElements, edited, have_meant, is_meant}
 use Rattle.bz_canonical.specs.private.Rewritten.{Element, element_segs}
-use Rattle.bz_canonical.proofs.AddedLines.{first_is}
 use Rattle.bz_canonical.proofs.EditedLines.{segment_of}
 use Rattle.bz_canonical.proofs.GroupSegments.{or_no}
+use Rattle.bz_canonical.proofs.ListLines.{first_is}
 
 abbrev replacing : ListEdit → NewString → ListEdit
 replacing edit new = record edit { new = Some new }

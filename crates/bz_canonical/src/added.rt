@@ -1,16 +1,15 @@
 //! A value that is looked for in an argument whose value is one list of strings, or added to it, by the lines of the
 //! argument.
 
-ghost use Rattle.std.specs.Prelude.{◌≡◌, ◌∷◌, ◌++◌, ℕ, List, IfOk, IfSome, IsTrue, OnOk, true};
+ghost use Rattle.std.specs.Prelude.{◌≡◌, ◌<◌, ◌∷◌, ◌++◌, IfOk, IfSome, IsTrue, OnOk, true};
 ghost use Rattle.bz_canonical.specs.Added.{AddsToLines, LacksInLines};
-ghost use Rattle.bz_canonical.specs.private.Added.{IsListFound, IsListTold, AreElementsFound, is_word, last_line};
+ghost use Rattle.bz_canonical.specs.private.Added.{is_word, last_line};
 ghost use Rattle.bz_canonical.specs.private.Rewritten.{IsHeadRead};
 
-use crate::edited::EditedList;
-use crate::front::{after, before};
-use crate::lists::{after_elements, is_last, is_on_lines, put_elements, read_element};
+use crate::edited::{EditedList, ListEdit, put_list_edited, put_pending};
+use crate::front::after;
+use crate::lists::{after_elements, is_last, is_on_lines, read_element};
 use crate::put_arguments::read_argument_head;
-use crate::value::either;
 use bz_attribute::equals::text_equals;
 use bz_attribute::{Env, literal_apart};
 use bz_command::{Package, quote};
@@ -26,7 +25,7 @@ pub struct ListValue<'c> {
 }
 
 // The argument is in two brackets, its own and the rule's.
-pub(crate) const BRACKETS: u8 = 2;
+const BRACKETS: u8 = 2;
 
 /// What `add` makes of the argument that has these lines, where its value is one list of strings (`execute_on_list` of
 /// bz_engine asks). `Unchanged`: an element equals the value. `Written`: the value is an element more, and the lines are
@@ -42,17 +41,22 @@ pub fn put_added(
     ensures { IfOk result (λ known. IfSome known (AddsToLines max_depth env.entry.home.now new.entry.attr.now
         new.entry.value.now lines.now written.old.items written.new.items)) }
 {
-    let Some(list) = find_list(env.home, lines, new, max_depth) else {
+    let sought = ListEdit {
+        attr: new.attr,
+        word: new.value,
+        new: None,
+    };
+    let Some(list) = put_list_edited(env.home, lines, sought, max_depth, written)? else {
         return Ok(None);
     };
-    if list.equal {
+    if list.passed.meant {
         return Ok(Some(EditedList::Unchanged));
     }
-    let Some(put) = put_list(lines, list, written)? else {
+    if !put_pending(list.passed.at, written)? {
         return Ok(None);
-    };
-    put_last(env.alloc, new.value, put.one, written)?;
-    extend_from_slice(written, put.rest)?;
+    }
+    put_last(env.alloc, new.value, list.passed.one, written)?;
+    extend_from_slice(written, list.end)?;
     Ok(Some(EditedList::Written))
 }
 
@@ -61,88 +65,45 @@ pub fn put_added(
 pub fn lacks(home: &Package, lines: &str, sought: ListValue<'_>, max_depth: u8) -> bool
     ensures { IsTrue result → LacksInLines max_depth home.now sought.entry.attr.now sought.entry.value.now lines.now }
 {
-    match find_list(home, lines, sought, max_depth) {
-        Some(list) => !list.equal,
-        None => false,
+    let Some(inside) = list_of(lines.as_bytes(), sought.attr.as_bytes(), max_depth) else {
+        return false;
+    };
+    let on_lines = is_on_lines(inside);
+    let mut rest = inside;
+    let mut one = false;
+    for _ in 0..inside.len() {
+        if let Some(end) = after_elements(rest, on_lines) {
+            return is_last(end);
+        }
+        let Some(next) = read_element(rest, on_lines, one) else {
+            return false;
+        };
+        let Some(equal) = is_value(home, next.string.token, sought.value) else {
+            return false;
+        };
+        if equal {
+            return false;
+        }
+        rest = next.rest;
+        one = true;
     }
+    false
 }
 
-/// A list of strings in which a value was looked for.
-#[derive(Clone, Copy)]
-struct FoundList<'t> {
-    /// What follows its first bracket.
-    inside: &'t [u8],
-    /// The bracket after its elements, and what follows it.
-    bracket: &'t [u8],
-    /// What follows that bracket.
-    end: &'t [u8],
-    /// There is one element at least.
-    one: bool,
-    /// One equals the value.
-    equal: bool,
-    /// One stands otherwise than it is written on lines.
-    otherwise: bool,
-}
-
-/// The list of strings that is the value of the argument of these lines.
-fn find_list<'t>(
-    home: &Package,
-    lines: &'t str,
-    sought: ListValue<'_>,
-    max_depth: u8,
-) -> Option<FoundList<'t>>
-    ensures { IfSome result (IsListFound max_depth home.now sought.entry.attr.now sought.entry.value.now lines.now) }
+/// What follows the bracket of the list that is the value of the argument here.
+pub(crate) fn list_of<'t>(text: &'t [u8], attr: &[u8], max_depth: u8) -> Option<&'t [u8]>
+    ensures deep { IfSome result (λ inside. 1 < max_depth) }
+    ensures head { IfSome result (λ inside. IsHeadRead attr.now text.now (91 ∷ inside.now) true) }
 {
     if max_depth < BRACKETS {
         return None;
     }
-    let inside = list_of(lines.as_bytes(), sought.attr.as_bytes())?;
-    let list = find_elements(home, inside, sought.value)?;
-    if !is_last(list.end) {
-        return None;
-    }
-    Some(list)
-}
-
-/// What follows the bracket of the list that is the value of the argument here.
-pub(crate) fn list_of<'t>(text: &'t [u8], attr: &[u8]) -> Option<&'t [u8]>
-    ensures { IfSome result (λ inside. IsHeadRead attr.now text.now (91 ∷ inside.now) true) }
-{
     let read = read_argument_head(text, attr)?;
     if !read.named {
         return None;
     }
     let inside = after(read.value, b'[')?;
     Some(inside)
-}
-
-/// The elements here, and the bracket after them.
-fn find_elements<'t>(home: &Package, inside: &'t [u8], value: &str) -> Option<FoundList<'t>>
-    ensures { IfSome result (AreElementsFound home.now value.now inside.now) }
-{
-    let lines = is_on_lines(inside);
-    let mut rest = inside;
-    let mut one = false;
-    let mut equal = false;
-    let mut otherwise = false;
-    for _ in 0..inside.len() {
-        if let Some(end) = after_elements(rest, lines) {
-            return Some(FoundList {
-                inside,
-                bracket: rest,
-                end,
-                one,
-                equal,
-                otherwise,
-            });
-        }
-        let next = read_element(rest, lines, one)?;
-        equal = either(equal, is_value(home, next.string.token, value)?);
-        otherwise = either(otherwise, next.otherwise);
-        rest = next.rest;
-        one = true;
-    }
-    None
 }
 
 /// The string equals the value. None: it is not known.
@@ -157,57 +118,6 @@ pub(crate) fn is_value(home: &Package, token: &[u8], value: &str) -> Option<bool
         return None;
     };
     Some(text_equals(home, literal, value))
-}
-
-/// What is left of an argument that is written up to the bracket after the elements of its list.
-#[derive(Clone, Copy)]
-struct ListEnd<'t> {
-    /// What follows that bracket.
-    rest: &'t [u8],
-    /// There is one element at least.
-    one: bool,
-}
-
-/// Writes the argument up to the bracket after the elements of its list, each on lines of its own, after the buffer's
-/// bytes.
-fn put_list<'t>(
-    lines: &'t str,
-    list: FoundList<'t>,
-    written: &mut Vec<u8>,
-) -> Result<Option<ListEnd<'t>>, NoMemory>
-    ensures { IfOk result (λ known. IfSome known (λ end. (w : List ℕ) × (written.new.items ≡ written.old.items ++ w)
-        × ((depth : ℕ) (home : Package) (attr value : List ℕ) → IsListFound depth home attr value lines.now list.entry
-        → IsListTold depth attr lines.now end.rest.now w end.one))) }
-{
-    let text = lines.as_bytes();
-    if !list.otherwise {
-        let Some(plain) = before(text, list.bracket.len()) else {
-            return Ok(None);
-        };
-        extend_from_slice(written, plain)?;
-        return Ok(Some(ListEnd {
-            rest: list.end,
-            one: list.one,
-        }));
-    }
-    let Some(front) = before(text, list.inside.len()) else {
-        return Ok(None);
-    };
-    extend_from_slice(written, front)?;
-    let on_lines = is_on_lines(list.inside);
-    let Some(first) = read_element(list.inside, on_lines, false) else {
-        return Ok(None);
-    };
-    let Some(put) = put_elements(list.inside, first, on_lines, written)? else {
-        return Ok(None);
-    };
-    if !is_last(put.rest) {
-        return Ok(None);
-    }
-    Ok(Some(ListEnd {
-        rest: put.rest,
-        one: true,
-    }))
 }
 
 /// The value as the last element of a list, and the bracket. `one`: there are others, and it stands on lines.

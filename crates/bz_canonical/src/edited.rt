@@ -1,19 +1,20 @@
 //! Elements of a list of strings that go or become another, by the lines of the argument whose value the list is.
-//! `removed.rt` and `replaced.rt` say which.
+//! `removed.rt` and `replaced.rt` say which. `added.rt` asks whether one equals a value.
 
 ghost use Rattle.std.specs.Prelude.{◌≡◌, ◌++◌, ℕ, List, IfOk, IfSome, IsTrue, OnOk, not, ◌&&◌};
 ghost use Rattle.bz_command.specs.Values.{value_of};
-ghost use Rattle.bz_canonical.specs.private.Edited.{AreElementsEdited, EditsElements, IsListEdited, IsQuoted, PassesElement, is_meant, one_more};
+ghost use Rattle.bz_canonical.specs.private.Edited.{AreElementsEdited, EditsElements, IsListEdited, PassesElement, is_meant, one_more};
 
-use crate::added::{BRACKETS, is_value, list_of};
+use crate::added::{is_value, list_of};
 use crate::front::before;
 use crate::lists::{
     ReadElement, after_elements, is_last, is_on_lines, put_element, put_element_as, read_element,
 };
 use crate::put_arguments::Pending;
 use crate::value::either;
-use bz_command::{Package, has_value};
+use bz_command::{Package, has_value, quote};
 use bz_memory::{NoMemory, extend_from_slice};
+use std::alloc::Global;
 
 /// What a command makes of an argument whose value is one list of strings.
 #[derive(Clone, Copy)]
@@ -34,11 +35,11 @@ pub(crate) struct ListEdit<'c> {
     pub(crate) new: Option<NewString<'c>>,
 }
 
-/// A value, and the string that is written for it.
+/// A value, and the memory in which the string that is written for it is made.
 #[derive(Clone, Copy)]
 pub(crate) struct NewString<'c> {
     pub(crate) value: &'c str,
-    pub(crate) literal: &'c [u8],
+    pub(crate) alloc: Global,
 }
 
 /// What the command makes of the argument that has these lines, where its value is one list of strings. `Written`: the
@@ -51,7 +52,6 @@ pub(crate) fn put_edited(
     max_depth: u8,
     written: &mut Vec<u8>,
 ) -> Result<Option<EditedList>, NoMemory>
-    requires { IsQuoted edit }
     ensures { IfOk result (λ known. IfSome known
         (EditsElements max_depth home.now edit.entry lines.now written.old.items written.new.items)) }
 {
@@ -74,12 +74,12 @@ pub(crate) fn put_edited(
 
 /// Elements of a list that were passed. The lines of those that are left are in the buffer, or pending.
 #[derive(Clone, Copy)]
-struct Passed<'t> {
-    at: Pending<'t>,
+pub(crate) struct Passed<'t> {
+    pub(crate) at: Pending<'t>,
     /// There was one at least.
-    one: bool,
+    pub(crate) one: bool,
     /// One was meant.
-    meant: bool,
+    pub(crate) meant: bool,
     /// One at least is left.
     left: bool,
     /// Two at least are left.
@@ -104,30 +104,26 @@ impl<'t> Passed<'t> {
 
 /// A list whose elements were passed.
 #[derive(Clone, Copy)]
-struct PassedList<'t> {
-    passed: Passed<'t>,
+pub(crate) struct PassedList<'t> {
+    pub(crate) passed: Passed<'t>,
     /// What follows the bracket after them.
-    end: &'t [u8],
+    pub(crate) end: &'t [u8],
 }
 
 /// Writes the argument of these lines, whose value is one list of strings, as the command leaves it, up to the bracket
 /// after its elements, after the buffer's bytes. What stands there as it is written may be pending at the end.
-fn put_list_edited<'t>(
+pub(crate) fn put_list_edited<'t>(
     home: &Package,
     lines: &'t str,
     edit: ListEdit<'_>,
     max_depth: u8,
     written: &mut Vec<u8>,
 ) -> Result<Option<PassedList<'t>>, NoMemory>
-    requires { IsQuoted edit }
     ensures { IfOk result (λ known. IfSome known
         (IsListEdited max_depth home.now edit.entry lines.now written.old.items written.new.items)) }
 {
-    if max_depth < BRACKETS {
-        return Ok(None);
-    }
     let from = lines.as_bytes();
-    let Some(rest) = list_of(from, edit.attr.as_bytes()) else {
+    let Some(rest) = list_of(from, edit.attr.as_bytes(), max_depth) else {
         return Ok(None);
     };
     let Some(list) = put_elements_edited(home, Pending { from, rest }, edit, written)? else {
@@ -146,7 +142,6 @@ fn put_elements_edited<'t>(
     edit: ListEdit<'_>,
     written: &mut Vec<u8>,
 ) -> Result<Option<PassedList<'t>>, NoMemory>
-    requires { IsQuoted edit }
     ensures { IfOk result (λ known. IfSome known (AreElementsEdited home.now edit.entry begun.entry.from.now
         begun.entry.rest.now written.old.items written.new.items)) }
 {
@@ -197,7 +192,6 @@ fn pass_element<'t>(
     edit: ListEdit<'_>,
     written: &mut Vec<u8>,
 ) -> Result<Option<Passed<'t>>, NoMemory>
-    requires { IsQuoted edit }
     ensures { IfOk result (λ known. IfSome known
         (PassesElement passed.entry next.entry meant edit.entry written.old.items written.new.items)) }
 {
@@ -228,13 +222,14 @@ fn pass_element<'t>(
             several: passed.several,
         }));
     };
-    put_element_as(next, new.literal, written)?;
+    let literal = quote(new.alloc, new.value)?;
+    put_element_as(next, literal.as_bytes(), written)?;
     Ok(Some(passed.with_one(at, true)))
 }
 
 /// Writes what is pending. False: more is to be read than the text has.
 #[inline(always)]
-fn put_pending(at: Pending<'_>, written: &mut Vec<u8>) -> Result<bool, NoMemory>
+pub(crate) fn put_pending(at: Pending<'_>, written: &mut Vec<u8>) -> Result<bool, NoMemory>
     ensures { IfOk result (λ put. IsTrue put → (part : List ℕ) → at.entry.from.now ≡ part ++ at.entry.rest.now
         → written.new.items ≡ written.old.items ++ part) }
 {

@@ -5,7 +5,6 @@ ghost use Rattle.bz_canonical.specs.Replaced.{ReplacesInLines};
 
 use crate::edited::{EditedList, ListEdit, NewString, put_edited};
 use bz_attribute::Env;
-use bz_command::quote;
 use bz_memory::NoMemory;
 
 /// A value, what it becomes, and the attribute whose list has it or not.
@@ -32,10 +31,9 @@ pub fn put_replaced(
         replaced.entry.attr.now replaced.entry.old.now replaced.entry.new.now lines.now written.old.items
         written.new.items)) }
 {
-    let literal = quote(env.alloc, replaced.new)?;
     let new = NewString {
         value: replaced.new,
-        literal: literal.as_bytes(),
+        alloc: env.alloc,
     };
     let edit = ListEdit {
         attr: replaced.attr,

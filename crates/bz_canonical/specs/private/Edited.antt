@@ -1,14 +1,13 @@
--- Lists of strings of which some elements go or become another, for private clauses.
-use Rattle.std.specs.Prelude.{◌≡◌, ◌<◌, ℕ, List, [], ◌∷◌, ◌++◌, Bool, true, false, ◌&&◌, ◌||◌, not, if◌then◌else◌, Option, None, Some, IfSome, bytes_eq, flat_map, length, nat_le}
+-- Lists of strings of which some elements go or become another (this project's own rule), for private clauses.
+use Rattle.std.specs.Prelude.{◌≡◌, ◌<◌, ℕ, List, [], ◌∷◌, ◌++◌, Bool, true, false, ◌&&◌, ◌||◌, not, if◌then◌else◌, Option, None, Some, flat_map, length, nat_le}
 use Rattle.std.specs.List.{list_any}
 use Rattle.bz_token.specs.Common.{is_empty}
 use Rattle.bz_token.specs.declared.token.Kind.TheVariants.{String}
-use Rattle.bz_tree.specs.Tree.{Segment}
 use Rattle.bz_command.specs.Labels.{Package}
 use Rattle.bz_command.specs.Values.{quoted, value_of}
 use Rattle.bz_layout.specs.Respell.{respell}
 use Rattle.bz_attribute.specs.Rules.{is_text}
-use Rattle.bz_canonical.specs.Canonical.{AreReadAlone, argument_lines}
+use Rattle.bz_canonical.specs.Canonical.{argument_lines}
 use Rattle.bz_canonical.specs.declared.edited.EditedList.{EditedList}
 use Rattle.bz_canonical.specs.declared.edited.EditedList.TheVariants.{Unchanged, Written}
 use Rattle.bz_canonical.specs.declared.edited.ListEdit.{ListEdit}
@@ -17,7 +16,7 @@ use Rattle.bz_canonical.specs.declared.edited.Passed.{Passed}
 use Rattle.bz_canonical.specs.declared.edited.PassedList.{PassedList}
 use Rattle.bz_canonical.specs.declared.lists.ReadElement.{ReadElement}
 use Rattle.bz_canonical.specs.declared.put_arguments.Pending.{Pending}
-use Rattle.bz_canonical.specs.private.Added.{is_word, list_arg}
+use Rattle.bz_canonical.specs.private.Added.{IsListAlone, is_word, list_arg}
 use Rattle.bz_canonical.specs.private.Rewritten.{ArePassed, Element, IsElementRead, IsHeadRead, IsLast, IsPending, closing, element_lines}
 
 -- the string is exactly the new value
@@ -42,10 +41,6 @@ edited_one home edit e = if is_meant home edit e.token then become edit.new e el
 
 abbrev pub edited : Package → ListEdit → List Element → List Element
 edited home edit es = flat_map (edited_one home edit) es
-
--- what is written for the new value is its literal
-abbrev pub IsQuoted : ListEdit → Type 0
-IsQuoted edit = IfSome edit.new (λ new. new.literal.now ≡ quoted new.value.now)
 
 -- one was passed more, and one is left more
 abbrev pub one_more : Passed → Pending → Bool → Passed
@@ -85,18 +80,9 @@ pub record IsListEdited (depth : ℕ) (home : Package) (edit : ListEdit) (text o
   pub all : AreElementsEdited home edit text inside old buffer list
   pub last : IsLast list.end.now
 
--- the argument of the name that is read of these lines alone
-pub record IsListRead (depth : ℕ) (attr lines : List ℕ) : Type 0 where
-  pub notes : List (List ℕ)
-  pub name : List ℕ
-  pub elements : List Element
-  pub suffix : Option (List ℕ)
-  pub named : bytes_eq attr name ≡ true
-  pub same : (args : List Segment) → AreReadAlone depth lines args → args ≡ list_arg notes name elements suffix ∷ []
-
 -- its elements are edited, so that some are left, and its lines are written after what was in the buffer
 pub record IsWritten (depth : ℕ) (home : Package) (edit : ListEdit) (lines old new : List ℕ) : Type 0 where
-  pub list : IsListRead depth edit.attr.now lines
+  pub list : IsListAlone depth edit.attr.now lines
   pub some : have_meant home edit list.elements ≡ true
   pub left : is_empty (edited home edit list.elements) ≡ false
   pub written : List ℕ
@@ -105,7 +91,7 @@ pub record IsWritten (depth : ℕ) (home : Package) (edit : ListEdit) (lines old
 
 -- its elements stay as they are
 pub record Stays (depth : ℕ) (home : Package) (edit : ListEdit) (lines : List ℕ) : Type 0 where
-  pub list : IsListRead depth edit.attr.now lines
+  pub list : IsListAlone depth edit.attr.now lines
   pub none : have_meant home edit list.elements ≡ false
 
 abbrev pub EditsElements : ℕ → Package → ListEdit → List ℕ → List ℕ → List ℕ → EditedList → Type 0

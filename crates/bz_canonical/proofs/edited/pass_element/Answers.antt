@@ -1,6 +1,4 @@
-use Rattle.std.proofs.Common.{◌≡◌, ◌++◌, ◌∙◌, ap, sym, subst}
-use Rattle.std.specs.Prelude.{IfSome}
-use Rattle.bz_command.specs.Values.{quoted}
+use Rattle.std.proofs.Common.{◌∙◌, sym, subst}
 use Rattle.bz_canonical.specs.private.Edited.{AreEdited}
 use Rattle.bz_canonical.proofs.EditedElements.{edited_as, edited_as_is, edited_gone, edited_put}
 use Rattle.bz_canonical.proofs.edited.pass_element.Goals as goal
@@ -23,7 +21,7 @@ returns-in_default c = λ home lines front inside k e told.
 pub returns : goal.returns
 returns c = λ home lines front inside k e told.
     let new = c.in-Some.new in
-    let is = subst (λ o. IfSome o (λ other. other.literal.now ≡ quoted other.value.now)) c.in-Some.is c.requires in
+    let literal = c.as_bytes.result in
     subst (AreEdited home c.args.edit lines front inside c.put_element_as.new.written.items) (sym c.with_one-2.ensures)
-    (edited_as home c.args.edit lines front inside c.args.written.now.items c.put_pending.new.written.items c.put_element_as.new.written.items c.args.passed c.args.next new k e (sym c.if-not-meant-2.false ∙ told) c.in-Some.is is
+    (edited_as home c.args.edit lines front inside c.args.written.now.items c.put_pending.new.written.items c.put_element_as.new.written.items literal.now c.args.passed c.args.next new k e (sym c.if-not-meant-2.false ∙ told) c.in-Some.is (c.as_bytes.ensures.value ∙ c.in_ok-literal.ensures)
     (c.in_ok-put_pending.ensures c.if-not-branch.false) c.in_ok-put_element_as.ensures)
