@@ -91,10 +91,7 @@ fn after_argument_nodes(value: &[u8], depth: u8) -> Option<Value<'_>>
             let read = after_first(Value { rest, holds: true }, 1, depth)?;
             Some(read)
         }
-        None => {
-            let read = after_nodes(value, 1, depth)?;
-            Some(read)
-        }
+        None => after_nodes(value, 1, depth),
     }
 }
 

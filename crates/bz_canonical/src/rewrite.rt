@@ -131,9 +131,7 @@ fn written_of<'t>(chunk: &'t str, buffer: &'t [u8], as_is: bool) -> Option<&'t s
     if as_is {
         return Some(chunk);
     }
-    let Ok(written) = check_utf8(buffer) else {
-        return None;
-    };
+    let written = check_utf8(buffer).ok()?;
     Some(written)
 }
 
