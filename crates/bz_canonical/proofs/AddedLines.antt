@@ -18,7 +18,7 @@ use Rattle.bz_command.specs.declared.arguments.Moved.TheVariants.{Values}
 use Rattle.bz_list_commands.specs.Add.{add, adds, new_elements}
 use Rattle.bz_attribute.specs.Effects.{is_chosen, not_a_list, string}
 use Rattle.bz_canonical.specs.Added.{AddsToLines, IsNew, IsPresent}
-use Rattle.bz_canonical.specs.Canonical.{argument_lines}
+use Rattle.bz_canonical.specs.Canonical.{argument_lines, read_alone}
 use Rattle.bz_canonical.specs.declared.edited.EditedList.TheVariants.{Unchanged, Written}
 use Rattle.bz_canonical.specs.declared.edited.ListEdit.{ListEdit}
 use Rattle.bz_canonical.specs.declared.edited.PassedList.{PassedList}
@@ -26,7 +26,7 @@ use Rattle.bz_canonical.specs.private.Added.{have_word, last_line, list_arg}
 use Rattle.bz_canonical.specs.private.Edited.{IsListEdited}
 use Rattle.bz_canonical.specs.private.Rewritten.{Element, element_line, element_lines, element_list, element_segs, is_noted}
 use Rattle.bz_canonical.proofs.EditedElements.{stay_all}
-use Rattle.bz_canonical.proofs.EditedLines.{edited_of, front_of, have_is, list_read, no_new, put_held}
+use Rattle.bz_canonical.proofs.EditedLines.{edited_of, front_of, have_is, list_read, no_new, put_held, sought}
 use Rattle.bz_canonical.proofs.ElementLists.{closed, flat_one, longer, or_yes, written_broken}
 use Rattle.bz_canonical.proofs.ListLines.{chosen, first_is}
 use Rattle.bz_canonical.proofs.PutArguments.{argument_bytes, laid}
@@ -79,20 +79,20 @@ list_written one value (e ∷ es) is =
 -- what is made of its lines
 
 pub value_present : (depth : ℕ) (home : Package) (edit : ListEdit) (text old buffer : List ℕ) (list : PassedList) → IsListEdited depth home (no_new edit) text old buffer list → list.passed.meant ≡ true
-    → AddsToLines depth home edit.attr.now edit.word.now text old buffer Unchanged
+    → AddsToLines (read_alone depth home text) (sought edit) old buffer Unchanged
 value_present depth home edit text old buffer list l there = λ args reads.
     let a = list_read depth home (no_new edit) text old buffer list l in
     let all = edited_of depth home (no_new edit) text old buffer list l in
     let first = first_is edit.attr.now a.name a.notes a.elements a.suffix a.named in
     let present : true ≡ have_word home edit.word.now a.elements = sym there ∙ all.meant_is ∙ have_is home edit a.elements in
-    subst (IsPresent home edit.attr.now edit.word.now) (sym (a.same args reads)) (record {
+    subst (IsPresent home (sought edit)) (sym (a.same args reads)) (record {
       list = ap (not_a_list edit.attr.now) first;
       present = ap (adds home (edit.word.now ∷ [])) first ∙ ap (λ (ss : List Segment). not (is_empty ss)) (news_are home edit.word.now a.elements true present);
     })
 
 pub value_new : (depth : ℕ) (home : Package) (edit : ListEdit) (text old buffer put new : List ℕ) (list : PassedList) → IsListEdited depth home (no_new edit) text old buffer list → list.passed.meant ≡ false
     → ((part : List ℕ) → list.passed.at.from.now ≡ part ++ list.passed.at.rest.now → put ≡ buffer ++ part) → new ≡ (put ++ last_line list.passed.one edit.word.now) ++ list.end.now
-    → AddsToLines depth home edit.attr.now edit.word.now text old new Written
+    → AddsToLines (read_alone depth home text) (sought edit) old new Written
 value_new depth home edit text old buffer put new list l none pending new_is =
     let attr = edit.attr.now in
     let value = edit.word.now in
@@ -114,9 +114,9 @@ value_new depth home edit text old buffer put new list l none pending new_is =
     ∙ ap (λ (t : List ℕ). C ++ (10 ∷ (indent 1 ++ (a.name ++ (codes " = " ++ (t ++ (44 ∷ S))))))) (list_written list.passed.one value a.elements all.passed.one_is) ∙ whole C a.name L E S in (
       ((F ++ L) ++ E) ++ list.end.now,
       new_is ∙ ap (λ (t : List ℕ). (t ++ E) ++ list.end.now) put_is ∙ joined F L E list.end.now,
-      λ args reads. subst (λ xs. IsNew home attr value xs (((F ++ L) ++ E) ++ list.end.now)) (sym (a.same args reads)) (record {
+      λ args reads. subst (λ xs. IsNew home (sought edit) xs (((F ++ L) ++ E) ++ list.end.now)) (sym (a.same args reads)) (record {
         list = ap (not_a_list attr) first;
-        new = ap (adds home (value ∷ [])) first ∙ ap (λ (ss : List Segment). not (is_empty ss)) (news_are home value a.elements false other);
+        new_is = ap (adds home (value ∷ [])) first ∙ ap (λ (ss : List Segment). not (is_empty ss)) (news_are home value a.elements false other);
         some = ap is_empty added;
         lines_are = ap (λ (t : List ℕ). ((F ++ L) ++ E) ++ t) l.last.front ∙ sym lines ∙ ap argument_lines (sym added);
       }),

@@ -10,6 +10,7 @@ use Rattle.bz_layout.specs.Pieces.{bytes_of, comments, indent, suffix_piece}
 use Rattle.bz_layout.specs.Respell.{respell}
 use Rattle.bz_command.specs.Labels.{Package}
 use Rattle.bz_canonical.specs.Canonical.{argument_lines}
+use Rattle.bz_canonical.specs.declared.added.ListValue.{ListValue}
 use Rattle.bz_canonical.specs.declared.edited.ListEdit.{ListEdit}
 use Rattle.bz_canonical.specs.declared.edited.PassedList.{PassedList}
 use Rattle.bz_canonical.specs.private.Added.{IsListAlone, have_word, is_word, list_arg}
@@ -43,6 +44,9 @@ list_bytes notes word es suffix several =
 -- an edit by which elements go: those that equal its word are meant
 abbrev pub no_new : ListEdit → ListEdit
 no_new edit = record edit { new = None }
+
+abbrev pub sought : ListEdit → ListValue
+sought edit = record { attr = edit.attr; value = edit.word }
 
 pub have_is : (home : Package) (edit : ListEdit) (es : List Element) → have_meant home (no_new edit) es ≡ have_word home edit.word.now es
 have_is home edit [] = refl

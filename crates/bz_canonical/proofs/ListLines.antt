@@ -19,7 +19,8 @@ use Rattle.bz_attribute.specs.Effects.{chooses, is_chosen}
 use Rattle.bz_attribute.specs.Rules.{first_named, rule_of}
 use Rattle.bz_attribute.proofs.Views.{segments_of}
 use Rattle.bz_canonical.specs.Added.{LacksInLines}
-use Rattle.bz_canonical.specs.Canonical.{AreReadAlone, rule_args, small_rule, small_text}
+use Rattle.bz_canonical.specs.declared.added.ListValue.{ListValue}
+use Rattle.bz_canonical.specs.Canonical.{AreReadAlone, read_alone, rule_args, small_rule, small_text}
 use Rattle.bz_canonical.specs.private.Added.{AreOthers, IsListAlone, have_word, is_word, list_arg}
 use Rattle.bz_canonical.specs.private.Rewritten.{AreElementsRead, Element, IsHeadRead, IsLast, IsPlaced, Placed, closing, element_segs, placed_lines}
 use Rattle.bz_canonical.proofs.ElementLists.{elements_read}
@@ -82,9 +83,11 @@ chooses_is home attr value word notes es suffix named =
     ap (map_or false (chooses home (Values (value ∷ [])))) (first_is attr word notes es suffix named)
     ∙ or_no (list_any (is_chosen home (Values (value ∷ []))) (segments (element_segs es))) ∙ chosen home value es
 
-pub value_lacks : (depth : ℕ) (home : Package) (attr value text inside rest end : List ℕ) (lines one : Bool) → 1 < depth → IsHeadRead attr text (91 ∷ inside) true → AreOthers home value lines one inside rest → rest ≡ closing lines ++ end → IsLast end
-    → LacksInLines depth home attr value text
-value_lacks depth home attr value text inside rest end lines one deep head o ends last =
+pub value_lacks : (depth : ℕ) (home : Package) (sought : ListValue) (text inside rest end : List ℕ) (lines one : Bool) → 1 < depth → IsHeadRead sought.attr.now text (91 ∷ inside) true → AreOthers home sought.value.now lines one inside rest
+    → rest ≡ closing lines ++ end → IsLast end → LacksInLines (read_alone depth home text) sought
+value_lacks depth home sought text inside rest end lines one deep head o ends last =
+    let attr = sought.attr.now in
+    let value = sought.value.now in
     let read = elements_read lines one o.broken inside rest end o.written o.passed ends in
     let a = list_alone depth attr text inside end o.written one o.broken deep head read last in
     λ args reads. ap (λ xs. map_or false (chooses home (Values (value ∷ []))) (first_named attr xs)) (a.same args reads) ∙ chooses_is home attr value a.name a.notes a.elements a.suffix a.named ∙ o.none

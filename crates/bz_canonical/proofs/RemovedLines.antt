@@ -13,7 +13,7 @@ use Rattle.bz_list_commands.specs.Remove.{remove, removes}
 use Rattle.bz_attribute.specs.Effects.{filtered, unchosen}
 use Rattle.bz_attribute.specs.Lists.{edit_parts, with_value}
 use Rattle.bz_attribute.specs.Rules.{value}
-use Rattle.bz_canonical.specs.Canonical.{argument_lines}
+use Rattle.bz_canonical.specs.Canonical.{argument_lines, read_alone}
 use Rattle.bz_canonical.specs.Removed.{IsRemoved, RemovesFromLines}
 use Rattle.bz_canonical.specs.declared.edited.EditedList.{EditedList}
 use Rattle.bz_canonical.specs.declared.edited.EditedList.TheVariants.{Unchanged, Written}
@@ -21,7 +21,7 @@ use Rattle.bz_canonical.specs.declared.edited.ListEdit.{ListEdit}
 use Rattle.bz_canonical.specs.private.Added.{is_word, list_arg}
 use Rattle.bz_canonical.specs.private.Edited.{EditsElements, edited, have_meant}
 use Rattle.bz_canonical.specs.private.Rewritten.{Element, element_segs}
-use Rattle.bz_canonical.proofs.EditedLines.{have_is, no_new, segment_of}
+use Rattle.bz_canonical.proofs.EditedLines.{have_is, no_new, segment_of, sought}
 use Rattle.bz_canonical.proofs.ListLines.{chooses_is}
 
 -- the argument
@@ -60,7 +60,7 @@ removes_is home edit word notes es suffix named = chooses_is home edit.attr.now 
 
 -- what is made of its lines
 removes_lines : (depth : ℕ) (home : Package) (edit : ListEdit) (lines old new : List ℕ) (told : Option EditedList) → IfSome told (EditsElements depth home (no_new edit) lines old new)
-    → IfSome told (RemovesFromLines depth home edit.attr.now edit.word.now lines old new)
+    → IfSome told (RemovesFromLines (read_alone depth home lines) (sought edit) old new)
 removes_lines depth home edit lines old new None known = tt
 removes_lines depth home edit lines old new (Some Unchanged) stays =
     let a = stays.list in
@@ -70,7 +70,7 @@ removes_lines depth home edit lines old new (Some Written) put =
     let removed = remove_is home edit a.name a.notes a.elements a.suffix a.named put.left in (
       put.written,
       put.put,
-      λ args reads. subst (λ xs. IsRemoved home edit.attr.now edit.word.now xs put.written) (sym (a.same args reads)) (record {
+      λ args reads. subst (λ xs. IsRemoved home (sought edit) xs put.written) (sym (a.same args reads)) (record {
         removed = removes_is home edit a.name a.notes a.elements a.suffix a.named ∙ put.some;
         some = ap is_empty removed;
         lines_are = put.lines_are ∙ ap argument_lines (sym removed);
@@ -78,6 +78,6 @@ removes_lines depth home edit lines old new (Some Written) put =
     )
 
 pub removes_read : {E : Type 0} (depth : ℕ) (home : Package) (edit : ListEdit) (lines old new : List ℕ) (r : Result (Option EditedList) E) → IfOk r (λ told. IfSome told (EditsElements depth home (no_new edit) lines old new))
-    → IfOk r (λ told. IfSome told (RemovesFromLines depth home edit.attr.now edit.word.now lines old new))
+    → IfOk r (λ told. IfSome told (RemovesFromLines (read_alone depth home lines) (sought edit) old new))
 removes_read depth home edit lines old new (Ok told) known = removes_lines depth home edit lines old new told known
 removes_read depth home edit lines old new (Err e) known = known

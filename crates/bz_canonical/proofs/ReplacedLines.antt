@@ -11,12 +11,13 @@ use Rattle.bz_command.specs.Labels.{Package}
 use Rattle.bz_command.specs.Values.{quoted}
 use Rattle.bz_command.specs.declared.arguments.Attributes.TheVariants.{Named}
 use Rattle.bz_list_commands.specs.Replace.{is_replaced, replace, replaced, replaces, replaces_in}
-use Rattle.bz_canonical.specs.Canonical.{argument_lines}
+use Rattle.bz_canonical.specs.Canonical.{argument_lines, read_alone}
 use Rattle.bz_canonical.specs.Replaced.{IsReplaced, ReplacesInLines}
 use Rattle.bz_canonical.specs.declared.edited.EditedList.{EditedList}
 use Rattle.bz_canonical.specs.declared.edited.EditedList.TheVariants.{Unchanged, Written}
 use Rattle.bz_canonical.specs.declared.edited.ListEdit.{ListEdit}
 use Rattle.bz_canonical.specs.declared.edited.NewString.{NewString}
+use Rattle.bz_canonical.specs.declared.replaced.ReplacedValue.{ReplacedValue}
 use Rattle.bz_canonical.specs.private.Added.{list_arg}
 use Rattle.bz_canonical.specs.private.Edited.{EditsElements, edited, have_meant, is_meant}
 use Rattle.bz_canonical.specs.private.Rewritten.{Element, element_segs}
@@ -26,6 +27,9 @@ use Rattle.bz_canonical.proofs.ListLines.{first_is}
 
 abbrev replacing : ListEdit → NewString → ListEdit
 replacing edit new = record edit { new = Some new }
+
+abbrev replaced_by : ListEdit → NewString → ReplacedValue
+replaced_by edit new = record { attr = edit.attr; old = edit.word; new = new.value }
 
 -- those that are replaced are meant
 have_is : (home : Package) (edit : ListEdit) (new : NewString) (es : List Element) → list_any (is_replaced home edit.word.now new.value.now) (segments (element_segs es)) ≡ have_meant home (replacing edit new) es
@@ -59,7 +63,7 @@ replaces_is home edit new word notes es suffix named =
 
 -- what is made of its lines
 replaces_lines : (depth : ℕ) (home : Package) (edit : ListEdit) (new : NewString) (lines before after : List ℕ) (told : Option EditedList) → IfSome told (EditsElements depth home (replacing edit new) lines before after)
-    → IfSome told (ReplacesInLines depth home edit.attr.now edit.word.now new.value.now lines before after)
+    → IfSome told (ReplacesInLines (read_alone depth home lines) (replaced_by edit new) before after)
 replaces_lines depth home edit new lines before after None known = tt
 replaces_lines depth home edit new lines before after (Some Unchanged) stays =
     let a = stays.list in
@@ -69,7 +73,7 @@ replaces_lines depth home edit new lines before after (Some Written) put =
     let is = replace_is home edit new a.name a.notes a.elements a.suffix a.named in (
       put.written,
       put.put,
-      λ args reads. subst (λ xs. IsReplaced home edit.attr.now edit.word.now new.value.now xs put.written) (sym (a.same args reads)) (record {
+      λ args reads. subst (λ xs. IsReplaced home (replaced_by edit new) xs put.written) (sym (a.same args reads)) (record {
         replaced = replaces_is home edit new a.name a.notes a.elements a.suffix a.named ∙ put.some;
         some = ap is_empty is;
         lines_are = put.lines_are ∙ ap argument_lines (sym is);
@@ -77,6 +81,6 @@ replaces_lines depth home edit new lines before after (Some Written) put =
     )
 
 pub replaces_read : {E : Type 0} (depth : ℕ) (home : Package) (edit : ListEdit) (new : NewString) (lines before after : List ℕ) (r : Result (Option EditedList) E) → IfOk r (λ told. IfSome told (EditsElements depth home (replacing edit new) lines before after))
-    → IfOk r (λ told. IfSome told (ReplacesInLines depth home edit.attr.now edit.word.now new.value.now lines before after))
+    → IfOk r (λ told. IfSome told (ReplacesInLines (read_alone depth home lines) (replaced_by edit new) before after))
 replaces_read depth home edit new lines before after (Ok told) known = replaces_lines depth home edit new lines before after told known
 replaces_read depth home edit new lines before after (Err e) known = known

@@ -1,4 +1,4 @@
--- Whether a value is in an argument that has these lines, and what `add` of it makes of the lines.
+-- Whether a value is in an argument that has these lines, and what `add` of it makes of the lines (this project's own rule).
 -- Begin with `AddsToLines`.
 use Rattle.std.specs.Prelude.{◌≡◌, ℕ, List, [], ◌∷◌, ◌++◌, true, false, None}
 use Rattle.bz_token.specs.Common.{is_empty, map_or}
@@ -8,27 +8,28 @@ use Rattle.bz_list_commands.specs.Add.{add, adds}
 use Rattle.bz_command.specs.declared.arguments.Moved.TheVariants.{Values}
 use Rattle.bz_attribute.specs.Effects.{chooses, not_a_list}
 use Rattle.bz_attribute.specs.Rules.{first_named}
-use Rattle.bz_canonical.specs.Canonical.{AreReadAlone, argument_lines}
+use Rattle.bz_canonical.specs.Canonical.{AloneLines, AreReadAlone, argument_lines}
+use Rattle.bz_canonical.specs.declared.added.ListValue.{ListValue}
 use Rattle.bz_canonical.specs.declared.edited.EditedList.{EditedList}
 use Rattle.bz_canonical.specs.declared.edited.EditedList.TheVariants.{Unchanged, Written}
 
 -- the first argument of the name has a list, and an element of it equals the value
-pub record IsPresent (home : Package) (attr value : List ℕ) (args : List Segment) : Type 0 where
-  pub list : not_a_list attr (first_named attr args) ≡ None
-  pub present : adds home (value ∷ []) (first_named attr args) ≡ false
+pub record IsPresent (home : Package) (sought : ListValue) (args : List Segment) : Type 0 where
+  pub list : not_a_list sought.attr.now (first_named sought.attr.now args) ≡ None
+  pub present : adds home (sought.value.now ∷ []) (first_named sought.attr.now args) ≡ false
 
 -- It has a list, and none does: the arguments, with the value, have these lines.
-pub record IsNew (home : Package) (attr value : List ℕ) (args : List Segment) (lines : List ℕ) : Type 0 where
-  pub list : not_a_list attr (first_named attr args) ≡ None
-  pub new : adds home (value ∷ []) (first_named attr args) ≡ true
-  pub some : is_empty (add home attr (value ∷ []) args) ≡ false
-  pub lines_are : lines ≡ argument_lines (add home attr (value ∷ []) args)
+pub record IsNew (home : Package) (new : ListValue) (args : List Segment) (lines : List ℕ) : Type 0 where
+  pub list : not_a_list new.attr.now (first_named new.attr.now args) ≡ None
+  pub new_is : adds home (new.value.now ∷ []) (first_named new.attr.now args) ≡ true
+  pub some : is_empty (add home new.attr.now (new.value.now ∷ []) args) ≡ false
+  pub lines_are : lines ≡ argument_lines (add home new.attr.now (new.value.now ∷ []) args)
 
--- of the arguments that are read of these lines alone; what is written stands after what was in the buffer
-abbrev pub AddsToLines : ℕ → Package → List ℕ → List ℕ → List ℕ → List ℕ → List ℕ → EditedList → Type 0
-AddsToLines depth home attr value lines old new Unchanged = (args : List Segment) → AreReadAlone depth lines args → IsPresent home attr value args
-AddsToLines depth home attr value lines old new Written = (written : List ℕ) × (new ≡ old ++ written) × ((args : List Segment) → AreReadAlone depth lines args → IsNew home attr value args written)
+-- of the arguments that are read of these lines alone; what is written stands after what was in the buffer before
+abbrev pub AddsToLines : AloneLines → ListValue → List ℕ → List ℕ → EditedList → Type 0
+AddsToLines alone new before after Unchanged = (args : List Segment) → AreReadAlone alone.depth alone.lines args → IsPresent alone.home new args
+AddsToLines alone new before after Written = (written : List ℕ) × (after ≡ before ++ written) × ((args : List Segment) → AreReadAlone alone.depth alone.lines args → IsNew alone.home new args written)
 
 -- Of the arguments that are read of these lines alone, no list of the first of the name has an element that equals the value.
-abbrev pub LacksInLines : ℕ → Package → List ℕ → List ℕ → List ℕ → Type 0
-LacksInLines depth home attr value lines = (args : List Segment) → AreReadAlone depth lines args → map_or false (chooses home (Values (value ∷ []))) (first_named attr args) ≡ false
+abbrev pub LacksInLines : AloneLines → ListValue → Type 0
+LacksInLines alone sought = (args : List Segment) → AreReadAlone alone.depth alone.lines args → map_or false (chooses alone.home (Values (sought.value.now ∷ []))) (first_named sought.attr.now args) ≡ false

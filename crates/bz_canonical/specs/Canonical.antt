@@ -7,6 +7,7 @@ use Rattle.bz_tree.specs.declared.tree.Class.TheVariants.{Rule as RuleClass}
 use Rattle.bz_tree.specs.Chunk.{IsStatementIn}
 use Rattle.bz_tree.specs.declared.tree.GroupKind.TheVariants.{RuleCall}
 use Rattle.bz_tree.specs.Tree.{Item, Segment, Statement, group, leaf, segs_of}
+use Rattle.bz_command.specs.Labels.{Package}
 use Rattle.bz_layout.specs.declared.broken.Style.TheVariants.{Broken}
 use Rattle.bz_layout.specs.Layout.{broken_segs, layout_text}
 use Rattle.bz_layout.specs.Pieces.{bytes_of}
@@ -69,6 +70,15 @@ small_text lines = codes "k(" ++ (lines ++ codes "\n    #\n)\n")
 -- What is read of these lines in that rule are these arguments.
 abbrev pub AreReadAlone : ℕ → List ℕ → List Segment → Type 0
 AreReadAlone depth lines args = (first : ℕ) (t : Statement) → IsStatementIn first depth (small_text lines) t → lineless t ≡ lineless (small_rule args)
+
+-- lines that are read so: in a package, and where so many brackets may be open
+pub record AloneLines : Type 0 where
+  pub depth : ℕ
+  pub home : Package
+  pub lines : List ℕ
+
+abbrev pub read_alone : ℕ → Package → List ℕ → AloneLines
+read_alone depth home lines = record { depth = depth; home = home; lines = lines }
 
 -- what is written before an argument, its lines as they stand, and what is written after it
 pub record Between : Type 0 where

@@ -3,6 +3,7 @@
 
 ghost use Rattle.std.specs.Prelude.{◌≡◌, ◌<◌, ◌∷◌, ◌++◌, IfOk, IfSome, IsTrue, OnOk, true};
 ghost use Rattle.bz_canonical.specs.Added.{AddsToLines, LacksInLines};
+ghost use Rattle.bz_canonical.specs.Canonical.{read_alone};
 ghost use Rattle.bz_canonical.specs.private.Added.{is_word, last_line};
 ghost use Rattle.bz_canonical.specs.private.Rewritten.{IsHeadRead};
 
@@ -38,8 +39,8 @@ pub fn put_added(
     max_depth: u8,
     written: &mut Vec<u8>,
 ) -> Result<Option<EditedList>, NoMemory>
-    ensures { IfOk result (λ known. IfSome known (AddsToLines max_depth env.entry.home.now new.entry.attr.now
-        new.entry.value.now lines.now written.old.items written.new.items)) }
+    ensures { IfOk result (λ known. IfSome known (AddsToLines (read_alone max_depth env.entry.home.now lines.now)
+        new.entry written.old.items written.new.items)) }
 {
     let sought = ListEdit {
         attr: new.attr,
@@ -63,7 +64,7 @@ pub fn put_added(
 /// The value of the argument that has these lines is one list of strings, none of which equals the value
 /// (`execute_on_list` of bz_engine asks, for `remove` and `replace`). False: it may be so or not.
 pub fn lacks(home: &Package, lines: &str, sought: ListValue<'_>, max_depth: u8) -> bool
-    ensures { IsTrue result → LacksInLines max_depth home.now sought.entry.attr.now sought.entry.value.now lines.now }
+    ensures { IsTrue result → LacksInLines (read_alone max_depth home.now lines.now) sought.entry }
 {
     let Some(inside) = list_of(lines.as_bytes(), sought.attr.as_bytes(), max_depth) else {
         return false;

@@ -1,6 +1,7 @@
 //! A value that goes from an argument whose value is one list of strings, by the lines of the argument.
 
 ghost use Rattle.std.specs.Prelude.{◌≡◌, ◌++◌, ℕ, List, IfOk, IfSome};
+ghost use Rattle.bz_canonical.specs.Canonical.{read_alone};
 ghost use Rattle.bz_canonical.specs.Removed.{RemovesFromLines};
 
 use crate::added::ListValue;
@@ -19,8 +20,8 @@ pub fn put_removed(
     max_depth: u8,
     written: &mut Vec<u8>,
 ) -> Result<Option<EditedList>, NoMemory>
-    ensures { IfOk result (λ known. IfSome known (RemovesFromLines max_depth home.now old.entry.attr.now
-        old.entry.value.now lines.now written.old.items written.new.items)) }
+    ensures { IfOk result (λ known. IfSome known (RemovesFromLines (read_alone max_depth home.now lines.now) old.entry
+        written.old.items written.new.items)) }
 {
     let edit = ListEdit {
         attr: old.attr,

@@ -1,6 +1,7 @@
 //! A value that becomes another in an argument whose value is one list of strings, by the lines of the argument.
 
 ghost use Rattle.std.specs.Prelude.{◌≡◌, ◌++◌, ℕ, List, IfOk, IfSome};
+ghost use Rattle.bz_canonical.specs.Canonical.{read_alone};
 ghost use Rattle.bz_canonical.specs.Replaced.{ReplacesInLines};
 
 use crate::edited::{EditedList, ListEdit, NewString, put_edited};
@@ -27,9 +28,8 @@ pub fn put_replaced(
     max_depth: u8,
     written: &mut Vec<u8>,
 ) -> Result<Option<EditedList>, NoMemory>
-    ensures { IfOk result (λ known. IfSome known (ReplacesInLines max_depth env.entry.home.now
-        replaced.entry.attr.now replaced.entry.old.now replaced.entry.new.now lines.now written.old.items
-        written.new.items)) }
+    ensures { IfOk result (λ known. IfSome known (ReplacesInLines (read_alone max_depth env.entry.home.now lines.now)
+        replaced.entry written.old.items written.new.items)) }
 {
     let new = NewString {
         value: replaced.new,

@@ -32,7 +32,7 @@ use Rattle.bz_canonical.specs.Commented.{TakesComment, commented}
 use Rattle.bz_canonical.specs.Added.{AddsToLines, LacksInLines}
 use Rattle.bz_canonical.specs.Removed.{RemovesFromLines}
 use Rattle.bz_canonical.specs.Replaced.{ReplacesInLines}
-use Rattle.bz_canonical.specs.Canonical.{AreReadAlone, Between, HasPlace, argument_lines, first_args, rule_args, small_text}
+use Rattle.bz_canonical.specs.Canonical.{AloneLines, AreReadAlone, Between, HasPlace, argument_lines, first_args, read_alone, rule_args, small_text}
 use Rattle.bz_canonical.proofs.SmallRules.{small_after, small_told}
 use Rattle.bz_rule.specs.declared.command.Action.TheVariants.{Add, Comment, Remove, Replace, Set, SetIfAbsent}
 use Rattle.bz_rule.specs.Commands.{Command, after, args_after, args_done, done_of}
@@ -40,8 +40,10 @@ use Rattle.bz_rule.specs.OneAttribute.{one_attribute}
 use Rattle.bz_rule.proofs.Commands.{local}
 use Rattle.bz_engine.specs.declared.argument.EditedArgument.{EditedArgument}
 use Rattle.bz_engine.specs.declared.argument.EditedArgument.TheVariants.{Unchanged, Lines}
+use Rattle.bz_canonical.specs.declared.added.ListValue.{ListValue}
 use Rattle.bz_canonical.specs.declared.edited.EditedList.{EditedList}
 use Rattle.bz_canonical.specs.declared.edited.EditedList.TheVariants.{Unchanged as Unlisted, Written as Listed}
+use Rattle.bz_canonical.specs.declared.replaced.ReplacedValue.{ReplacedValue}
 use Rattle.bz_engine.specs.private.ArgumentEdits.{AddsArgument, AreLinesAfter, ChangesArgs, EditsLines, EditsList, EditsPlace, EditsSmallRule, Setting, list_argument, set_by}
 use Rattle.bz_engine.specs.private.Found.{Makes, told_line}
 use Rattle.bz_engine.proofs.TextAnswers.{no_args, none_has, stays_by}
@@ -68,21 +70,21 @@ pub adds_list : (attr value lines : List ℕ) → lines ≡ argument_lines (list
 adds_list attr value lines lines_are = λ home. record { told = refl; some = refl; lines_are = lines_are }
 
 -- what is added to a list
-adds_listed : (depth : ℕ) (home : Package) (attr value lines old new : List ℕ) (edited : EditedList) → AddsToLines depth home attr value lines old new edited → EditsList depth (Add attr (value ∷ [])) home lines old new edited
-adds_listed depth home attr value lines old new Unlisted adds = λ args reads. let is = adds args reads in λ i. done (is.list i) (is.present i)
-adds_listed depth home attr value lines old new Listed adds = (
+adds_listed : (alone : AloneLines) (value : ListValue) (before after : List ℕ) (edited : EditedList) → AddsToLines alone value before after edited → EditsList (Add value.attr.now (value.value.now ∷ [])) alone before after edited
+adds_listed alone value before after Unlisted adds = λ args reads. let is = adds args reads in λ i. done (is.list i) (is.present i)
+adds_listed alone value before after Listed adds = (
   adds.0,
   adds.1,
   λ args reads.
       let is = adds.2 args reads in
-      record { told = λ i. done (is.list i) (is.new i); some = is.some; lines_are = is.lines_are },
+      record { told = λ i. done (is.list i) (is.new_is i); some = is.some; lines_are = is.lines_are },
 )
 
-pub adds_to_list : {E : Type 0} (depth : ℕ) (command : Command) (home : Package) (attr value lines old new : List ℕ) → command ≡ Add attr (value ∷ []) → (r : Result (Option EditedList) E)
-    → IfOk r (λ known. IfSome known (AddsToLines depth home attr value lines old new)) → IfOk r (λ known. IfSome known (EditsList depth command home lines old new))
-adds_to_list depth command home attr value lines old new is (Ok None) known = tt
-adds_to_list depth command home attr value lines old new is (Ok (Some edited)) known = subst (λ c. EditsList depth c home lines old new edited) (sym is) (adds_listed depth home attr value lines old new edited known)
-adds_to_list depth command home attr value lines old new is (Err e) known = known
+pub adds_to_list : {E : Type 0} (command : Command) (alone : AloneLines) (value : ListValue) (before after : List ℕ) → command ≡ Add value.attr.now (value.value.now ∷ []) → (r : Result (Option EditedList) E)
+    → IfOk r (λ known. IfSome known (AddsToLines alone value before after)) → IfOk r (λ known. IfSome known (EditsList command alone before after))
+adds_to_list command alone value before after is (Ok None) known = tt
+adds_to_list command alone value before after is (Ok (Some edited)) known = subst (λ c. EditsList c alone before after edited) (sym is) (adds_listed alone value before after edited known)
+adds_to_list command alone value before after is (Err e) known = known
 
 -- a list that lacks a value
 or_none : (a b : Bool) → (a || b) ≡ false → (a ≡ false) × (b ≡ false)
@@ -103,14 +105,15 @@ none_replaced home old new None none = refl
 none_replaced home old new (Some a) none =
     none_less (list_any (is_replaced home old new)) (list_any (is_chosen home (Values (old ∷ [])))) (λ ss. none_less (is_replaced home old new) (is_chosen home (Values (old ∷ []))) (not_replaced home old new) ss) (parts (value a)) none
 
-pub lacking_is_not_replaced : (depth : ℕ) (home : Package) (attr old new lines from to : List ℕ) → LacksInLines depth home attr old lines → EditsList depth (Replace (Named attr) old new) home lines from to Unlisted
-lacking_is_not_replaced depth home attr old new lines from to lacking = λ args reads. ap (done None) (none_replaced home old new (first_named attr args) (lacking args reads))
+pub lacking_is_not_replaced : (alone : AloneLines) (value : ReplacedValue) (before after : List ℕ) → LacksInLines alone (record { attr = value.attr; value = value.old })
+    → EditsList (Replace (Named value.attr.now) value.old.now value.new.now) alone before after Unlisted
+lacking_is_not_replaced alone value before after lacking = λ args reads. ap (done None) (none_replaced alone.home value.old.now value.new.now (first_named value.attr.now args) (lacking args reads))
 
 -- a list of which a value becomes another
-replaces_listed : (depth : ℕ) (home : Package) (attr value other lines old new : List ℕ) (edited : EditedList) → ReplacesInLines depth home attr value other lines old new edited
-    → EditsList depth (Replace (Named attr) value other) home lines old new edited
-replaces_listed depth home attr value other lines old new Unlisted replaces = λ args reads. ap (done None) (replaces args reads)
-replaces_listed depth home attr value other lines old new Listed replaces = (
+replaces_listed : (alone : AloneLines) (value : ReplacedValue) (before after : List ℕ) (edited : EditedList) → ReplacesInLines alone value before after edited
+    → EditsList (Replace (Named value.attr.now) value.old.now value.new.now) alone before after edited
+replaces_listed alone value before after Unlisted replaces = λ args reads. ap (done None) (replaces args reads)
+replaces_listed alone value before after Listed replaces = (
   replaces.0,
   replaces.1,
   λ args reads.
@@ -118,16 +121,17 @@ replaces_listed depth home attr value other lines old new Listed replaces = (
       record { told = ap (done None) is.replaced; some = is.some; lines_are = is.lines_are },
 )
 
-pub replaces_in_list : {E : Type 0} (depth : ℕ) (home : Package) (attr value other lines old new : List ℕ) (r : Result (Option EditedList) E) → IfOk r (λ known. IfSome known (ReplacesInLines depth home attr value other lines old new))
-    → IfOk r (λ known. IfSome known (EditsList depth (Replace (Named attr) value other) home lines old new))
-replaces_in_list depth home attr value other lines old new (Ok None) known = tt
-replaces_in_list depth home attr value other lines old new (Ok (Some edited)) known = replaces_listed depth home attr value other lines old new edited known
-replaces_in_list depth home attr value other lines old new (Err e) known = known
+pub replaces_in_list : {E : Type 0} (alone : AloneLines) (value : ReplacedValue) (before after : List ℕ) (r : Result (Option EditedList) E) → IfOk r (λ known. IfSome known (ReplacesInLines alone value before after))
+    → IfOk r (λ known. IfSome known (EditsList (Replace (Named value.attr.now) value.old.now value.new.now) alone before after))
+replaces_in_list alone value before after (Ok None) known = tt
+replaces_in_list alone value before after (Ok (Some edited)) known = replaces_listed alone value before after edited known
+replaces_in_list alone value before after (Err e) known = known
 
 -- a list from which a value goes
-removes_listed : (depth : ℕ) (home : Package) (attr value lines old new : List ℕ) (edited : EditedList) → RemovesFromLines depth home attr value lines old new edited → EditsList depth (Remove (Named attr) (value ∷ [])) home lines old new edited
-removes_listed depth home attr value lines old new Unlisted removes = λ args reads. ap (done None) (removes args reads)
-removes_listed depth home attr value lines old new Listed removes = (
+removes_listed : (alone : AloneLines) (value : ListValue) (before after : List ℕ) (edited : EditedList) → RemovesFromLines alone value before after edited
+    → EditsList (Remove (Named value.attr.now) (value.value.now ∷ [])) alone before after edited
+removes_listed alone value before after Unlisted removes = λ args reads. ap (done None) (removes args reads)
+removes_listed alone value before after Listed removes = (
   removes.0,
   removes.1,
   λ args reads.
@@ -135,14 +139,14 @@ removes_listed depth home attr value lines old new Listed removes = (
       record { told = ap (done None) is.removed; some = is.some; lines_are = is.lines_are },
 )
 
-pub removes_from_list : {E : Type 0} (depth : ℕ) (home : Package) (attr value lines old new : List ℕ) (r : Result (Option EditedList) E) → IfOk r (λ known. IfSome known (RemovesFromLines depth home attr value lines old new))
-    → IfOk r (λ known. IfSome known (EditsList depth (Remove (Named attr) (value ∷ [])) home lines old new))
-removes_from_list depth home attr value lines old new (Ok None) known = tt
-removes_from_list depth home attr value lines old new (Ok (Some edited)) known = removes_listed depth home attr value lines old new edited known
-removes_from_list depth home attr value lines old new (Err e) known = known
+pub removes_from_list : {E : Type 0} (alone : AloneLines) (value : ListValue) (before after : List ℕ) (r : Result (Option EditedList) E) → IfOk r (λ known. IfSome known (RemovesFromLines alone value before after))
+    → IfOk r (λ known. IfSome known (EditsList (Remove (Named value.attr.now) (value.value.now ∷ [])) alone before after))
+removes_from_list alone value before after (Ok None) known = tt
+removes_from_list alone value before after (Ok (Some edited)) known = removes_listed alone value before after edited known
+removes_from_list alone value before after (Err e) known = known
 
-pub lacking_stays : (depth : ℕ) (home : Package) (attr value lines old new : List ℕ) → LacksInLines depth home attr value lines → EditsList depth (Remove (Named attr) (value ∷ [])) home lines old new Unlisted
-lacking_stays depth home attr value lines old new lacking = λ args reads. ap (done None) (lacking args reads)
+pub lacking_stays : (alone : AloneLines) (value : ListValue) (before after : List ℕ) → LacksInLines alone value → EditsList (Remove (Named value.attr.now) (value.value.now ∷ [])) alone before after Unlisted
+lacking_stays alone value before after lacking = λ args reads. ap (done None) (lacking args reads)
 
 list_line : (attr value : List ℕ) → argument_lines (list_argument attr value ∷ []) ≡ codes "\n    " ++ (attr ++ (codes " = [" ++ (quoted value ++ codes "],")))
 list_line attr value = refl
@@ -230,7 +234,7 @@ argument_changes depth command attr home s place lines one rule has changes =
     )
 
 -- a list whose lines alone are in the buffer
-pub lines_alone : (depth : ℕ) (command : Command) (home : Package) (lines old new laid : List ℕ) → old ≡ [] → EditsList depth command home lines old new Listed → laid ≡ new
+pub lines_alone : (depth : ℕ) (command : Command) (home : Package) (lines old new laid : List ℕ) → old ≡ [] → EditsList command (read_alone depth home lines) old new Listed → laid ≡ new
     → (args : List Segment) → is_empty lines ≡ is_empty args → AreReadAlone depth lines args → ChangesArgs command home args laid
 lines_alone depth command home lines old new laid none edits is args same reads =
     subst (ChangesArgs command home args) (sym (is ∙ edits.1 ∙ ap (λ (t : List ℕ). t ++ edits.0) none)) (edits.2 args reads)

@@ -3,7 +3,7 @@
 
 ghost use Rattle.std.specs.Prelude.{◌≡◌, ◌++◌, ◌∷◌, ℕ, List, [], codes, string_bytes, IfOk, IfSome, IsTrue, OnOk, Some};
 ghost use Rattle.bz_canonical.specs.Added.{LacksInLines};
-ghost use Rattle.bz_canonical.specs.Canonical.{argument_lines, between, small_text};
+ghost use Rattle.bz_canonical.specs.Canonical.{argument_lines, between, read_alone, small_text};
 ghost use Rattle.bz_rule.specs.OneAttribute.{one_attribute};
 ghost use Rattle.bz_command.specs.declared.arguments.Attributes.TheVariants.{Named};
 ghost use Rattle.bz_command.specs.declared.arguments.Commented.TheVariants.{Attribute};
@@ -117,8 +117,8 @@ fn execute_on_list(
     lines: &str,
     written: &mut Vec<u8>,
 ) -> Result<Option<EditedList>, NoMemory>
-    ensures { IfOk result (λ known. IfSome known (EditsList script.entry.max_depth command.now script.entry.home.now
-        lines.now written.old.items written.new.items)) }
+    ensures { IfOk result (λ known. IfSome known (EditsList command.now
+        (read_alone script.entry.max_depth script.entry.home.now lines.now) written.old.items written.new.items)) }
 {
     if let Some(new) = added_by(command) {
         let env = Env {
@@ -143,9 +143,9 @@ fn execute_remove(
     lines: &str,
     written: &mut Vec<u8>,
 ) -> Result<Option<EditedList>, NoMemory>
-    ensures { IfOk result (λ known. IfSome known (EditsList script.entry.max_depth
-        (Remove (Named old.entry.attr.now) (old.entry.value.now ∷ [])) script.entry.home.now lines.now
-        written.old.items written.new.items)) }
+    ensures { IfOk result (λ known. IfSome known (EditsList
+        (Remove (Named old.entry.attr.now) (old.entry.value.now ∷ []))
+        (read_alone script.entry.max_depth script.entry.home.now lines.now) written.old.items written.new.items)) }
 {
     if is_short_without(script, old, lines) {
         return Ok(Some(EditedList::Unchanged));
@@ -160,9 +160,9 @@ fn execute_replace(
     lines: &str,
     written: &mut Vec<u8>,
 ) -> Result<Option<EditedList>, NoMemory>
-    ensures { IfOk result (λ known. IfSome known (EditsList script.entry.max_depth
-        (Replace (Named replaced.entry.attr.now) replaced.entry.old.now replaced.entry.new.now) script.entry.home.now
-        lines.now written.old.items written.new.items)) }
+    ensures { IfOk result (λ known. IfSome known (EditsList
+        (Replace (Named replaced.entry.attr.now) replaced.entry.old.now replaced.entry.new.now)
+        (read_alone script.entry.max_depth script.entry.home.now lines.now) written.old.items written.new.items)) }
 {
     let old = ListValue {
         attr: replaced.attr,
@@ -181,8 +181,8 @@ fn execute_replace(
 /// These lines are few, and have a list that lacks the value. Most lists lack it, and of these nothing has to be
 /// written; a long one is gone over once.
 fn is_short_without(script: ScriptRun<'_>, sought: ListValue<'_>, lines: &str) -> bool
-    ensures { IsTrue result → LacksInLines script.entry.max_depth script.entry.home.now sought.entry.attr.now
-        sought.entry.value.now lines.now }
+    ensures { IsTrue result
+        → LacksInLines (read_alone script.entry.max_depth script.entry.home.now lines.now) sought.entry }
 {
     lines.len() <= LONGEST && lacks(script.home, lines, sought, script.max_depth)
 }

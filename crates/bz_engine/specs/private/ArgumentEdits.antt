@@ -6,7 +6,7 @@ use Rattle.bz_attribute.specs.declared.done.Done.{Done}
 use Rattle.bz_attribute.specs.Effects.{argument, list_item, string}
 use Rattle.bz_command.specs.declared.arguments.Setting.TheVariants.{ToValues}
 use Rattle.bz_command.specs.Labels.{Package}
-use Rattle.bz_canonical.specs.Canonical.{AreReadAlone, Between, argument_lines, small_text}
+use Rattle.bz_canonical.specs.Canonical.{AloneLines, AreReadAlone, Between, argument_lines, small_text}
 use Rattle.bz_canonical.specs.declared.edited.EditedList.{EditedList}
 use Rattle.bz_canonical.specs.declared.edited.EditedList.TheVariants.{Unchanged, Written}
 use Rattle.bz_rule.specs.Commands.{Command, args_after, args_done}
@@ -55,9 +55,9 @@ abbrev pub EditsSmallRule : ℕ → Command → Package → List ℕ → EditedA
 EditsSmallRule depth command home text edited = (lines : List ℕ) → text ≡ small_text lines → EditsLines depth command home lines edited
 
 -- the same of a list; what is written stands after what was in the buffer
-abbrev pub EditsList : ℕ → Command → Package → List ℕ → List ℕ → List ℕ → EditedList → Type 0
-EditsList depth command home lines old new Unchanged = (args : List Segment) → AreReadAlone depth lines args → args_done command home args ≡ told_line false None
-EditsList depth command home lines old new Written = (written : List ℕ) × (new ≡ old ++ written) × ((args : List Segment) → AreReadAlone depth lines args → ChangesArgs command home args written)
+abbrev pub EditsList : Command → AloneLines → List ℕ → List ℕ → EditedList → Type 0
+EditsList command alone before after Unchanged = (args : List Segment) → AreReadAlone alone.depth alone.lines args → args_done command alone.home args ≡ told_line false None
+EditsList command alone before after Written = (written : List ℕ) × (after ≡ before ++ written) × ((args : List Segment) → AreReadAlone alone.depth alone.lines args → ChangesArgs command alone.home args written)
 
 -- the same, with what stands before the list and after it
 abbrev pub EditsPlace : ℕ → Command → Package → Between → List ℕ → List ℕ → EditedList → Type 0
