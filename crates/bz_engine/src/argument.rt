@@ -1,5 +1,5 @@
-//! What a command makes of the lines of an argument, by a small rule that has this argument alone. `canonical.rt` calls
-//! `execute_on_lines` for a rule of which it edits one argument.
+//! What a command makes of the lines of an argument, by a small rule that has this argument alone. `marked_rule.rt`
+//! calls `execute_on_lines` for a rule of which it edits one argument.
 
 ghost use Rattle.std.specs.Prelude.{◌≡◌, ◌++◌, ◌∷◌, ℕ, List, [], codes, string_bytes, IfOk, IfSome, IsTrue, OnOk, Some};
 ghost use Rattle.bz_canonical.specs.Added.{LacksInLines};

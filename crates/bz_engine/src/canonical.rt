@@ -2,18 +2,12 @@
 //! are, or of which it edits one argument: they are copied. `next_chunk.rt` asks here first, of the first chunk of the
 //! text ahead (`copy_canonical`) and of one that was found line by line (`copy_whole`), and reads what is left.
 
-ghost use Rattle.std.specs.Prelude.{◌≡◌, ◌+◌, ◌<◌, ◌≤◌, ◌^◌, ◌++◌, if◌then◌else◌, [], ◌∷◌, Some, false, true, bytes_eq, codes, length, option_map, IfOk, OnOk, IfSome, IfNone, IsTrue};
+ghost use Rattle.std.specs.Prelude.{◌≡◌, ◌+◌, ◌<◌, ◌≤◌, ◌^◌, Some, length, option_map, IfOk, OnOk, IfSome, IfNone, IsTrue};
 ghost use Rattle.bz_tree.specs.Tree.{Statement};
-ghost use Rattle.bz_layout.specs.Layout.{layout_text};
 ghost use Rattle.bz_canonical.specs.Canonical.{HasName, IsCanonical, between};
 ghost use Rattle.bz_passes.specs.Exchange.{Fits, IsPassedBy};
 ghost use Rattle.bz_devices.specs.Ahead.{IsFewAfter};
-ghost use Rattle.bz_command.specs.declared.arguments.Commented.TheVariants.{Attribute};
-ghost use Rattle.bz_rule.specs.declared.command.Action.TheVariants.{Comment};
-ghost use Rattle.bz_rule.specs.OneAttribute.{one_attribute};
 ghost use Rattle.bz_engine.specs.Language.{meaning, changes, fails_on};
-ghost use Rattle.bz_engine.specs.Outcome.{is_query};
-ghost use Rattle.bz_engine.specs.Progress.{text_following};
 ghost use Rattle.bz_engine.specs.private.Edits.{DoesNothing, EditsWhole, run_of};
 ghost use Rattle.bz_engine.specs.private.Found.{IsFound, IsForOne};
 ghost use Rattle.bz_engine.specs.private.Named.{IsNamePassedBy};
@@ -21,26 +15,19 @@ ghost use Rattle.bz_engine.specs.private.NextChunks.{EditsFound, IsFirstEdited, 
 ghost use Rattle.bz_engine.specs.private.Rows.{HasKey};
 
 use crate::answer::{marks_found, unchanged_by_text};
-use crate::argument::{
-    AttributeComment, EditedArgument, comment_by, execute_in_place, execute_on_lines, is_long,
-};
 use crate::edit::ScriptRun;
 use crate::failure::message_by_text;
+use crate::marked_rule::{MarkedRule, edit_marked};
 use crate::progress::Progress;
 use crate::rule_passes::OnePass;
 use crate::rules::Rules;
-use crate::written::{begin_statement, put_canonical};
+use crate::written::put_canonical;
 use bz_attribute::Env;
-use bz_attribute_commands::comment::comment_line;
-use bz_canonical::{
-    ArgumentPlace, AsksOfRules, CanonicalChunk, EditedList, Lookup, comment_place, read_canonical,
-};
+use bz_canonical::{AsksOfRules, CanonicalChunk, Lookup, read_canonical};
 use bz_devices::ahead::Ahead;
-use bz_layout::put_gap;
-use bz_memory::{NoMemory, extend_from_slice};
+use bz_memory::NoMemory;
 use bz_passes::index::Key;
 use bz_passes::script::{only_pass, passes_by};
-use bz_rule::one_attribute;
 use bz_tree::Class;
 
 /// Runs the script on the first chunk of the text ahead, where what would be written of it and what the script makes of
@@ -208,7 +195,7 @@ fn copy_marked(
         put_canonical(script, found.chunk, progress, text)?;
         return Ok(true);
     }
-    edit_marked(script, only, found, progress, text)
+    edit_marked(script, MarkedRule { only, found }, progress, text)
 }
 
 /// The one pass of the script that marks the statement of the chunk, where it has one command.
@@ -226,161 +213,6 @@ fn find_one_pass<'a>(script: ScriptRun<'a>, found: &Found<'_>) -> Option<OnePass
         return None;
     }
     Some(only)
-}
-
-/// The one command of a pass on a rule that it alone marks, where it looks at one argument alone, and the lines of that
-/// are known.
-fn edit_marked(
-    script: ScriptRun<'_>,
-    only: OnePass<'_>,
-    found: &Found<'_>,
-    progress: &mut Progress,
-    text: &mut Vec<u8>,
-) -> Result<bool, NoMemory>
-    requires only { IsForOne script.max_depth script.home.now script.passes.now only found.now }
-    requires fits { Fits progress.old.kept script.passes.now }
-    ensures { IfOk result (EditsFound (run_of script.entry) found.now progress.old progress.new
-        text.old.items text.new.items) }
-{
-    if let Some(comment) = comment_by(only.command) {
-        return put_comment(script, only, comment, found, progress, text);
-    }
-    if is_long(found.chunk.place) {
-        return edit_long_argument(script, only, found, progress, text);
-    }
-    edit_argument(script, only, found, progress, text)
-}
-
-/// The command puts a comment above an argument.
-fn put_comment(
-    script: ScriptRun<'_>,
-    only: OnePass<'_>,
-    comment: AttributeComment<'_>,
-    found: &Found<'_>,
-    progress: &mut Progress,
-    text: &mut Vec<u8>,
-) -> Result<bool, NoMemory>
-    requires only { IsForOne script.max_depth script.home.now script.passes.now only found.now }
-    requires fits { Fits progress.old.kept script.passes.now }
-    requires comment { only.command.now ≡ Comment (Attribute comment.attr.now) comment.text.now }
-    ensures { IfOk result (EditsFound (run_of script.entry) found.now progress.old progress.new
-        text.old.items text.new.items) }
-{
-    let Some(place) = place_for(only, found) else {
-        return Ok(false);
-    };
-    let Some(at) = comment_place(found.chunk.written, place) else {
-        return Ok(false);
-    };
-    let line = comment_line(script.alloc, comment.text)?;
-    progress.keep_line(only.at, None)?;
-    let changed = Changed {
-        class: found.chunk.class,
-        before: at.above,
-        lines: line.as_bytes(),
-        after: at.below,
-    };
-    changed.put(script, progress, text)?;
-    Ok(true)
-}
-
-/// The same of an argument of many lines: what the command makes of these is written where it is to stand.
-fn edit_long_argument(
-    script: ScriptRun<'_>,
-    only: OnePass<'_>,
-    found: &Found<'_>,
-    progress: &mut Progress,
-    text: &mut Vec<u8>,
-) -> Result<bool, NoMemory>
-    requires only { IsForOne script.max_depth script.home.now script.passes.now only found.now }
-    requires fits { Fits progress.old.kept script.passes.now }
-    ensures { IfOk result (EditsFound (run_of script.entry) found.now progress.old progress.new
-        text.old.items text.new.items) }
-{
-    let Some(place) = place_for(only, found) else {
-        return Ok(false);
-    };
-    // The text of a chunk begins empty: so all of it may be given up.
-    if !text.is_empty() || script.passes.is_query() {
-        return Ok(false);
-    }
-    put_gap(progress.last, found.chunk.class, text)?;
-    match execute_in_place(script, only.command, place, text)? {
-        None => {
-            text.clear();
-            Ok(false)
-        }
-        Some(EditedList::Unchanged) => {
-            text.clear();
-            progress.keep_line(only.at, None)?;
-            put_canonical(script, found.chunk, progress, text)?;
-            Ok(true)
-        }
-        Some(EditedList::Written) => {
-            progress.keep_line(only.at, None)?;
-            progress.last = Some(found.chunk.class);
-            progress.changed = true;
-            Ok(true)
-        }
-    }
-}
-
-/// The same of another argument.
-fn edit_argument(
-    script: ScriptRun<'_>,
-    only: OnePass<'_>,
-    found: &Found<'_>,
-    progress: &mut Progress,
-    text: &mut Vec<u8>,
-) -> Result<bool, NoMemory>
-    requires only { IsForOne script.max_depth script.home.now script.passes.now only found.now }
-    requires fits { Fits progress.old.kept script.passes.now }
-    ensures { IfOk result (EditsFound (run_of script.entry) found.now progress.old progress.new
-        text.old.items text.new.items) }
-{
-    let Some(place) = place_for(only, found) else {
-        return Ok(false);
-    };
-    let mut spare = progress.take_spare(script.alloc);
-    match execute_on_lines(script, only.command, place.lines, &mut spare)? {
-        None => {
-            progress.give_back(spare);
-            Ok(false)
-        }
-        Some(EditedArgument::Unchanged) => {
-            progress.keep_line(only.at, None)?;
-            put_canonical(script, found.chunk, progress, text)?;
-            progress.give_back(spare);
-            Ok(true)
-        }
-        Some(EditedArgument::Lines(lines)) => {
-            progress.keep_line(only.at, None)?;
-            let changed = Changed {
-                class: found.chunk.class,
-                before: place.before,
-                lines,
-                after: place.after,
-            };
-            changed.put(script, progress, text)?;
-            progress.give_back(spare);
-            Ok(true)
-        }
-    }
-}
-
-/// The place of the argument that the command looks at alone. None also for the name where a pass comes after: that may
-/// mark the rule by its new one.
-fn place_for<'a>(only: OnePass<'_>, found: &Found<'a>) -> Option<ArgumentPlace<'a>>
-    ensures place { IfSome result (λ place. found.now.chunk.place ≡ Some place) }
-    ensures attr { IfSome result (λ _. one_attribute only.entry.command.now ≡ Some found.now.attr.now) }
-    ensures name { IfSome result (λ _. only.entry.last ≡ false
-        → bytes_eq found.now.attr.now (codes "name") ≡ false) }
-{
-    let attr = one_attribute(only.command)?;
-    if attr != found.attr || (attr == "name" && !only.last) {
-        return None;
-    }
-    found.chunk.place
 }
 
 /// No pass of the script may mark the statement.
@@ -430,38 +262,5 @@ fn name_key(name: Option<&str>) -> Key<'_>
     match name {
         Some(name) => Key::Name(name),
         None => Key::NoName,
-    }
-}
-
-/// A rule with other lines in the place of an argument.
-#[derive(Clone, Copy)]
-struct Changed<'t> {
-    class: Class,
-    before: &'t str,
-    lines: &'t [u8],
-    after: &'t str,
-}
-
-impl Changed<'_> {
-    /// Writes the text of the rule.
-    fn put(
-        self,
-        script: ScriptRun<'_>,
-        progress: &mut Progress,
-        text: &mut Vec<u8>,
-    ) -> Result<(), NoMemory>
-        ensures last { OnOk result (progress.new ≡ record progress.old { last = Some self.entry.class; changed = true }) }
-        ensures text { OnOk result ((s : Statement) → s.class ≡ self.entry.class
-            → layout_text s ≡ self.entry.before.now ++ (self.entry.lines.now ++ self.entry.after.now)
-            → text.new.items ≡ text.old.items
-            ++ (if is_query script.entry.passes.now then [] else text_following progress.old.last (Some s ∷ []))) }
-    {
-        if begin_statement(script, self.class, progress, text)? {
-            extend_from_slice(text, self.before.as_bytes())?;
-            extend_from_slice(text, self.lines)?;
-            extend_from_slice(text, self.after.as_bytes())?;
-        }
-        progress.changed = true;
-        Ok(())
     }
 }

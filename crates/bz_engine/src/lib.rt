@@ -14,6 +14,7 @@ mod edit;
 mod failure;
 pub mod laws;
 mod looks;
+mod marked_rule;
 mod message;
 mod next_chunk;
 mod options;

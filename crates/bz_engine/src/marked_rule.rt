@@ -1,0 +1,225 @@
+//! Rules that one pass alone marks and that are not read, of which its one command edits one argument: by the lines of
+//! the argument, or by the place above it. `canonical.rt` asks for a chunk of which it knows what would be written.
+
+ghost use Rattle.std.specs.Prelude.{◌≡◌, ◌++◌, if◌then◌else◌, [], ◌∷◌, Some, false, true, bytes_eq, codes, IfOk, OnOk, IfSome};
+ghost use Rattle.bz_tree.specs.Tree.{Statement};
+ghost use Rattle.bz_layout.specs.Layout.{layout_text};
+ghost use Rattle.bz_passes.specs.Exchange.{Fits};
+ghost use Rattle.bz_command.specs.declared.arguments.Commented.TheVariants.{Attribute};
+ghost use Rattle.bz_rule.specs.declared.command.Action.TheVariants.{Comment};
+ghost use Rattle.bz_rule.specs.OneAttribute.{one_attribute};
+ghost use Rattle.bz_engine.specs.Outcome.{is_query};
+ghost use Rattle.bz_engine.specs.Progress.{text_following};
+ghost use Rattle.bz_engine.specs.private.Edits.{run_of};
+ghost use Rattle.bz_engine.specs.private.Found.{IsForOne};
+ghost use Rattle.bz_engine.specs.private.NextChunks.{EditsFound};
+
+use crate::argument::{
+    AttributeComment, EditedArgument, comment_by, execute_in_place, execute_on_lines, is_long,
+};
+use crate::canonical::Found;
+use crate::edit::ScriptRun;
+use crate::progress::Progress;
+use crate::rule_passes::OnePass;
+use crate::written::{begin_statement, put_canonical};
+use bz_attribute_commands::comment::comment_line;
+use bz_canonical::{ArgumentPlace, EditedList, comment_place};
+use bz_layout::put_gap;
+use bz_memory::{NoMemory, extend_from_slice};
+use bz_rule::one_attribute;
+use bz_tree::Class;
+
+/// A rule that one pass alone marks, and that pass, which has one command.
+#[derive(Clone, Copy)]
+pub(crate) struct MarkedRule<'a> {
+    pub(crate) only: OnePass<'a>,
+    pub(crate) found: &'a Found<'a>,
+}
+
+/// Runs the command on the rule, where it looks at one argument alone, and the lines of that are known. False, with
+/// nothing done: the rule is to be seen.
+pub(crate) fn edit_marked(
+    script: ScriptRun<'_>,
+    marked: MarkedRule<'_>,
+    progress: &mut Progress,
+    text: &mut Vec<u8>,
+) -> Result<bool, NoMemory>
+    requires only { IsForOne script.max_depth script.home.now script.passes.now marked.only marked.found.now }
+    requires fits { Fits progress.old.kept script.passes.now }
+    ensures { IfOk result (EditsFound (run_of script.entry) marked.entry.found.now progress.old progress.new
+        text.old.items text.new.items) }
+{
+    let MarkedRule { only, found } = marked;
+    if let Some(comment) = comment_by(only.command) {
+        return put_comment(script, marked, comment, progress, text);
+    }
+    if is_long(found.chunk.place) {
+        return edit_long_argument(script, marked, progress, text);
+    }
+    edit_argument(script, marked, progress, text)
+}
+
+/// The command puts a comment above an argument.
+fn put_comment(
+    script: ScriptRun<'_>,
+    marked: MarkedRule<'_>,
+    comment: AttributeComment<'_>,
+    progress: &mut Progress,
+    text: &mut Vec<u8>,
+) -> Result<bool, NoMemory>
+    requires only { IsForOne script.max_depth script.home.now script.passes.now marked.only marked.found.now }
+    requires fits { Fits progress.old.kept script.passes.now }
+    requires comment { marked.only.command.now ≡ Comment (Attribute comment.attr.now) comment.text.now }
+    ensures { IfOk result (EditsFound (run_of script.entry) marked.entry.found.now progress.old progress.new
+        text.old.items text.new.items) }
+{
+    let MarkedRule { only, found } = marked;
+    let Some(place) = place_for(only, found) else {
+        return Ok(false);
+    };
+    let Some(at) = comment_place(found.chunk.written, place) else {
+        return Ok(false);
+    };
+    let line = comment_line(script.alloc, comment.text)?;
+    progress.keep_line(only.at, None)?;
+    let changed = Changed {
+        class: found.chunk.class,
+        before: at.above,
+        lines: line.as_bytes(),
+        after: at.below,
+    };
+    changed.put(script, progress, text)?;
+    Ok(true)
+}
+
+/// The same of an argument of many lines: what the command makes of these is written where it is to stand.
+fn edit_long_argument(
+    script: ScriptRun<'_>,
+    marked: MarkedRule<'_>,
+    progress: &mut Progress,
+    text: &mut Vec<u8>,
+) -> Result<bool, NoMemory>
+    requires only { IsForOne script.max_depth script.home.now script.passes.now marked.only marked.found.now }
+    requires fits { Fits progress.old.kept script.passes.now }
+    ensures { IfOk result (EditsFound (run_of script.entry) marked.entry.found.now progress.old progress.new
+        text.old.items text.new.items) }
+{
+    let MarkedRule { only, found } = marked;
+    let Some(place) = place_for(only, found) else {
+        return Ok(false);
+    };
+    // The text of a chunk begins empty: so all of it may be given up.
+    if !text.is_empty() || script.passes.is_query() {
+        return Ok(false);
+    }
+    put_gap(progress.last, found.chunk.class, text)?;
+    match execute_in_place(script, only.command, place, text)? {
+        None => {
+            text.clear();
+            Ok(false)
+        }
+        Some(EditedList::Unchanged) => {
+            text.clear();
+            progress.keep_line(only.at, None)?;
+            put_canonical(script, found.chunk, progress, text)?;
+            Ok(true)
+        }
+        Some(EditedList::Written) => {
+            progress.keep_line(only.at, None)?;
+            progress.last = Some(found.chunk.class);
+            progress.changed = true;
+            Ok(true)
+        }
+    }
+}
+
+/// The same of another argument.
+fn edit_argument(
+    script: ScriptRun<'_>,
+    marked: MarkedRule<'_>,
+    progress: &mut Progress,
+    text: &mut Vec<u8>,
+) -> Result<bool, NoMemory>
+    requires only { IsForOne script.max_depth script.home.now script.passes.now marked.only marked.found.now }
+    requires fits { Fits progress.old.kept script.passes.now }
+    ensures { IfOk result (EditsFound (run_of script.entry) marked.entry.found.now progress.old progress.new
+        text.old.items text.new.items) }
+{
+    let MarkedRule { only, found } = marked;
+    let Some(place) = place_for(only, found) else {
+        return Ok(false);
+    };
+    let mut spare = progress.take_spare(script.alloc);
+    match execute_on_lines(script, only.command, place.lines, &mut spare)? {
+        None => {
+            progress.give_back(spare);
+            Ok(false)
+        }
+        Some(EditedArgument::Unchanged) => {
+            progress.keep_line(only.at, None)?;
+            put_canonical(script, found.chunk, progress, text)?;
+            progress.give_back(spare);
+            Ok(true)
+        }
+        Some(EditedArgument::Lines(lines)) => {
+            progress.keep_line(only.at, None)?;
+            let changed = Changed {
+                class: found.chunk.class,
+                before: place.before,
+                lines,
+                after: place.after,
+            };
+            changed.put(script, progress, text)?;
+            progress.give_back(spare);
+            Ok(true)
+        }
+    }
+}
+
+/// The place of the argument that the command looks at alone. None also for the name where a pass comes after: that may
+/// mark the rule by its new one.
+fn place_for<'a>(only: OnePass<'_>, found: &Found<'a>) -> Option<ArgumentPlace<'a>>
+    ensures place { IfSome result (λ place. found.now.chunk.place ≡ Some place) }
+    ensures attr { IfSome result (λ _. one_attribute only.entry.command.now ≡ Some found.now.attr.now) }
+    ensures name { IfSome result (λ _. only.entry.last ≡ false
+        → bytes_eq found.now.attr.now (codes "name") ≡ false) }
+{
+    let attr = one_attribute(only.command)?;
+    if attr != found.attr || (attr == "name" && !only.last) {
+        return None;
+    }
+    found.chunk.place
+}
+
+/// A rule with other lines in the place of an argument.
+#[derive(Clone, Copy)]
+struct Changed<'t> {
+    class: Class,
+    before: &'t str,
+    lines: &'t [u8],
+    after: &'t str,
+}
+
+impl Changed<'_> {
+    /// Writes the text of the rule.
+    fn put(
+        self,
+        script: ScriptRun<'_>,
+        progress: &mut Progress,
+        text: &mut Vec<u8>,
+    ) -> Result<(), NoMemory>
+        ensures last { OnOk result (progress.new ≡ record progress.old { last = Some self.entry.class; changed = true }) }
+        ensures text { OnOk result ((s : Statement) → s.class ≡ self.entry.class
+            → layout_text s ≡ self.entry.before.now ++ (self.entry.lines.now ++ self.entry.after.now)
+            → text.new.items ≡ text.old.items
+            ++ (if is_query script.entry.passes.now then [] else text_following progress.old.last (Some s ∷ []))) }
+    {
+        if begin_statement(script, self.class, progress, text)? {
+            extend_from_slice(text, self.before.as_bytes())?;
+            extend_from_slice(text, self.lines)?;
+            extend_from_slice(text, self.after.as_bytes())?;
+        }
+        progress.changed = true;
+        Ok(())
+    }
+}
