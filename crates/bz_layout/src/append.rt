@@ -1,21 +1,33 @@
 //! What a text is appended to.
 
-ghost use Rattle.std.specs.Prelude.{ℕ, List, string_bytes};
+ghost use Rattle.std.specs.Prelude.{◌≡◌, ℕ, List, string_bytes};
 ghost use Rattle.bz_layout.specs.Pieces.{gap_bytes};
 ghost use Rattle.bz_layout.specs.declared.spacing.Gap.TheVariants.{Line};
 ghost use Rattle.bz_layout.specs.private.RowLayout.{Puts};
 
 use crate::write::put_new_line;
-use bz_memory::{NoMemory, extend_from_slice, push, push_str};
+use bz_memory::{NoMemory, extend_from_slice, push, push_str, reserve};
+use std::cmp::min;
 
 // A newline with the indent of the last level that is cut from one text.
 const NEW_LINE: &str = "\n                ";
 
 const LAST_CUT: usize = 4;
 
+// The most room that is made at once.
+const MOST_MORE: usize = 1 << 16;
+
 /// Bytes or a string, at whose end texts are put.
 pub(crate) trait Append {
     ghost bytes: { Self → List ℕ };
+
+    /// Makes room for about so many bytes more. `Err`: memory was refused.
+    fn reserve(&mut self, more: usize) -> Result<(), NoMemory>
+        ensures { bytes self.new ≡ bytes self.old }
+    {
+        let _ = more;
+        Ok(())
+    }
 
     /// Appends a text. `Err`: memory was refused.
     fn put(&mut self, text: &str) -> Result<(), NoMemory>
@@ -41,6 +53,10 @@ pub(crate) trait NewLine: Append {
 
 impl Append for Vec<u8> {
     ghost bytes = { λ v. v.items };
+
+    fn reserve(&mut self, more: usize) -> Result<(), NoMemory> {
+        reserve(self, min(more, MOST_MORE))
+    }
 
     #[inline(always)]
     fn put(&mut self, text: &str) -> Result<(), NoMemory> {

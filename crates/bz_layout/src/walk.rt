@@ -1,14 +1,14 @@
 //! The walk forwards over the parts of a statement, which writes them: on lines for `row.rt`, on one line for
 //! `flat_text.rt`.
 
-ghost use Rattle.std.specs.Prelude.{◌≡◌, ◌<◌, ◌^◌, ◌+◌, ◌++◌, ℕ, List, IfOk, map, reverse};
+ghost use Rattle.std.specs.Prelude.{◌≡◌, ◌<◌, ◌≤◌, ◌^◌, ◌+◌, ◌++◌, ℕ, List, IfOk, OnOk, length, map, reverse};
 ghost use Rattle.bz_tree.specs.Rows.{part_view};
 ghost use Rattle.bz_layout.specs.declared.spacing.Edge.TheVariants.{Start};
 ghost use Rattle.bz_layout.specs.Pieces.{gap_bytes};
 ghost use Rattle.bz_layout.specs.Spacing.{gap_for};
 ghost use Rattle.bz_layout.specs.private.RowLayout.{Puts, Lays, due, top, first_gap, start, with_token, opened, closed_by, ended, step, run, laid};
 
-use crate::append::NewLine;
+use crate::append::{Append, NewLine};
 use crate::marks::BracketForm;
 use crate::respell::put_written;
 use crate::spacing::{Edge, Gap, hugs, is_byte, token_closes_up, token_edge};
@@ -205,6 +205,18 @@ impl RowWriter {
         }
     }
 
+    #[inline(always)]
+    fn run_some<T: NewLine>(&mut self, parts: &[Part<'_>], out: &mut T) -> Result<(), NoMemory>
+        requires { self.old.level + length parts.now < 2 ^ 64 }
+        ensures lays { Lays result (run (map part_view parts.now)) self.old (T.bytes out.old) self.new (T.bytes out.new) }
+        ensures level { OnOk result (self.new.level ≤ self.old.level + length parts.now) }
+    {
+        for part in parts {
+            self.step(part, out)?;
+        }
+        Ok(())
+    }
+
     // From the start: so there are no more levels than parts.
     pub(crate) fn run<T: NewLine>(
         &mut self,
@@ -214,9 +226,42 @@ impl RowWriter {
         requires { self.old.level ≡ 0 }
         ensures { Lays result (run (map part_view parts.now)) self.old (T.bytes out.old) self.new (T.bytes out.new) }
     {
-        for part in parts {
-            self.step(part, out)?;
+        let mut at = 0;
+        while at < parts.len() {
+            let to = at + min(parts.len() - at, AT_ONCE);
+            let some = &parts[at..to];
+            make_room(parts.len() > MANY, some, out)?;
+            self.run_some(some, out)?;
+            at = to;
         }
         Ok(())
     }
+}
+
+// So many parts have left the processor's nearest memory by the time they are written. To look at the next few of them
+// together fetches them together.
+const MANY: usize = 16384;
+
+const AT_ONCE: usize = 128;
+
+// Makes room for the texts of these parts, where they are some of many.
+#[inline(always)]
+fn make_room<T: Append>(many: bool, some: &[Part<'_>], out: &mut T) -> Result<(), NoMemory>
+    ensures { T.bytes out.new ≡ T.bytes out.old }
+{
+    if !many {
+        return Ok(());
+    }
+    out.reserve(texts_len(some))
+}
+
+// How long the texts of the tokens are.
+fn texts_len(parts: &[Part<'_>]) -> usize {
+    let mut len: usize = 0;
+    for part in parts {
+        if let Part::Token(_, text) = part {
+            len = len.saturating_add(text.len());
+        }
+    }
+    len
 }
