@@ -1,14 +1,14 @@
 //! The walk forwards over the parts of a statement, which writes them: on lines for `row.rt`, on one line for
 //! `flat_text.rt`.
 
-ghost use Rattle.std.specs.Prelude.{◌≡◌, ◌<◌, ◌≤◌, ◌^◌, ◌+◌, ◌++◌, ℕ, List, IfOk, OnOk, length, map, reverse};
+ghost use Rattle.std.specs.Prelude.{◌≡◌, ◌<◌, ◌≤◌, ◌^◌, ◌+◌, ◌++◌, ℕ, List, IfOk, length, map, reverse, take};
 ghost use Rattle.bz_tree.specs.Rows.{part_view};
 ghost use Rattle.bz_layout.specs.declared.spacing.Edge.TheVariants.{Start};
 ghost use Rattle.bz_layout.specs.Pieces.{gap_bytes};
 ghost use Rattle.bz_layout.specs.Spacing.{gap_for};
-ghost use Rattle.bz_layout.specs.private.RowLayout.{Puts, Lays, due, top, first_gap, start, with_token, opened, closed_by, ended, step, run, laid};
+ghost use Rattle.bz_layout.specs.private.RowLayout.{IsBegunBy, Puts, Lays, due, top, first_gap, start, with_token, opened, closed_by, ended, step, run, laid};
 
-use crate::append::{Append, NewLine};
+use crate::append::NewLine;
 use crate::marks::BracketForm;
 use crate::respell::put_written;
 use crate::spacing::{Edge, Gap, hugs, is_byte, token_closes_up, token_edge};
@@ -205,16 +205,29 @@ impl RowWriter {
         }
     }
 
+    // Writes the segment that the parts begin with, where it is a number on a line of its own, with a comma. Answers how
+    // many parts it has; none: it is another.
     #[inline(always)]
-    fn run_some<T: NewLine>(&mut self, parts: &[Part<'_>], out: &mut T) -> Result<(), NoMemory>
-        requires { self.old.level + length parts.now < 2 ^ 64 }
-        ensures lays { Lays result (run (map part_view parts.now)) self.old (T.bytes out.old) self.new (T.bytes out.new) }
-        ensures level { OnOk result (self.new.level ≤ self.old.level + length parts.now) }
+    fn put_number<T: NewLine>(&self, parts: &[Part<'_>], out: &mut T) -> Result<usize, NoMemory>
+        ensures within { IfOk result (λ n. n ≤ length parts.now) }
+        ensures put { IfOk result (λ n. laid self.now (T.bytes out.new)
+            ≡ run (map part_view (take n parts.now)) (laid self.now (T.bytes out.old))) }
+        ensures begun { IsBegunBy (T.bytes out.old) (T.bytes out.new) }
     {
-        for part in parts {
-            self.step(part, out)?;
+        match (parts, self.left, self.here.mark) {
+            (
+                [Part::Token(Kind::Integer, text), Part::End, ..],
+                Edge::Start,
+                BracketForm {
+                    broken: true,
+                    comma: true,
+                },
+            ) => {
+                out.put_item(self.level, text)?;
+                Ok(2)
+            }
+            _ => Ok(0),
         }
-        Ok(())
     }
 
     // From the start: so there are no more levels than parts.
@@ -228,40 +241,14 @@ impl RowWriter {
     {
         let mut at = 0;
         while at < parts.len() {
-            let to = at + min(parts.len() - at, AT_ONCE);
-            let some = &parts[at..to];
-            make_room(parts.len() > MANY, some, out)?;
-            self.run_some(some, out)?;
-            at = to;
+            let count = self.put_number(&parts[at..], out)?;
+            if count > 0 {
+                at += count;
+            } else {
+                self.step(&parts[at], out)?;
+                at += 1;
+            }
         }
         Ok(())
     }
-}
-
-// So many parts have left the processor's nearest memory by the time they are written. To look at the next few of them
-// together fetches them together.
-const MANY: usize = 16384;
-
-const AT_ONCE: usize = 128;
-
-// Makes room for the texts of these parts, where they are some of many.
-#[inline(always)]
-fn make_room<T: Append>(many: bool, some: &[Part<'_>], out: &mut T) -> Result<(), NoMemory>
-    ensures { T.bytes out.new ≡ T.bytes out.old }
-{
-    if !many {
-        return Ok(());
-    }
-    out.reserve(texts_len(some))
-}
-
-// How long the texts of the tokens are.
-fn texts_len(parts: &[Part<'_>]) -> usize {
-    let mut len: usize = 0;
-    for part in parts {
-        if let Part::Token(_, text) = part {
-            len = len.saturating_add(text.len());
-        }
-    }
-    len
 }
