@@ -1,6 +1,6 @@
 //! What a text is appended to.
 
-ghost use Rattle.std.specs.Prelude.{ℕ, List, string_bytes};
+ghost use Rattle.std.specs.Prelude.{◌≡◌, ◌≤◌, ◌∷◌, ◌++◌, ℕ, List, codes, string_bytes};
 ghost use Rattle.bz_layout.specs.Pieces.{gap_bytes};
 ghost use Rattle.bz_layout.specs.declared.spacing.Gap.TheVariants.{Line};
 ghost use Rattle.bz_layout.specs.private.RowLayout.{Puts};
@@ -12,6 +12,9 @@ use bz_memory::{NoMemory, extend_from_slice, push, push_str};
 const NEW_LINE: &str = "\n                ";
 
 const LAST_CUT: usize = 4;
+
+// The same with room for two bytes.
+const ITEM: &str = "\n                  ";
 
 /// Bytes or a string, at whose end texts are put.
 pub(crate) trait Append {
@@ -37,6 +40,29 @@ pub(crate) trait NewLine: Append {
     {
         put_new_line(level, self)
     }
+
+    /// Appends a line of its own for a text and the comma after it, up to its newline. `Err`: memory was refused.
+    fn put_item(&mut self, level: usize, text: &str) -> Result<(), NoMemory>
+        ensures { Puts result (Self.bytes self.old) (Self.bytes self.new) (gap_bytes (Line level) ++ (text.now ++ codes ",")) }
+    {
+        self.new_line(level)?;
+        self.put(text)?;
+        self.put_short(",")
+    }
+}
+
+// An item of one byte: a newline, the longest indent, and room for two bytes are copied, and cut.
+#[inline(always)]
+fn put_byte_item(level: usize, byte: u8, out: &mut Vec<u8>) -> Result<(), NoMemory>
+    requires { level ≤ 4 }
+    ensures { Puts result out.old.items out.new.items (gap_bytes (Line level) ++ (byte ∷ codes ",")) }
+{
+    let at = out.len() + 1 + 4 * level;
+    extend_from_slice(out, ITEM.as_bytes())?;
+    out[at] = byte;
+    out[at + 1] = b',';
+    out.truncate(at + 2);
+    Ok(())
 }
 
 impl Append for Vec<u8> {
@@ -67,6 +93,19 @@ impl NewLine for Vec<u8> {
         extend_from_slice(self, NEW_LINE.as_bytes())?;
         self.truncate(len + 1 + 4 * level);
         Ok(())
+    }
+
+    // Most numbers have one digit.
+    #[inline(always)]
+    fn put_item(&mut self, level: usize, text: &str) -> Result<(), NoMemory> {
+        match text.as_bytes() {
+            [byte] if level <= LAST_CUT => put_byte_item(level, *byte, self),
+            _ => {
+                self.new_line(level)?;
+                self.put(text)?;
+                self.put_short(",")
+            }
+        }
     }
 }
 

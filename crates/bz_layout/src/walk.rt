@@ -1,12 +1,12 @@
 //! The walk forwards over the parts of a statement, which writes them: on lines for `row.rt`, on one line for
 //! `flat_text.rt`.
 
-ghost use Rattle.std.specs.Prelude.{◌≡◌, ◌<◌, ◌^◌, ◌+◌, ◌++◌, ℕ, List, IfOk, map, reverse};
+ghost use Rattle.std.specs.Prelude.{◌≡◌, ◌<◌, ◌≤◌, ◌^◌, ◌+◌, ◌++◌, ℕ, List, IfOk, length, map, reverse, take};
 ghost use Rattle.bz_tree.specs.Rows.{part_view};
 ghost use Rattle.bz_layout.specs.declared.spacing.Edge.TheVariants.{Start};
 ghost use Rattle.bz_layout.specs.Pieces.{gap_bytes};
 ghost use Rattle.bz_layout.specs.Spacing.{gap_for};
-ghost use Rattle.bz_layout.specs.private.RowLayout.{Puts, Lays, due, top, first_gap, start, with_token, opened, closed_by, ended, step, run, laid};
+ghost use Rattle.bz_layout.specs.private.RowLayout.{IsBegunBy, Puts, Lays, due, top, first_gap, start, with_token, opened, closed_by, ended, step, run, laid};
 
 use crate::append::NewLine;
 use crate::marks::BracketForm;
@@ -205,6 +205,31 @@ impl RowWriter {
         }
     }
 
+    // Writes the segment that the parts begin with, where it is a number on a line of its own, with a comma. Answers how
+    // many parts it has; none: it is another.
+    #[inline(always)]
+    fn put_number<T: NewLine>(&self, parts: &[Part<'_>], out: &mut T) -> Result<usize, NoMemory>
+        ensures within { IfOk result (λ n. n ≤ length parts.now) }
+        ensures put { IfOk result (λ n. laid self.now (T.bytes out.new)
+            ≡ run (map part_view (take n parts.now)) (laid self.now (T.bytes out.old))) }
+        ensures begun { IsBegunBy (T.bytes out.old) (T.bytes out.new) }
+    {
+        match (parts, self.left, self.here.mark) {
+            (
+                [Part::Token(Kind::Integer, text), Part::End, ..],
+                Edge::Start,
+                BracketForm {
+                    broken: true,
+                    comma: true,
+                },
+            ) => {
+                out.put_item(self.level, text)?;
+                Ok(2)
+            }
+            _ => Ok(0),
+        }
+    }
+
     // From the start: so there are no more levels than parts.
     pub(crate) fn run<T: NewLine>(
         &mut self,
@@ -214,8 +239,15 @@ impl RowWriter {
         requires { self.old.level ≡ 0 }
         ensures { Lays result (run (map part_view parts.now)) self.old (T.bytes out.old) self.new (T.bytes out.new) }
     {
-        for part in parts {
-            self.step(part, out)?;
+        let mut at = 0;
+        while at < parts.len() {
+            let count = self.put_number(&parts[at..], out)?;
+            if count > 0 {
+                at += count;
+            } else {
+                self.step(&parts[at], out)?;
+                at += 1;
+            }
         }
         Ok(())
     }
