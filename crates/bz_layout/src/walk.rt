@@ -1,12 +1,13 @@
 //! The walk forwards over the parts of a statement, which writes them: on lines for `row.rt`, on one line for
 //! `flat_text.rt`.
 
-ghost use Rattle.std.specs.Prelude.{◌≡◌, ◌<◌, ◌≤◌, ◌^◌, ◌+◌, ◌++◌, ℕ, List, IfOk, length, map, reverse, take};
-ghost use Rattle.bz_tree.specs.Rows.{part_view};
+ghost use Rattle.std.specs.Prelude.{◌≡◌, ◌<◌, ◌^◌, ◌+◌, ◌++◌, ◌∷◌, ℕ, List, IfOk, map, reverse};
+ghost use Rattle.bz_token.specs.declared.token.Kind.TheVariants.{Integer};
+ghost use Rattle.bz_tree.specs.Rows.{a_token, part_view};
 ghost use Rattle.bz_layout.specs.declared.spacing.Edge.TheVariants.{Start};
 ghost use Rattle.bz_layout.specs.Pieces.{gap_bytes};
 ghost use Rattle.bz_layout.specs.Spacing.{gap_for};
-ghost use Rattle.bz_layout.specs.private.RowLayout.{IsBegunBy, Puts, Lays, due, top, first_gap, start, with_token, opened, closed_by, ended, step, run, laid};
+ghost use Rattle.bz_layout.specs.private.RowLayout.{Puts, Lays, LaysSome, due, top, first_gap, start, with_token, opened, closed_by, ended, step, run, laid};
 
 use crate::append::NewLine;
 use crate::marks::BracketForm;
@@ -113,19 +114,59 @@ impl RowWriter {
         self.put_token(kind, text, out)
     }
 
-    // The tokens that most statements are made of are told apart once. The code for a text that is known is short.
+    // A number, with the end of its segment where it stands on a line of its own and a comma is written there. Answers how
+    // many parts were written.
     #[inline(always)]
-    fn token<T: NewLine>(&mut self, kind: Kind, text: &str, out: &mut T) -> Result<(), NoMemory>
-        ensures { Lays result (with_token kind text.now) self.old (T.bytes out.old) self.new (T.bytes out.new) }
+    fn number<T: NewLine>(
+        &mut self,
+        text: &str,
+        after: &[Part<'_>],
+        out: &mut T,
+    ) -> Result<usize, NoMemory>
+        ensures { LaysSome result (a_token Integer text.now ∷ map part_view after.now)
+            self.old (T.bytes out.old) self.new (T.bytes out.new) }
+    {
+        match (after, self.left, self.here.mark) {
+            (
+                [Part::End, ..],
+                Edge::Start,
+                BracketForm {
+                    broken: true,
+                    comma: true,
+                },
+            ) => {
+                out.put_item(self.level, text)?;
+                Ok(2)
+            }
+            _ => {
+                self.put_token(Kind::Integer, text, out)?;
+                Ok(1)
+            }
+        }
+    }
+
+    // The tokens that most statements are made of are told apart once. The code for a text that is known is short.
+    // Answers how many parts were written: this one, and with a number perhaps the next.
+    #[inline(always)]
+    fn token<T: NewLine>(
+        &mut self,
+        kind: Kind,
+        text: &str,
+        after: &[Part<'_>],
+        out: &mut T,
+    ) -> Result<usize, NoMemory>
+        ensures { LaysSome result (a_token kind text.now ∷ map part_view after.now)
+            self.old (T.bytes out.old) self.new (T.bytes out.new) }
     {
         match kind {
+            Kind::Integer => return self.number(text, after, out),
             Kind::Identifier => self.put_token(Kind::Identifier, text, out),
             Kind::String => self.put_token(Kind::String, text, out),
-            Kind::Integer => self.put_token(Kind::Integer, text, out),
             Kind::Operator if is_byte(text, b'=') => self.put_token(Kind::Operator, "=", out),
             Kind::Operator if is_byte(text, b':') => self.put_token(Kind::Operator, ":", out),
             _ => self.put_rarer(kind, text, out),
-        }
+        }?;
+        Ok(1)
     }
 
     #[inline(never)]
@@ -186,13 +227,20 @@ impl RowWriter {
         Ok(())
     }
 
+    // Writes a part, and with a number perhaps the one after it. Answers how many were written.
     #[inline(always)]
-    fn step<T: NewLine>(&mut self, part: &Part<'_>, out: &mut T) -> Result<(), NoMemory>
+    fn step<T: NewLine>(
+        &mut self,
+        part: &Part<'_>,
+        after: &[Part<'_>],
+        out: &mut T,
+    ) -> Result<usize, NoMemory>
         requires { self.old.level + 1 < 2 ^ 64 }
-        ensures { Lays result (step (part_view part.now)) self.old (T.bytes out.old) self.new (T.bytes out.new) }
+        ensures { LaysSome result (part_view part.now ∷ map part_view after.now)
+            self.old (T.bytes out.old) self.new (T.bytes out.new) }
     {
         match *part {
-            Part::Token(kind, text) => self.token(kind, text, out),
+            Part::Token(kind, text) => return self.token(kind, text, after, out),
             Part::Open(kind) => self.open(kind, out),
             Part::Close(one_comma) => self.close(one_comma, out),
             Part::End => self.end(out),
@@ -202,32 +250,8 @@ impl RowWriter {
                 put(Gap::Apart, text, out)
             }
             Part::Above(_) | Part::Beside(_) => Ok(()),
-        }
-    }
-
-    // Writes the segment that the parts begin with, where it is a number on a line of its own, with a comma. Answers how
-    // many parts it has; none: it is another.
-    #[inline(always)]
-    fn put_number<T: NewLine>(&self, parts: &[Part<'_>], out: &mut T) -> Result<usize, NoMemory>
-        ensures within { IfOk result (λ n. n ≤ length parts.now) }
-        ensures put { IfOk result (λ n. laid self.now (T.bytes out.new)
-            ≡ run (map part_view (take n parts.now)) (laid self.now (T.bytes out.old))) }
-        ensures begun { IsBegunBy (T.bytes out.old) (T.bytes out.new) }
-    {
-        match (parts, self.left, self.here.mark) {
-            (
-                [Part::Token(Kind::Integer, text), Part::End, ..],
-                Edge::Start,
-                BracketForm {
-                    broken: true,
-                    comma: true,
-                },
-            ) => {
-                out.put_item(self.level, text)?;
-                Ok(2)
-            }
-            _ => Ok(0),
-        }
+        }?;
+        Ok(1)
     }
 
     // From the start: so there are no more levels than parts.
@@ -241,13 +265,7 @@ impl RowWriter {
     {
         let mut at = 0;
         while at < parts.len() {
-            let count = self.put_number(&parts[at..], out)?;
-            if count > 0 {
-                at += count;
-            } else {
-                self.step(&parts[at], out)?;
-                at += 1;
-            }
+            at += self.step(&parts[at], &parts[at + 1..], out)?;
         }
         Ok(())
     }
