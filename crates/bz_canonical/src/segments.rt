@@ -142,14 +142,14 @@ fn after_segment(kind: GroupKind, text: &[u8], level: u8, depth: u8) -> Option<V
 {
     match kind {
         GroupKind::List => {
-            let read = after_nodes(text, level, depth)?;
-            Some(read)
+            let Value { rest, holds } = after_nodes(text, level, depth)?;
+            Some(Value { rest, holds })
         }
         GroupKind::Dict => {
             let colon = after_leaf(text)?;
             let value = after_word(colon, Word::Colon)?;
-            let read = after_nodes(value, level, depth)?;
-            Some(read)
+            let Value { rest, holds } = after_nodes(value, level, depth)?;
+            Some(Value { rest, holds })
         }
         _ => {
             if !is_call(kind) {
@@ -158,8 +158,8 @@ fn after_segment(kind: GroupKind, text: &[u8], level: u8, depth: u8) -> Option<V
             match text {
                 // Most arguments of `select`.
                 [b'{', b'\n', ..] => {
-                    let read = after_broken_dict(text, level, depth)?;
-                    Some(read)
+                    let Value { rest, holds } = after_broken_dict(text, level, depth)?;
+                    Some(Value { rest, holds })
                 }
                 _ => after_argument(kind, text, level, depth),
             }
@@ -179,8 +179,8 @@ fn after_broken_dict(text: &[u8], level: u8, depth: u8) -> Option<Value<'_>>
     }
     let inside = after(text, b'{')?;
     let first = after_broken_group(GroupKind::Dict, inside, level, depth - 1)?;
-    let read = after_first(first, level, depth)?;
-    Some(read)
+    let Value { rest, holds } = after_first(first, level, depth)?;
+    Some(Value { rest, holds })
 }
 
 /// What follows the argument of a call here.
@@ -198,12 +198,12 @@ pub(crate) fn after_argument(
 {
     match after_keyword(text) {
         Some(value) => {
-            let read = after_nodes(value, level, depth)?;
-            Some(read)
+            let Value { rest, holds } = after_nodes(value, level, depth)?;
+            Some(Value { rest, holds })
         }
         None => {
-            let read = after_nodes(text, level, depth)?;
-            Some(read)
+            let Value { rest, holds } = after_nodes(text, level, depth)?;
+            Some(Value { rest, holds })
         }
     }
 }

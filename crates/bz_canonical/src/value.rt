@@ -12,7 +12,8 @@ use crate::front::{
 use crate::group::after_group;
 use bz_tree::GroupKind;
 
-/// What follows a value.
+/// What follows a value. It is taken apart where it is passed on: a copy would have the bytes after `holds` in it, and
+/// the processor waits for these.
 #[derive(Clone, Copy)]
 pub(crate) struct Value<'t> {
     pub(crate) rest: &'t [u8],
@@ -57,12 +58,12 @@ fn after_term(text: &[u8], level: u8, depth: u8) -> Option<Value<'_>>
 {
     match text {
         [b'[', ..] => {
-            let read = after_group(GroupKind::List, text, level, depth)?;
-            Some(read)
+            let Value { rest, holds } = after_group(GroupKind::List, text, level, depth)?;
+            Some(Value { rest, holds })
         }
         [b'{', ..] => {
-            let read = after_group(GroupKind::Dict, text, level, depth)?;
-            Some(read)
+            let Value { rest, holds } = after_group(GroupKind::Dict, text, level, depth)?;
+            Some(Value { rest, holds })
         }
         [b'0'..=b'9', ..] => {
             let rest = after_number(text)?;
@@ -82,12 +83,12 @@ fn after_name_or_call(text: &[u8], level: u8, depth: u8) -> Option<Value<'_>>
     let end = after_word_or_string(text)?;
     match end {
         [b'(', ..] => {
-            let read = after_group(GroupKind::Call, end, level, depth)?;
-            Some(read)
+            let Value { rest, holds } = after_group(GroupKind::Call, end, level, depth)?;
+            Some(Value { rest, holds })
         }
         [b'.', ..] => {
-            let read = after_suffixes(end, level, depth)?;
-            Some(read)
+            let Value { rest, holds } = after_suffixes(end, level, depth)?;
+            Some(Value { rest, holds })
         }
         _ => Some(Value {
             rest: end,
@@ -149,12 +150,12 @@ pub(crate) fn after_nodes(text: &[u8], level: u8, depth: u8) -> Option<Value<'_>
     match after_short(text, depth) {
         Some(rest) => {
             let first = Value { rest, holds: false };
-            let read = after_first(first, level, depth)?;
-            Some(read)
+            let Value { rest, holds } = after_first(first, level, depth)?;
+            Some(Value { rest, holds })
         }
         None => {
-            let read = after_sum(text, level, depth)?;
-            Some(read)
+            let Value { rest, holds } = after_sum(text, level, depth)?;
+            Some(Value { rest, holds })
         }
     }
 }
@@ -215,8 +216,8 @@ fn after_sum(text: &[u8], level: u8, depth: u8) -> Option<Value<'_>>
     ensures { IfSome result (λ v. AreNodesFront level depth text.now v.rest.now v.holds) }
 {
     let first = after_term(text, level, depth)?;
-    let read = after_first(first, level, depth)?;
-    Some(read)
+    let Value { rest, holds } = after_first(first, level, depth)?;
+    Some(Value { rest, holds })
 }
 
 /// What follows the operands of which the first ends here.
@@ -229,10 +230,13 @@ pub(crate) fn after_first(first: Value<'_>, level: u8, depth: u8) -> Option<Valu
 {
     match after_infix(first.rest) {
         // Most are one operand.
-        None => Some(first),
+        None => Some(Value {
+            rest: first.rest,
+            holds: first.holds,
+        }),
         Some(operand) => {
-            let read = after_operands(operand, first.holds, level, depth)?;
-            Some(read)
+            let Value { rest, holds } = after_operands(operand, first.holds, level, depth)?;
+            Some(Value { rest, holds })
         }
     }
 }

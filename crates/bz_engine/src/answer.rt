@@ -41,16 +41,16 @@ pub(crate) fn asked_attribute(command: &Command) -> &str {
 
 /// What the command prints of the rule, where it leaves it as it is. The bytes in the buffer are lost. None: it may
 /// change it, or the rule is to be seen.
-pub(crate) fn unchanged_by_text<'t>(
+pub(crate) fn unchanged_by_text<'t, 'f: 't>(
     env: Env<'_>,
     command: &Command,
-    found: Found<'t>,
+    found: &Found<'f>,
     buffer: &'t mut String,
 ) -> Result<Option<Unchanged<'t>>, NoMemory>
-    ensures { IfOk result (λ known. IfSome known (LeavesRule command.now env.entry.home.now found.entry)) }
+    ensures { IfOk result (λ known. IfSome known (LeavesRule command.now env.entry.home.now found.now)) }
 {
     if let Some(attr) = looked_at(command) {
-        if !is_without(&found, attr) {
+        if !is_without(found, attr) {
             return Ok(None);
         }
         return Ok(Some(Unchanged { line: None }));

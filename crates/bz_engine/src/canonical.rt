@@ -185,7 +185,7 @@ fn copy_marked(
         home: script.home,
     };
     let mut buffer = String::new(script.alloc);
-    if let Some(unchanged) = unchanged_by_text(env, only.command, *found, &mut buffer)? {
+    if let Some(unchanged) = unchanged_by_text(env, only.command, found, &mut buffer)? {
         progress.keep_line(only.at, unchanged.line)?;
         put_canonical(script, found.chunk, progress, text)?;
         return Ok(true);

@@ -33,11 +33,11 @@ pub(crate) struct ScriptRun<'a> {
     pub(crate) bump: &'a Bump,
     pub(crate) home: &'a Package,
     pub(crate) passes: &'a RulePasses,
+    /// More bytes the first chunk of the text ahead may not have.
+    pub(crate) max_statement: u64,
     /// A failure does not end the run.
     pub(crate) keep_going: bool,
     pub(crate) max_depth: u8,
-    /// More bytes the first chunk of the text ahead may not have.
-    pub(crate) max_statement: u64,
 }
 
 /// What the script made of a chunk.

@@ -7,7 +7,7 @@ ghost use Rattle.bz_engine.specs.Messages.{not_found_text, note_text, lex_text, 
 
 use crate::report::SyntaxFault;
 use bz_attribute::push_home;
-use bz_memory::{NoMemory, from_str, push_number, push_str};
+use bz_memory::{NoMemory, from_str, push_number, push_str, with_length_of};
 use bz_rule::{Note, Package, Target, Text, label};
 use bz_token::LexFault;
 use bz_tree::ParseFault;
@@ -54,11 +54,12 @@ pub(crate) fn missing_name(alloc: Global, home: &Package, kind: &str) -> Result<
     ensures { IfOk result (λ t. t ≡ home_text home.now ++ codes "%" ++ kind.now
         ++ codes ": no attribute 'name' to print") }
 {
-    let mut text = String::new(alloc);
+    let missing = ": no attribute 'name' to print";
+    let mut text = with_length_of(alloc, missing)?;
     push_home(&mut text, home)?;
     push_str(&mut text, "%")?;
     push_str(&mut text, kind)?;
-    push_str(&mut text, ": no attribute 'name' to print")?;
+    push_str(&mut text, missing)?;
     Ok(Text::from_string(text))
 }
 

@@ -17,12 +17,13 @@ use bz_memory::NoMemory;
 use bz_token::{Front, Token, check_utf8, first_chunk};
 use bz_tree::{read_statement, read_text};
 
-/// The next chunk, on which the script was run and which is not yet taken.
+/// The next chunk, on which the script was run and which is not yet taken. In this order, and with `First::Edited` as
+/// the last, what is copied at once was stored at once: else the processor waits.
 #[derive(Drop)]
 pub(crate) struct NextChunk {
+    pub(crate) edited: Edited,
     /// How many of the bytes ahead it has.
     pub(crate) len: usize,
-    pub(crate) edited: Edited,
 }
 
 /// What is answered of a chunk of so many bytes that is done.
@@ -38,12 +39,12 @@ pub(crate) fn done_chunk(len: usize) -> NextChunk
 /// What is done of the first chunk of the text ahead.
 #[derive(Drop)]
 pub(crate) enum First {
-    /// The script was run on it, and it is not yet taken.
-    Edited(NextChunk),
     /// Nothing: the text ahead ends before it does.
     Short,
     /// Nothing: it is to be found in another way.
     Other,
+    /// The script was run on it, and it is not yet taken.
+    Edited(NextChunk),
 }
 
 /// Runs the script on the first chunk of the text ahead, which is read by the tokens that were made to find its end.

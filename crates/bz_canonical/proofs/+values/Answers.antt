@@ -17,14 +17,14 @@ value::after_first-returns-in-None m c = λ all t.
     let first = c.args.first in
     finish_chain c.args.level c.args.depth all first.rest.now first.holds (begin_chain c.args.level c.args.depth all first.rest.now first.holds t)
 
-pub value::after_first-returns-in_ok-read-in-Some : goal.value::after_first-returns-in_ok-read-in-Some
-value::after_first-returns-in_ok-read-in-Some m c = λ all t.
+pub value::after_first-returns-in_ok-rest-in-Some : goal.value::after_first-returns-in_ok-rest-in-Some
+value::after_first-returns-in_ok-rest-in-Some m c = λ all t.
     let first = c.args.first in
-    c.in_ok-read-in-Some.ensures all (λ rest k last. more_chain c.args.level c.args.depth all first.rest.now c.in-Some.operand.now rest first.holds k
+    c.in_ok-rest-in-Some.ensures all (λ rest k last. more_chain c.args.level c.args.depth all first.rest.now c.in-Some.operand.now rest first.holds k
     (begin_chain c.args.level c.args.depth all first.rest.now first.holds t) c.in-Some.ensures last)
 
-pub value::after_nodes-returns-in_ok-read-in-Some : goal.value::after_nodes-returns-in_ok-read-in-Some
-value::after_nodes-returns-in_ok-read-in-Some m c = c.in_ok-read-in-Some.ensures c.args.text.now (c.in-Some.ensures c.args.level)
+pub value::after_nodes-returns-in_ok-rest-in-Some : goal.value::after_nodes-returns-in_ok-rest-in-Some
+value::after_nodes-returns-in_ok-rest-in-Some m c = c.in_ok-rest-in-Some.ensures c.args.text.now (c.in-Some.ensures c.args.level)
 
 pub value::after_operands-loop-init : goal.value::after_operands-loop-init
 value::after_operands-loop-init m c = λ all so. so
@@ -89,21 +89,21 @@ segments::after_flat_segments-returns-in_default m c =
     let i = c.loop.invariant in
     (i.0, i.1, i.2, finish_flat c.args.kind true c.args.level c.args.depth c.args.text.now c.loop.rest.now i.0 c.loop.holds i.3)
 
-pub segments::after_segment-returns-in_ok-read-in-List : goal.segments::after_segment-returns-in_ok-read-in-List
-segments::after_segment-returns-in_ok-read-in-List m c =
-    subst (λ k. IsSegmentFront k c.args.level c.args.depth c.args.text.now c.in_ok-read-in-List.read.rest.now c.in_ok-read-in-List.read.holds) (sym c.in-List.is)
-    (element_segment c.args.level c.args.depth c.args.text.now c.in_ok-read-in-List.read.rest.now c.in_ok-read-in-List.read.holds c.in_ok-read-in-List.ensures)
+pub segments::after_segment-returns-in_ok-rest-in-List : goal.segments::after_segment-returns-in_ok-rest-in-List
+segments::after_segment-returns-in_ok-rest-in-List m c =
+    subst (λ k. IsSegmentFront k c.args.level c.args.depth c.args.text.now c.in_ok-rest-in-List.field-0.rest.now c.in_ok-rest-in-List.field-0.holds) (sym c.in-List.is)
+    (element_segment c.args.level c.args.depth c.args.text.now c.in_ok-rest-in-List.field-0.rest.now c.in_ok-rest-in-List.field-0.holds c.in_ok-rest-in-List.ensures)
 
-pub segments::after_segment-returns-in_ok-read-in-Dict : goal.segments::after_segment-returns-in_ok-read-in-Dict
-segments::after_segment-returns-in_ok-read-in-Dict m c =
-    subst (λ k. IsSegmentFront k c.args.level c.args.depth c.args.text.now c.in_ok-read-in-Dict.read.rest.now c.in_ok-read-in-Dict.read.holds) (sym c.in-Dict.is)
-    (entry_segment c.args.level c.args.depth c.args.text.now c.in_ok-colon-in-Dict.colon.now c.in_ok-read-in-Dict.read.rest.now c.in_ok-value-in-Dict.value.now c.in_ok-read-in-Dict.read.holds
-    (c.in_ok-colon-in-Dict.ensures c.args.level c.args.depth) c.in_ok-value-in-Dict.ensures c.in_ok-read-in-Dict.ensures)
+pub segments::after_segment-returns-in_ok-rest-in-Dict : goal.segments::after_segment-returns-in_ok-rest-in-Dict
+segments::after_segment-returns-in_ok-rest-in-Dict m c =
+    subst (λ k. IsSegmentFront k c.args.level c.args.depth c.args.text.now c.in_ok-rest-in-Dict.field-0.rest.now c.in_ok-rest-in-Dict.field-0.holds) (sym c.in-Dict.is)
+    (entry_segment c.args.level c.args.depth c.args.text.now c.in_ok-colon-in-Dict.colon.now c.in_ok-rest-in-Dict.field-0.rest.now c.in_ok-value-in-Dict.value.now c.in_ok-rest-in-Dict.field-0.holds
+    (c.in_ok-colon-in-Dict.ensures c.args.level c.args.depth) c.in_ok-value-in-Dict.ensures c.in_ok-rest-in-Dict.ensures)
 
-pub segments::after_segment-returns-in_ok-read-in-123 : goal.segments::after_segment-returns-in_ok-read-in-123
-segments::after_segment-returns-in_ok-read-in-123 m c =
-    positional_segment c.args.kind c.args.level c.args.depth c.args.text.now c.in_ok-read-in-123.read.rest.now c.in_ok-read-in-123.read.holds
-    (sym c.is_call.ensures ∙ c.if-not-is_call.false) c.in_ok-read-in-123.ensures
+pub segments::after_segment-returns-in_ok-rest-in-123 : goal.segments::after_segment-returns-in_ok-rest-in-123
+segments::after_segment-returns-in_ok-rest-in-123 m c =
+    positional_segment c.args.kind c.args.level c.args.depth c.args.text.now c.in_ok-rest-in-123.field-0.rest.now c.in_ok-rest-in-123.field-0.holds
+    (sym c.is_call.ensures ∙ c.if-not-is_call.false) c.in_ok-rest-in-123.ensures
 
 pub segments::after_broken_dict-returns : goal.segments::after_broken_dict-returns
 segments::after_broken_dict-returns m c =
@@ -113,27 +113,27 @@ segments::after_broken_dict-returns m c =
     let group : IsGroupFront Dict c.args.level c.args.depth text first.rest.now first.holds =
     subst (λ (t : List ℕ). IsGroupFront Dict c.args.level c.args.depth t first.rest.now first.holds) (sym c.in_ok-inside.ensures)
     (subst (λ d. IsGroupFront Dict c.args.level d (123 ∷ c.in_ok-inside.inside.now) first.rest.now first.holds) deeper c.in_ok-first.ensures) in
-    c.in_ok-read.ensures text (value_term c.args.level c.args.depth text first.rest.now first.holds (dict_value c.args.level c.args.depth text first.rest.now first.holds group))
+    c.in_ok-rest.ensures text (value_term c.args.level c.args.depth text first.rest.now first.holds (dict_value c.args.level c.args.depth text first.rest.now first.holds group))
 
-pub segments::after_argument-returns-in_ok-read-in-Some : goal.segments::after_argument-returns-in_ok-read-in-Some
-segments::after_argument-returns-in_ok-read-in-Some m c =
-    keyword_segment c.args.kind c.args.level c.args.depth c.args.text.now (codes " = " ++ c.in-Some.value.now) c.in_ok-read-in-Some.read.rest.now c.in-Some.value.now c.in_ok-read-in-Some.read.holds
-    c.requires.call c.in-Some.ensures refl c.in_ok-read-in-Some.ensures
+pub segments::after_argument-returns-in_ok-rest-in-Some : goal.segments::after_argument-returns-in_ok-rest-in-Some
+segments::after_argument-returns-in_ok-rest-in-Some m c =
+    keyword_segment c.args.kind c.args.level c.args.depth c.args.text.now (codes " = " ++ c.in-Some.value.now) c.in_ok-rest-in-Some.field-0.rest.now c.in-Some.value.now c.in_ok-rest-in-Some.field-0.holds
+    c.requires.call c.in-Some.ensures refl c.in_ok-rest-in-Some.ensures
 
-pub segments::after_argument-returns-in_ok-read-in-None : goal.segments::after_argument-returns-in_ok-read-in-None
-segments::after_argument-returns-in_ok-read-in-None m c =
-    positional_segment c.args.kind c.args.level c.args.depth c.args.text.now c.in_ok-read-in-None.read.rest.now c.in_ok-read-in-None.read.holds
-    c.requires.call c.in_ok-read-in-None.ensures
+pub segments::after_argument-returns-in_ok-rest-in-None : goal.segments::after_argument-returns-in_ok-rest-in-None
+segments::after_argument-returns-in_ok-rest-in-None m c =
+    positional_segment c.args.kind c.args.level c.args.depth c.args.text.now c.in_ok-rest-in-None.field-0.rest.now c.in_ok-rest-in-None.field-0.holds
+    c.requires.call c.in_ok-rest-in-None.ensures
 
-pub value::after_term-returns-in_ok-read-in-91 : goal.value::after_term-returns-in_ok-read-in-91
-value::after_term-returns-in_ok-read-in-91 m c =
-    let read = c.in_ok-read-in-91.read in
-    value_term c.args.level c.args.depth c.args.text.now read.rest.now read.holds (list_value c.args.level c.args.depth c.args.text.now read.rest.now read.holds c.in_ok-read-in-91.ensures)
+pub value::after_term-returns-in_ok-rest-in-91 : goal.value::after_term-returns-in_ok-rest-in-91
+value::after_term-returns-in_ok-rest-in-91 m c =
+    let read = c.in_ok-rest-in-91.field-0 in
+    value_term c.args.level c.args.depth c.args.text.now read.rest.now read.holds (list_value c.args.level c.args.depth c.args.text.now read.rest.now read.holds c.in_ok-rest-in-91.ensures)
 
-pub value::after_term-returns-in_ok-read-in-123 : goal.value::after_term-returns-in_ok-read-in-123
-value::after_term-returns-in_ok-read-in-123 m c =
-    let read = c.in_ok-read-in-123.read in
-    value_term c.args.level c.args.depth c.args.text.now read.rest.now read.holds (dict_value c.args.level c.args.depth c.args.text.now read.rest.now read.holds c.in_ok-read-in-123.ensures)
+pub value::after_term-returns-in_ok-rest-in-123 : goal.value::after_term-returns-in_ok-rest-in-123
+value::after_term-returns-in_ok-rest-in-123 m c =
+    let read = c.in_ok-rest-in-123.field-0 in
+    value_term c.args.level c.args.depth c.args.text.now read.rest.now read.holds (dict_value c.args.level c.args.depth c.args.text.now read.rest.now read.holds c.in_ok-rest-in-123.ensures)
 
 pub value::after_term-returns-in_ok-rest-in-48-to-57 : goal.value::after_term-returns-in_ok-rest-in-48-to-57
 value::after_term-returns-in_ok-rest-in-48-to-57 m c =
@@ -143,13 +143,13 @@ value::after_term-returns-in_ok-rest-in-48-to-57 m c =
 pub value::after_name_or_call-returns-in_default : goal.value::after_name_or_call-returns-in_default
 value::after_name_or_call-returns-in_default m c = (c.in_ok-end.ensures c.args.level c.args.depth).0
 
-pub value::after_name_or_call-returns-in_ok-read-in-40 : goal.value::after_name_or_call-returns-in_ok-read-in-40
-value::after_name_or_call-returns-in_ok-read-in-40 m c =
-    let read = c.in_ok-read-in-40.read in
-    (call_primary c.args.level c.args.depth c.args.text.now c.in_ok-end.end.now read.rest.now false read.holds (c.in_ok-end.ensures c.args.level c.args.depth) c.in_ok-read-in-40.ensures).0
+pub value::after_name_or_call-returns-in_ok-rest-in-40 : goal.value::after_name_or_call-returns-in_ok-rest-in-40
+value::after_name_or_call-returns-in_ok-rest-in-40 m c =
+    let read = c.in_ok-rest-in-40.field-0 in
+    (call_primary c.args.level c.args.depth c.args.text.now c.in_ok-end.end.now read.rest.now false read.holds (c.in_ok-end.ensures c.args.level c.args.depth) c.in_ok-rest-in-40.ensures).0
 
-pub value::after_name_or_call-returns-in_ok-read-in-46 : goal.value::after_name_or_call-returns-in_ok-read-in-46
-value::after_name_or_call-returns-in_ok-read-in-46 m c = (c.in_ok-read-in-46.ensures c.args.text.now (c.in_ok-end.ensures c.args.level c.args.depth)).0
+pub value::after_name_or_call-returns-in_ok-rest-in-46 : goal.value::after_name_or_call-returns-in_ok-rest-in-46
+value::after_name_or_call-returns-in_ok-rest-in-46 m c = (c.in_ok-rest-in-46.ensures c.args.text.now (c.in_ok-end.ensures c.args.level c.args.depth)).0
 
 pub value::after_suffixes-loop-preserved-in-Some : goal.value::after_suffixes-loop-preserved-in-Some
 value::after_suffixes-loop-preserved-in-Some m c = λ text p.

@@ -18,16 +18,16 @@ returns-then-is_at_empty_line-clause-steps g c =
     (g.met.S.Source.gave_nothing c.args.source.now) (g.met.W.Sink.took_nothing c.args.sink.now)
     c.requires.going (kept.ready c.requires.going) kept.made at.1 at.2 c.pass_empty_line.ensures
 
-pub returns-in_err-len-clause-steps : goal.returns-in_err-len-clause-steps
-returns-in_err-len-clause-steps g c =
+pub returns-in_err-edited-clause-steps : goal.returns-in_err-edited-clause-steps
+returns-in_err-edited-clause-steps g c =
     let v = c.take_text-text.new.self in
     let e = c.edit_next.new.self in
     let stops : SessionValue → SessionValue = λ x. record x { state = Stopped } in
     let at = c.take_text-text.ensures.same ∙ ap stops c.self.view_is in
-    let finds = subst (Finds g.S.Source.gave g.S.Source.failures v.options v.progress.line c.args.source.now c.edit_next.new.source v.ahead e.ahead) c.in_err-len.was c.edit_next.ensures.finds in
+    let finds = subst (Finds g.S.Source.gave g.S.Source.failures v.options v.progress.line c.args.source.now c.edit_next.new.source v.ahead e.ahead) c.in_err-edited.was c.edit_next.ensures.finds in
     let p = err_from_is_err_and c.from_residual.result c.from_residual.ensures.1 in
-    steps_as _ _ _ _ c.from_residual.result p.0 c.in_err-len.field-0.0 p.1 p.2
-    (step_unread g.S.Source.gave g.S.Source.failures g.W.Sink.took g.W.Sink.failures c.args.self.now v e c.args.source.now c.edit_next.new.source c.args.sink.now c.in_err-len.field-0.0 (g.met.W.Sink.took_nothing _) at
+    steps_as _ _ _ _ c.from_residual.result p.0 c.in_err-edited.field-0.0 p.1 p.2
+    (step_unread g.S.Source.gave g.S.Source.failures g.W.Sink.took g.W.Sink.failures c.args.self.now v e c.args.source.now c.edit_next.new.source c.args.sink.now c.in_err-edited.field-0.0 (g.met.W.Sink.took_nothing _) at
     c.edit_next.ensures.same finds)
 
 pub returns-in_default-clause-steps : goal.returns-in_default-clause-steps
@@ -36,8 +36,8 @@ returns-in_default-clause-steps g c =
     let e = c.edit_next.new.self in
     let stops : SessionValue → SessionValue = λ x. record x { state = Stopped } in
     let at = c.take_text-text.ensures.same ∙ ap stops c.self.view_is in
-    let finds = subst (Finds g.S.Source.gave g.S.Source.failures v.options v.progress.line c.args.source.now c.edit_next.new.source v.ahead e.ahead) c.in_ok-len.was c.edit_next.ensures.finds in
-    let none = subst (IsNext v e c.take_text-text.result.items c.edit_next.new.text.items) c.in_default.is c.in_ok-len.ensures.next in
+    let finds = subst (Finds g.S.Source.gave g.S.Source.failures v.options v.progress.line c.args.source.now c.edit_next.new.source v.ahead e.ahead) c.in_ok-edited.was c.edit_next.ensures.finds in
+    let none = subst (IsNext v e c.take_text-text.result.items c.edit_next.new.text.items) c.in_default.is c.in_ok-edited.ensures.next in
     step_ended g.S.Source.gave g.S.Source.failures g.W.Sink.took g.W.Sink.failures c.args.self.now v e _ _ _ c.args.source.now c.edit_next.new.source c.args.sink.now (g.met.W.Sink.took_nothing _) c.end_at.ensures.end at finds
     (ends_whole c.args.self.now v e _ finds.read.0 at finds.read.2 finds.read.3 none c.edit_next.ensures.same c.end_at.ensures.ended)
 
@@ -47,8 +47,8 @@ returns-in_err-write-in-Done-clause-steps g c =
     let e = c.edit_next.new.self in
     let stops : SessionValue → SessionValue = λ x. record x { state = Stopped } in
     let at = c.take_text-text.ensures.same ∙ ap stops c.self.view_is in
-    let finds = subst (Finds g.S.Source.gave g.S.Source.failures v.options v.progress.line c.args.source.now c.edit_next.new.source v.ahead e.ahead) c.in_ok-len.was c.edit_next.ensures.finds in
-    let next = subst (IsNext v e c.take_text-text.result.items c.edit_next.new.text.items) c.in-Some.is c.in_ok-len.ensures.next in
+    let finds = subst (Finds g.S.Source.gave g.S.Source.failures v.options v.progress.line c.args.source.now c.edit_next.new.source v.ahead e.ahead) c.in_ok-edited.was c.edit_next.ensures.finds in
+    let next = subst (IsNext v e c.take_text-text.result.items c.edit_next.new.text.items) c.in-Some.is c.in_ok-edited.ensures.next in
     let p = err_from_is_err_and c.from_residual-in_err-write-in-Done.result c.from_residual-in_err-write-in-Done.ensures.1 in
     let cut = c.in_err-write-in-Done.ensures.front in
     steps_as _ _ _ _ c.from_residual-in_err-write-in-Done.result p.0 WriteFailed p.1 (p.2 ∙ err_is c.in_err-write-in-Done.field-0.0 WriteFailed c.in_err-write-in-Done.ensures.fault)
@@ -63,8 +63,8 @@ returns-in_ok-write-in-Done-clause-steps g c =
     let e = c.edit_next.new.self in
     let stops : SessionValue → SessionValue = λ x. record x { state = Stopped } in
     let at = c.take_text-text.ensures.same ∙ ap stops c.self.view_is in
-    let finds = subst (Finds g.S.Source.gave g.S.Source.failures v.options v.progress.line c.args.source.now c.edit_next.new.source v.ahead e.ahead) c.in_ok-len.was c.edit_next.ensures.finds in
-    let next = subst (IsNext v e c.take_text-text.result.items c.edit_next.new.text.items) c.in-Some.is c.in_ok-len.ensures.next in
+    let finds = subst (Finds g.S.Source.gave g.S.Source.failures v.options v.progress.line c.args.source.now c.edit_next.new.source v.ahead e.ahead) c.in_ok-edited.was c.edit_next.ensures.finds in
+    let next = subst (IsNext v e c.take_text-text.result.items c.edit_next.new.text.items) c.in-Some.is c.in_ok-edited.ensures.next in
     let goes : SessionValue → SessionValue = λ x. record x { state = Going } in
     step_on g.S.Source.gave g.S.Source.failures g.W.Sink.took g.W.Sink.failures c.args.self.now v e _ _ More c.args.source.now c.edit_next.new.source c.args.sink.now c.write.new.sink c.edit_next.new.text.items
     (subst (λ t. g.W.Sink.took c.args.sink.now t c.write.new.sink) c.as_slice.ensures.value c.in_ok-write-in-Done.ensures.ok) c.in_ok-write-in-Done.ensures.steady
@@ -78,8 +78,8 @@ returns-in-Faulty-clause-steps g c =
     let e = c.edit_next.new.self in
     let stops : SessionValue → SessionValue = λ x. record x { state = Stopped } in
     let at = c.take_text-text.ensures.same ∙ ap stops c.self.view_is in
-    let finds = subst (Finds g.S.Source.gave g.S.Source.failures v.options v.progress.line c.args.source.now c.edit_next.new.source v.ahead e.ahead) c.in_ok-len.was c.edit_next.ensures.finds in
-    let next = subst (IsNext v e c.take_text-text.result.items c.edit_next.new.text.items) c.in-Some.is c.in_ok-len.ensures.next in
+    let finds = subst (Finds g.S.Source.gave g.S.Source.failures v.options v.progress.line c.args.source.now c.edit_next.new.source v.ahead e.ahead) c.in_ok-edited.was c.edit_next.ensures.finds in
+    let next = subst (IsNext v e c.take_text-text.result.items c.edit_next.new.text.items) c.in-Some.is c.in_ok-edited.ensures.next in
     step_ended g.S.Source.gave g.S.Source.failures g.W.Sink.took g.W.Sink.failures c.args.self.now v e _ _ _ c.args.source.now c.edit_next.new.source c.args.sink.now (g.met.W.Sink.took_nothing _) c.end_at-in-Faulty.ensures.end at finds
     (ends_at_fault c.args.self.now v e _ c.take_text-text.result.items c.edit_next.new.text.items c.in-Some.field-0 c.in-Faulty.fault finds.read.0 at finds.read.2 finds.read.3 next
     c.take_text-text.ensures.empty c.in-Faulty.is c.edit_next.ensures.same c.end_at-in-Faulty.ensures.ended)
@@ -90,8 +90,8 @@ returns-in-Failed-clause-steps g c =
     let e = c.edit_next.new.self in
     let stops : SessionValue → SessionValue = λ x. record x { state = Stopped } in
     let at = c.take_text-text.ensures.same ∙ ap stops c.self.view_is in
-    let finds = subst (Finds g.S.Source.gave g.S.Source.failures v.options v.progress.line c.args.source.now c.edit_next.new.source v.ahead e.ahead) c.in_ok-len.was c.edit_next.ensures.finds in
-    let next = subst (IsNext v e c.take_text-text.result.items c.edit_next.new.text.items) c.in-Some.is c.in_ok-len.ensures.next in
+    let finds = subst (Finds g.S.Source.gave g.S.Source.failures v.options v.progress.line c.args.source.now c.edit_next.new.source v.ahead e.ahead) c.in_ok-edited.was c.edit_next.ensures.finds in
+    let next = subst (IsNext v e c.take_text-text.result.items c.edit_next.new.text.items) c.in-Some.is c.in_ok-edited.ensures.next in
     let fails : SessionValue → SessionValue = λ x. record x { failure = c.in-Failed.message } in
     step_ended g.S.Source.gave g.S.Source.failures g.W.Sink.took g.W.Sink.failures c.args.self.now v e _ _ _ c.args.source.now c.edit_next.new.source c.args.sink.now (g.met.W.Sink.took_nothing _) c.end_at-in-Failed.ensures.end at finds
     (ends_at_failure c.args.self.now v e _ _ c.take_text-text.result.items c.edit_next.new.text.items c.in-Some.field-0 c.in-Failed.message finds.read.0 at finds.read.2 finds.read.3 next
