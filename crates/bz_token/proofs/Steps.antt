@@ -1,17 +1,17 @@
 -- What stands at a place, before it is read.
-use Rattle.std.proofs.Common.{◌≡◌, ℕ, ◌-◌, zero, suc, drop, ◌+◌, ◌<◌, List, [], ◌∷◌, length, take, get_or, ◌||◌, Bool, true, false, refl, ap, subst, ◌∙◌, arith, inl, inr, one-add}
+use Rattle.std.proofs.Common.{◌≡◌, ◌==◌, ℕ, ◌-◌, zero, suc, drop, ◌+◌, ◌<◌, List, [], ◌∷◌, length, take, get_or, ◌||◌, Bool, true, false, refl, ap, subst, ◌∙◌, arith, inl, inr, one-add}
 use Rattle.std.specs.Prelude.{Result, Ok, Err, IfOk, IfErr}
 use Rattle.std.specs.List.{prefix_len}
 use Rattle.std.proofs.lemmas.List.{length-take-le}
 use Rattle.std.proofs.lemmas.List.Sums.{prefix_len-le-length}
-use Rattle.std.proofs.lemmas.Bool.{false≢true, or_parts}
+use Rattle.std.proofs.lemmas.Bool.{eqb-true, false≢true, or_parts}
 use Rattle.std.proofs.lemmas.Bool.Decides.{nat_tests}
 use Rattle.bz_token.specs.declared.gap.TokenGap.{TokenGap}
 use Rattle.bz_token.specs.Brackets.{is_opening_bracket, is_closing_bracket, is_inside, bracket_fits, open_after_token}
 use Rattle.bz_token.specs.Lexical.{begins, is_blank}
 use Rattle.bz_token.specs.Reading.{begins_gap}
-use Rattle.bz_token.specs.private.Scans.{IsBadPlace, bad_fault, IsMisfit, misfit_fault}
-use Rattle.bz_token.specs.private.Steps.{IsTaken, IsRefused, IsGapHere, IsStep, IsTokenStep, IsBadStep}
+use Rattle.bz_token.specs.private.Scans.{IsScanned, IsBadPlace, bad_fault, IsMisfit, misfit_fault}
+use Rattle.bz_token.specs.private.Steps.{IsTaken, IsTakenAs, IsRefused, IsGapHere, IsStep, IsTokenStep, IsBadStep}
 use Rattle.bz_token.specs.declared.brackets.Misfit.{Misfit}
 use Rattle.bz_token.specs.declared.scan_token.Bad.{Bad}
 use Rattle.bz_token.specs.declared.scan_token.Scanned.{Scanned}
@@ -112,6 +112,14 @@ step_taken depth opened bytes (step.Token s) none is =
     let fits : bracket_fits depth opened (get_or bytes 0 0) ≡ true = rw (opens, closes) refl in
     let same : opened ≡ open_after_token opened (get_or bytes 0 0 ∷ []) = rw (opens, closes) refl in
     (is.0, is.1, fits, same)
+
+-- a comma takes no bracket
+pub comma_taken : (depth : ℕ) (opened bytes : List ℕ) (s : Scanned) → begins (λ b. b == 44) bytes ≡ true → IsScanned bytes s → IsTakenAs s depth opened opened bytes
+comma_taken depth opened [] s comma is = absurd (false≢true comma)
+comma_taken depth opened (b ∷ bs) s comma is =
+    let first : b ≡ 44 = eqb-true b 44 comma in
+    let solid : IsSolid b = rw first (refl, refl, refl) in
+    step_taken depth opened (b ∷ bs) (step.Token s) (rw first refl) (solid_gap (is_inside opened) (b ∷ bs) (omega arith) solid, is)
 
 pub bad_refused : (depth : ℕ) (opened bytes : List ℕ) (line col : ℕ) (bad : Bad) → IsBadStep (is_inside opened) bytes bad → IsRefused depth opened bytes line col (bad_fault bad line col)
 bad_refused depth opened bytes line col bad is = (is.0, inl (bad, is.1, refl))

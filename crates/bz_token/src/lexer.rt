@@ -1,23 +1,24 @@
 //! The tokens of a text. `parse` of bz_tree calls `tokens` for a whole text; `first_chunk` (`chunk.rt`) and
 //! `TokenReader` (`reader.rt`) have a `Lexer` read line by line.
 
-ghost use Rattle.std.specs.Prelude.{◌≡◌, ◌≤◌, ◌<◌, ◌+◌, ◌^◌, ◌==◌, ◌⊎◌, [], List, ℕ, max, true, false, not, length, take, drop, count_by, map, IfOk, IfErr, IsTrue, Some, None, nat_eq};
+ghost use Rattle.std.specs.Prelude.{◌≡◌, ◌≤◌, ◌<◌, ◌+◌, ◌^◌, ◌==◌, ◌⊎◌, ◌↔◌, [], List, ℕ, max, true, false, not, length, take, drop, count_by, map, IfOk, IfErr, IsTrue, Some, None, nat_eq};
 ghost use Rattle.std.specs.Option.{option_eq};
 ghost use Rattle.std.specs.List.{list_any};
-ghost use Rattle.bz_token.specs.Lexical.{is_newline};
+ghost use Rattle.bz_token.specs.Lexical.{begins, is_newline};
 ghost use Rattle.bz_token.specs.Faults.{IsFault};
 ghost use Rattle.bz_token.specs.Brackets.{open_tokens, is_inside};
+ghost use Rattle.bz_token.specs.declared.token.Kind.TheVariants.{Operator};
 ghost use Rattle.bz_token.specs.Places.{Placed, placed, column_from};
 ghost use Rattle.bz_token.specs.Reading.{AreTokensOf};
 ghost use Rattle.bz_token.specs.private.Scans.{opened, bad_fault, misfit_fault, IsLeftOpen};
-ghost use Rattle.bz_token.specs.private.Steps.{IsGapHere, IsTaken, IsRefused};
+ghost use Rattle.bz_token.specs.private.Steps.{IsGapHere, IsTaken, IsTakenAs, IsRefused};
 ghost use Rattle.bz_token.specs.private.LinesRead.{EndsLine, StaysInLine, IsOnLine, IsOpenFrom, IsStopped, IsFaultFrom, IsFaultOfLine};
-ghost use Rattle.bz_token.specs.private.Progress.{HasRead, Grows, ReadsOn, IsReadTo, IsReadAt, PassesWhite};
+ghost use Rattle.bz_token.specs.private.Progress.{HasRead, HasReadIn, IsTokenHere, Grows, ReadsOn, IsReadTo, IsReadAt, PassesWhite};
 
 use crate::brackets::{Brackets, Misfit, innermost, is_bracket_byte};
 use crate::fault::LexFault;
 use crate::gap::{Position, TokenGap, advance, after_gap, blanks, newline};
-use crate::scan_token::{Bad, GapOrToken, scan_bracket, step_at};
+use crate::scan_token::{Bad, GapOrToken, Scanned, scan_bracket, scan_comma, step_at};
 use crate::token::{Kind, Token};
 use bumpalo::Bump;
 use bumpalo::collections::into_bump_slice;
@@ -71,6 +72,13 @@ fn misfit_fault(misfit: Misfit, place: Position) -> LexFault
         (Misfit::TooDeep, Position { line, col }) => LexFault::TooDeep { line, col },
         (Misfit::NoMatch, Position { line, col }) => LexFault::BadBracket { line, col },
     }
+}
+
+#[inline(always)]
+fn is_comma_here(bytes: &[u8]) -> bool
+    ensures { result ≡ begins (λ b. b == 44) bytes.now }
+{
+    matches!(bytes, [b',', ..])
 }
 
 // What stands here; a bracket is taken among the open ones.
@@ -191,6 +199,60 @@ impl<'b, 'a> Lexer<'b, 'a> {
         }
     }
 
+    // The cursor after this token, whose bracket is taken, if it is one: these were open before. The list has it now.
+    #[inline(always)]
+    fn add_token(&mut self, cursor: Cursor<'a>, scanned: Scanned) -> Result<Cursor<'a>, NoMemory>
+        requires { (outer : List ℕ) × IsTokenHere outer self.old cursor scanned }
+        ensures read { (first : ℕ) (depth : ℕ) (bytes : List ℕ) (given : List Placed) (outer : List ℕ)
+            (before : HasReadIn outer first depth bytes given self.old cursor.entry)
+            → IsTakenAs scanned depth outer (opened self.old.brackets) cursor.entry.rest.now
+            → IfOk result (λ next. (after : HasRead first depth bytes given self.new next)
+            × Grows (Some scanned.kind) before.pieces after.pieces after.gap) }
+        ensures shorter { IfOk result (λ next. length next.rest.now < length cursor.entry.rest.now) }
+        ensures one_more { IfOk result (λ next. length self.new.tokens.items ≤ length self.old.tokens.items + 1) }
+    {
+        let Position { line, col } = cursor.place;
+        let (token, following) = cursor.rest.split_at(scanned.len);
+        push(
+            &mut self.tokens,
+            Token {
+                kind: scanned.kind,
+                text: token,
+                line,
+                col,
+                fresh: is_fresh(cursor.last_line, line),
+            },
+        )?;
+        Ok(Cursor {
+            rest: following,
+            place: pass(cursor.place, token.as_bytes(), scanned.has_newline),
+            last_line: Some(line),
+        })
+    }
+
+    // The cursor after the comma here.
+    #[inline(always)]
+    fn add_comma(&mut self, cursor: Cursor<'a>) -> Result<Cursor<'a>, NoMemory>
+        requires comma { begins (λ b. b == 44) cursor.rest.now ≡ true }
+        requires read { IsReadTo self.old cursor }
+        ensures read { (first : ℕ) (depth : ℕ) (bytes : List ℕ) (given : List Placed)
+            (before : HasRead first depth bytes given self.old cursor.entry)
+            → IfOk result (λ next. (after : HasRead first depth bytes given self.new next)
+            × Grows (Some Operator) before.pieces after.pieces after.gap) }
+        ensures shorter { IfOk result (λ next. length next.rest.now < length cursor.entry.rest.now) }
+        ensures one_more { IfOk result (λ next. length self.new.tokens.items ≤ length self.old.tokens.items + 1) }
+    {
+        let scanned = scan_comma(cursor.rest.as_bytes());
+        self.add_token(cursor, scanned)
+    }
+
+    #[inline(always)]
+    fn is_full(&self, most: usize) -> bool
+        ensures { IsTrue result ↔ (most ≤ length self.now.tokens.items) }
+    {
+        self.tokens.len() >= most
+    }
+
     /// Reads what stands here, a gap or a token: the cursor after it, and the token's kind.
     #[inline(always)]
     fn step(
@@ -213,34 +275,13 @@ impl<'b, 'a> Lexer<'b, 'a> {
             → IfErr result (IsStopped first max_depth bytes before.pieces) }
         ensures open_text { IfErr result (IsOnLine cursor.entry.place.line) }
     {
-        let Cursor {
-            rest,
-            place,
-            last_line,
-        } = cursor;
-        let bytes = rest.as_bytes();
-        match read_step(&mut self.brackets, bytes, max_depth, place) {
+        let bytes = cursor.rest.as_bytes();
+        match read_step(&mut self.brackets, bytes, max_depth, cursor.place) {
             Err(fault) => Err(fault),
             Ok(GapOrToken::Gap(gap)) => Ok((self.pass_gap(cursor, gap), None)),
             Ok(GapOrToken::Token(scanned)) => {
-                let Position { line, col } = place;
-                let (token, following) = rest.split_at(scanned.len);
-                push(
-                    &mut self.tokens,
-                    Token {
-                        kind: scanned.kind,
-                        text: token,
-                        line,
-                        col,
-                        fresh: is_fresh(last_line, line),
-                    },
-                )?;
-                let cursor = Cursor {
-                    rest: following,
-                    place: pass(place, token.as_bytes(), scanned.has_newline),
-                    last_line: Some(line),
-                };
-                Ok((cursor, Some(scanned.kind)))
+                let next = self.add_token(cursor, scanned)?;
+                Ok((next, Some(scanned.kind)))
             }
         }
     }
@@ -275,10 +316,18 @@ impl<'b, 'a> Lexer<'b, 'a> {
             if kind == Some(Kind::Newline) {
                 return Ok((next, true));
             }
-            if self.tokens.len() >= most {
+            if self.is_full(most) {
                 return Ok((next, false));
             }
-            cursor = self.pass_white(next);
+            cursor = next;
+            // After most tokens a comma is next.
+            if is_comma_here(cursor.rest.as_bytes()) {
+                cursor = self.add_comma(cursor)?;
+                if self.is_full(most) {
+                    return Ok((cursor, false));
+                }
+            }
+            cursor = self.pass_white(cursor);
         }
         Ok((cursor, false))
     }

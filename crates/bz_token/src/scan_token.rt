@@ -1,7 +1,7 @@
 //! The token at a place.
 
-ghost use Rattle.std.specs.Prelude.{◌≡◌, ◌<◌, ◌==◌, ◌||◌, Bool, Some, None, true, false, length, slice_index, IfOk, IfErr, IfSome, IfNone};
-ghost use Rattle.bz_token.specs.declared.token.Kind.TheVariants.{Comment, Integer, String};
+ghost use Rattle.std.specs.Prelude.{◌≡◌, ◌<◌, ◌==◌, ◌||◌, ℕ, List, Bool, Some, None, true, false, length, slice_index, IfOk, IfErr, IfSome, IfNone};
+ghost use Rattle.bz_token.specs.declared.token.Kind.TheVariants.{Comment, Integer, Operator, String};
 ghost use Rattle.std.specs.Char.{is_ascii_digit};
 ghost use Rattle.bz_token.specs.Lexical.{begins, opening, is_word_byte};
 ghost use Rattle.bz_token.specs.Brackets.{is_opening_bracket, is_closing_bracket};
@@ -9,7 +9,7 @@ ghost use Rattle.bz_token.specs.Faults.{IsOpenText};
 ghost use Rattle.bz_token.specs.Lengths.{word_length};
 ghost use Rattle.bz_token.specs.Reading.{begins_gap};
 ghost use Rattle.bz_token.specs.private.Scans.{IsScanned, IsBadPlace};
-ghost use Rattle.bz_token.specs.private.Steps.{IsStep, IsTokenStep, IsBadStep};
+ghost use Rattle.bz_token.specs.private.Steps.{IsStep, IsTakenAs, IsTokenStep, IsBadStep};
 ghost use Rattle.bz_token.specs.private.Tables.{is_single, IsMark};
 
 use crate::gap::{TokenGap, blanks, continued, newline};
@@ -176,9 +176,20 @@ fn scan_operator(bytes: &[u8]) -> Result<GapOrToken, Bad>
 fn scan_single(bytes: &[u8]) -> Scanned
     requires some { 0 < length bytes.now }
     requires single { is_single (slice_index bytes.now 0) ≡ true }
-    ensures { IsScanned bytes.now result }
+    ensures kind { result.kind ≡ Operator }
+    ensures token { IsScanned bytes.now result }
 {
     on_one_line(Kind::Operator, 1)
+}
+
+/// The comma here.
+#[inline(always)]
+pub fn scan_comma(bytes: &[u8]) -> Scanned
+    requires { begins (λ b. b == 44) bytes.now ≡ true }
+    ensures kind { result.kind ≡ Operator }
+    ensures taken { (depth : ℕ) (opened : List ℕ) → IsTakenAs result depth opened opened bytes.now }
+{
+    scan_single(bytes)
 }
 
 /// The bracket here.

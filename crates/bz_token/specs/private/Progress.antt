@@ -6,7 +6,9 @@ use Rattle.bz_token.specs.declared.lexer.Cursor.{Cursor}
 use Rattle.bz_token.specs.Places.{Placed, placed, line_at, column_at}
 use Rattle.bz_token.specs.Brackets.{is_inside}
 use Rattle.bz_token.specs.Reading.{is_gap, Piece, IsReading, open_after, bytes_of, tokens_of}
+use Rattle.bz_token.specs.declared.scan_token.Scanned.{Scanned}
 use Rattle.bz_token.specs.private.Scans.{opened}
+use Rattle.bz_token.specs.private.Steps.{IsTakenAs}
 
 -- the lines on which tokens of pieces begin, the newest first
 abbrev pub lines_of : ℕ → List ℕ → List ℕ → List Piece → List ℕ
@@ -37,10 +39,14 @@ pub record Progress (first depth : ℕ) (bytes : List ℕ) (tokens : List Placed
   pub col_is : col ≡ column_at (bytes_of pieces ++ gap)
   pub utf8 : IsUtf8 rest
 
--- the text was read up to this cursor: tokens that were given away, and then those of the list
+-- the text was read up to this cursor, where these brackets were open: tokens that were given away, and then those of the list
+abbrev pub HasReadIn : List ℕ → ℕ → ℕ → List ℕ → List Placed → Lexer → Cursor → Type 0
+HasReadIn outer first depth bytes given lexer cursor =
+    Progress first depth bytes (given ++ map placed lexer.tokens.items) outer cursor.last_line cursor.rest.now cursor.place.line cursor.place.col
+
+-- the same, where those of the list are open
 abbrev pub HasRead : ℕ → ℕ → List ℕ → List Placed → Lexer → Cursor → Type 0
-HasRead first depth bytes given lexer cursor =
-    Progress first depth bytes (given ++ map placed lexer.tokens.items) (opened lexer.brackets) cursor.last_line cursor.rest.now cursor.place.line cursor.place.col
+HasRead first depth bytes given lexer cursor = HasReadIn (opened lexer.brackets) first depth bytes given lexer cursor
 
 -- the pieces after a step over a gap, or over a token of this kind
 abbrev pub Grows : Option Kind → List Piece → List Piece → List ℕ → Type 0
@@ -55,7 +61,13 @@ PlacesFit first bytes = (first + count_by (λ b. b == 10) bytes < 2 ^ 64) × (le
 abbrev pub IsReadTo : Lexer → Cursor → Type 0
 IsReadTo lexer cursor = (first : ℕ) × (depth : ℕ) × (bytes : List ℕ) × (given : List Placed) × HasRead first depth bytes given lexer cursor × PlacesFit first bytes
 
--- the same, where so many brackets may be open
+-- the text was read up to this token, where these brackets were open; its own is taken
+abbrev pub IsTokenHere : List ℕ → Lexer → Cursor → Scanned → Type 0
+IsTokenHere outer lexer cursor s =
+    (first : ℕ) × (depth : ℕ) × (bytes : List ℕ) × (given : List Placed) × HasReadIn outer first depth bytes given lexer cursor × PlacesFit first bytes
+    × IsTakenAs s depth outer (opened lexer.brackets) cursor.rest.now
+
+-- some text was read up to this cursor, where so many brackets may be open
 abbrev pub IsReadAt : ℕ → Lexer → Cursor → Type 0
 IsReadAt depth lexer cursor = (first : ℕ) × (bytes : List ℕ) × (given : List Placed) × HasRead first depth bytes given lexer cursor × PlacesFit first bytes
 

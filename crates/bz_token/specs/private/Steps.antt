@@ -4,6 +4,7 @@ use Rattle.bz_token.specs.declared.gap.TokenGap.{TokenGap}
 use Rattle.bz_token.specs.declared.brackets.Misfit.{Misfit}
 use Rattle.bz_token.specs.declared.fault.LexFault.{LexFault}
 use Rattle.bz_token.specs.declared.scan_token.Bad.{Bad}
+use Rattle.bz_token.specs.declared.scan_token.Scanned.{Scanned}
 use Rattle.bz_token.specs.declared.scan_token.GapOrToken.{GapOrToken}
 use Rattle.bz_token.specs.declared.scan_token.GapOrToken.TheVariants as step
 use Rattle.bz_token.specs.Brackets.{is_inside, bracket_fits, open_after_token}
@@ -34,12 +35,16 @@ IsTokenStep bytes (step.Token s) = IsScanned bytes s
 abbrev pub IsBadStep : Bool → List ℕ → Bad → Type 0
 IsBadStep inside bytes bad = (begins_gap inside bytes ≡ false) × IsBadPlace bytes bad
 
+-- this token is here, where these brackets are open, and those after its first byte
+abbrev pub IsTakenAs : Scanned → ℕ → List ℕ → List ℕ → List ℕ → Type 0
+IsTakenAs s depth opened after bytes =
+    (begins_gap (is_inside opened) bytes ≡ false) × IsScanned bytes s × (bracket_fits depth opened (slice_index bytes 0) ≡ true)
+    × (after ≡ open_after_token opened (slice_index bytes 0 ∷ []))
+
 -- what stands here, and the brackets that are open after its first byte, where it is a token
 abbrev pub IsTaken : ℕ → List ℕ → List ℕ → List ℕ → GapOrToken → Type 0
 IsTaken depth opened after bytes (step.Gap gap) = IsGapHere (is_inside opened) bytes gap × (after ≡ opened)
-IsTaken depth opened after bytes (step.Token s) =
-    (begins_gap (is_inside opened) bytes ≡ false) × IsScanned bytes s × (bracket_fits depth opened (slice_index bytes 0) ≡ true)
-    × (after ≡ open_after_token opened (slice_index bytes 0 ∷ []))
+IsTaken depth opened after bytes (step.Token s) = IsTakenAs s depth opened after bytes
 
 -- the fault where no token stands here, or where its first byte is a bracket that does not fit
 abbrev pub IsRefused : ℕ → List ℕ → List ℕ → ℕ → ℕ → LexFault → Type 0

@@ -94,7 +94,7 @@ scan_operator-requires-clause-mark c = (mark_at (get_or c.args.bytes.now 0 0) c.
 pub returns-in-Open-clause-step : goal.returns-in-Open-clause-step
 returns-in-Open-clause-step c =
     let solid = (single_at (get_or c.args.bytes.now 0 0) c.class_at.result (sym c.class_at.ensures) c.in-Open.is).1 in
-    (solid_gap c.args.inside c.args.bytes.now c.requires solid, c.scan_single.ensures)
+    (solid_gap c.args.inside c.args.bytes.now c.requires solid, c.scan_single.ensures.token)
 
 pub quoted_at-requires-clause-quote : goal.quoted_at-requires-clause-quote
 quoted_at-requires-clause-quote c = (fact_at (get_or c.args.bytes.now 0 0) Quote (sym c.class_at.ensures ∙ c.in-Quote.is)).0
