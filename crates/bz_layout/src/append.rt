@@ -98,14 +98,14 @@ impl NewLine for Vec<u8> {
     // Most numbers have one digit.
     #[inline(always)]
     fn put_item(&mut self, level: usize, text: &str) -> Result<(), NoMemory> {
-        match text.as_bytes() {
-            [byte] if level <= LAST_CUT => put_byte_item(level, *byte, self),
-            _ => {
-                self.new_line(level)?;
-                self.put(text)?;
-                self.put_short(",")
+        if level <= LAST_CUT {
+            if let [byte] = text.as_bytes() {
+                return put_byte_item(level, *byte, self);
             }
         }
+        self.new_line(level)?;
+        self.put(text)?;
+        self.put_short(",")
     }
 }
 

@@ -1,13 +1,13 @@
 //! The walk forwards over the parts of a statement, which writes them: on lines for `row.rt`, on one line for
 //! `flat_text.rt`.
 
-ghost use Rattle.std.specs.Prelude.{◌≡◌, ◌<◌, ◌^◌, ◌+◌, ◌++◌, ◌∷◌, ℕ, List, IfOk, map, reverse};
+ghost use Rattle.std.specs.Prelude.{◌≡◌, ◌<◌, ◌^◌, ◌+◌, ◌++◌, ℕ, List, true, IfOk, map, reverse};
 ghost use Rattle.bz_token.specs.declared.token.Kind.TheVariants.{Integer};
-ghost use Rattle.bz_tree.specs.Rows.{a_token, part_view};
+ghost use Rattle.bz_tree.specs.Rows.{part_view};
 ghost use Rattle.bz_layout.specs.declared.spacing.Edge.TheVariants.{Start};
 ghost use Rattle.bz_layout.specs.Pieces.{gap_bytes};
 ghost use Rattle.bz_layout.specs.Spacing.{gap_for};
-ghost use Rattle.bz_layout.specs.private.RowLayout.{Puts, Lays, LaysSome, due, top, first_gap, start, with_token, opened, closed_by, ended, step, run, laid};
+ghost use Rattle.bz_layout.specs.private.RowLayout.{Puts, Lays, LaysAlso, due, top, first_gap, start, with_token, opened, closed_by, ended, step, run, laid};
 
 use crate::append::NewLine;
 use crate::marks::BracketForm;
@@ -114,8 +114,26 @@ impl RowWriter {
         self.put_token(kind, text, out)
     }
 
-    // A number, with the end of its segment where it stands on a line of its own and a comma is written there. Answers how
-    // many parts were written.
+    // The numbers that the parts begin with, each with the end of its segment. Answers how many parts were written.
+    #[inline(never)]
+    fn numbers<T: NewLine>(&self, parts: &[Part<'_>], out: &mut T) -> Result<usize, NoMemory>
+        requires start { self.now.left ≡ Start }
+        requires broken { self.now.here.mark.broken ≡ true }
+        requires comma { self.now.here.mark.comma ≡ true }
+        ensures { LaysAlso result (λ s. s) (map part_view parts.now)
+            self.now (T.bytes out.old) self.now (T.bytes out.new) }
+    {
+        let level = self.level;
+        let mut rest = parts;
+        while let [Part::Token(Kind::Integer, text), Part::End, after @ ..] = rest {
+            out.put_item(level, text)?;
+            rest = after;
+        }
+        Ok(parts.len() - rest.len())
+    }
+
+    // A number; where it stands on a line of its own and a comma is written there, also the end of its segment and the
+    // numbers after it that stand so. Answers how many parts after it were written.
     #[inline(always)]
     fn number<T: NewLine>(
         &mut self,
@@ -123,12 +141,12 @@ impl RowWriter {
         after: &[Part<'_>],
         out: &mut T,
     ) -> Result<usize, NoMemory>
-        ensures { LaysSome result (a_token Integer text.now ∷ map part_view after.now)
+        ensures { LaysAlso result (with_token Integer text.now) (map part_view after.now)
             self.old (T.bytes out.old) self.new (T.bytes out.new) }
     {
         match (after, self.left, self.here.mark) {
             (
-                [Part::End, ..],
+                [Part::End, rest @ ..],
                 Edge::Start,
                 BracketForm {
                     broken: true,
@@ -136,17 +154,17 @@ impl RowWriter {
                 },
             ) => {
                 out.put_item(self.level, text)?;
-                Ok(2)
+                Ok(1 + self.numbers(rest, out)?)
             }
             _ => {
                 self.put_token(Kind::Integer, text, out)?;
-                Ok(1)
+                Ok(0)
             }
         }
     }
 
     // The tokens that most statements are made of are told apart once. The code for a text that is known is short.
-    // Answers how many parts were written: this one, and with a number perhaps the next.
+    // Answers how many parts after it were written.
     #[inline(always)]
     fn token<T: NewLine>(
         &mut self,
@@ -155,7 +173,7 @@ impl RowWriter {
         after: &[Part<'_>],
         out: &mut T,
     ) -> Result<usize, NoMemory>
-        ensures { LaysSome result (a_token kind text.now ∷ map part_view after.now)
+        ensures { LaysAlso result (with_token kind text.now) (map part_view after.now)
             self.old (T.bytes out.old) self.new (T.bytes out.new) }
     {
         match kind {
@@ -166,7 +184,7 @@ impl RowWriter {
             Kind::Operator if is_byte(text, b':') => self.put_token(Kind::Operator, ":", out),
             _ => self.put_rarer(kind, text, out),
         }?;
-        Ok(1)
+        Ok(0)
     }
 
     #[inline(never)]
@@ -227,7 +245,7 @@ impl RowWriter {
         Ok(())
     }
 
-    // Writes a part, and with a number perhaps the one after it. Answers how many were written.
+    // Writes a part, and with a number perhaps some after it. Answers how many after it were written.
     #[inline(always)]
     fn step<T: NewLine>(
         &mut self,
@@ -236,7 +254,7 @@ impl RowWriter {
         out: &mut T,
     ) -> Result<usize, NoMemory>
         requires { self.old.level + 1 < 2 ^ 64 }
-        ensures { LaysSome result (part_view part.now ∷ map part_view after.now)
+        ensures { LaysAlso result (step (part_view part.now)) (map part_view after.now)
             self.old (T.bytes out.old) self.new (T.bytes out.new) }
     {
         match *part {
@@ -251,7 +269,7 @@ impl RowWriter {
             }
             Part::Above(_) | Part::Beside(_) => Ok(()),
         }?;
-        Ok(1)
+        Ok(0)
     }
 
     // From the start: so there are no more levels than parts.
@@ -265,7 +283,7 @@ impl RowWriter {
     {
         let mut at = 0;
         while at < parts.len() {
-            at += self.step(&parts[at], &parts[at + 1..], out)?;
+            at += 1 + self.step(&parts[at], &parts[at + 1..], out)?;
         }
         Ok(())
     }

@@ -1,5 +1,5 @@
 -- For private clauses: what is appended, and the two walks over the parts of a statement.
-use Rattle.std.specs.Prelude.{codes, ℕ, ◌+◌, ◌-◌, ◌<◌, ◌≤◌, length, take, IfOk, List, [], ◌∷◌, ◌++◌, reverse, drop, get_or, Bool, true, false, not, ◌||◌, ◌&&◌, if◌then◌else◌, nat_le, nat_lt, Option, Some, None, is_some, ◌≡◌, Result, OnOk}
+use Rattle.std.specs.Prelude.{codes, ℕ, ◌+◌, ◌-◌, ◌≤◌, length, take, IfOk, List, [], ◌∷◌, ◌++◌, reverse, drop, get_or, Bool, true, false, not, ◌||◌, ◌&&◌, if◌then◌else◌, nat_le, nat_lt, Option, Some, None, is_some, ◌≡◌, Result, OnOk}
 use Rattle.bz_token.specs.declared.token.Kind.{Kind}
 use Rattle.bz_token.specs.Common.{map_or}
 use Rattle.bz_tree.specs.declared.tree.GroupKind.{GroupKind}
@@ -156,12 +156,11 @@ abbrev pub run : List RowPart → Laid → Laid
 run [] s = s
 run (p ∷ ps) s = run ps (step p s)
 
--- some of the parts are laid out, one at least: so many as are answered
-pub record LaysSome {E : Type 0} (result : Result ℕ E) (ps : List RowPart) (old : RowWriter) (before : List ℕ) (new : RowWriter) (after : List ℕ) : Type 0 where
-  pub some : IfOk result (λ n. 0 < n)
-  pub within : IfOk result (λ n. n ≤ length ps)
-  pub ok : IfOk result (λ n. laid new after ≡ run (take n ps) (laid old before))
-  pub begun : IsBegunBy before after
+-- a step is made, and some of the parts after it are laid out: so many as are answered
+pub record LaysAlso {E : Type 0} (result : Result ℕ E) (step : Laid → Laid) (after : List RowPart) (old : RowWriter) (before : List ℕ) (new : RowWriter) (now : List ℕ) : Type 0 where
+  pub within : IfOk result (λ n. n ≤ length after)
+  pub ok : IfOk result (λ n. laid new now ≡ run (take n after) (step (laid old before)))
+  pub begun : IsBegunBy before now
 
 -- the comments above the statement
 abbrev pub leading : List RowPart → List (List ℕ)
