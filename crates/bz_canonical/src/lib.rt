@@ -11,6 +11,7 @@
 mod added;
 mod assignment;
 mod bare;
+mod calls;
 mod chunk;
 mod commented;
 mod comments;
