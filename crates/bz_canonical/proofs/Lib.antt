@@ -30,3 +30,4 @@ pub mod ReplacedLines
 pub mod CommentedLines
 pub mod UnnamedRules
 pub mod SimpleBlocks
+pub mod LinedRules

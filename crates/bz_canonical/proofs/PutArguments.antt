@@ -33,7 +33,7 @@ use Rattle.bz_canonical.specs.private.Calls.{IsValueRead}
 use Rattle.bz_canonical.specs.private.Fronts.{IsTokenFront}
 use Rattle.bz_token.specs.Common.{is_filled}
 use Rattle.bz_layout_laws.specs.Spelled.{spelled_segs}
-use Rattle.bz_canonical.specs.private.Rewritten.{AreArgumentsRead, AreFormed, AreOthersRead, ArePlacedRead, AreRead, HasPut, IsValueEnd, PutEnds, AreElements, ArePlaced, Element, IsArgumentRead, IsHeadRead, IsListRead, IsPlaced, Placed, args_of, element_list, element_segs, elements_as_is, placed_lines}
+use Rattle.bz_canonical.specs.private.Rewritten.{AreArgumentsRead, AreFormed, AreOthersRead, ArePlacedRead, AreRead, HasPut, IsValueEnd, PutEnds, AreElements, ArePlaced, Element, IsArgumentRead, IsHeadRead, IsPlaced, Placed, args_of, element_list, element_segs, elements_as_is, placed_lines}
 use Rattle.bz_canonical.specs.private.Segments.{AreNotesFront, AreSegments, AreSegmentsFront, IsBesideFront}
 use Rattle.bz_canonical.proofs.ArgumentLines.{argument_front, lines_after, lines_append, segs_same}
 use Rattle.bz_canonical.proofs.ElementLists.{flat_append}

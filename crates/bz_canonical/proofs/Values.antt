@@ -1,23 +1,23 @@
 -- Values that stand otherwise than they are written, by what was read of them.
-use Rattle.std.proofs.Common.{◌≡◌, ◌≤◌, ◌<◌, ℕ, ◌+◌, ◌-◌, length, take, List, [], ◌∷◌, ◌++◌, Bool, true, false, refl, sym, ap, ◌∙◌, arith, append_assoc, append-nil}
-use Rattle.std.specs.Prelude.{codes, Some, None, if◌then◌else◌}
+use Rattle.std.proofs.Common.{◌≡◌, ◌<◌, ℕ, ◌-◌, length, take, List, [], ◌∷◌, ◌++◌, true, false, refl, sym, ap, ◌∙◌, arith, append_assoc, append-nil}
+use Rattle.std.specs.Prelude.{codes, None}
 use Rattle.std.proofs.lemmas.List.{length-append}
 use Rattle.bz_token.specs.declared.token.Kind.TheVariants.{Identifier, Operator}
-use Rattle.bz_tree.specs.declared.tree.GroupKind.TheVariants.{Call, List as ListKind, RuleCall}
+use Rattle.bz_tree.specs.declared.tree.GroupKind.TheVariants.{Call, List as ListKind}
 use Rattle.bz_tree.specs.declared.tree.kinds.Preceding.TheVariants.{Other}
 use Rattle.bz_tree.specs.declared.tree.kinds.Shape.TheVariants.{Round, Square}
 use Rattle.bz_tree.specs.Grammar.{AreArgs, AreSuffixes, IsArg, IsChain, IsOperand, IsPrimary, IsSuffix, IsTerm, IsTest}
 use Rattle.bz_tree.specs.Kinds.{group_kind}
-use Rattle.bz_tree.specs.Tree.{Item, leaf, group, no_items, item, no_segs, seg}
+use Rattle.bz_tree.specs.Tree.{leaf, group, no_items, item, no_segs, seg}
 use Rattle.bz_layout.specs.Layout.{item_pieces}
 use Rattle.bz_layout.specs.Pieces.{Piece, piece, bytes_of}
 use Rattle.bz_layout.specs.declared.broken.Style.TheVariants.{Broken}
 use Rattle.bz_layout.specs.declared.spacing.Gap.TheVariants.{Closed, Space}
 use Rattle.bz_layout.proofs.Pieces.{bytes_append}
-use Rattle.bz_layout_laws.specs.FreeLayout.{Choice, free, item_by, own}
+use Rattle.bz_layout_laws.specs.FreeLayout.{free, item_by, own}
 use Rattle.bz_canonical.specs.private.Calls.{IsInsideRead, IsValueRead}
 use Rattle.bz_canonical.specs.private.Fronts.{IsTokenFront}
-use Rattle.bz_canonical.specs.private.Rewritten.{AreElements, Element, IsListRead, element_list, element_segs, elements_as_is}
+use Rattle.bz_canonical.specs.private.Rewritten.{Element, IsListRead, element_list, elements_as_is}
 use Rattle.bz_canonical.proofs.GroupSegments.{most}
 use Rattle.bz_canonical.proofs.PutArguments.{absurd_of, element_depth, element_for, element_kinds, element_spelled, element_stand, element_tests, element_texts, laid, standing}
 use Rattle.bz_canonical.proofs.Taken.{taken}

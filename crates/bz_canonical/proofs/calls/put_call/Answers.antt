@@ -1,4 +1,4 @@
-use Rattle.std.proofs.Common.{◌≡◌, ◌++◌, ◌-◌, ◌<◌, ℕ, List, arith, subst}
+use Rattle.std.proofs.Common.{◌≡◌, ◌++◌, ◌-◌, ℕ, List, arith, subst}
 use Rattle.std.specs.Prelude.{IfSome}
 use Rattle.bz_canonical.specs.private.Calls.{IsInsideRead}
 use Rattle.bz_canonical.proofs.ElementLists.{put_two}

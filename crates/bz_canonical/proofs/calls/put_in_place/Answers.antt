@@ -1,4 +1,4 @@
-use Rattle.std.proofs.Common.{◌≡◌, ◌++◌, ◌∷◌, [], ◌∙◌, ℕ, List, true, false, refl, ap, append-nil, append_assoc, sym}
+use Rattle.std.proofs.Common.{◌++◌, ◌∷◌, [], ◌∙◌, ℕ, List, true, false, ap, append-nil, sym}
 use Rattle.bz_canonical.proofs.ElementLists.{put_three, put_two}
 use Rattle.bz_canonical.proofs.InPlace.{begin_in_place, between, finish_in_place, more_in_place}
 use Rattle.bz_canonical.proofs.calls.put_in_place.Goals as goal

@@ -1,4 +1,4 @@
-use Rattle.std.proofs.Common.{◌≡◌, ◌++◌, ◌∷◌, [], ℕ, List, ap}
+use Rattle.std.proofs.Common.{◌≡◌, ◌++◌, ◌∷◌, [], ℕ, List}
 use Rattle.std.specs.Prelude.{IfSome}
 use Rattle.bz_canonical.specs.private.Rewritten.{IsListRead}
 use Rattle.std.proofs.Common.{subst}

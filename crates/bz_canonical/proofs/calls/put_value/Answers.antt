@@ -1,4 +1,4 @@
-use Rattle.std.proofs.Common.{◌≡◌, ◌++◌, ◌<◌, ℕ, List, subst}
+use Rattle.std.proofs.Common.{◌≡◌, ◌++◌, ℕ, List, subst}
 use Rattle.std.specs.Prelude.{IfSome}
 use Rattle.bz_canonical.specs.private.Rewritten.{IsListRead}
 use Rattle.bz_canonical.proofs.Values.{list_value}

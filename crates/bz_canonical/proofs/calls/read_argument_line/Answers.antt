@@ -1,7 +1,5 @@
-use Rattle.std.proofs.Common.{◌≡◌, ◌++◌, ◌∙◌, ℕ, List, ap, subst, sym, false}
+use Rattle.std.proofs.Common.{◌++◌, ◌∙◌, ℕ, List, ap, subst, sym, false}
 use Rattle.bz_tree.specs.declared.tree.GroupKind.TheVariants.{Call}
-use Rattle.bz_layout.specs.Layout.{items_pieces}
-use Rattle.bz_layout.specs.Pieces.{bytes_of}
 use Rattle.bz_layout.specs.declared.spacing.Gap.TheVariants.{Closed}
 use Rattle.bz_canonical.specs.private.Segments.{IsSegmentFront}
 use Rattle.bz_canonical.proofs.Taken.{taken}

@@ -1,4 +1,4 @@
-use Rattle.std.proofs.Common.{◌≡◌, ◌++◌, ◌∙◌, ◌<◌, ℕ, List, ap, arith, subst}
+use Rattle.std.proofs.Common.{◌≡◌, ◌++◌, ◌∙◌, ℕ, List, ap, subst}
 use Rattle.std.specs.Prelude.{IfSome}
 use Rattle.bz_canonical.specs.private.Calls.{IsValueRead}
 use Rattle.bz_canonical.proofs.Pendings.{pend_value}
