@@ -17,7 +17,9 @@ pub mod OwnLayout
 pub mod ElementLists
 pub mod Pendings
 pub mod AddedElements
+pub mod InPlace
 pub mod PutArguments
+pub mod Values
 pub mod PutRules
 pub mod ListLines
 pub mod EditedElements
@@ -28,3 +30,4 @@ pub mod ReplacedLines
 pub mod CommentedLines
 pub mod UnnamedRules
 pub mod SimpleBlocks
+pub mod LinedRules

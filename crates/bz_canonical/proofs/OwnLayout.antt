@@ -61,7 +61,7 @@ mutual
   own_stand no_items = tt
   own_stand (item x xs) = (own_stands x, own_stand xs)
 
-  own_segs_stand : (ss : Segs) → SegsStand own ss
+  pub own_segs_stand : (ss : Segs) → SegsStand own ss
   own_segs_stand no_segs = tt
   own_segs_stand (seg before nodes suffix ss) = (own_stand nodes, own_segs_stand ss)
 
@@ -74,6 +74,6 @@ mutual
   own_spelled no_items = refl
   own_spelled (item x xs) = ap (λ y. item y (items_spelled_by own xs)) (own_spelled_item x) ∙ ap (λ ys. item (spelled x) ys) (own_spelled xs)
 
-  own_spelled_segs : (ss : Segs) → segs_spelled_by own ss ≡ spelled_segs ss
+  pub own_spelled_segs : (ss : Segs) → segs_spelled_by own ss ≡ spelled_segs ss
   own_spelled_segs no_segs = refl
   own_spelled_segs (seg before nodes suffix ss) = ap (λ ys. seg before ys suffix (segs_spelled_by own ss)) (own_spelled nodes) ∙ ap (λ tt. seg before (spelled_items nodes) suffix tt) (own_spelled_segs ss)

@@ -1,7 +1,7 @@
 -- What is written up to here, and is not in the buffer yet.
-use Rattle.std.proofs.Common.{◌≡◌, ℕ, ◌-◌, List, [], ◌∷◌, ◌++◌, refl, length, take, sym, ap, ◌∙◌, arith, append_assoc, subst}
+use Rattle.std.proofs.Common.{◌≡◌, ◌<◌, ℕ, ◌-◌, List, [], ◌++◌, refl, length, take, sym, ap, ◌∙◌, arith, append_assoc, subst}
 use Rattle.std.proofs.lemmas.List.{length-append}
-use Rattle.bz_canonical.specs.private.Rewritten.{IsPending, IsListRead}
+use Rattle.bz_canonical.specs.private.Rewritten.{IsPending}
 use Rattle.bz_canonical.proofs.Taken.{taken}
 
 -- more that stands as it is written
@@ -20,21 +20,21 @@ pend_same text buffer all from rest other p is = subst (λ (t : List ℕ). IsPen
 pub pend_first : (text front rest : List ℕ) → text ≡ front ++ rest → IsPending text [] front text rest
 pend_first text front rest is = record { part = front; front = is; all_is = refl; whole = λ none. refl }
 
--- a list goes into the buffer, after what was pending
-pub pend_list : (text old new begun from at value end next front back w put : List ℕ) → IsPending text old begun from at → at ≡ front ++ value → end ≡ back ++ next → IsListRead value end w → put ≡ take (length from - length value) from
+-- a value goes into the buffer, after what was pending
+pub pend_value : (text old new begun from at value end next front back w put : List ℕ) → IsPending text old begun from at → at ≡ front ++ value → end ≡ back ++ next → 0 < length w → put ≡ take (length from - length value) from
     → new ≡ (old ++ put) ++ w → IsPending text new (begun ++ (front ++ (w ++ back))) end next
-pend_list text old new begun from at value end next front back w put p at_is end_is l put_is new_is =
+pend_value text old new begun from at value end next front back w put p at_is end_is filled put_is new_is =
     let front_is : from ≡ (p.part ++ front) ++ value = p.front ∙ ap (λ (t : List ℕ). p.part ++ t) at_is ∙ sym (append_assoc p.part front value) in
     let all : new ≡ (old ++ (p.part ++ front)) ++ w = new_is ∙ ap (λ (t : List ℕ). (old ++ t) ++ w) (put_is ∙ taken from (p.part ++ front) value front_is) in
     record {
       part = back;
       front = end_is;
       all_is = ap (λ (t : List ℕ). t ++ (front ++ (w ++ back))) p.all_is ∙ joined old p.part front w back ∙ ap (λ (t : List ℕ). t ++ back) (sym all);
-      whole = λ none. absurd (some (old ++ put) w _ (sym new_is ∙ none) l.spells);
+      whole = λ none. absurd (some (old ++ put) w filled (sym new_is ∙ none));
     }
   where
     joined : (o p f w b : List ℕ) → (o ++ p) ++ (f ++ (w ++ b)) ≡ ((o ++ (p ++ f)) ++ w) ++ b
     joined o p f w b = simp append_assoc
 
-    some : (x w y : List ℕ) → x ++ w ≡ [] → w ≡ 91 ∷ y → ⊥
-    some x w y none is = omega (arith, length-append x w, ap length none, ap length is)
+    some : (x w : List ℕ) → 0 < length w → x ++ w ≡ [] → ⊥
+    some x w filled none = omega (arith, length-append x w, ap length none, filled)

@@ -12,15 +12,15 @@ use Rattle.bz_tree.specs.Grammar.{AreArgs, AreSuffixes, AreTests, IsArg, IsChain
 use Rattle.bz_token.specs.Lexical.{is_text}
 use Rattle.bz_tree.specs.Comments.{beside}
 use Rattle.bz_tree.specs.Kinds.{group_kind}
-use Rattle.bz_tree.specs.Tree.{leaf, group, Items, no_items, item, Segs, no_segs, seg, items_of, segments, segs_of, Segment}
+use Rattle.bz_tree.specs.Tree.{Item, leaf, group, Items, no_items, item, Segs, no_segs, seg, items_of, segments, segs_of, Segment}
 use Rattle.bz_layout.specs.Broken.{count, have_comments, is_broken, segs_hold}
-use Rattle.bz_layout.specs.Layout.{breaks, broken_segs, flat_segs}
+use Rattle.bz_layout.specs.Layout.{breaks, broken_segs, flat_segs, items_pieces}
 use Rattle.bz_layout.specs.Pieces.{Piece, piece, bytes_of, comments, indent, suffix_piece}
 use Rattle.bz_layout.specs.declared.broken.Style.TheVariants.{Broken}
-use Rattle.bz_layout.specs.declared.spacing.Edge.TheVariants.{Start}
+use Rattle.bz_layout.specs.declared.spacing.Edge.TheVariants.{Start, Operator as EdgeOperator}
 use Rattle.bz_layout.specs.declared.spacing.Gap.TheVariants.{Closed, Line, Space}
 use Rattle.bz_layout.proofs.Pieces.{bytes_append}
-use Rattle.bz_layout_laws.specs.FreeLayout.{SegsStand, broken_by, flat_by, free, own, segs_spelled_by}
+use Rattle.bz_layout_laws.specs.FreeLayout.{Choice, SegsStand, broken_by, flat_by, free, items_by, own, segs_spelled_by}
 use Rattle.bz_layout_laws.specs.Legible.{AreComments, segs_depth}
 use Rattle.bz_layout_laws.specs.Parsed.{SegsHaveKinds, have_for}
 use Rattle.bz_layout_laws.specs.TextsOfKinds.{SegsHaveTexts}
@@ -29,10 +29,11 @@ use Rattle.bz_attribute.specs.Rules.{first_named, is_named}
 use Rattle.bz_attribute.proofs.EditedAt.{edited_at, first_at, none_first}
 use Rattle.bz_canonical.specs.Canonical.{argument_lines}
 use Rattle.bz_canonical.specs.private.Arguments.{alone}
+use Rattle.bz_canonical.specs.private.Calls.{IsValueRead}
 use Rattle.bz_canonical.specs.private.Fronts.{IsTokenFront}
 use Rattle.bz_token.specs.Common.{is_filled}
 use Rattle.bz_layout_laws.specs.Spelled.{spelled_segs}
-use Rattle.bz_canonical.specs.private.Rewritten.{AreArgumentsRead, AreFormed, AreOthersRead, ArePlacedRead, AreRead, HasPut, IsValueEnd, PutEnds, AreElements, ArePlaced, Element, IsArgumentRead, IsHeadRead, IsListRead, IsPlaced, Placed, args_of, element_list, element_segs, elements_as_is, placed_lines}
+use Rattle.bz_canonical.specs.private.Rewritten.{AreArgumentsRead, AreFormed, AreOthersRead, ArePlacedRead, AreRead, HasPut, IsValueEnd, PutEnds, AreElements, ArePlaced, Element, IsArgumentRead, IsHeadRead, IsPlaced, Placed, args_of, element_list, element_segs, elements_as_is, placed_lines}
 use Rattle.bz_canonical.specs.private.Segments.{AreNotesFront, AreSegments, AreSegmentsFront, IsBesideFront}
 use Rattle.bz_canonical.proofs.ArgumentLines.{argument_front, lines_after, lines_append, segs_same}
 use Rattle.bz_canonical.proofs.ElementLists.{flat_append}
@@ -41,35 +42,35 @@ use Rattle.bz_canonical.proofs.OwnLayout.{own_items, own_spelled, own_stand}
 
 -- elements, as a well-formed statement has them
 
-element_texts : (es : List Element) → AreElements es → SegsHaveTexts (element_segs es)
+pub element_texts : (es : List Element) → AreElements es → SegsHaveTexts (element_segs es)
 element_texts [] are = tt
 element_texts (e ∷ es) are = (are.0, refl, ((are.1, refl), tt), are.2, element_texts es are.3)
 
-element_kinds : (es : List Element) → SegsHaveKinds false (element_segs es)
+pub element_kinds : (es : List Element) → SegsHaveKinds false (element_segs es)
 element_kinds [] = tt
 element_kinds (e ∷ es) = ((λ is. is, tt, tt), element_kinds es)
 
-element_tests : (es : List Element) → AreTests (element_segs es)
+pub element_tests : (es : List Element) → AreTests (element_segs es)
 element_tests [] = AreTests.no_test
 element_tests (e ∷ es) = AreTests.one_test (IsTest.plain (IsChain.single (IsTerm.primary (IsPrimary.operand (IsOperand.text refl) AreSuffixes.no_suffix)))) (element_tests es)
 
-element_for : (es : List Element) → have_for (element_segs es) ≡ false
+pub element_for : (es : List Element) → have_for (element_segs es) ≡ false
 element_for [] = refl
 element_for (e ∷ es) = refl
 
-element_depth : (es : List Element) → segs_depth (element_segs es) ≤ 0
+pub element_depth : (es : List Element) → segs_depth (element_segs es) ≤ 0
 element_depth [] = omega arith
 element_depth (e ∷ es) = most _ _ 0 (omega arith) (element_depth es)
 
-element_stand : (es : List Element) → SegsStand (elements_as_is es) (element_segs es)
+pub element_stand : (es : List Element) → SegsStand (elements_as_is es) (element_segs es)
 element_stand [] = tt
 element_stand (e ∷ es) = ((tt, tt), element_stand es)
 
-element_spelled : (es : List Element) → segs_spelled_by (elements_as_is es) (element_segs es) ≡ element_segs es
+pub element_spelled : (es : List Element) → segs_spelled_by (elements_as_is es) (element_segs es) ≡ element_segs es
 element_spelled [] = refl
 element_spelled (e ∷ es) = ap (λ ss. seg e.before (item (leaf String e.token) no_items) e.suffix ss) (element_spelled es)
 
-absurd_of : {A : Type 0} → false ≡ true → A
+pub absurd_of : {A : Type 0} → false ≡ true → A
 absurd_of h = absurd (false≢true h)
 
 -- an argument whose value is a list of strings
@@ -116,10 +117,28 @@ list_is_placed depth notes word breaks es suffix deep above is are stands side =
   spelled = ap (λ ss. item (leaf Identifier word) (item (leaf Operator (codes "=")) (item (group ListKind ss false []) no_items))) (element_spelled es);
 }
 
-pub list_read : (depth : ℕ) (attr text value end comma next w : List ℕ) (e named : Bool) → 0 < depth → IsHeadRead attr text value named → IsListRead value end w → end ≡ 44 ∷ comma → IsBesideFront comma next e
+-- an argument whose value stands otherwise
+
+abbrev pub value_placed : List (List ℕ) → List ℕ → (nodes : List Item) → Choice → Option (List ℕ) → Placed
+value_placed notes word nodes choice suffix = record {
+  arg = record { before = notes; nodes = leaf Identifier word ∷ leaf Operator (codes "=") ∷ nodes; suffix = suffix };
+  choice = free true own (free true own choice);
+}
+
+value_bytes : (C V S : List Piece) (word v : List ℕ) → 32 ∷ v ≡ bytes_of V
+    → bytes_of (C ++ ((piece (Line 1) Identifier word ∷ piece Space Operator (codes "=") ∷ V) ++ (piece Closed Operator (codes ",") ∷ (S ++ []))))
+    ≡ bytes_of C ++ (10 ∷ (indent 1 ++ (word ++ (codes " = " ++ (v ++ (44 ∷ bytes_of S))))))
+value_bytes C V S word v is =
+    rw (
+      append-nil S,
+      bytes_append C (piece (Line 1) Identifier word ∷ piece Space Operator (codes "=") ∷ (V ++ (piece Closed Operator (codes ",") ∷ S))),
+      bytes_append V (piece Closed Operator (codes ",") ∷ S),
+      sym is,
+    ) refl
+
+pub other_read : (depth : ℕ) (attr text value end comma next w : List ℕ) (e named : Bool) → IsHeadRead attr text value named → IsValueRead depth value end w → end ≡ 44 ∷ comma → IsBesideFront comma next e
     → (front back : List ℕ) × (text ≡ front ++ value) × (end ≡ back ++ next) × IsArgumentRead depth attr text next (front ++ (w ++ back)) named
-list_read depth attr text value end comma next w e named deep h l is side =
-    let es : List Element = l.elements in
+other_read depth attr text value end comma next w e named h v is side =
     let C : List ℕ = bytes_of (comments 1 h.notes) in
     let S : List ℕ = bytes_of (suffix_piece side.note) in
     let F : List ℕ = C ++ (10 ∷ (indent 1 ++ (h.word ++ codes " = "))) in
@@ -130,12 +149,20 @@ list_read depth attr text value end comma next w e named deep h l is side =
       begins,
       ends,
       record {
-        placed = list_placed h.notes h.word l.breaks es side.note;
-        is = list_is_placed depth h.notes h.word l.breaks es side.note deep h.are h.is l.are l.stands side.is;
-        front = begins ∙ ap (λ (t : List ℕ). F ++ t) (l.front ∙ ap (λ (t : List ℕ). (91 ∷ bytes_of (standing l.breaks es)) ++ t) ends)
-            ∙ whole C (91 ∷ bytes_of (standing l.breaks es)) S ∙ ap (λ (t : List ℕ). t ++ next) (sym (list_lines h.notes h.word l.breaks es side.note));
-        spells = ap (λ (t : List ℕ). F ++ (t ++ (44 ∷ S))) l.spells
-            ∙ again C (91 ∷ bytes_of (laid es)) S ∙ sym (argument_bytes (comments 1 h.notes) (laid es) (suffix_piece side.note) h.word);
+        placed = value_placed h.notes h.word v.nodes v.choice side.note;
+        is = record {
+          formed = record {
+            texts = (h.are, refl, ((h.is, refl), ((equals_text, refl), v.texts)), side.is, tt);
+            kinds = ((λ is. is, tt, (λ is. is, tt, v.kinds)), tt);
+            grammar = AreArgs.one_arg (IsArg.keyword refl refl v.test) AreArgs.no_arg;
+            depth_fits = most _ _ depth (most _ _ depth (omega arith) (most _ _ depth (omega arith) v.depth_fits)) (omega arith);
+          };
+          stand = (tt, (tt, v.stand));
+          spelled = ap (λ xs. item (leaf Identifier h.word) (item (leaf Operator (codes "=")) xs)) v.spelled;
+        };
+        front = begins ∙ ap (λ (t : List ℕ). F ++ t) (v.front ∙ ap (λ (t : List ℕ). v.stands ++ t) ends) ∙ whole C v.stands S
+            ∙ ap (λ (t : List ℕ). t ++ next) (sym (value_bytes (comments 1 h.notes) (items_by v.choice 1 (Some RuleCall) (Line 1) EdgeOperator (items_of v.nodes)) (suffix_piece side.note) h.word v.stands v.stands_is));
+        spells = again C w S ∙ sym (value_bytes (comments 1 h.notes) (items_pieces Broken 1 (Some RuleCall) (Line 1) EdgeOperator (items_of v.nodes)) (suffix_piece side.note) h.word w v.spells);
         named_is = h.named_is;
       },
     )

@@ -20,7 +20,7 @@ use Rattle.bz_layout.specs.declared.spacing.Gap.TheVariants.{Closed, Line, Space
 use Rattle.bz_layout.proofs.Pieces.{bytes_append}
 use Rattle.bz_layout_laws.specs.TextsOfKinds.{SegsHaveTexts}
 use Rattle.bz_layout_laws.proofs.FreeRead.{free_again, free_chunked}
-use Rattle.bz_layout_laws.specs.FreeLayout.{Choice, SegsStand, broken_by, free, items_by, own, segs_spelled_by, text_by}
+use Rattle.bz_layout_laws.specs.FreeLayout.{Choice, SegsStand, Stand, broken_by, free, items_by, own, segs_spelled_by, spelled_by, text_by}
 use Rattle.bz_layout_laws.specs.Legible.{are_some, items_depth}
 use Rattle.bz_layout_laws.specs.Lineless.{lineless}
 use Rattle.bz_attribute.specs.Rules.{first_named, rule_of}
@@ -39,7 +39,8 @@ use Rattle.bz_canonical.proofs.SmallRules.{no_bytes, read_alone, small_bytes, sm
 use Rattle.bz_canonical.specs.private.Segments.{AreSegments}
 use Rattle.std.proofs.lemmas.List.{length-append}
 use Rattle.bz_canonical.specs.private.Arguments.{alone}
-use Rattle.bz_canonical.specs.Canonical.{HasArgumentName, IsCanonical, argument_lines, rule_args, rule_name, AreReadAlone, Between, HasPlace, first_args, small_rule, small_text}
+use Rattle.bz_layout_laws.specs.WellFormed.{IsWellFormed}
+use Rattle.bz_canonical.specs.Canonical.{AreReadAlone, Between, HasArgumentName, HasName, HasPlace, IsCanonical, IsNameless, argument_lines, first_args, rule_args, rule_name, small_rule, small_text}
 use Rattle.bz_canonical.specs.private.Rewritten.{AreArgumentsRead, AreFormed, ArePlaced, IsPending, IsRuleEnd, IsRuleHead, IsRulePlace, IsRuleRead, Placed, args_of, placed_lines, HasPut, HasPutPlace, IsPutPlaceIn, PutEnds}
 use Rattle.bz_canonical.proofs.CanonicalChunks.{chunk_some, place_same}
 use Rattle.bz_canonical.proofs.GroupSegments.{equals_text, most}
@@ -487,26 +488,34 @@ with_name text name inside rest h left front left_is front_is =
             ≡ ((notes ++ (h.kind ++ (40 ∷ 10 ∷ (indent 1 ++ (codes "name" ++ (codes " = " ++ (34 ∷ []))))))) ++ name) ++ (34 ∷ 44 ∷ rest)
         by notes = simp append_assoc
 
-pub rule_chunk : (depth : ℕ) (attr name text rest written chunk : List ℕ) (ends : Option PutEnds) (place : Option Between) → IsRuleRead depth attr name text rest written ends → chunk ≡ take (length text - length rest) text → IsPutPlaceIn text written ends place
-    → IsCanonical depth attr RuleClass (Some name) None place chunk written text
-rule_chunk depth attr name text rest written chunk ends place r chunk_is is =
-    let whole : IsChunk (text_by r.choice r.s) = free_chunked depth r.s r.choice r.well r.stand (ap is_comment r.class_is) in
-    subst (λ bytes. IsCanonical depth attr RuleClass (Some name) None place bytes written text) (sym (chunk_is ∙ taken text (text_by r.choice r.s) rest r.front)) (record {
-      some = chunk_some (text_by r.choice r.s) whole;
+-- a rule whose groups stand on lines or in place
+pub free_chunk : (depth : ℕ) (attr : List ℕ) (name kind : Option (List ℕ)) (s : Statement) (c : Choice) (text rest written chunk : List ℕ) (place : Option Between) → IsWellFormed depth s → Stand c (items_of s.nodes) → spelled_by c s ≡ s
+    → s.class ≡ RuleClass → HasName name s → IfSome kind (λ k. IsNameless k s.nodes) → text ≡ text_by c s ++ rest → written ≡ layout_text s
+    → ((attr : List ℕ) → (HasArgumentName attr (layout_text s) → ⊥) → first_named attr (rule_args (rule_of s.nodes)) ≡ None) → chunk ≡ take (length text - length rest) text
+    → ((t : Statement) → lineless t ≡ lineless s → IfSome place (HasPlace depth attr t)) → IsCanonical depth attr RuleClass name kind place chunk written text
+free_chunk depth attr name kind s c text rest written chunk place well stand spelled class_is named nameless front spells absent chunk_is has =
+    let whole : IsChunk (text_by c s) = free_chunked depth s c well stand (ap is_comment class_is) in
+    subst (λ bytes. IsCanonical depth attr RuleClass name kind place bytes written text) (sym (chunk_is ∙ taken text (text_by c s) rest front)) (record {
+      some = chunk_some (text_by c s) whole;
       rest = rest;
-      front = r.front;
+      front = front;
       ends = whole;
       read = λ first.
-          let again = free_again first depth r.s r.choice r.well r.stand in
-          let same : lineless again.0 ≡ lineless r.s = again.2 ∙ ap lineless r.spelled in
+          let again = free_again first depth s c well stand in
+          let same : lineless again.0 ≡ lineless s = again.2 ∙ ap lineless spelled in
           record {
             statement = again.0;
             read = again.1;
-            class_is = ap (λ (z : Statement). z.class) same ∙ r.class_is;
-            named = ap (λ (z : Statement). rule_name (rule_of z.nodes)) same ∙ r.named;
-            nameless = tt;
-            written = ap layout_text same ∙ sym r.spells;
-            absent = λ name none. ap (λ (z : Statement). first_named name (rule_args (rule_of z.nodes))) same ∙ r.absent name (subst (λ (t : List ℕ). HasArgumentName name t → ⊥) r.spells none);
-            has = place_back depth attr r.s again.0 text written ends same r.has place is;
+            class_is = ap (λ (z : Statement). z.class) same ∙ class_is;
+            named = ap (λ (z : Statement). rule_name (rule_of z.nodes)) same ∙ named;
+            nameless = subst (λ (z : Statement). IfSome kind (λ k. IsNameless k z.nodes)) (sym same) nameless;
+            written = ap layout_text same ∙ sym spells;
+            absent = λ name none. ap (λ (z : Statement). first_named name (rule_args (rule_of z.nodes))) same ∙ absent name (subst (λ (t : List ℕ). HasArgumentName name t → ⊥) spells none);
+            has = has again.0 same;
           };
     })
+
+pub rule_chunk : (depth : ℕ) (attr name text rest written chunk : List ℕ) (ends : Option PutEnds) (place : Option Between) → IsRuleRead depth attr name text rest written ends → chunk ≡ take (length text - length rest) text → IsPutPlaceIn text written ends place
+    → IsCanonical depth attr RuleClass (Some name) None place chunk written text
+rule_chunk depth attr name text rest written chunk ends place r chunk_is is =
+    free_chunk depth attr (Some name) None r.s r.choice text rest written chunk place r.well r.stand r.spelled r.class_is r.named tt r.front r.spells r.absent chunk_is (λ t same. place_back depth attr r.s t text written ends same r.has place is)

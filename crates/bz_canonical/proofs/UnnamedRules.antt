@@ -1,23 +1,18 @@
 -- A rule without a name whose only argument stands in place, by what was read of it.
-use Rattle.std.proofs.Common.{◌≡◌, ℕ, suc, ◌-◌, length, take, drop, List, [], ◌∷◌, ◌++◌, Bool, true, false, ◌||◌, refl, sym, ap, ◌∙◌, append_assoc, append-nil, subst}
+use Rattle.std.proofs.Common.{◌≡◌, ℕ, suc, ◌-◌, length, take, drop, List, [], ◌∷◌, ◌++◌, Bool, true, false, refl, sym, ap, ◌∙◌, append_assoc, append-nil, subst}
 use Rattle.std.proofs.Math.Seq.{take-append_seam, drop-append_seam}
 use Rattle.std.specs.Prelude.{codes, if◌then◌else◌, IfSome, Option, None, Some, option_map, option_to_list}
-use Rattle.std.proofs.lemmas.Bool.{false≢true}
 use Rattle.bz_token.specs.declared.token.Kind.TheVariants.{Identifier, Operator}
 use Rattle.bz_token.specs.Common.{is_empty}
 use Rattle.bz_tree.specs.declared.tree.Class.TheVariants.{Rule as RuleClass}
 use Rattle.bz_tree.specs.declared.tree.GroupKind.{GroupKind}
 use Rattle.bz_tree.specs.declared.tree.GroupKind.TheVariants.{RuleCall}
-use Rattle.bz_tree.specs.Tree.{Item, leaf, group, Items, no_items, item, Segs, no_segs, seg, Segment, Statement, list_of, segments, segs_of}
-use Rattle.bz_layout.specs.Broken.{holds_broken, is_broken, items_hold, segs_hold}
-use Rattle.bz_layout.specs.Layout.{closing, flat_segs, item_pieces, items_pieces, opening}
-use Rattle.bz_layout.specs.Pieces.{Piece, piece, bytes_of, comma_if, comment_lines, gap_bytes, suffix_piece}
-use Rattle.bz_layout.specs.Spacing.{edge_after, gap_before}
+use Rattle.bz_tree.specs.Tree.{leaf, group, Items, no_segs, seg, Segment, Statement, list_of, segments, segs_of}
+use Rattle.bz_layout.specs.Layout.{item_pieces, items_pieces}
+use Rattle.bz_layout.specs.Pieces.{Piece, piece, bytes_of, comment_lines, gap_bytes, suffix_piece}
 use Rattle.bz_layout.specs.declared.broken.Style.TheVariants.{Broken}
-use Rattle.bz_layout.specs.declared.spacing.Edge.{Edge}
 use Rattle.bz_layout.specs.declared.spacing.Edge.TheVariants.{Start}
-use Rattle.bz_layout.specs.declared.spacing.Gap.{Gap}
-use Rattle.bz_layout.specs.declared.spacing.Gap.TheVariants.{Closed, Line, Space}
+use Rattle.bz_layout.specs.declared.spacing.Gap.TheVariants.{Closed, Line}
 use Rattle.bz_layout.proofs.Pieces.{bytes_append}
 use Rattle.bz_layout_laws.specs.TextsOfKinds.{SegsHaveTexts}
 use Rattle.bz_layout_laws.proofs.SameInside.{items_same}
@@ -31,6 +26,7 @@ use Rattle.bz_canonical.specs.private.Unnamed.{IsStatementEnd, IsUnnamedRule}
 use Rattle.bz_canonical.proofs.CanonicalChunks.{canonical_chunk}
 use Rattle.bz_canonical.proofs.BareStatements.{rule_bare}
 use Rattle.bz_canonical.proofs.GroupSegments.{begin_flat, no_segments}
+use Rattle.bz_canonical.proofs.InPlace.{same_items}
 use Rattle.bz_canonical.proofs.Operands.{flat_group}
 use Rattle.bz_canonical.proofs.Places.{group_takes}
 use Rattle.bz_canonical.proofs.PutRules.{with_group}
@@ -39,54 +35,26 @@ use Rattle.bz_canonical.proofs.SmallRules.{read_alone}
 use Rattle.bz_canonical.proofs.StatementFronts.{statement_front}
 use Rattle.bz_canonical.proofs.Taken.{taken}
 
--- what stands in place is written so at each level
-
-or_none : (a b : Bool) → (a || b) ≡ false → (a ≡ false) × (b ≡ false)
-or_none true b none = absurd (false≢true (sym none))
-or_none false b none = (refl, none)
-
-mutual
-  item_level : (k l : ℕ) (gap : Gap) (x : Item) → holds_broken x ≡ false → item_pieces Broken k gap x ≡ item_pieces Broken l gap x
-  item_level k l gap (leaf kind text) none = refl
-  item_level k l gap (group kind segs one_comma end) none =
-      let two = or_none (is_broken kind segs end (segs_hold segs)) (segs_hold segs) none in
-      rw two.0 (ap (λ (ps : List Piece). piece gap Operator (opening kind) ∷ (ps ++ (comma_if one_comma ++ (piece Closed Operator (closing kind) ∷ [])))) (flat_level k l kind true segs two.1))
-
-  items_level : (k l : ℕ) (within : Option GroupKind) (first : Gap) (left : Edge) (xs : Items) → items_hold xs ≡ false → items_pieces Broken k within first left xs ≡ items_pieces Broken l within first left xs
-  items_level k l within first left no_items none = refl
-  items_level k l within first left (item x xs) none =
-      let two = or_none (holds_broken x) (items_hold xs) none in
-      λ i. item_level k l (gap_before first left x) x two.0 i ++ items_level k l within first (edge_after within left x) xs two.1 i
-
-  flat_level : (k l : ℕ) (kind : GroupKind) (first : Bool) (segs : Segs) → segs_hold segs ≡ false → flat_segs Broken k kind first segs ≡ flat_segs Broken l kind first segs
-  flat_level k l kind first no_segs none = refl
-  flat_level k l kind true (seg before nodes suffix ss) none =
-      let two = or_none (items_hold nodes) (segs_hold ss) none in
-      λ i. items_level k l (Some kind) Closed Start nodes two.0 i ++ flat_level k l kind false ss two.1 i
-  flat_level k l kind false (seg before nodes suffix ss) none =
-      let two = or_none (items_hold nodes) (segs_hold ss) none in
-      λ i. (piece Closed Operator (codes ",") ∷ items_level k l (Some kind) Space Start nodes two.0 i) ++ flat_level k l kind false ss two.1 i
-
-segment_level : (kind : GroupKind) (k l depth : ℕ) (text rest : List ℕ) → IsSegmentFront kind k depth text rest false → IsSegmentFront kind l depth text rest false
+abbrev pub segment_level : (kind : GroupKind) (k l depth : ℕ) (text rest : List ℕ) → IsSegmentFront kind k depth text rest false → IsSegmentFront kind l depth text rest false
 segment_level kind k l depth text rest s = record {
   xs = s.xs;
   is = s.is;
-  front = λ gap. s.front gap ∙ ap (λ (ps : List Piece). bytes_of ps ++ rest) (items_level k l (Some kind) gap Start s.xs s.breaks);
+  front = λ gap. s.front gap ∙ ap (λ (ps : List Piece). bytes_of ps ++ rest) (same_items k l (Some kind) gap Start s.xs s.breaks);
   breaks = s.breaks;
 }
 
 -- its one argument, on a line of its own
 
-abbrev argument_of : Items → Segment
+abbrev pub argument_of : Items → Segment
 argument_of xs = record { before = []; nodes = list_of xs; suffix = None }
 
 same_front : (text x y rest : List ℕ) → text ≡ x ++ rest → text ≡ y ++ rest → x ≡ y
 same_front text x y rest is also = sym (taken text x rest is) ∙ taken text y rest also
 
-abbrev in_place : Items → List ℕ
+abbrev pub in_place : Items → List ℕ
 in_place xs = bytes_of (items_pieces Broken 1 (Some RuleCall) Closed Start xs)
 
-argument_line : (depth : ℕ) (text rest : List ℕ) → (s : IsSegmentFront RuleCall 1 depth text rest false) → argument_lines (argument_of s.xs ∷ []) ≡ codes "\n    " ++ (in_place s.xs ++ codes ",")
+pub argument_line : (depth : ℕ) (text rest : List ℕ) → (s : IsSegmentFront RuleCall 1 depth text rest false) → argument_lines (argument_of s.xs ∷ []) ≡ codes "\n    " ++ (in_place s.xs ++ codes ",")
 argument_line depth text rest s =
     let P : List Piece = items_pieces Broken 1 (Some RuleCall) (Line 1) Start s.xs in
     let line : bytes_of P ≡ codes "\n    " ++ in_place s.xs = same_front (codes "\n    " ++ text) (bytes_of P) (codes "\n    " ++ in_place s.xs) rest (s.front (Line 1)) (ap (λ (t : List ℕ). codes "\n    " ++ t) (s.front Closed)) in
@@ -95,7 +63,7 @@ argument_line depth text rest s =
 
 -- the rule
 
-abbrev unnamed_statement : List (List ℕ) → List ℕ → Items → Option (List ℕ) → Statement
+abbrev pub unnamed_statement : List (List ℕ) → List ℕ → Items → Option (List ℕ) → Statement
 unnamed_statement notes kind xs suffix = record {
   before = notes;
   nodes = leaf Identifier kind ∷ group RuleCall (seg [] xs None no_segs) false [] ∷ [];
@@ -147,7 +115,7 @@ unnamed_place depth attr notes kind suffix text rest s none =
           ∙ ap (λ xs. (head_of (bytes_of (comment_lines notes)) kind ++ (codes "\n    " ++ (in_place s.xs ++ codes ","))) ++ (argument_lines (f xs) ++ (10 ∷ 41 ∷ (bytes_of (suffix_piece suffix) ++ 10 ∷ [])))) (sym first_is);
     }
 
-abbrev call_front : (depth : ℕ) (bracket argument close end : List ℕ) → bracket ≡ 40 ∷ argument → IsSegmentFront RuleCall 1 depth argument close false → close ≡ 41 ∷ end → IsGroupFront RuleCall 0 (suc depth) bracket end false
+abbrev pub call_front : (depth : ℕ) (bracket argument close end : List ℕ) → bracket ≡ 40 ∷ argument → IsSegmentFront RuleCall 1 depth argument close false → close ≡ 41 ∷ end → IsGroupFront RuleCall 0 (suc depth) bracket end false
 call_front depth bracket argument close end opens s closes =
     let all = begin_flat RuleCall 0 depth argument close false (segment_level RuleCall 1 0 depth argument close s) no_segs close (no_segments RuleCall depth) refl refl in
     let g = flat_group RuleCall 0 (suc depth) depth argument close end 41 1 false refl refl all refl closes in
@@ -156,7 +124,6 @@ call_front depth bracket argument close end opens s closes =
 pub unnamed_rule : (depth : ℕ) (attr text start bracket argument close end call rest : List ℕ) → AreLinesFront text start → IsTokenFront Identifier start bracket → bracket ≡ 40 ∷ argument
     → IsSegmentFront RuleCall 1 depth argument close false → close ≡ 41 ∷ end → call ≡ take (length bracket - length end) bracket → (HasArgumentName (codes "name") call → ⊥) → (HasArgumentName attr call → ⊥)
     → IsStatementEnd end rest → IsUnnamedRule (suc depth) attr text argument close rest
-unfolding segment_level
 unnamed_rule depth attr text start bracket argument close end call rest above f opens s closes call_is no_name none e =
     let N : List ℕ = bytes_of (comment_lines above.notes) in
     let S : List ℕ = bytes_of (suffix_piece e.side.note) in

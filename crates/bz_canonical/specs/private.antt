@@ -8,3 +8,4 @@ pub mod Rewritten
 pub mod Added
 pub mod Edited
 pub mod Unnamed
+pub mod Calls

@@ -7,6 +7,7 @@ ghost use Rattle.bz_canonical.specs.private.Segments.{AreLinesFront};
 
 use crate::comments::after_comments_above;
 use crate::put_rule::read_rule_head;
+use crate::lined::put_lined_rule;
 use crate::rewrite::{NamedRule, name_in, read_asked_chunk, read_rule_chunk};
 use crate::statement::read_whole_statement;
 use crate::unnamed::{read_unnamed_chunk, read_unnamed_rule};
@@ -124,7 +125,10 @@ fn read_rarer_chunk<'t, R: AsksOfRules>(
             return read_unnamed_chunk(text, rule, written);
         }
     }
-    Ok(read_other_chunk(text, start, max_depth))
+    if let Some(chunk) = read_other_chunk(text, start, max_depth) {
+        return Ok(Some(chunk));
+    }
+    put_lined_rule(text, start, max_depth, written)
 }
 
 /// The same, where it stands as it would be written. There is no place of an argument.

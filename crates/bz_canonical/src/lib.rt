@@ -2,8 +2,8 @@
 //!
 //! `read_canonical` recognizes what `bz_layout` writes, and not the whole language: rules, loads on one line,
 //! assignments and comment lines, of values with the spaces, lines and double quotes of the layout. What it accepts is
-//! read back as a statement, of which the layout writes the same text. In rules it also recognizes lists of strings
-//! that stand otherwise, and writes these as the layout does.
+//! read back as a statement, of which the layout writes the same text. In rules it also recognizes lists of strings and
+//! calls that stand otherwise, and writes these as the layout does.
 //!
 //! `after_x` gives what follows x at the front of a text; `read_x` also what x says; `put_x` appends to the buffer.
 #![tactic(auto)]
@@ -11,12 +11,14 @@
 mod added;
 mod assignment;
 mod bare;
+mod calls;
 mod chunk;
 mod commented;
 mod comments;
 mod edited;
 mod front;
 mod group;
+mod lined;
 mod lists;
 mod load;
 mod put_arguments;

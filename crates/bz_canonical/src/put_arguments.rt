@@ -7,9 +7,10 @@ ghost use Rattle.bz_canonical.specs.private.Segments.{AreNotesFront, AreSegments
 ghost use Rattle.bz_canonical.specs.private.Values.{AreNodesFront};
 ghost use Rattle.bz_canonical.specs.private.Rewritten.{AreArgumentsRead, AreOthersRead, AreRead, IsHeadRead, ArePlacedRead, IsPending, IsValueEnd, Puts, PutsArgument, pending, put_ends};
 
+use crate::calls::put_value;
 use crate::comments::after_comments;
 use crate::front::{Word, after_identifier, after_line, after_word, are_same, before};
-use crate::lists::{after_comma, put_list};
+use crate::lists::after_comma;
 use crate::segments::{AfterLines, after_segments};
 use crate::string_list::after_string_list;
 use crate::value::{Value, after_first, after_nodes, either};
@@ -106,8 +107,8 @@ pub(crate) fn after_argument_value(value: &[u8], depth: u8) -> Option<&[u8]>
     Some(side.rest)
 }
 
-/// Passes the argument here, whose name was read. If its value is a list of strings that stands otherwise than it is
-/// written, it goes into the buffer, after what is pending.
+/// Passes the argument here, whose name was read. If its value stands otherwise than it is written, it goes into the
+/// buffer, after what is pending.
 #[inline(always)]
 fn put_argument<'t>(
     at: Pending<'t>,
@@ -124,18 +125,19 @@ fn put_argument<'t>(
             from: at.from,
             rest,
         })),
-        None => put_list_argument(at, value, depth, written),
+        None => put_other_argument(at, value, depth, written),
     }
 }
 
-/// The same of a list of strings, where a bracket may be open.
+/// The same of a value that stands otherwise than it is written, where a bracket may be open.
 #[inline(never)]
-fn put_list_argument<'t>(
+fn put_other_argument<'t>(
     at: Pending<'t>,
     value: &'t [u8],
     depth: u8,
     written: &mut Vec<u8>,
 ) -> Known<Pending<'t>>
+    requires { depth < 254 }
     ensures { IfOk result (λ known. IfSome known
         (PutsArgument depth at.entry value.now written.old.items written.new.items)) }
 {
@@ -146,7 +148,7 @@ fn put_list_argument<'t>(
         return Ok(None);
     };
     extend_from_slice(written, front)?;
-    let Some(end) = put_list(value, written)? else {
+    let Some(end) = put_value(value, depth, written)? else {
         return Ok(None);
     };
     let Some(side) = after_comma(end) else {
@@ -227,7 +229,7 @@ fn pass_others<'t>(
             };
             continue;
         }
-        let Some(next) = put_list_argument(at, head.value, asked.depth, written)? else {
+        let Some(next) = put_other_argument(at, head.value, asked.depth, written)? else {
             return Ok(None);
         };
         at = next;

@@ -57,7 +57,7 @@ pub(crate) fn read_unnamed_rule<'t>(
 }
 
 /// What follows the argument here, all of which stands in place.
-fn after_only_argument(text: &[u8], depth: u8) -> Option<&[u8]>
+pub(crate) fn after_only_argument(text: &[u8], depth: u8) -> Option<&[u8]>
     requires { depth < 253 }
     ensures { IfSome result (λ close. IsSegmentFront RuleCall 1 depth text.now close.now false) }
 {
@@ -69,7 +69,7 @@ fn after_only_argument(text: &[u8], depth: u8) -> Option<&[u8]>
 }
 
 /// What follows the comment beside a statement and its newline.
-fn after_statement(text: &[u8]) -> Option<&[u8]>
+pub(crate) fn after_statement(text: &[u8]) -> Option<&[u8]>
     ensures { IfSome result (λ rest. IsStatementEnd text.now rest.now) }
 {
     let side = after_suffix(text)?;

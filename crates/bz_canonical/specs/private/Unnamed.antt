@@ -1,8 +1,20 @@
--- A rule without a name whose only argument stands in place, for private clauses.
-use Rattle.std.specs.Prelude.{◌≡◌, ℕ, List, [], ◌∷◌, ◌++◌, Bool, codes, None}
+-- Rules without a name that have one argument, for private clauses.
+use Rattle.std.specs.Prelude.{◌≡◌, ◌-◌, ℕ, suc, List, [], ◌∷◌, ◌++◌, length, take, Bool, true, false, codes, None, Some}
+use Rattle.bz_token.specs.Lexical.{is_text}
+use Rattle.bz_token.specs.declared.token.Kind.TheVariants.{Identifier}
 use Rattle.bz_tree.specs.declared.tree.Class.TheVariants.{Rule as RuleClass}
+use Rattle.bz_tree.specs.declared.tree.GroupKind.TheVariants.{RuleCall}
+use Rattle.bz_tree.specs.Tree.{Items}
+use Rattle.bz_layout.specs.Broken.{items_hold}
+use Rattle.bz_layout.specs.Layout.{items_pieces}
+use Rattle.bz_layout.specs.Pieces.{bytes_of, comment_lines, gap_bytes, indent}
+use Rattle.bz_layout.specs.declared.broken.Style.TheVariants.{Broken}
+use Rattle.bz_layout.specs.declared.spacing.Edge.TheVariants.{Start}
+use Rattle.bz_layout.specs.declared.spacing.Gap.{Gap}
+use Rattle.bz_layout_laws.specs.Legible.{AreComments}
 use Rattle.bz_canonical.specs.Canonical.{HasPlace}
-use Rattle.bz_canonical.specs.private.Segments.{IsBesideFront}
+use Rattle.bz_canonical.specs.declared.lined.LinedRule.{LinedRule}
+use Rattle.bz_canonical.specs.private.Segments.{IsBesideFront, IsSegment}
 use Rattle.bz_canonical.specs.private.Statements.{IsStatementFront}
 
 -- the comment beside a statement and its newline
@@ -22,3 +34,24 @@ pub record IsUnnamedRule (depth : ℕ) (attr text argument close rest : List ℕ
   pub goes_on : argument ≡ inner ++ close
   pub ends : close ≡ end ++ rest
   pub has : HasPlace depth attr front.s (record { before = head ++ (codes "\n    " ++ (inner ++ codes ",")); lines = []; after = 10 ∷ end })
+
+-- A rule whose argument stands on a line of its own, and would be written in place.
+pub record IsLinedRule (depth : ℕ) (text : List ℕ) (rule : LinedRule) : Type 0 where
+  pub below : ℕ
+  pub depth_is : suc below ≡ depth
+  pub notes : List (List ℕ)
+  pub are : AreComments notes
+  pub kind_is : is_text Identifier rule.kind.now ≡ true
+  pub front : text ≡ bytes_of (comment_lines notes) ++ (rule.kind.now ++ rule.bracket.now)
+  pub bracket : rule.bracket.now ≡ 40 ∷ 10 ∷ (indent 1 ++ (rule.argument.now ++ (44 ∷ 10 ∷ rule.close.now)))
+  pub xs : Items
+  pub is : IsSegment RuleCall below xs
+  pub flat : items_hold xs ≡ false
+  pub laid : (gap : Gap) → gap_bytes gap ++ rule.argument.now ≡ bytes_of (items_pieces Broken 1 (Some RuleCall) gap Start xs)
+  pub last : List ℕ
+  pub close : rule.close.now ≡ 41 ∷ last
+  pub end : IsStatementEnd last rule.rest.now
+
+-- what is written of it
+abbrev pub lined_text : LinedRule → List ℕ → List ℕ
+lined_text rule text = take (length text - length rule.bracket.now) text ++ (40 ∷ (rule.argument.now ++ take (length rule.close.now - length rule.rest.now) rule.close.now))

@@ -18,10 +18,10 @@ loop-preserved c = λ text begun p.
     let next = c.in-Some-2.next in
     let i = c.loop.invariant text begun p in
     let step = subst (λ o. IfSome o (λ next. (attr : List ℕ) (named : Bool) → IsHeadRead attr at.rest.now c.in-Some.head.value.now named
-    → Puts c.loop.written.items (pending at) c.put_list_argument.new.written.items (pending next) (λ begun w. IsArgumentRead c.args.asked.depth attr at.rest.now next.rest.now w named))) c.in-Some-2.is c.in_ok-next.ensures in
+    → Puts c.loop.written.items (pending at) c.put_other_argument.new.written.items (pending next) (λ begun w. IsArgumentRead c.args.asked.depth attr at.rest.now next.rest.now w named))) c.in-Some-2.is c.in_ok-next.ensures in
     let one = step c.args.asked.attr.now false (subst (λ b. IsHeadRead c.args.asked.attr.now at.rest.now c.in-Some.head.value.now b) c.if-head.false c.in-Some.ensures) text (begun ++ i.0) i.1 in (
       i.0 ++ one.0,
-      pend_same text c.put_list_argument.new.written.items ((begun ++ i.0) ++ one.0) next.from.now next.rest.now (begun ++ (i.0 ++ one.0)) one.1 (append_assoc begun i.0 one.0),
+      pend_same text c.put_other_argument.new.written.items ((begun ++ i.0) ++ one.0) next.from.now next.rest.now (begun ++ (i.0 ++ one.0)) one.1 (append_assoc begun i.0 one.0),
       one_more c.args.asked.depth c.args.asked.attr.now c.args.from.rest.now at.rest.now next.rest.now i.0 one.0 c.loop.one i.2 one.2,
     )
 
