@@ -94,10 +94,7 @@ fn put_inside<'t>(
 }
 
 /// The same of a list of strings that is the only argument.
-fn put_only_list<'t>(
-    inside: &'t [u8],
-    written: &mut Vec<u8>,
-) -> Result<Option<&'t [u8]>, NoMemory>
+fn put_only_list<'t>(inside: &'t [u8], written: &mut Vec<u8>) -> Result<Option<&'t [u8]>, NoMemory>
     ensures { IfOk result (λ known. IfSome known (λ rest. (w : List ℕ) × (written.new.items ≡ written.old.items ++ w)
         × ((depth : ℕ) → 0 < depth → IsInsideRead depth inside.now rest.now w))) }
 {

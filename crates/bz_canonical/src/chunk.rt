@@ -6,8 +6,8 @@ ghost use Rattle.bz_canonical.specs.private.Rewritten.{IsNamedRule};
 ghost use Rattle.bz_canonical.specs.private.Segments.{AreLinesFront};
 
 use crate::comments::after_comments_above;
-use crate::put_rule::read_rule_head;
 use crate::lined::put_lined_rule;
+use crate::put_rule::read_rule_head;
 use crate::rewrite::{NamedRule, name_in, read_asked_chunk, read_rule_chunk};
 use crate::statement::read_whole_statement;
 use crate::unnamed::{read_unnamed_chunk, read_unnamed_rule};

@@ -97,11 +97,7 @@ impl LinedRule<'_> {
 }
 
 /// The chunk of a rule of which this is written.
-fn lined_chunk<'t>(
-    text: &'t str,
-    rule: LinedRule<'t>,
-    laid: &'t [u8],
-) -> Option<CanonicalChunk<'t>>
+fn lined_chunk<'t>(text: &'t str, rule: LinedRule<'t>, laid: &'t [u8]) -> Option<CanonicalChunk<'t>>
     ensures chunk { IfSome result (λ found. (depth : ℕ) (attr : List ℕ) → IsLinedRule depth text.now rule.entry
         → laid.now ≡ lined_text rule.entry text.now → IsCanonical depth attr found.class
         (option_map (λ name. name.now) found.name) (option_map (λ kind. kind.now) found.kind)
