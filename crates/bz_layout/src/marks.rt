@@ -109,7 +109,7 @@ impl Marks {
         Ok(())
     }
 
-    // The most common parts are told apart by comparing, as long as they are no more than three.
+    // Most parts are of these three kinds: so few are told apart by comparing, without a table.
     #[inline(always)]
     fn quick_step(&mut self, part: &Part<'_>) -> Result<(), NoMemory>
         ensures { OnOk result (scanned self.new ≡ back (part_view part.now) (scanned self.old)) }
