@@ -6,4 +6,5 @@ pub mod RowClass
 pub mod RowFound
 pub mod RowNone
 pub mod RowBatches
+pub mod RowElements
 pub mod RowExamples

@@ -1,10 +1,11 @@
 -- For private clauses: the walk over the tokens of a statement that pushes the parts of its row.
-use Rattle.std.specs.Prelude.{ℕ, ◌+◌, ◌==◌, count_by, List, [], ◌∷◌, ◌++◌, map, reverse, Bool, true, false, not, ◌||◌, ◌&&◌, if◌then◌else◌, Option, Some, None, is_some, option_map, option_and_then, codes}
+use Rattle.std.specs.Prelude.{◌≡◌, ℕ, ◌+◌, ◌==◌, count_by, List, [], ◌∷◌, ◌++◌, map, reverse, Bool, true, false, not, ◌||◌, ◌&&◌, if◌then◌else◌, Option, Some, None, is_some, option_map, option_and_then, codes}
 use Rattle.std.specs.Bool.{then_some}
 use Rattle.bz_token.specs.declared.token.Kind.{Kind}
+use Rattle.bz_token.specs.declared.token.Kind.TheVariants.{Integer, String as StringKind}
 use Rattle.bz_token.specs.Places.{Placed}
 use Rattle.bz_tree.specs.declared.tree.GroupKind.{GroupKind}
-use Rattle.bz_tree.specs.declared.tree.GroupKind.TheVariants.{RuleCall}
+use Rattle.bz_tree.specs.declared.tree.GroupKind.TheVariants.{RuleCall, Paren, List as ListKind}
 use Rattle.bz_tree.specs.declared.tree.Class.{Class}
 use Rattle.bz_tree.specs.declared.tree.Class.TheVariants.{Assign, Rule, Load as LoadClass, Comment as CommentClass, Other as OtherClass}
 use Rattle.bz_tree.specs.declared.tree.kinds.Shape.{Shape}
@@ -110,6 +111,10 @@ new_stand kind = record { kind = kind; done = Zero; here = nothing; read = start
 abbrev pub with_node : ℕ → Read → Stand → Stand
 with_node line read s = record { kind = s.kind; done = s.done; here = a_node line; read = read }
 
+-- a segment is done, and then a comma is on this line; what is read stays
+abbrev pub ended_at : ℕ → Stand → Stand
+ended_at line s = record { kind = s.kind; done = one_more s.done; here = a_comma line; read = s.read }
+
 -- after a comma on this line
 abbrev pub with_comma : ℕ → Stand → Stand
 with_comma line s = record { kind = s.kind; done = one_more s.done; here = a_comma line; read = record (start s.kind) { stage = later (start s.kind).stage } }
@@ -143,6 +148,26 @@ abbrev pub comma_next : Option GroupKind → At → Placed → RowState → Opti
 comma_next None here t s = leaf_next t s
 comma_next (Some kind) (a_node end) t s = if may_end s.top.read.stage then Some (step_to (with_comma t.line s.top) (segment_end ∷ []) s) else None
 comma_next (Some kind) _ t s = None
+
+abbrev pub is_value : Kind → Bool
+is_value StringKind = true
+is_value Integer = true
+is_value _ = false
+
+-- a list or a tuple
+abbrev pub is_list : Option GroupKind → Bool
+is_list (Some Paren) = true
+is_list (Some ListKind) = true
+is_list _ = false
+
+-- an element that is one token, and the comma on this line
+abbrev pub after_element : Kind → List ℕ → ℕ → RowState → RowState
+after_element kind text line s = step_to (ended_at line s.top) (a_token kind text ∷ segment_end ∷ []) s
+
+-- the next segment of this bracket begins, if one is open
+abbrev pub IsAfterComma : Option GroupKind → Stand → Type 0
+IsAfterComma None s = Unit {0}
+IsAfterComma (Some kind) s = (is_ended s.here ≡ false) × (s.read ≡ record (start (Some kind)) { stage = later (start (Some kind)).stage })
 
 -- a comment that is on the line of what stands before it, or not
 abbrev pub comment_part : Bool → List ℕ → RowPart

@@ -35,6 +35,15 @@ fn row_of_tree<'a>(bump: &'a Bump, stmt: Stmt<'a>) -> Result<Row<'a>, NoMemory>
     })
 }
 
+// Such a statement is most often a comprehension, of which `read_row` has no row.
+#[inline(always)]
+fn begins_with_list(tokens: &[Token<'_>]) -> bool {
+    match tokens {
+        [first, ..] => matches!(first.text.as_bytes(), [b'[']),
+        _ => false,
+    }
+}
+
 /// Reads the row of the statement of a chunk from the chunk's tokens. The chunk's first line has this number. None: the
 /// chunk is blank. The rules are those of `parse`.
 pub fn read_statement<'a>(
@@ -48,7 +57,9 @@ pub fn read_statement<'a>(
     requires tokens { (depth : ℕ) × AreTokensOf first_line depth text.now (map placed tokens.now) }
     ensures { IsReadByTokens first_line text.now (map placed tokens.now) result }
 {
-    if let Some(row) = read_row(bump, tokens)? {
+    if !begins_with_list(tokens)
+        && let Some(row) = read_row(bump, tokens)?
+    {
         return Ok(Some(row));
     }
     match parse_tokens(alloc, text, first_line, tokens)? {

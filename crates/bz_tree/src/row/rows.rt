@@ -14,7 +14,7 @@ ghost use Rattle.bz_tree.specs.Kinds.{mark_of, group_kind, operator_mark};
 ghost use Rattle.bz_tree.specs.RowReads.{has_row};
 ghost use Rattle.bz_tree.specs.Rows.{IsRowOf, part_view};
 ghost use Rattle.bz_tree.specs.private.Machine.{kind_role};
-ghost use Rattle.bz_tree.specs.private.RowSteps.{here_view, row_state, leaf_next, comma_next, comment_part, after_comment_next, comment_next, open_next, last_end, close_next, row_next_at, row_view, row_run, row_start, is_upright};
+ghost use Rattle.bz_tree.specs.private.RowSteps.{here_view, row_state, is_value, is_list, after_element, leaf_next, comma_next, comment_part, after_comment_next, comment_next, open_next, last_end, close_next, row_next_at, row_view, row_run, row_start, is_upright};
 
 use crate::grammar::role::{Role, operator_role, token_role};
 use crate::grammar::stage::{Stage, may_end};
@@ -233,6 +233,18 @@ impl<'a> RowWalk<'a> {
         }
     }
 
+    // One more element of a list or a tuple, a string or a number, and the comma on this line.
+    #[inline(always)]
+    fn add_element(&mut self, token: &Token<'a>, line: u64) -> Result<(), NoMemory>
+        ensures { IfOk result (λ none. row_state self.new
+            ≡ after_element token.now.kind token.now.text.now line (row_state self.old)) }
+    {
+        push(&mut self.parts, Part::Token(token.kind, token.text))?;
+        push(&mut self.parts, Part::End)?;
+        self.top.end_segment(line);
+        Ok(())
+    }
+
     /// Goes over these tokens, whatever follows them.
     pub(crate) fn add_tokens(&mut self, tokens: &[Token<'a>]) -> Result<bool, NoMemory>
         ensures some { (rest : List Placed) → IfOk result (λ some. IsTrue some
@@ -254,6 +266,16 @@ impl<'a> RowWalk<'a> {
                     return Ok(false);
                 }
                 rest = after;
+                // After a comma of a list a string or a number is next, and then a comma.
+                let in_list = is_list(self.top.kind);
+                while in_list
+                    && let [token, comma, after @ ..] = rest
+                    && is_value(token.kind)
+                    && is_comma(comma)
+                {
+                    self.add_element(token, comma.line)?;
+                    rest = after;
+                }
             }
         }
         Ok(true)
@@ -286,6 +308,21 @@ fn comment_part<'a>(on_line: bool, text: &'a str) -> Part<'a>
     } else {
         Part::Above(text)
     }
+}
+
+#[inline(always)]
+fn is_value(kind: Kind) -> bool
+    ensures { result ≡ is_value kind }
+{
+    matches!(kind, Kind::String | Kind::Integer)
+}
+
+// A list or a tuple, no comprehension.
+#[inline(always)]
+fn is_list(kind: Option<GroupKind>) -> bool
+    ensures { result ≡ is_list kind }
+{
+    matches!(kind, Some(GroupKind::Paren | GroupKind::List))
 }
 
 // Told at a glance, ahead of the other operators.

@@ -3,7 +3,7 @@
 ghost use Rattle.std.specs.Prelude.{◌≡◌, not, Some};
 ghost use Rattle.std.specs.Bool.{then_some};
 ghost use Rattle.bz_tree.specs.private.Machine.{kind_role};
-ghost use Rattle.bz_tree.specs.private.RowSteps.{here_view, is_ended, shown_kind, start, read_leaf, read_group, new_stand, stand, with_comma, is_lost, read_class, end_class, is_one_comma};
+ghost use Rattle.bz_tree.specs.private.RowSteps.{here_view, is_ended, shown_kind, start, read_leaf, read_group, new_stand, stand, ended_at, with_comma, is_lost, read_class, end_class, is_one_comma};
 
 use crate::grammar::role::{Role, is_assignment};
 use crate::grammar::stage::{Stage, advance, begin, group_role, later, may_end};
@@ -143,16 +143,24 @@ impl<'a> Spot<'a> {
         matches!(self.here, Here::Ended)
     }
 
+    // The segment here is done, and the comma on this line is next. What is read stays.
     #[inline(always)]
-    pub(crate) fn add_comma(&mut self, kind: GroupKind, line: u64)
-        requires { self.old.kind ≡ Some kind }
-        ensures { stand self.new ≡ with_comma line (stand self.old) }
+    pub(crate) fn end_segment(&mut self, line: u64)
+        ensures { stand self.new ≡ ended_at line (stand self.old) }
     {
         self.done = match self.done {
             SegmentCount::Zero => SegmentCount::One,
             _ => SegmentCount::More,
         };
         self.here = Here::Comma(line);
+    }
+
+    #[inline(always)]
+    pub(crate) fn add_comma(&mut self, kind: GroupKind, line: u64)
+        requires { self.old.kind ≡ Some kind }
+        ensures { stand self.new ≡ with_comma line (stand self.old) }
+    {
+        self.end_segment(line);
         self.read = start(Some(kind));
         self.read.stage = later(self.read.stage);
     }
