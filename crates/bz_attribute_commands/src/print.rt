@@ -259,12 +259,34 @@ fn is_plain(word: &[u8]) -> bool
     word.len() > 0 && !has_special(word)
 }
 
-// A quote, a space or a byte below it. No byte ends the loop, so that the compiler looks at several at once.
+// So many bytes are a block.
+const BLOCK: usize = 8;
+
+// A quote, a space or a byte below it. The last block may lie over the one before: so no byte is looked at alone, but
+// in a short word.
 fn has_special(word: &[u8]) -> bool
     ensures { result ≡ list_any (λ b. b == 34 || nat_le b 32) word.now }
 {
+    if word.len() < BLOCK {
+        return is_special_in(word);
+    }
+    let mut rest = word;
+    while rest.len() > BLOCK {
+        if is_special_in(&rest[..BLOCK]) {
+            return true;
+        }
+        rest = &rest[BLOCK..];
+    }
+    is_special_in(&word[word.len() - BLOCK..])
+}
+
+// No byte ends the loop, so that the compiler looks at the bytes of a block at once.
+#[inline(always)]
+fn is_special_in(bytes: &[u8]) -> bool
+    ensures { result ≡ list_any (λ b. b == 34 || nat_le b 32) bytes.now }
+{
     let mut special = false;
-    for b in word {
+    for b in bytes {
         special |= (*b == b'"') | (*b <= b' ');
     }
     special

@@ -32,6 +32,7 @@ use bz_tree::Class;
 
 /// Runs the script on the first chunk of the text ahead, where what would be written of it and what the script makes of
 /// its statement are known without it: it is copied. None, with nothing done: it is to be read.
+#[inline(always)]
 pub(crate) fn copy_canonical(
     ahead: &Ahead,
     script: ScriptRun<'_>,

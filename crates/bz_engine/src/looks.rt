@@ -14,7 +14,7 @@ const SHORTEST_PAUSE: u8 = 7;
 const LONGEST_PAUSE: u8 = 63;
 
 // So many bytes are looked at at once.
-const BLOCK: usize = 16;
+const BLOCK: usize = 32;
 
 /// The looks that were had of chunks, and of the bytes ahead.
 #[derive(Clone, Copy)]
@@ -25,6 +25,8 @@ pub(crate) struct Looks {
     pause: u8,
     /// So many chunks come before the next look.
     before_next: u8,
+    /// It was asked already whether to look at the next chunk, and it was not copied.
+    asked: bool,
     /// How many bytes were ahead of the last chunk.
     ahead: usize,
     /// Where fewer bytes than these are ahead, they seem to end before their chunk.
@@ -38,13 +40,18 @@ impl Looks {
             in_vain: 0,
             pause: SHORTEST_PAUSE,
             before_next: 0,
+            asked: false,
             ahead: 0,
             open: 1,
         }
     }
 
-    /// Whether to look at the next chunk.
+    /// Whether to look at the next chunk. It is looked at once.
     pub(crate) fn is_due(&mut self) -> bool {
+        if self.asked {
+            return false;
+        }
+        self.asked = true;
         if self.before_next == 0 {
             return true;
         }
@@ -67,6 +74,12 @@ impl Looks {
     pub(crate) fn succeed(&mut self) {
         self.in_vain = 0;
         self.pause = SHORTEST_PAUSE;
+    }
+
+    /// The same of a chunk at which there was no look yet.
+    pub(crate) fn begins_short(&mut self, bytes: &[u8]) -> bool {
+        self.asked = false;
+        self.is_likely_short(bytes)
     }
 
     /// Whether the bytes ahead seem to end before their first chunk. Where their end is seen, it is seen anew only once
@@ -100,15 +113,15 @@ fn open_len(bytes: &[u8]) -> usize {
     bytes.len() + 1
 }
 
-/// Which of the 16 bytes at the front are newlines that an empty line or a closing bracket follows, a bit each.
+/// Which of the 32 bytes at the front are newlines that an empty line or a closing bracket follows, a bit each.
 #[inline(always)]
 fn ends_in_block(bytes: &[u8]) -> u64
-    requires { 17 ≤ length bytes.now }
+    requires { 33 ≤ length bytes.now }
 {
-    let newlines = u8x16::splat(b'\n');
-    let here = u8x16::from_slice(bytes).simd_eq(newlines);
-    let next = u8x16::from_slice(&bytes[1..]);
-    let ends = next.simd_eq(newlines) | next.simd_eq(u8x16::splat(b')'));
+    let newlines = u8x32::splat(b'\n');
+    let here = u8x32::from_slice(bytes).simd_eq(newlines);
+    let next = u8x32::from_slice(&bytes[1..]);
+    let ends = next.simd_eq(newlines) | next.simd_eq(u8x32::splat(b')'));
     (here & ends).to_bitmask()
 }
 

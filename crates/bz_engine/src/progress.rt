@@ -127,6 +127,13 @@ impl Progress {
         self.looks.succeed();
     }
 
+    /// The same of a chunk at which there was no look yet.
+    pub(crate) fn begins_short(&mut self, ahead: &[u8]) -> bool
+        ensures { self.new ≡ self.old }
+    {
+        self.looks.begins_short(ahead)
+    }
+
     /// Whether the bytes ahead seem to end before their first chunk.
     pub(crate) fn is_likely_short(&mut self, ahead: &[u8]) -> bool
         ensures { self.new ≡ self.old }

@@ -10,9 +10,9 @@ ghost use Rattle.bz_passes.specs.Exchange.{Fits};
 ghost use Rattle.bz_devices.specs.Ahead.{IsReadOn, IsNextChunk, IsFewAfter};
 ghost use Rattle.bz_engine.specs.Outcome.{run_with, told_by};
 ghost use Rattle.bz_engine.specs.private.ChunkFaults.{fault_at};
-ghost use Rattle.bz_engine.specs.private.Edits.{EditsChunk, run_of};
+ghost use Rattle.bz_engine.specs.private.Edits.{DoesNothing, EditsChunk, run_of};
 ghost use Rattle.bz_engine.specs.private.Finds.{Finds, FindsNext};
-ghost use Rattle.bz_engine.specs.private.NextChunks.{IsNext, IsFirstNext, CanTake};
+ghost use Rattle.bz_engine.specs.private.NextChunks.{IsNext, IsNextEdited, IsFirstNext, CanTake, done_chunk};
 ghost use Rattle.bz_engine.specs.SessionValue.{at_start, run_in, IsSameRun, IsReady, told_at};
 ghost use Rattle.bz_engine.specs.SessionSteps.{Steps, reader, writer};
 ghost use Rattle.bz_engine.specs.declared.session.SessionState.TheVariants.{Going, Ended, Stopped};
@@ -226,6 +226,13 @@ impl Session {
         // After a fault what is kept is of no use.
         self.state = SessionState::Stopped;
         let mut text = self.take_text();
+        // Most chunks are copied: what is answered of those that are not is large.
+        if let Some(len) = self.copy_ahead(&mut text)? {
+            self.write(len, text.as_slice(), sink)?;
+            self.text = text;
+            self.state = SessionState::Going;
+            return Ok(Step::More);
+        }
         let Some(NextChunk { len, edited }) = self.edit_next(source, &mut text)? else {
             return Ok(self.end_at(End::Whole));
         };
@@ -284,6 +291,26 @@ impl Session {
         let mut text = mem::replace(&mut self.text, Vec::new(self.alloc));
         text.clear();
         text
+    }
+
+    /// Runs the script on the first chunk of the text ahead, where that is likely to have its end and the chunk is
+    /// copied (`canonical.rt`). None, with nothing done: else.
+    fn copy_ahead(&mut self, text: &mut Vec<u8>) -> Result<Option<usize>, NoMemory>
+        requires stopped { self.old.state ≡ Stopped }
+        requires ready { CanTake self.old }
+        ensures same { self.new ≡ record self.old { progress = self.new.progress } }
+        ensures fits { OnOk result (Fits self.new.progress.kept self.new.passes) }
+        ensures chunk { IfOk result (λ found. IfSome found (λ len. IsNextEdited self.old self.new
+            text.old.items text.new.items (done_chunk len))) }
+        ensures none { IfOk result (λ found. IfNone found
+            (DoesNothing self.old.progress self.new.progress text.old.items text.new.items)) }
+    {
+        if self.progress.begins_short(self.ahead.bytes()) {
+            return Ok(None);
+        }
+        let options = self.options;
+        let script = script_run(self.alloc, &self.bump, &self.home, &self.passes, options);
+        copy_canonical(&self.ahead, script, &mut self.progress, text)
     }
 
     /// Runs the script on the next chunk for `advance`; none where the input has ended. Where the bytes ahead seem to

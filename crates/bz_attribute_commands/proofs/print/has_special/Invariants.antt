@@ -1,6 +1,10 @@
-use Rattle.std.proofs.Common.{◌≡◌, ◌==◌, ◌||◌, nat_le, take}
+use Rattle.std.proofs.Common.{◌≡◌, ◌++◌, ◌==◌, ◌||◌, ℕ, List, false, length, nat_le}
 use Rattle.std.specs.List.{list_any}
 use Rattle.bz_attribute_commands.proofs.print.has_special.Given as goal
 
-abbrev pub invariant-loop-b : goal.invariant-loop-b
-invariant-loop-b l = l.special ≡ list_any (λ b. b == 34 || nat_le b 32) (take l.b-index l.word)
+-- no byte that was passed is special
+abbrev pub invariant-loop-rest : goal.invariant-loop-rest
+invariant-loop-rest l = (passed : List ℕ) × (l.word ≡ passed ++ l.rest) × (list_any (λ b. b == 34 || nat_le b 32) passed ≡ false)
+
+abbrev pub decreases-loop-rest : goal.decreases-loop-rest
+decreases-loop-rest l = length l.rest
