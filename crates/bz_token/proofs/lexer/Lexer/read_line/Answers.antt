@@ -73,7 +73,7 @@ pass_white-cursor-requires c =
     let depth = c.args.max_depth in
     let next = c.in_ok-next.ensures.read p.0 p.1 p.2 (c.loop-self.invariant.read p.0 p.1 p.2 p.3) in
     elim c.if-is_comma_here.branch [
-        then-is_comma_here+in_ok-cursor+else-is_full-2 w ↦ rw (w.self-is, w.cursor-is) (p.0, depth, p.1, p.2, (w.in_ok-cursor.ensures.read p.0 depth p.1 p.2 next.0).0, p.4)
+      | then-is_comma_here+in_ok-cursor+else-is_full-2 w ↦ rw (w.self-is, w.cursor-is) (p.0, depth, p.1, p.2, (w.in_ok-cursor.ensures.read p.0 depth p.1 p.2 next.0).0, p.4)
       | else-is_comma_here w ↦ rw (w.self-is, w.cursor-is) (p.0, depth, p.1, p.2, next.0, p.4)
     ]
 
@@ -85,23 +85,23 @@ loop-self-preserved c =
     let depth = c.args.max_depth in
     let joined = c.if-is_comma_here in
     let read : ReadsOn depth c.args.self.now c.args.cursor joined.self joined.cursor = λ first bytes given before.
-        let next = step.read first bytes given (i.read first bytes given before) in
-        elim c.if-is_comma_here.branch [
-            then-is_comma_here+in_ok-cursor+else-is_full-2 w ↦ rw (w.self-is, w.cursor-is) (w.in_ok-cursor.ensures.read first depth bytes given next.0).0
-          | else-is_comma_here w ↦ rw (w.self-is, w.cursor-is) next.0
-        ] in
+    let next = step.read first bytes given (i.read first bytes given before) in
+    elim c.if-is_comma_here.branch [
+      | then-is_comma_here+in_ok-cursor+else-is_full-2 w ↦ rw (w.self-is, w.cursor-is) (w.in_ok-cursor.ensures.read first depth bytes given next.0).0
+      | else-is_comma_here w ↦ rw (w.self-is, w.cursor-is) next.0
+    ] in
     let line : StaysInLine depth c.args.self.now c.args.cursor joined.self joined.cursor = λ first bytes start before.
-        let here = i.line first bytes start before in
-        let r = step.read first bytes [] here.read in
-        let next = stays first depth bytes c.loop-self.self c.step.new.self c.loop-self.cursor c.in_ok-next.next start c.in_ok-next.kind here r.0 r.1 (λ e. search (rules, tests)) in
-        elim c.if-is_comma_here.branch [
-            then-is_comma_here+in_ok-cursor+else-is_full-2 w ↦
-                let comma = w.in_ok-cursor.ensures.read first depth bytes [] next.read in
-                rw (w.self-is, w.cursor-is) (stays first depth bytes c.step.new.self w.add_comma.new.self c.in_ok-next.next w.in_ok-cursor.cursor start (Some Operator) next comma.0 comma.1 (λ e. search (rules, tests)))
-          | else-is_comma_here w ↦ rw (w.self-is, w.cursor-is) next
-        ] in
+    let here = i.line first bytes start before in
+    let r = step.read first bytes [] here.read in
+    let next = stays first depth bytes c.loop-self.self c.step.new.self c.loop-self.cursor c.in_ok-next.next start c.in_ok-next.kind here r.0 r.1 (λ e. search (rules, tests)) in
+    elim c.if-is_comma_here.branch [
+      | then-is_comma_here+in_ok-cursor+else-is_full-2 w ↦
+          let comma = w.in_ok-cursor.ensures.read first depth bytes [] next.read in
+          rw (w.self-is, w.cursor-is) (stays first depth bytes c.step.new.self w.add_comma.new.self c.in_ok-next.next w.in_ok-cursor.cursor start (Some Operator) next comma.0 comma.1 (λ e. search (rules, tests)))
+      | else-is_comma_here w ↦ rw (w.self-is, w.cursor-is) next
+    ] in
     let shorter : length joined.cursor.rest.now ≤ length c.in_ok-next.next.rest.now = elim c.if-is_comma_here.branch [
-        then-is_comma_here+in_ok-cursor+else-is_full-2 w ↦ rw w.cursor-is (omega (arith, w.in_ok-cursor.ensures.shorter))
+      | then-is_comma_here+in_ok-cursor+else-is_full-2 w ↦ rw w.cursor-is (omega (arith, w.in_ok-cursor.ensures.shorter))
       | else-is_comma_here w ↦ rw w.cursor-is (omega arith)
     ] in
     record {
@@ -111,7 +111,7 @@ loop-self-preserved c =
           let w = white.read first depth bytes [] next.read in
           stays first depth bytes joined.self joined.self joined.cursor c.pass_white-cursor.result start None next w.0 w.1 (λ e. search (rules, tests));
       few = elim c.if-is_comma_here.branch [
-          then-is_comma_here+in_ok-cursor+else-is_full-2 w ↦ rw w.self-is (inr (search (rules, tests)))
+        | then-is_comma_here+in_ok-cursor+else-is_full-2 w ↦ rw w.self-is (inr (search (rules, tests)))
         | else-is_comma_here w ↦ rw w.self-is (inr (search (rules, tests)))
       ];
       shorter = omega (arith, i.shorter, step.shorter, shorter, white.not_longer);
