@@ -199,7 +199,7 @@ impl<'b, 'a> Lexer<'b, 'a> {
         }
     }
 
-    // The cursor after this token, whose bracket is taken, if it is one: these were open before. The list has it now.
+    // The cursor after this token, one more in the list. If it is a bracket, it is taken already; `outer` were open.
     #[inline(always)]
     fn add_token(&mut self, cursor: Cursor<'a>, scanned: Scanned) -> Result<Cursor<'a>, NoMemory>
         requires { (outer : List ℕ) × IsTokenHere outer self.old cursor scanned }
