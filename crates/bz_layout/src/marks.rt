@@ -2,7 +2,7 @@
 //! end comes first, so what decides on it is known where it opens.
 
 ghost use Rattle.std.specs.Prelude.{◌≡◌, IfOk, OnOk, map, reverse};
-ghost use Rattle.bz_tree.specs.Rows.{part_view, closing, segment_end};
+ghost use Rattle.bz_tree.specs.Rows.{part_view};
 ghost use Rattle.bz_layout.specs.private.RowLayout.{closed, opened_back, back, scan, scanned};
 
 use crate::broken::breaks_by_count;
@@ -76,53 +76,22 @@ impl Marks {
         Ok(())
     }
 
-    // Backwards: all that stands in the bracket comes after it.
     #[inline(always)]
-    fn close(&mut self, one_comma: bool) -> Result<(), NoMemory>
-        ensures { OnOk result (scanned self.new ≡ back (closing one_comma) (scanned self.old)) }
-    {
-        push(&mut self.outer, self.here)?;
-        self.here = Contents::closed(one_comma);
-        Ok(())
-    }
-
-    #[inline(always)]
-    fn end(&mut self)
-        ensures { scanned self.new ≡ back segment_end (scanned self.old) }
-    {
-        if self.here.segs < 2 {
-            self.here.segs += 1;
-        }
-    }
-
-    #[inline(never)]
     fn step(&mut self, part: &Part<'_>) -> Result<(), NoMemory>
         ensures { OnOk result (scanned self.new ≡ back (part_view part.now) (scanned self.old)) }
     {
         match *part {
             Part::Token(_, _) => {}
             Part::Open(kind) => self.open(kind)?,
-            Part::Close(one_comma) => self.close(one_comma)?,
-            Part::End => self.end(),
+            Part::Close(one_comma) => {
+                push(&mut self.outer, self.here)?;
+                self.here = Contents::closed(one_comma);
+            }
+            Part::End if self.here.segs < 2 => self.here.segs += 1,
+            Part::End => {}
             Part::Above(_) | Part::Beside(_) => self.here.comments = true,
         }
         Ok(())
-    }
-
-    // Most parts are of these three kinds: so few are told apart by comparing, without a table.
-    #[inline(always)]
-    fn quick_step(&mut self, part: &Part<'_>) -> Result<(), NoMemory>
-        ensures { OnOk result (scanned self.new ≡ back (part_view part.now) (scanned self.old)) }
-    {
-        match *part {
-            Part::Token(_, _) => Ok(()),
-            Part::End => {
-                self.end();
-                Ok(())
-            }
-            Part::Close(one_comma) => self.close(one_comma),
-            _ => self.step(part),
-        }
     }
 }
 
@@ -138,7 +107,7 @@ pub(crate) fn marks_of(alloc: Global, parts: &[Part<'_>]) -> Result<Vec<BracketF
     let mut i = parts.len();
     while i > 0 {
         i -= 1;
-        walk.quick_step(&parts[i])?;
+        walk.step(&parts[i])?;
     }
     let Marks { marks, .. } = walk;
     Ok(marks)
