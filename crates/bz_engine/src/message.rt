@@ -49,17 +49,20 @@ pub(crate) fn note_text(alloc: Global, rule: &str, note: &Note) -> Result<Text, 
     }
 }
 
+// Few messages are longer: the others are made without making room for more.
+const LONG_MESSAGE: &str =
+    "//the/package/of/many/rules:the_name_of_a_rule: no attribute 'visibility' to print";
+
 /// The note on a rule of this kind without a name, where that is to be printed.
 pub(crate) fn missing_name(alloc: Global, home: &Package, kind: &str) -> Result<Text, NoMemory>
     ensures { IfOk result (λ t. t ≡ home_text home.now ++ codes "%" ++ kind.now
         ++ codes ": no attribute 'name' to print") }
 {
-    let missing = ": no attribute 'name' to print";
-    let mut text = with_length_of(alloc, missing)?;
+    let mut text = with_length_of(alloc, LONG_MESSAGE)?;
     push_home(&mut text, home)?;
     push_str(&mut text, "%")?;
     push_str(&mut text, kind)?;
-    push_str(&mut text, missing)?;
+    push_str(&mut text, ": no attribute 'name' to print")?;
     Ok(Text::from_string(text))
 }
 
@@ -73,7 +76,8 @@ fn of_attribute(
 ) -> Result<Text, NoMemory>
     ensures { IfOk result (λ t. t ≡ rule.now ++ before.now ++ attr.now ++ after.now) }
 {
-    let mut text = from_str(alloc, rule)?;
+    let mut text = with_length_of(alloc, LONG_MESSAGE)?;
+    push_str(&mut text, rule)?;
     push_str(&mut text, before)?;
     push_str(&mut text, attr)?;
     push_str(&mut text, after)?;
