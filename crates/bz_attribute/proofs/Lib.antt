@@ -3,6 +3,7 @@ pub mod Calls
 pub mod EditedAt
 pub mod EditedRules
 pub mod ElementSearch
+pub mod EndsApart
 pub mod EndsBack
 pub mod First
 pub mod FirstArguments

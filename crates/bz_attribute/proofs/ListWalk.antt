@@ -1,6 +1,7 @@
 -- A walk over the items of a value, by their parts, from one list part to the next.
 use Rattle.std.proofs.Common.{◌≡◌, ℕ, ◌+◌, ◌<◌, ◌≤◌, List, [], ◌∷◌, ◌++◌, Bool, true, false, ◌&&◌, if◌then◌else◌, map, length, drop, get_or, refl, ap, sym, ◌∙◌, subst, arith, append_assoc, length-append, drop-drop}
 use Rattle.std.specs.List.{list_all, list_any}
+use Rattle.std.proofs.lemmas.Bool.{false≢true}
 use Rattle.std.specs.Prelude.{Option, Some, None, IfSome, IfNone}
 use Rattle.bz_tree.specs.declared.row.Part.{Part}
 use Rattle.bz_tree.specs.declared.tree.GroupKind.TheVariants.{List as ListKind}
@@ -192,6 +193,16 @@ list_here whole start ps from at end d nodes after w h more starts opens piece e
     let i = item_at k.back after ps at d k.read h more in
     let l = list_is i.x (sym i.list ∙ opens) in
     here whole nodes after (map part_view ps) from at i.xs l.segs l.one_comma l.end k (i.are ∙ ap (λ (y : Item). y ∷ i.xs) l.is) (sym (piece_told i.xs after) ∙ ap ends_piece (sym (i.next end end_is)) ∙ piece) joined
+
+-- where it is the only item
+pub only_here : (nodes : List Item) (after ps : List RowPart) (from to : ℕ) → drop from ps ≡ value_parts nodes after → to ≡ from + 1 → lists.is_only is_list nodes ≡ true → IsListIn true nodes after ps from to
+only_here [] after ps from to read to_is is = absurd (false≢true is)
+only_here (x ∷ []) after ps from to read to_is is =
+    let l = list_is x is in
+    let start : IsWalked true true (x ∷ []) after ps from from = record { front = []; back = x ∷ []; are = refl; place = omega arith; read = read; lists = refl; others = λ e keeps. refl } in
+    let joint : list_all lists.is_joint (x ∷ []) ≡ true = ap (λ (y : Item). list_all lists.is_joint (y ∷ [])) l.is in
+    subst (IsListIn true (x ∷ []) after ps from) (sym to_is) (here true (x ∷ []) after ps from from [] l.segs l.one_comma l.end start (ap (λ (y : Item). y ∷ []) l.is) refl (λ h. joint))
+only_here (x ∷ y ∷ xs) after ps from to read to_is is = absurd (false≢true is)
 
 -- an answer that tells more
 pub some_as : {A : Type 0} (P Q : A → Type 0) (o : Option A) → ((n : A) → P n → Q n) → IfSome o P → IfSome o Q

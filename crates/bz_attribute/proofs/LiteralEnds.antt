@@ -1,34 +1,36 @@
--- The value of a string literal ends as its text does before the closing quote, where that is no escape.
-use Rattle.std.proofs.Common.{◌≡◌, ℕ, suc, ◌+◌, ◌-◌, ◌<◌, ◌≤◌, ◌==◌, ◌&&◌, List, [], ◌∷◌, ◌++◌, true, false, Option, Some, None, length, get_or, take, drop, nat_eq, refl, ap, subst, sym, ◌∙◌, arith, inl, inr, append_assoc, take_all, bytes_eq, option_and_then}
-use Rattle.std.specs.Prelude.{option_map}
-use Rattle.std.specs.List.{concat, starts_with}
-use Rattle.std.proofs.lemmas.Bool.{cases_Bool, ne_eqb}
-use Rattle.std.proofs.lemmas.List.{append_cancel_right, take-append-drop, take_more}
+-- The value of a string literal ends as its text does before the closing quote, after the last escape.
+use Rattle.std.proofs.Common.{◌≡◌, ℕ, ◌-◌, ◌≤◌, ◌==◌, ◌&&◌, ◌||◌, not, List, [], ◌∷◌, ◌++◌, Bool, true, false, if◌then◌else◌, Option, Some, None, length, get_or, take, drop, nat_eq, refl, ap, subst, sym, ◌∙◌, arith, inl, inr, append_assoc, bytes_eq, option_and_then}
+use Rattle.std.specs.Prelude.{option_map, ◌⊎◌}
+use Rattle.std.specs.List.{concat, list_all, list_any, starts_with}
+use Rattle.std.proofs.lemmas.Bool.{cases_Bool, and_parts, or_parts, eq-eqb, ne_eqb}
+use Rattle.std.proofs.lemmas.List.{same_from_push, take-append-drop}
 use Rattle.bz_token.specs.Common.{map_or}
 use Rattle.bz_token.specs.Pieces.{is_quote}
 use Rattle.bz_token.proofs.Classes.{same_bytes}
 use Rattle.bz_command.specs.Labels.{Package, is_slash}
-use Rattle.bz_command.specs.Values.{content, inner_of, is_newline, unit_value, units, value_of, values}
-use Rattle.bz_command.proofs.Literals.{units_joined}
+use Rattle.bz_command.specs.Values.{content, inner_of, is_newline, is_plain, units, value_of, values}
+use Rattle.bz_command.specs.private.ValueSteps.{first_len, inner_value, value_in}
+use Rattle.bz_command.proofs.Literals.{plain_first, shut, step, units_joined}
 use Rattle.bz_attribute.specs.Lists.{same}
-use Rattle.bz_attribute.proofs.LastBytes.{EndsIn, after, ends_apart, ends_at, same_end}
+use Rattle.bz_attribute.specs.private.Apart.{EndApart}
+use Rattle.bz_attribute.proofs.EndsApart.{split_last}
+use Rattle.bz_attribute.proofs.LastBytes.{EndsIn, after, ends_apart}
 
 some_is : {A : Type 0} (x y : A) → Some x ≡ Some y → x ≡ y
 some_is x y e = cc
 
 -- a list that is there has its parts
-mapped : (u : List ℕ) (o : Option (List (List ℕ))) (inner : List (List ℕ)) → option_map (λ us. u ∷ us) o ≡ Some inner → (rest : List (List ℕ)) × (o ≡ Some rest) × (u ∷ rest ≡ inner)
-mapped u None inner h = let clash : None ≡ Some inner = h in absurd cc
-mapped u (Some rest) inner h = (rest, refl, some_is (u ∷ rest) inner h)
+mapped : {A : Type 0} (u : A) (o : Option (List A)) (all : List A) → option_map (λ us. u ∷ us) o ≡ Some all → (rest : List A) × (o ≡ Some rest) × (u ∷ rest ≡ all)
+mapped u None all h = let clash : None ≡ Some all = h in absurd cc
+mapped u (Some rest) all h = (rest, refl, some_is (u ∷ rest) all h)
 
 joined : (x : Option ℕ) (o : Option (List ℕ)) (v : List ℕ) → option_and_then (λ b. option_map (λ bs. b ∷ bs) o) x ≡ Some v → (b : ℕ) × (vs : List ℕ) × (x ≡ Some b) × (o ≡ Some vs) × (b ∷ vs ≡ v)
 joined None o v h = let clash : None ≡ Some v = h in absurd cc
-joined (Some b) None v h = let clash : None ≡ Some v = h in absurd cc
-joined (Some b) (Some vs) v h = (b, vs, refl, refl, some_is (b ∷ vs) v h)
+joined (Some b) o v h = let m = mapped b o v h in (b, m.0, refl, m.1, m.2)
 
-valued : (o : Option (List (List ℕ))) (v : List ℕ) → option_and_then (values false) o ≡ Some v → (inner : List (List ℕ)) × (o ≡ Some inner) × (values false inner ≡ Some v)
+valued : (o : Option (List (List ℕ))) (v : List ℕ) → option_and_then (values false) o ≡ Some v → (inner : List (List ℕ)) × (o ≡ Some inner)
 valued None v h = let clash : None ≡ Some v = h in absurd cc
-valued (Some inner) v h = (inner, refl, h)
+valued (Some inner) v h = (inner, refl)
 
 -- the content and the closing quotes are all
 content_joined : (quotes : List ℕ) (us inner : List (List ℕ)) → content quotes us ≡ Some inner → concat us ≡ concat inner ++ quotes
@@ -46,116 +48,152 @@ content_joined quotes (u ∷ us) inner h = elim (cases_Bool (starts_with nat_eq 
   ]
 ]
 
--- the value of a unit
-one_value : (b x : ℕ) → unit_value false (b ∷ []) ≡ Some x → x ≡ b
-one_value b x h = elim (cases_Bool (b == 92)) [
-  | inl is ↦ let clash : None ≡ Some x = rw is at h in absurd cc
-  | inr other ↦ sym (some_is b x (rw other at h))
-]
-
-two_value : (b c x : ℕ) → (b ≡ 92 → ⊥) → unit_value false (b ∷ c ∷ []) ≡ Some x → x ≡ c
-two_value b c x plain h = sym (some_is c x (rw (ne_eqb b 92 plain) at h))
-
--- what the values of units end in, by how many bytes are left
-none_left : (us : List (List ℕ)) (v : List ℕ) → values false us ≡ Some v → concat us ≡ [] → v ≡ []
-none_left [] v h e = sym (some_is [] v h)
-none_left ([] ∷ us) v h e = let clash : None ≡ Some v = h in absurd cc
-none_left ((b ∷ bs) ∷ us) v h e = let clash : b ∷ (bs ++ concat us) ≡ [] = e in absurd cc
-
-alone : (b x : ℕ) (vs v : List ℕ) → b ≡ x → vs ≡ [] → b ∷ vs ≡ v → EndsIn v x
-alone b x vs v one none is = record { front = []; is = sym is ∙ (λ i. one i ∷ none i) }
-
-one_left : (us : List (List ℕ)) (v : List ℕ) (x : ℕ) → values false us ≡ Some v → concat us ≡ x ∷ [] → EndsIn v x
-one_left [] v x h e = let clash : [] ≡ x ∷ [] = e in absurd cc
-one_left ([] ∷ us) v x h e = let clash : None ≡ Some v = h in absurd cc
-one_left ((b ∷ []) ∷ us) v x h e =
-    let j = joined (unit_value false (b ∷ [])) (values false us) v h in
-    alone j.0 x j.1 v (one_value b j.0 j.2 ∙ ap (λ (zs : List ℕ). get_or zs 0 0) e) (none_left us j.1 j.3 (ap (drop 1) e)) j.4
-one_left ((b ∷ c ∷ bs) ∷ us) v x h e = let clash : c ∷ (bs ++ concat us) ≡ [] = ap (drop 1) e in absurd cc
-
-no_two : (front : List ℕ) (p x : ℕ) → [] ≡ front ++ p ∷ x ∷ [] → ⊥
-no_two [] p x e = cc
-no_two (f ∷ front) p x e = cc
-
-more : (b : ℕ) (vs v : List ℕ) (x : ℕ) → b ∷ vs ≡ v → EndsIn vs x → EndsIn v x
-more b vs v x is h = subst (λ (zs : List ℕ). EndsIn zs x) is (after (b ∷ []) vs x h)
-
-values_end : (us : List (List ℕ)) (v front : List ℕ) (p x : ℕ) → (p ≡ 92 → ⊥) → values false us ≡ Some v → concat us ≡ front ++ p ∷ x ∷ [] → EndsIn v x
-values_end [] v front p x plain h e = absurd (no_two front p x e)
-values_end ([] ∷ us) v front p x plain h e = let clash : None ≡ Some v = h in absurd cc
-values_end ((b ∷ []) ∷ us) v [] p x plain h e = let j = joined (unit_value false (b ∷ [])) (values false us) v h in more j.0 j.1 v x j.4 (one_left us j.1 x j.3 (ap (drop 1) e))
-values_end ((b ∷ []) ∷ us) v (f ∷ front) p x plain h e = let j = joined (unit_value false (b ∷ [])) (values false us) v h in more j.0 j.1 v x j.4 (values_end us j.1 front p x plain j.3 (ap (drop 1) e))
-values_end ((b ∷ c ∷ []) ∷ us) v [] p x plain h e =
-    let j = joined (unit_value false (b ∷ c ∷ [])) (values false us) v h in
-    alone j.0 x j.1 v (two_value b c j.0 (λ bad. plain (ap (λ (zs : List ℕ). get_or zs 0 0) (sym e) ∙ bad)) j.2 ∙ ap (λ (zs : List ℕ). get_or zs 1 0) e) (none_left us j.1 j.3 (ap (drop 2) e)) j.4
-values_end ((b ∷ c ∷ []) ∷ us) v (f ∷ []) p x plain h e = let j = joined (unit_value false (b ∷ c ∷ [])) (values false us) v h in more j.0 j.1 v x j.4 (one_left us j.1 x j.3 (ap (drop 2) e))
-values_end ((b ∷ c ∷ []) ∷ us) v (f ∷ g ∷ front) p x plain h e =
-    let j = joined (unit_value false (b ∷ c ∷ [])) (values false us) v h in more j.0 j.1 v x j.4 (values_end us j.1 front p x plain j.3 (ap (drop 2) e))
-values_end ((b ∷ c ∷ d ∷ bs) ∷ us) v front p x plain h e = let clash : None ≡ Some v = h in absurd cc
-
--- the last bytes of one text
-cancel_last : (a b : List ℕ) (x y : ℕ) → a ++ x ∷ [] ≡ b ++ y ∷ [] → a ≡ b
-cancel_last a b x y e =
-    let last : x ≡ y = same_end (a ++ x ∷ []) (b ++ y ∷ []) x y (record { front = a; is = refl }) (record { front = b; is = refl }) e in
-    append_cancel_right a b (y ∷ []) (sym (ap (λ (z : ℕ). a ++ z ∷ []) last) ∙ e)
-
-same_before : (a b : List ℕ) (x c y d : ℕ) → (a ++ x ∷ []) ++ c ∷ [] ≡ (b ++ y ∷ []) ++ d ∷ [] → x ≡ y
-same_before a b x c y d e = same_end (a ++ x ∷ []) (b ++ y ∷ []) x y (record { front = a; is = refl }) (record { front = b; is = refl }) (cancel_last (a ++ x ∷ []) (b ++ y ∷ []) c d e)
-
--- by its last three bytes
-three_quotes : (q : ℕ) (r front : List ℕ) (p x c : ℕ) (inner : List (List ℕ)) → r ≡ front ++ p ∷ x ∷ c ∷ [] → content (q ∷ q ∷ q ∷ []) (units (drop 2 r)) ≡ Some inner → x ≡ q
-three_quotes q r front p x c inner are h =
+-- a literal of three quotes has one of them before its last byte
+three_quotes : (q : ℕ) (r front : List ℕ) (x c : ℕ) (inner : List (List ℕ)) → r ≡ (front ++ x ∷ []) ++ c ∷ [] → content (q ∷ q ∷ q ∷ []) (units (drop 2 r)) ≡ Some inner → x ≡ q
+three_quotes q r front x c inner are h =
     let split : drop 2 r ≡ concat inner ++ q ∷ q ∷ q ∷ [] = sym (units_joined (drop 2 r)) ∙ content_joined (q ∷ q ∷ q ∷ []) (units (drop 2 r)) inner h in
     let ends : r ≡ ((take 2 r ++ (concat inner ++ q ∷ [])) ++ q ∷ []) ++ q ∷ [] = sym (take-append-drop 2 r) ∙ ap (λ (zs : List ℕ). take 2 r ++ zs) split ∙ simp append_assoc in
-    let begins : r ≡ ((front ++ p ∷ []) ++ x ∷ []) ++ c ∷ [] = are ∙ simp append_assoc in
-    same_before (front ++ p ∷ []) (take 2 r ++ (concat inner ++ q ∷ [])) x c q q (sym begins ∙ ends)
+    let fronts = same_from_push (front ++ x ∷ []) ((take 2 r ++ (concat inner ++ q ∷ [])) ++ q ∷ []) c q (sym are ∙ ends) in
+    (same_from_push front (take 2 r ++ (concat inner ++ q ∷ [])) x q fronts.0).1
 
-one_quote : (q : ℕ) (r front : List ℕ) (p x c : ℕ) (inner : List (List ℕ)) → r ≡ front ++ p ∷ x ∷ c ∷ [] → content (q ∷ []) (units r) ≡ Some inner → concat inner ≡ front ++ p ∷ x ∷ []
-one_quote q r front p x c inner are h =
-    let split : r ≡ concat inner ++ q ∷ [] = sym (units_joined r) ∙ content_joined (q ∷ []) (units r) inner h in
-    let begins : r ≡ (front ++ p ∷ x ∷ []) ++ c ∷ [] = are ∙ simp append_assoc in
-    cancel_last (concat inner) (front ++ p ∷ x ∷ []) q c (sym split ∙ begins)
+-- the first unit of what stands after one quote
+one_first : (b c : ℕ) (bs : List ℕ) → b == 92 ≡ false → c == 10 ≡ false → first_len (b ∷ c ∷ bs) ≡ 1
+one_first b c [] h k = elim (cases_Bool (b == 13)) [ inl is ↦ rw (h, is, k) refl | inr other ↦ rw (h, other) refl ]
+one_first b c (d ∷ bs) h k = elim (cases_Bool (b == 13)) [ inl is ↦ rw (h, is, k) refl | inr other ↦ rw (h, other) refl ]
 
-literal_ends : (q : ℕ) (r front : List ℕ) (p x c : ℕ) (v : List ℕ) → r ≡ front ++ p ∷ x ∷ c ∷ [] → is_quote q ≡ true → (p ≡ 92 → ⊥) → (x ≡ q → ⊥) → value_of (q ∷ r) ≡ Some v → EndsIn v x
-literal_ends q r front p x c v are quote plain other h =
-    let inside : option_and_then (values false) (inner_of (q ∷ r)) ≡ Some v = rw quote at h in
-    elim (cases_Bool (starts_with nat_eq r (q ∷ q ∷ []))) [
-      | inl three ↦ let i = valued (content (q ∷ q ∷ q ∷ []) (units (drop 2 r))) v (rw three at inside) in absurd (other (three_quotes q r front p x c i.0 are i.1))
-      | inr one ↦ let i = valued (content (q ∷ []) (units r)) v (rw one at inside) in values_end i.0 v front p x plain i.2 (one_quote q r front p x c i.0 are i.1)
+three_at_most : (b c : ℕ) (bs : List ℕ) → (first_len (b ∷ c ∷ bs) ≡ 1) ⊎ ((first_len (b ∷ c ∷ bs) ≡ 2) ⊎ (first_len (b ∷ c ∷ bs) ≡ 3))
+three_at_most b c [] = elim (cases_Bool (b == 92 || b == 13 && c == 10)) [ inl is ↦ inr (inl (rw is refl)) | inr other ↦ inl (rw other refl) ]
+three_at_most b c (d ∷ bs) = elim (cases_Bool (b == 92)) [
+  | inl is ↦ elim (cases_Bool (c == 13 && d == 10)) [ inl three ↦ inr (inr (rw (is, three) refl)) | inr two ↦ inr (inl (rw (is, two) refl)) ]
+  | inr other ↦ elim (cases_Bool (b == 13 && c == 10)) [ inl two ↦ inr (inl (rw (other, two) refl)) | inr one ↦ inl (rw (other, one) refl) ]
+]
+
+-- one of three bytes has no value
+no_three : {P : Type 0} (b c : ℕ) (bs : List ℕ) (x : ℕ) → first_len (b ∷ c ∷ bs) ≡ 3 → value_in false true (take (first_len (b ∷ c ∷ bs)) (b ∷ c ∷ bs)) ≡ Some x → P
+no_three b c [] x three h = elim (cases_Bool (b == 92 || b == 13 && c == 10)) [
+  | inl is ↦ let clash : 2 ≡ 3 = rw is at three in absurd (omega (arith, clash))
+  | inr other ↦ let clash : 1 ≡ 3 = rw other at three in absurd (omega (arith, clash))
+]
+no_three b c (d ∷ bs) x three h =
+    let none : (if is_newline (b ∷ c ∷ d ∷ []) then None else None) ≡ Some x = rw three at h in
+    absurd (nothing (is_newline (b ∷ c ∷ d ∷ [])) x none)
+  where
+    nothing : (t : Bool) (x : ℕ) → (if t then None else None) ≡ Some x → ⊥
+    nothing true x e = cc
+    nothing false x e = cc
+
+-- a step over it
+abbrev HasStepped : ℕ → List ℕ → List ℕ → Type 0
+HasStepped q bs v = (x : ℕ) × (vs : List ℕ) × (value_in false true (take (first_len bs) bs) ≡ Some x) × (inner_value false (q ∷ []) (drop (first_len bs) bs) ≡ Some vs) × (x ∷ vs ≡ v)
+
+stepped : (q b c : ℕ) (bs v : List ℕ) → inner_value false (q ∷ []) (b ∷ c ∷ bs) ≡ Some v → HasStepped q (b ∷ c ∷ bs) v
+stepped q b c bs v h = elim (cases_Bool (starts_with nat_eq (b ∷ c ∷ bs) (q ∷ []))) [
+  | inl is ↦ absurd (nothing (not (length (b ∷ c ∷ bs) == 0)) (b == q) (sym (shut false (q ∷ []) (b ∷ c ∷ bs) is) ∙ h))
+  | inr more ↦ joined (value_in false true (take (first_len (b ∷ c ∷ bs)) (b ∷ c ∷ bs))) (inner_value false (q ∷ []) (drop (first_len (b ∷ c ∷ bs)) (b ∷ c ∷ bs))) v (sym (step false (q ∷ []) (b ∷ c ∷ bs) (omega arith) more) ∙ h)
+]
+  where
+    nothing : (s t : Bool) → (if s && (t && false) then Some [] else None) ≡ Some v → ⊥
+    nothing true true e = cc
+    nothing true false e = cc
+    nothing false t e = cc
+
+-- bytes that stand for themselves, and the last byte
+closed : (q c : ℕ) (v : List ℕ) → inner_value false (q ∷ []) (c ∷ []) ≡ Some v → v ≡ []
+closed q c v h = elim (cases_Bool (starts_with nat_eq (c ∷ []) (q ∷ []))) [
+  | inl is ↦ ended (bytes_eq (c ∷ []) (q ∷ [])) (sym (shut false (q ∷ []) (c ∷ []) is) ∙ h)
+  | inr more ↦
+      let j = joined (value_in false true (c ∷ [])) None v (sym (step false (q ∷ []) (c ∷ []) (omega arith) more) ∙ h) in
+      let clash : None ≡ Some j.1 = j.3 in
+      absurd cc
+]
+  where
+    ended : (t : Bool) → (if t then Some [] else None) ≡ Some v → v ≡ []
+    ended true e = sym (some_is [] v e)
+    ended false e = let clash : None ≡ Some v = e in absurd cc
+
+plain_end : (q c : ℕ) (xs v : List ℕ) → list_all (is_plain q) xs ≡ true → inner_value false (q ∷ []) (xs ++ c ∷ []) ≡ Some v → v ≡ xs
+plain_end q c [] v plain h = closed q c v h
+plain_end q c (x ∷ xs) v plain h =
+    let both = and_parts (is_plain q x) (list_all (is_plain q) xs) plain in
+    let m = mapped x (inner_value false (q ∷ []) (xs ++ c ∷ [])) v (sym (plain_first false q x (xs ++ c ∷ []) both.0) ∙ h) in
+    sym m.2 ∙ ap (λ (zs : List ℕ). x ∷ zs) (plain_end q c xs m.0 both.1 m.1)
+
+ends_more : (b : ℕ) (vs v end : List ℕ) → b ∷ vs ≡ v → EndsIn vs end → EndsIn v end
+ends_more b vs v end is h = subst (λ (zs : List ℕ). EndsIn zs end) is (after (b ∷ []) vs end h)
+
+ends_all : (vs end : List ℕ) → vs ≡ end → EndsIn vs end
+ends_all vs end is = record { front = []; is = is }
+
+no_newline : (q x : ℕ) → is_plain q x ≡ true → x == 10 ≡ false
+no_newline q x h =
+    let quote = and_parts (not (q == x)) (not (x == 92) && (not (x == 13) && not (x == 10))) h in
+    let escape = and_parts (not (x == 92)) (not (x == 13) && not (x == 10)) quote.1 in
+    off (x == 10) (and_parts (not (x == 13)) (not (x == 10)) escape.1).1
+  where
+    off : (b : Bool) → not b ≡ true → b ≡ false
+    off true h = sym h
+    off false h = refl
+
+inner_ends : (q c p x : ℕ) (xs front v : List ℕ) → p == 92 ≡ false → list_all (is_plain q) (x ∷ xs) ≡ true → inner_value false (q ∷ []) (front ++ p ∷ x ∷ (xs ++ c ∷ [])) ≡ Some v → EndsIn v (x ∷ xs)
+inner_ends q c p x xs [] v escape plain h =
+    let s = stepped q p x (xs ++ c ∷ []) v h in
+    let one = one_first p x (xs ++ c ∷ []) escape (no_newline q x (and_parts (is_plain q x) (list_all (is_plain q) xs) plain).0) in
+    ends_more s.0 s.1 v (x ∷ xs) s.4 (ends_all s.1 (x ∷ xs) (plain_end q c (x ∷ xs) s.1 plain (rw one at s.3)))
+inner_ends q c p x xs (f ∷ []) v escape plain h =
+    let s = stepped q f p (x ∷ (xs ++ c ∷ [])) v h in
+    elim (three_at_most f p (x ∷ (xs ++ c ∷ []))) [
+      | inl one ↦ ends_more s.0 s.1 v (x ∷ xs) s.4 (inner_ends q c p x xs [] s.1 escape plain (rw one at s.3))
+      | inr (inl two) ↦ ends_more s.0 s.1 v (x ∷ xs) s.4 (ends_all s.1 (x ∷ xs) (plain_end q c (x ∷ xs) s.1 plain (rw two at s.3)))
+      | inr (inr three) ↦ no_three f p (x ∷ (xs ++ c ∷ [])) s.0 three s.2
+    ]
+inner_ends q c p x xs (f ∷ g ∷ front) v escape plain h =
+    let s = stepped q f g (front ++ p ∷ x ∷ (xs ++ c ∷ [])) v h in
+    elim (three_at_most f g (front ++ p ∷ x ∷ (xs ++ c ∷ []))) [
+      | inl one ↦ ends_more s.0 s.1 v (x ∷ xs) s.4 (inner_ends q c p x xs (g ∷ front) s.1 escape plain (rw one at s.3))
+      | inr (inl two) ↦ ends_more s.0 s.1 v (x ∷ xs) s.4 (inner_ends q c p x xs front s.1 escape plain (rw two at s.3))
+      | inr (inr three) ↦ no_three f g (front ++ p ∷ x ∷ (xs ++ c ∷ [])) s.0 three s.2
     ]
 
--- by where these stand
-last_three : (ts : List ℕ) (d : ℕ) → 3 ≤ length ts → ts ≡ take (length ts - 3) ts ++ get_or ts (length ts - 3) d ∷ get_or ts (length ts - 2) d ∷ get_or ts (length ts - 1) d ∷ []
-last_three ts d some =
-    let k : ℕ = length ts - 3 in
-    let cut : ts ≡ ((take k ts ++ get_or ts k d ∷ []) ++ get_or ts (k + 1) d ∷ []) ++ get_or ts (k + 1 + 1) d ∷ [] =
-    sym (take_all (length ts) ts (omega arith)) ∙ ap (λ (n : ℕ). take n ts) (omega (arith, some)) ∙ take_more ts (k + 1 + 1) d (omega (arith, some))
-    ∙ ap (λ (zs : List ℕ). zs ++ get_or ts (k + 1 + 1) d ∷ []) (take_more ts (k + 1) d (omega (arith, some)) ∙ ap (λ (zs : List ℕ). zs ++ get_or ts (k + 1) d ∷ []) (take_more ts k d (omega (arith, some)))) in
-    let flat : ((take k ts ++ get_or ts k d ∷ []) ++ get_or ts (k + 1) d ∷ []) ++ get_or ts (k + 1 + 1) d ∷ [] ≡ take k ts ++ get_or ts k d ∷ get_or ts (k + 1) d ∷ get_or ts (k + 1 + 1) d ∷ [] = simp append_assoc in
-    let two : k + 1 ≡ length ts - 2 = omega (arith, some) in
-    let one : k + 1 + 1 ≡ length ts - 1 = omega (arith, some) in
-    cut ∙ flat ∙ (λ i. take k ts ++ get_or ts k d ∷ get_or ts (two i) d ∷ get_or ts (one i) d ∷ [])
+-- a literal
+last_plain : (q x : ℕ) (xs : List ℕ) → list_all (is_plain q) (x ∷ xs) ≡ true → (front : List ℕ) × (last : ℕ) × (x ∷ xs ≡ front ++ last ∷ []) × (is_plain q last ≡ true)
+last_plain q x [] h = ([], x, refl, (and_parts (is_plain q x) true h).0)
+last_plain q x (y ∷ ys) h =
+    let l = last_plain q y ys (and_parts (is_plain q x) (list_all (is_plain q) (y ∷ ys)) h).1 in
+    (x ∷ l.0, l.1, ap (λ (zs : List ℕ). x ∷ zs) l.2, l.3)
 
-value_ends : (text v : List ℕ) (q p x d : ℕ) → 4 ≤ length text → q ≡ get_or text 0 d → p ≡ get_or text (length text - 3) d → x ≡ get_or text (length text - 2) d → is_quote q ≡ true → (p ≡ 92 → ⊥) → (x ≡ q → ⊥) → value_of text ≡ Some v → EndsIn v x
-value_ends [] v q p x d long q_is p_is x_is quote plain other h = absurd (omega (arith, long))
-value_ends (t ∷ ts) v q p x d long q_is p_is x_is quote plain other h =
-    let m : ℕ = length ts in
-    let three : length (t ∷ ts) - 3 ≡ suc (m - 3) = omega (arith, long) in
-    let two : length (t ∷ ts) - 2 ≡ suc (m - 2) = omega (arith, long) in
-    let some : 3 ≤ m = omega (arith, long) in
-    let third : get_or ts (m - 3) d ≡ p = sym (p_is ∙ ap (λ (n : ℕ). get_or (t ∷ ts) n d) three) in
-    let second : get_or ts (m - 2) d ≡ x = sym (x_is ∙ ap (λ (n : ℕ). get_or (t ∷ ts) n d) two) in
-    let are : ts ≡ take (m - 3) ts ++ p ∷ x ∷ get_or ts (m - 1) d ∷ [] = last_three ts d some ∙ (λ i. take (m - 3) ts ++ third i ∷ second i ∷ get_or ts (m - 1) d ∷ []) in
-    literal_ends q ts (take (m - 3) ts) p x (get_or ts (m - 1) d) v are quote plain other (subst (λ (z : ℕ). value_of (z ∷ ts) ≡ Some v) (sym q_is) h)
+no_quote : (q x : ℕ) → is_plain q x ≡ true → x ≡ q → ⊥
+no_quote q x h is = let clash : false ≡ true = sym (rw (is, eq-eqb q) refl) ∙ h in cc
 
-none_same : (home : Package) (word : List ℕ) (x y : ℕ) (o : Option (List ℕ)) → ((v : List ℕ) → o ≡ Some v → EndsIn v x) → EndsIn word y → is_slash x ≡ false → is_slash y ≡ false → (x ≡ y → ⊥) → map_or false (λ value. same home value word) o ≡ false
-none_same home word x y None ends word_ends slash_x slash_y differ = refl
-none_same home word x y (Some v) ends word_ends slash_x slash_y differ = ends_apart home v word x y (ends v refl) word_ends slash_x slash_y differ
+value_ends : (q c p x : ℕ) (xs front v : List ℕ) → is_quote q ≡ true → p == 92 ≡ false → list_all (is_plain q) (x ∷ xs) ≡ true → value_of (q ∷ (front ++ p ∷ x ∷ (xs ++ c ∷ []))) ≡ Some v → EndsIn v (x ∷ xs)
+value_ends q c p x xs front v quote escape plain h =
+    let r : List ℕ = front ++ p ∷ x ∷ (xs ++ c ∷ []) in
+    let inside : option_and_then (values false) (inner_of (q ∷ r)) ≡ Some v = rw quote at h in
+    elim (cases_Bool (starts_with nat_eq r (q ∷ q ∷ []))) [
+      | inl three ↦
+          let i = valued (content (q ∷ q ∷ q ∷ []) (units (drop 2 r))) v (rw three at inside) in
+          let l = last_plain q x xs plain in
+          let are : r ≡ ((front ++ p ∷ l.0) ++ l.1 ∷ []) ++ c ∷ [] = ap (λ (zs : List ℕ). front ++ p ∷ (zs ++ c ∷ [])) l.2 ∙ simp append_assoc in
+          absurd (no_quote q l.1 l.3 (three_quotes q r (front ++ p ∷ l.0) l.1 c i.0 are i.1))
+      | inr one ↦ inner_ends q c p x xs front v escape plain (rw one at inside)
+    ]
 
-pub literal_apart : (home : Package) (text word : List ℕ) (q p x y d : ℕ) → 4 ≤ length text → 0 < length word → q ≡ get_or text 0 d → p ≡ get_or text (length text - 3) d → x ≡ get_or text (length text - 2) d → y ≡ get_or word (length word - 1) d
-    → is_quote q ≡ true → (p ≡ 92 → ⊥) → (x ≡ q → ⊥) → is_slash x ≡ false → is_slash y ≡ false → (x ≡ y → ⊥) → map_or false (λ value. same home value word) (value_of text) ≡ false
-literal_apart home text word q p x y d long some q_is p_is x_is y_is quote plain other slash_x slash_y differ =
-    none_same home word x y (value_of text) (λ v is. value_ends text v q p x d long q_is p_is x_is quote plain other is) (ends_at word y d some y_is) slash_x slash_y differ
+none_same : (home : Package) (word : List ℕ) (o : Option (List ℕ)) → ((v : List ℕ) → o ≡ Some v → same home v word ≡ false) → map_or false (λ value. same home value word) o ≡ false
+none_same home word None h = refl
+none_same home word (Some v) h = h v refl
+
+apart_inside : (home : Package) (q c : ℕ) (inner word : List ℕ) → is_quote q ≡ true → (a : EndApart q inner word) → map_or false (λ value. same home value word) (value_of (q ∷ (inner ++ c ∷ []))) ≡ false
+apart_inside home q c inner word quote a =
+    let text : q ∷ (inner ++ c ∷ []) ≡ q ∷ (a.front ++ a.before ∷ a.byte ∷ (a.end ++ c ∷ [])) = ap (λ (zs : List ℕ). q ∷ (zs ++ c ∷ [])) a.inner_is ∙ simp append_assoc in
+    let word_ends : EndsIn word (a.other ∷ a.end) = record { front = a.word_front; is = a.word_is } in
+    let word_part : list_any is_slash (a.other ∷ a.end) ≡ false = rw (a.no_slash, (or_parts (is_slash a.byte) (list_any is_slash a.end) a.one_part).1) refl in
+    none_same home word (value_of (q ∷ (inner ++ c ∷ []))) (λ v is.
+    ends_apart home v word a.end a.byte a.other (value_ends q c a.before a.byte a.end a.front v quote (ne_eqb a.before 92 a.no_escape) a.plain (sym (ap value_of text) ∙ is)) word_ends a.one_part word_part a.differ)
+
+pub literal_ends_apart : (home : Package) (text word : List ℕ) (d : ℕ) → 2 ≤ length text → is_quote (get_or text 0 d) ≡ true → EndApart (get_or text 0 d) (take (length text - 1 - 1) (drop 1 text)) word → map_or false (λ value. same home value word) (value_of text) ≡ false
+literal_ends_apart home [] word d long quote a = absurd (omega (arith, long))
+literal_ends_apart home (q ∷ rest) word d long quote a =
+    let all : rest ≡ take (length (q ∷ rest) - 1 - 1) rest ++ get_or rest (length rest - 1) d ∷ [] = split_last rest d (omega (arith, long)) ∙ ap (λ (n : ℕ). take n rest ++ get_or rest (length rest - 1) d ∷ []) (omega (arith, long)) in
+    ap (λ (zs : List ℕ). map_or false (λ value. same home value word) (value_of (q ∷ zs))) all ∙ apart_inside home q (get_or rest (length rest - 1) d) (take (length (q ∷ rest) - 1 - 1) rest) word quote a
 
 pub quoted_by : (q b : ℕ) → is_quote q ≡ true → b ≡ q → is_quote b ≡ true
 quoted_by q b h is = ap is_quote is ∙ h

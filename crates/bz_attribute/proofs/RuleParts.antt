@@ -1,12 +1,12 @@
 -- The parts of a rule: before its arguments, of these, and after them.
-use Rattle.std.proofs.Common.{◌≡◌, ℕ, ◌+◌, List, [], ◌∷◌, ◌++◌, Bool, true, false, if◌then◌else◌, Some, None, length, map, option_map, refl, ap, sym, ◌∙◌, arith, append_assoc, append-nil}
+use Rattle.std.proofs.Common.{◌≡◌, List, [], ◌∷◌, ◌++◌, Bool, true, false, if◌then◌else◌, Some, None, length, map, refl, ap, sym, ◌∙◌, arith, append_assoc, append-nil}
 use Rattle.std.proofs.lemmas.Bool.{false≢true, and_parts}
 use Rattle.bz_token.specs.declared.token.Kind.TheVariants.{Identifier}
 use Rattle.bz_tree.specs.declared.tree.GroupKind.{GroupKind}
 use Rattle.bz_tree.specs.declared.tree.GroupKind.TheVariants.{RuleCall}
 use Rattle.bz_tree.specs.Tree.{Item, leaf, group, Statement, items_of, segs_of, segments}
-use Rattle.bz_tree.specs.Rows.{RowPart, a_token, opening, closing, above, beside_part, item_parts, items_parts, segs_parts, parts_of}
-use Rattle.bz_attribute.specs.Rules.{Rule, rule_of, rule_from, call_at, dotted}
+use Rattle.bz_tree.specs.Rows.{RowPart, opening, closing, above, beside_part, item_parts, items_parts, segs_parts, parts_of}
+use Rattle.bz_attribute.specs.Rules.{Rule, rule_from, call_at, dotted}
 use Rattle.bz_attribute.specs.Effects.{nodes_of}
 use Rattle.bz_attribute.specs.RowPlaces.{before_args}
 use Rattle.bz_attribute.specs.private.Parts.{tokens_len}

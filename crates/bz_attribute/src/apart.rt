@@ -1,32 +1,51 @@
 //! String tokens that are no label of a word, told by their last bytes.
 
-ghost use Rattle.std.specs.Prelude.{◌≡◌, true, false};
-ghost use Rattle.bz_command.specs.Labels.{Package};
-ghost use Rattle.bz_command.specs.Values.{value_of};
+ghost use Rattle.std.specs.Prelude.{◌≡◌, true, false, IsTrue, ◌&&◌, not};
+ghost use Rattle.bz_command.specs.Labels.{Package, is_slash};
+ghost use Rattle.bz_command.specs.Values.{is_plain, value_of};
 ghost use Rattle.bz_token.specs.Common.{map_or};
 ghost use Rattle.bz_attribute.specs.Lists.{same};
+ghost use Rattle.bz_attribute.specs.private.Apart.{EndApart};
 
 /// A string token of this text has no value that is the same label as the word, whatever the package is. False: it may
-/// have. A label in full ends as its text does, where that ends with no slash, and the value of a literal as that does
-/// before its last quote, where no backslash stands there.
+/// have. A label in full ends as its text does after the last slash, and the value of a literal as that does after the last
+/// escape: two that end otherwise are not the same.
 #[inline(always)]
 pub fn literal_apart(text: &[u8], word: &[u8]) -> bool
     ensures { result ≡ true → (home : Package)
         → map_or false (λ value. same home value word.now) (value_of text.now) ≡ false }
 {
-    let size = text.len();
-    if size < 4 || word.is_empty() {
-        return false;
+    match text {
+        [quote @ (b'"' | b'\''), inner @ .., _] => end_apart(*quote, inner, word),
+        _ => false,
     }
-    let quote = text[0];
-    let before = text[size - 3];
-    let end = text[size - 2];
-    let last = word[word.len() - 1];
-    if quote != b'"' && quote != b'\'' {
-        return false;
+}
+
+// What stands between two quotes and the word end in the same bytes, if any, without slashes and escapes, and the bytes
+// before these differ. Most texts differ in the last byte.
+#[inline(always)]
+fn end_apart(quote: u8, mut inner: &[u8], mut word: &[u8]) -> bool
+    ensures { IsTrue result → EndApart quote inner.entry.now word.entry.now }
+{
+    while let ([front @ .., byte], [rest @ .., other]) = (inner, word) {
+        let [.., before] = front else {
+            return false;
+        };
+        if *before == b'\\' || *other == b'/' || !stays_last(quote, *byte) {
+            return false;
+        }
+        if *byte != *other {
+            return true;
+        }
+        inner = front;
+        word = rest;
     }
-    if before == b'\\' || end == quote || end == b'/' || last == b'/' || end == last {
-        return false;
-    }
-    true
+    false
+}
+
+// A byte that stands for itself, and is no slash.
+fn stays_last(quote: u8, byte: u8) -> bool
+    ensures { result ≡ (is_plain quote byte && not (is_slash byte)) }
+{
+    quote != byte && !matches!(byte, b'\\' | b'\r' | b'\n' | b'/')
 }

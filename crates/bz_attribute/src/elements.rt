@@ -11,6 +11,7 @@ ghost use Rattle.bz_attribute.specs.Lists as lists;
 
 use crate::finder::find_argument;
 use crate::place::{comments_begin, comments_len, parts_len, segment_len};
+use crate::value::is_one_list;
 use bz_token::Kind;
 use bz_tree::{GroupKind, Part};
 
@@ -140,6 +141,7 @@ fn list_from(parts: &[Part<'_>], from: usize, whole: bool) -> Option<usize>
 }
 
 /// Where the elements of the first list part of a value begin.
+#[tactic(auto, using(crate::proofs::ListWalk::only_here, crate::proofs::Slices::rest_seen))]
 pub fn first_list(parts: &[Part<'_>], value: usize) -> Option<usize>
     requires { value ≤ length parts.now }
     ensures some { IfSome result (λ to. ForValue (map part_view parts.now) value
@@ -147,6 +149,10 @@ pub fn first_list(parts: &[Part<'_>], value: usize) -> Option<usize>
     ensures none { IfNone result (ForValue (map part_view parts.now) value (λ nodes after ps. HasNoList true nodes)) }
     ensures within { IfSome result (λ to. (value < to) × (to ≤ length parts.now)) }
 {
+    // Most values are one list.
+    if is_one_list(&parts[value..]) {
+        return Some(value + 1);
+    }
     if !are_joints(parts, value) {
         return None;
     }

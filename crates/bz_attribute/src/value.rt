@@ -33,7 +33,7 @@ fn ends_value(parts: &[Part<'_>]) -> bool
 }
 
 // The value that they begin with is one list.
-fn is_one_list(parts: &[Part<'_>]) -> bool
+pub(crate) fn is_one_list(parts: &[Part<'_>]) -> bool
     ensures told { ForValue (map part_view parts.now) 0 (λ nodes after ps. result ≡ lists.is_only lists.is_list nodes) }
     ensures some { result ≡ true → 0 < length parts.now }
 {

@@ -222,7 +222,7 @@ one_alone b (c ∷ []) h k = rw (h, k) refl
 one_alone b (c ∷ d ∷ bs) h k = rw (h, k) refl
 
 -- a byte that stands for itself is the first of the value
-plain_first : (raw : Bool) (q b : ℕ) (bs : List ℕ) → is_plain q b ≡ true → inner_value raw (q ∷ []) (b ∷ bs) ≡ option_map (λ bs. b ∷ bs) (inner_value raw (q ∷ []) bs)
+pub plain_first : (raw : Bool) (q b : ℕ) (bs : List ℕ) → is_plain q b ≡ true → inner_value raw (q ∷ []) (b ∷ bs) ≡ option_map (λ bs. b ∷ bs) (inner_value raw (q ∷ []) bs)
 plain_first raw q b bs h =
     let quote = and_parts (not (q == b)) (not (b == 92) && (not (b == 13) && not (b == 10))) h in
     let escape = and_parts (not (b == 92)) (not (b == 13) && not (b == 10)) quote.1 in

@@ -1,10 +1,10 @@
 -- For private clauses alone: the items and segments that parts begin with, where they end, and what is passed of a value.
 use Rattle.std.specs.Prelude.{ℕ, zero, suc, ◌+◌, List, [], ◌∷◌, drop, Bool, true, false, if◌then◌else◌, ◌++◌, Option, None, Some, bytes_eq, codes, ◌≡◌, ◌||◌, length, take}
 use Rattle.std.specs.List.{list_all, list_any}
-use Rattle.bz_tree.specs.Rows.{RowPart, a_token, opening, closing, segment_end, above, beside, item_parts, items_parts}
+use Rattle.bz_tree.specs.Rows.{RowPart, a_token, opening, closing, segment_end, above, beside, item_parts}
 use Rattle.bz_token.specs.declared.token.Kind.TheVariants.{Identifier, Operator, String}
 use Rattle.bz_tree.specs.declared.tree.GroupKind.TheVariants.{RuleCall, List as ListKind}
-use Rattle.bz_tree.specs.Tree.{Item, leaf, Segment, items_of}
+use Rattle.bz_tree.specs.Tree.{Item, leaf, Segment}
 use Rattle.bz_command.specs.Labels.{Package}
 use Rattle.bz_attribute.specs.Elements.{ForRest, ListRest, elements_left, found_rest, rest_parts, value_parts}
 use Rattle.bz_attribute.specs.Lists as lists

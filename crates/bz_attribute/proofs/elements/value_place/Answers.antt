@@ -1,7 +1,6 @@
-use Rattle.std.proofs.Common.{◌≡◌, ◌+◌, map, arith, subst}
+use Rattle.std.proofs.Common.{map, arith}
 use Rattle.std.proofs.lemmas.List.{length-map}
 use Rattle.bz_tree.specs.Rows.{part_view}
-use Rattle.bz_attribute.specs.RowPlaces.{HasArgument}
 use Rattle.bz_attribute.proofs.ListElements.{value_there, value_within}
 use Rattle.bz_attribute.proofs.elements.value_place.Goals as goal
 

@@ -1,4 +1,4 @@
-use Rattle.std.proofs.Common.{◌≡◌, ℕ, ◌+◌, List, Bool, map, drop, ap, sym, ◌∙◌, arith, rules}
+use Rattle.std.proofs.Common.{ℕ, ◌+◌, List, map, ap, sym, ◌∙◌, arith, rules}
 use Rattle.bz_tree.specs.Rows.{RowPart, part_view}
 use Rattle.bz_attribute.specs.RowPlaces.{before_args}
 use Rattle.bz_attribute.specs.Rules.{is_text}
