@@ -34,6 +34,11 @@ mod string_list;
 mod unnamed;
 mod value;
 
+use bz_memory::NoMemory;
+
+/// None: it is not known what would be written.
+pub(crate) type Known<T> = Result<Option<T>, NoMemory>;
+
 pub use added::{ListValue, lacks, put_added};
 pub use chunk::{ArgumentPlace, AsksOfRules, CanonicalChunk, Lookup, read_canonical};
 pub use commented::{CommentPlace, comment_place};

@@ -3,6 +3,7 @@
 ghost use Rattle.std.specs.Prelude.{◌≡◌, ◌<◌, ℕ, List, option_map, IfOk, IfSome, IsTrue, false};
 ghost use Rattle.bz_canonical.specs.Canonical.{IsCanonical, between};
 ghost use Rattle.bz_canonical.specs.private.Segments.{AreLinesFront};
+ghost use Rattle.bz_canonical.specs.private.Statements.{IsChunkOf};
 ghost use Rattle.bz_canonical.specs.private.Unnamed.{IsLinedRule, lined_text};
 
 use crate::chunk::{CanonicalChunk, without};
@@ -62,9 +63,8 @@ pub(crate) fn put_lined_rule<'t>(
 ) -> Result<Option<CanonicalChunk<'t>>, NoMemory>
     requires depth { max_depth < 254 }
     requires lines { AreLinesFront text.now start.now }
-    ensures chunk { IfOk result (λ known. IfSome known (λ found. (attr : List ℕ) → IsCanonical max_depth attr found.class
-        (option_map (λ name. name.now) found.name) (option_map (λ kind. kind.now) found.kind)
-        (option_map between found.place) found.chunk.now found.written.now text.now)) }
+    ensures chunk { IfOk result (λ known. IfSome known (λ found. (attr : List ℕ)
+        → IsChunkOf max_depth attr text.now found)) }
     ensures left { IfOk result (λ known. IfSome known (λ found. found.left ≡ false)) }
 {
     let Some(rule) = read_lined_rule(start, max_depth) else {
@@ -99,9 +99,7 @@ impl LinedRule<'_> {
 /// The chunk of a rule of which this is written.
 fn lined_chunk<'t>(text: &'t str, rule: LinedRule<'t>, laid: &'t [u8]) -> Option<CanonicalChunk<'t>>
     ensures chunk { IfSome result (λ found. (depth : ℕ) (attr : List ℕ) → IsLinedRule depth text.now rule.entry
-        → laid.now ≡ lined_text rule.entry text.now → IsCanonical depth attr found.class
-        (option_map (λ name. name.now) found.name) (option_map (λ kind. kind.now) found.kind)
-        (option_map between found.place) found.chunk.now found.written.now text.now) }
+        → laid.now ≡ lined_text rule.entry text.now → IsChunkOf depth attr text.now found) }
     ensures left { IfSome result (λ found. found.left ≡ false) }
 {
     if has_argument_name(laid, b"name".as_slice()) {

@@ -97,7 +97,7 @@ pub(crate) fn has_argument_name(text: &[u8], name: &[u8]) -> bool
     ensures { IsFalse result → HasArgumentName name.now text.now → ⊥ }
 {
     let mut rest = text;
-    while let Some(next) = after_any_byte(rest) {
+    while let [_, next @ ..] = rest {
         if begins_argument(rest, name) {
             return true;
         }
@@ -123,14 +123,4 @@ fn begins_equals(text: &[u8]) -> bool
     ensures { IsFalse result → (after : List ℕ) → text.now ≡ codes " =" ++ after → ⊥ }
 {
     matches!(text, [b' ', b'=', ..])
-}
-
-fn after_any_byte(text: &[u8]) -> Option<&[u8]>
-    ensures some { IfSome result (λ rest. (b : ℕ) × (text.now ≡ b ∷ rest.now)) }
-    ensures none { IfNone result (text.now ≡ []) }
-{
-    match text {
-        [_, rest @ ..] => Some(rest),
-        [] => None,
-    }
 }

@@ -14,6 +14,7 @@ use Rattle.bz_layout.specs.declared.spacing.Gap.{Gap}
 use Rattle.bz_layout_laws.specs.Legible.{AreComments}
 use Rattle.bz_canonical.specs.Canonical.{HasPlace}
 use Rattle.bz_canonical.specs.declared.lined.LinedRule.{LinedRule}
+use Rattle.bz_canonical.specs.declared.unnamed.UnnamedRule.{UnnamedRule}
 use Rattle.bz_canonical.specs.private.Segments.{IsBesideFront, IsSegment}
 use Rattle.bz_canonical.specs.private.Statements.{IsStatementFront}
 
@@ -24,16 +25,16 @@ pub record IsStatementEnd (text rest : List ℕ) : Type 0 where
   pub side : IsBesideFront text middle noted
   pub ends : middle ≡ 10 ∷ rest
 
--- The rule, with the text up to its argument, its argument, and what follows that. One more argument puts both on lines.
-pub record IsUnnamedRule (depth : ℕ) (attr text argument close rest : List ℕ) : Type 0 where
+-- what is written of it with its argument on a line, before one more
+abbrev pub unnamed_head : UnnamedRule → List ℕ
+unnamed_head rule = rule.head.now ++ (codes "\n    " ++ (rule.argument.now ++ codes ","))
+
+-- The rule, by its parts. One more argument puts both on lines.
+pub record IsUnnamedRule (depth : ℕ) (attr text : List ℕ) (rule : UnnamedRule) : Type 0 where
+  pub rest : List ℕ
   pub front : IsStatementFront depth RuleClass None None text rest rest
-  pub head : List ℕ
-  pub inner : List ℕ
-  pub end : List ℕ
-  pub begins : text ≡ head ++ argument
-  pub goes_on : argument ≡ inner ++ close
-  pub ends : close ≡ end ++ rest
-  pub has : HasPlace depth attr front.s (record { before = head ++ (codes "\n    " ++ (inner ++ codes ",")); lines = []; after = 10 ∷ end })
+  pub chunk : rule.chunk.now ≡ take (length text - length rest) text
+  pub has : HasPlace depth attr front.s (record { before = unnamed_head rule; lines = []; after = 10 ∷ rule.end.now })
 
 -- A rule whose argument stands on a line of its own, and would be written in place.
 pub record IsLinedRule (depth : ℕ) (text : List ℕ) (rule : LinedRule) : Type 0 where
