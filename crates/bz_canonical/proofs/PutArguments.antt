@@ -315,9 +315,6 @@ one_more depth attr text rest next w v one a p =
     none : (x : Bool) → x ≡ false → (y : Bool) → y ≡ false → (x || (y || false)) ≡ false
     none x x_is y y_is = rw (x_is, y_is) refl
 
-pub all_read : (depth : ℕ) (text middle rest w v : List ℕ) (one more : Bool) → AreRead depth text middle w one → AreRead depth middle rest v more → AreRead depth text rest (w ++ v) (one || more)
-all_read depth text middle rest w v one more a b = append_read depth text middle rest w v one more a b
-
 -- the last of them, as they stand
 pub last_read : (depth : ℕ) (text middle : List ℕ) (n : ℕ) (h k one : Bool) → (t : AreSegmentsFront RuleCall 1 depth text middle n h k) → one ≡ nat_le 1 n
     → (w : List ℕ) × (text ≡ w ++ middle) × AreRead depth text middle w one

@@ -337,22 +337,13 @@ fn after_last_segments(text: &[u8], depth: u8) -> Option<AfterLines<'_>>
 {
     match text {
         // Most calls end here.
-        [b'\n', b')', ..] => Some(after_no_segments(text)),
+        [b'\n', b')', ..] => Some(AfterLines {
+            rest: text,
+            count: 0,
+            holds: false,
+            noted: false,
+            ended: false,
+        }),
         _ => after_segments(GroupKind::RuleCall, text, 1, depth),
-    }
-}
-
-#[inline(always)]
-fn after_no_segments(text: &[u8]) -> AfterLines<'_>
-    ensures { (depth : ℕ) → (middle : List ℕ)
-        × AreSegmentsFront RuleCall 1 depth text.now middle result.count result.holds result.noted
-        × AreNotesFront 1 middle result.rest.now result.ended }
-{
-    AfterLines {
-        rest: text,
-        count: 0,
-        holds: false,
-        noted: false,
-        ended: false,
     }
 }

@@ -10,7 +10,7 @@ ghost use Rattle.bz_canonical.specs.private.Values.{AreNodesFront};
 
 use crate::comments::{after_comments, after_suffix};
 use crate::front::{Word, after, after_element_line, after_identifier, after_line, after_word};
-use crate::group::{after_broken_group, closing};
+use crate::group::{after_broken_group, brackets};
 use crate::value::{Value, after_first, after_leaf, after_nodes, either};
 use bz_tree::GroupKind;
 
@@ -104,7 +104,7 @@ pub(crate) fn after_flat_segments(
     ensures { IfSome result (λ read. (n : ℕ) × (read.one ≡ nat_le 1 n) × (read.two ≡ nat_le 2 n)
         × AreFlatFront kind true level depth text.now read.rest.now n read.holds) }
 {
-    if after(text, closing(kind)).is_some() {
+    if after(text, brackets(kind).1).is_some() {
         return Some(AfterFlat {
             rest: text,
             one: false,
