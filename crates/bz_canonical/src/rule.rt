@@ -113,14 +113,7 @@ fn begins_argument(text: &[u8], name: &[u8]) -> bool
     ensures { IsFalse result → (after : List ℕ) → text.now ≡ name.now ++ (codes " =" ++ after) → ⊥ }
 {
     match text.split_at_checked(name.len()) {
-        Some((front, rest)) => begins_equals(rest) && are_equal(front, name),
+        Some((front, rest)) => matches!(rest, [b' ', b'=', ..]) && are_equal(front, name),
         None => false,
     }
-}
-
-#[inline(always)]
-fn begins_equals(text: &[u8]) -> bool
-    ensures { IsFalse result → (after : List ℕ) → text.now ≡ codes " =" ++ after → ⊥ }
-{
-    matches!(text, [b' ', b'=', ..])
 }

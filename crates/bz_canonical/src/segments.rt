@@ -151,19 +151,15 @@ fn after_segment(kind: GroupKind, text: &[u8], level: u8, depth: u8) -> Option<V
             let Value { rest, holds } = after_nodes(value, level, depth)?;
             Some(Value { rest, holds })
         }
-        _ => {
-            if !is_call(kind) {
-                return None;
+        GroupKind::Call | GroupKind::RuleCall => match text {
+            // Most arguments of `select`.
+            [b'{', b'\n', ..] => {
+                let Value { rest, holds } = after_broken_dict(text, level, depth)?;
+                Some(Value { rest, holds })
             }
-            match text {
-                // Most arguments of `select`.
-                [b'{', b'\n', ..] => {
-                    let Value { rest, holds } = after_broken_dict(text, level, depth)?;
-                    Some(Value { rest, holds })
-                }
-                _ => after_argument(kind, text, level, depth),
-            }
-        }
+            _ => after_argument(kind, text, level, depth),
+        },
+        _ => None,
     }
 }
 
@@ -206,12 +202,6 @@ pub(crate) fn after_argument(
             Some(Value { rest, holds })
         }
     }
-}
-
-fn is_call(kind: GroupKind) -> bool
-    ensures { result ≡ is_call kind }
-{
-    matches!(kind, GroupKind::Call | GroupKind::RuleCall)
 }
 
 /// What follows the name of an argument and its equals sign.

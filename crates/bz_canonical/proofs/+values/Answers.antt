@@ -1,4 +1,4 @@
-use Rattle.std.proofs.Common.{true, false, ℕ, List, ◌≡◌, ◌+◌, ◌-◌, arith, ◌∙◌, ◌||◌, ◌∷◌, ◌++◌, refl, sym, subst, ap}
+use Rattle.std.proofs.Common.{rules, true, false, ℕ, List, ◌≡◌, ◌+◌, ◌-◌, arith, ◌∙◌, ◌||◌, ◌∷◌, ◌++◌, refl, sym, subst, ap}
 use Rattle.bz_tree.specs.declared.tree.GroupKind.TheVariants.{Dict}
 use Rattle.std.specs.Prelude.{codes}
 use Rattle.bz_canonical.specs.private.Values.{AreNodesFront}
@@ -103,7 +103,7 @@ segments::after_segment-returns-in_ok-rest-in-Dict m c =
 pub segments::after_segment-returns-in_ok-rest-in-123 : goal.segments::after_segment-returns-in_ok-rest-in-123
 segments::after_segment-returns-in_ok-rest-in-123 m c =
     positional_segment c.args.kind c.args.level c.args.depth c.args.text.now c.in_ok-rest-in-123.field-0.rest.now c.in_ok-rest-in-123.field-0.holds
-    (sym c.is_call.ensures ∙ c.if-not-is_call.false) c.in_ok-rest-in-123.ensures
+    (search rules) c.in_ok-rest-in-123.ensures
 
 pub segments::after_broken_dict-returns : goal.segments::after_broken_dict-returns
 segments::after_broken_dict-returns m c =
