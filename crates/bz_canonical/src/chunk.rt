@@ -6,6 +6,7 @@ ghost use Rattle.bz_canonical.specs.private.Rewritten.{IsNamedRule};
 ghost use Rattle.bz_canonical.specs.private.Segments.{AreLinesFront};
 ghost use Rattle.bz_canonical.specs.private.Statements.{IsChunkOf};
 
+use crate::Known;
 use crate::comments::after_comments_above;
 use crate::lined::put_lined_rule;
 use crate::put_rule::read_rule_head;
@@ -113,7 +114,7 @@ fn read_rarer_chunk<'t, R: AsksOfRules>(
     asked: Lookup<'_, R>,
     max_depth: u8,
     written: &'t mut Vec<u8>,
-) -> Result<Option<CanonicalChunk<'t>>, NoMemory>
+) -> Known<CanonicalChunk<'t>>
     requires depth { max_depth < 254 }
     requires lines { AreLinesFront text.now start.now }
     ensures chunk { IfOk result (λ known. IfSome known

@@ -6,6 +6,7 @@ ghost use Rattle.bz_canonical.specs.private.Segments.{AreLinesFront};
 ghost use Rattle.bz_canonical.specs.private.Statements.{IsChunkOf};
 ghost use Rattle.bz_canonical.specs.private.Unnamed.{IsLinedRule, lined_text};
 
+use crate::Known;
 use crate::chunk::{CanonicalChunk, without};
 use crate::front::{after, after_identifier, after_line, before};
 use crate::rule::has_argument_name;
@@ -60,7 +61,7 @@ pub(crate) fn put_lined_rule<'t>(
     start: &'t [u8],
     max_depth: u8,
     written: &'t mut Vec<u8>,
-) -> Result<Option<CanonicalChunk<'t>>, NoMemory>
+) -> Known<CanonicalChunk<'t>>
     requires depth { max_depth < 254 }
     requires lines { AreLinesFront text.now start.now }
     ensures chunk { IfOk result (λ known. IfSome known (λ found. (attr : List ℕ)

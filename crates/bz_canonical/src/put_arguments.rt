@@ -304,7 +304,7 @@ pub(crate) fn put_arguments<'t>(
     }))
 }
 
-/// Passes what follows these arguments: others that have no name, and comments. The place stays, where no others follow.
+/// Passes what follows these arguments: others that have no name, and comments. The place stays where no others follow.
 #[inline(always)]
 fn pass_last<'t>(
     read: PutOthers<'t>,

@@ -24,8 +24,8 @@ pub(crate) struct PutRule<'t> {
     pub(crate) as_is: bool,
 }
 
-/// Passes the rule here. If it stands otherwise than it is written, what is written goes into the buffer, whose bytes are
-/// lost. `asked`: the attribute whose place is asked for.
+/// Passes the rule here. If it stands otherwise than it is written, what is written goes into the buffer, whose bytes
+/// are lost. `asked`: the attribute whose place is asked for.
 #[inline(always)]
 pub(crate) fn put_rule<'t>(
     text: &'t [u8],

@@ -20,8 +20,8 @@ pub(crate) struct NamedRule<'t> {
     pub(crate) name: &'t str,
 }
 
-/// The chunk of this rule, where it stands as it would be written but for arguments whose value is a list of strings. If
-/// there are such, what is written goes into the buffer, whose bytes are lost. `asked`: the attribute whose place is
+/// The chunk of this rule, where it stands as it would be written but for arguments whose value is a list of strings.
+/// If there are such, what is written goes into the buffer, whose bytes are lost. `asked`: the attribute whose place is
 /// asked for.
 #[inline(always)]
 pub(crate) fn read_rule_chunk<'t>(
