@@ -19,7 +19,7 @@ use Rattle.bz_layout_laws.proofs.SameInside.{items_same}
 use Rattle.bz_attribute.specs.Rules.{first_named, is_named}
 use Rattle.bz_attribute.proofs.Views.{segments_of}
 use Rattle.bz_canonical.specs.Canonical.{AreReadAlone, HasArgumentName, HasPlace, IsCanonical, argument_lines, first_args}
-use Rattle.bz_canonical.specs.declared.unnamed.UnnamedRule.{UnnamedRule}
+use Rattle.bz_canonical.specs.declared.unnamed.OneArgument.{OneArgument}
 use Rattle.bz_canonical.specs.private.Fronts.{IsTokenFront}
 use Rattle.bz_canonical.specs.private.Segments.{AreLinesFront, IsGroupFront, IsSegmentFront}
 use Rattle.bz_canonical.specs.private.Unnamed.{IsStatementEnd, IsUnnamedRule, unnamed_head}
@@ -121,7 +121,7 @@ call_front depth bracket argument close end opens s closes =
     let g = flat_group RuleCall 0 (suc depth) depth argument close end 41 1 false refl refl all refl closes in
     record { segs = g.segs; below = depth; depth_is = refl; are = g.are; end = g.end; end_is = g.end_is; front = λ gap. ap (λ (t : List ℕ). gap_bytes gap ++ t) opens ∙ g.front gap; breaks = g.breaks }
 
-pub unnamed_rule : (depth : ℕ) (attr text start bracket argument close end call rest : List ℕ) (rule : UnnamedRule) → AreLinesFront text start → IsTokenFront Identifier start bracket → bracket ≡ 40 ∷ argument
+pub unnamed_rule : (depth : ℕ) (attr text start bracket argument close end call rest : List ℕ) (rule : OneArgument) → AreLinesFront text start → IsTokenFront Identifier start bracket → bracket ≡ 40 ∷ argument
     → IsSegmentFront RuleCall 1 depth argument close false → close ≡ 41 ∷ end → call ≡ take (length bracket - length end) bracket → (HasArgumentName (codes "name") call → ⊥) → (HasArgumentName attr call → ⊥)
     → IsStatementEnd end rest → rule.chunk.now ≡ take (length text - length rest) text → rule.head.now ≡ take (length text - length argument) text → rule.argument.now ≡ take (length argument - length close) argument
     → rule.end.now ≡ take (length close - length rest) close → IsUnnamedRule (suc depth) attr text rule
@@ -145,7 +145,7 @@ unnamed_rule depth attr text start bracket argument close end call rest rule abo
     head N kind = simp append_assoc
 
 -- its chunk, where this is in the buffer
-pub unnamed_chunk : (depth : ℕ) (attr text laid before after : List ℕ) (start : ℕ) (rule : UnnamedRule) → IsUnnamedRule depth attr text rule → laid ≡ unnamed_head rule ++ (10 ∷ rule.end.now) → start ≡ length (unnamed_head rule)
+pub unnamed_chunk : (depth : ℕ) (attr text laid before after : List ℕ) (start : ℕ) (rule : OneArgument) → IsUnnamedRule depth attr text rule → laid ≡ unnamed_head rule ++ (10 ∷ rule.end.now) → start ≡ length (unnamed_head rule)
     → before ≡ take start laid → after ≡ drop start laid → IsCanonical depth attr RuleClass None None (Some (record { before = before; lines = []; after = after })) rule.chunk.now rule.chunk.now text
 unnamed_chunk depth attr text laid before after start rule r laid_is start_is before_is after_is =
     let front : before ≡ unnamed_head rule = before_is ∙ (λ i. take (start_is i) (laid_is i)) ∙ take-append_seam (unnamed_head rule) (10 ∷ rule.end.now) in

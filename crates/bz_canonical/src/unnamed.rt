@@ -16,15 +16,15 @@ use bz_memory::{NoMemory, extend_from_slice};
 use bz_token::check_utf8;
 use bz_tree::{Class, GroupKind};
 
-/// A rule, by its parts.
+/// A rule with one argument, by its parts.
 #[derive(Clone, Copy)]
-pub(crate) struct UnnamedRule<'t> {
-    chunk: &'t str,
+pub(crate) struct OneArgument<'t> {
+    pub(crate) chunk: &'t str,
     /// Up to the bracket of its call.
-    head: &'t [u8],
-    argument: &'t [u8],
+    pub(crate) head: &'t [u8],
+    pub(crate) argument: &'t [u8],
     /// From the bracket on that closes the call.
-    end: &'t [u8],
+    pub(crate) end: &'t [u8],
 }
 
 /// The rule whose kind is here, after the comments above it, and whose argument is neither `name` nor has the name that
@@ -35,7 +35,7 @@ pub(crate) fn read_unnamed_rule<'t>(
     start: &'t [u8],
     attr: &str,
     max_depth: u8,
-) -> Option<UnnamedRule<'t>>
+) -> Option<OneArgument<'t>>
     requires depth { max_depth < 254 }
     requires lines { AreLinesFront text.now start.now }
     ensures { IfSome result (IsUnnamedRule max_depth attr.now text.now) }
@@ -50,7 +50,7 @@ pub(crate) fn read_unnamed_rule<'t>(
         return None;
     }
     let rest = after_statement(side)?;
-    Some(UnnamedRule {
+    Some(OneArgument {
         chunk: without(text, rest.len())?,
         head: before(text.as_bytes(), inside.len())?,
         argument: before(inside, close.len())?,
@@ -82,7 +82,7 @@ pub(crate) fn after_statement(text: &[u8]) -> Option<&[u8]>
 /// The chunk of such a rule. What is written of it with one more argument is in the buffer, whose bytes are lost.
 #[inline(never)]
 pub(crate) fn read_unnamed_chunk<'t>(
-    rule: UnnamedRule<'t>,
+    rule: OneArgument<'t>,
     written: &'t mut Vec<u8>,
 ) -> Known<CanonicalChunk<'t>>
     ensures chunk { IfOk result (λ known. IfSome known (λ found. (depth : ℕ) (attr text : List ℕ)
@@ -93,7 +93,7 @@ pub(crate) fn read_unnamed_chunk<'t>(
     Ok(chunk_of(rule, written.as_slice(), start))
 }
 
-impl UnnamedRule<'_> {
+impl OneArgument<'_> {
     /// Writes the rule with its argument on a line of its own. So much is written before the place after it.
     fn put(self, written: &mut Vec<u8>) -> Result<usize, NoMemory>
         ensures text { OnOk result (written.new.items ≡ unnamed_head self.entry ++ (10 ∷ self.entry.end.now)) }
@@ -112,7 +112,7 @@ impl UnnamedRule<'_> {
 }
 
 /// The chunk of a rule of which this is written with its argument on a line, and one more would begin there.
-fn chunk_of<'t>(rule: UnnamedRule<'t>, laid: &'t [u8], start: usize) -> Option<CanonicalChunk<'t>>
+fn chunk_of<'t>(rule: OneArgument<'t>, laid: &'t [u8], start: usize) -> Option<CanonicalChunk<'t>>
     ensures chunk { IfSome result (λ found. (depth : ℕ) (attr text : List ℕ) → IsUnnamedRule depth attr text rule.entry
         → laid.now ≡ unnamed_head rule.entry ++ (10 ∷ rule.entry.end.now) → start ≡ length (unnamed_head rule.entry)
         → IsChunkOf depth attr text found) }

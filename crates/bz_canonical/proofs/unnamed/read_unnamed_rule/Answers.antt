@@ -1,6 +1,6 @@
 use Rattle.std.proofs.Common.{◌≡◌, ℕ, List, suc, arith, subst, ap, length, take, ◌∙◌, ◌-◌}
 use Rattle.bz_canonical.specs.Canonical.{HasArgumentName}
-use Rattle.bz_canonical.specs.declared.unnamed.UnnamedRule.{UnnamedRule}
+use Rattle.bz_canonical.specs.declared.unnamed.OneArgument.{OneArgument}
 use Rattle.bz_canonical.specs.private.Unnamed.{IsUnnamedRule}
 use Rattle.bz_canonical.proofs.UnnamedRules.{unnamed_rule}
 use Rattle.bz_canonical.proofs.unnamed.read_unnamed_rule.Goals as goal
@@ -9,7 +9,7 @@ pub returns : goal.returns
 returns c =
     let depth = c.in_ok-depth.depth in
     let one_more : suc depth ≡ c.args.max_depth = grind (arith, c.in_ok-depth.ensures) in
-    let rule : UnnamedRule = record { chunk = c.in_ok-without.field-0; head = c.in_ok-before.field-0; argument = c.in_ok-before-2.field-0; end = c.in_ok-before-3.field-0 } in
+    let rule : OneArgument = record { chunk = c.in_ok-without.field-0; head = c.in_ok-before.field-0; argument = c.in_ok-before-2.field-0; end = c.in_ok-before-3.field-0 } in
     subst (λ d. IsUnnamedRule d c.args.attr.now c.args.text.now rule) one_more
     (unnamed_rule depth c.args.attr.now c.args.text.now c.args.start.now c.in_ok-bracket.bracket.now c.in_ok-inside.inside.now c.in_ok-close.close.now c.in_ok-side.side.now c.in_ok-call.call.now c.in_ok-rest.rest.now rule
     c.requires.lines c.in_ok-bracket.ensures c.in_ok-inside.ensures c.in_ok-close.ensures c.in_ok-side.ensures c.in_ok-call.ensures
