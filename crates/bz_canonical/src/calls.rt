@@ -3,7 +3,6 @@
 
 ghost use Rattle.std.specs.Prelude.{◌≡◌, ◌∷◌, ◌++◌, ◌<◌, ℕ, List, IfOk, IfSome};
 ghost use Rattle.bz_token.specs.declared.token.Kind.TheVariants.{Identifier};
-ghost use Rattle.bz_layout.specs.Pieces.{indent};
 ghost use Rattle.bz_canonical.specs.private.Calls.{IsArgumentLine, IsInsideRead, IsValueRead};
 ghost use Rattle.bz_canonical.specs.private.Fronts.{IsTokenFront};
 

@@ -2,7 +2,6 @@
 
 ghost use Rattle.std.specs.Prelude.{◌≡◌, ◌-◌, ◌<◌, ℕ, List, Option, false, length, option_map, take, IfOk, IfSome, IsFalse, IsTrue};
 ghost use Rattle.bz_canonical.specs.Canonical.{IsCanonical, between};
-ghost use Rattle.bz_canonical.specs.private.Rewritten.{IsNamedRule};
 ghost use Rattle.bz_canonical.specs.private.Segments.{AreLinesFront};
 ghost use Rattle.bz_canonical.specs.private.Statements.{IsChunkOf};
 

@@ -1,8 +1,7 @@
 //! Elements of a list of strings that go or become another, by the lines of the argument whose value the list is.
 //! `removed.rt` and `replaced.rt` say which. `added.rt` asks whether one equals a value.
 
-ghost use Rattle.std.specs.Prelude.{◌≡◌, ◌++◌, ℕ, List, IfOk, IfSome, IsTrue, OnOk, not, ◌&&◌};
-ghost use Rattle.bz_command.specs.Values.{value_of};
+ghost use Rattle.std.specs.Prelude.{◌≡◌, ◌++◌, ℕ, List, IfOk, IfSome, IsTrue, not, ◌&&◌};
 ghost use Rattle.bz_canonical.specs.private.Edited.{AreElementsEdited, EditsElements, IsListEdited, PassesElement, is_meant, one_more};
 
 use crate::Known;

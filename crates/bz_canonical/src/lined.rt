@@ -1,7 +1,6 @@
 //! A rule without a name whose only argument stands on a line of its own: it is written in place.
 
-ghost use Rattle.std.specs.Prelude.{◌≡◌, ◌<◌, ℕ, List, option_map, IfOk, IfSome, IsTrue, false};
-ghost use Rattle.bz_canonical.specs.Canonical.{IsCanonical, between};
+ghost use Rattle.std.specs.Prelude.{◌≡◌, ◌<◌, ℕ, List, IfOk, IfSome, false};
 ghost use Rattle.bz_canonical.specs.private.Segments.{AreLinesFront};
 ghost use Rattle.bz_canonical.specs.private.Statements.{IsChunkOf};
 ghost use Rattle.bz_canonical.specs.private.Unnamed.{IsLinedRule, lined_text};

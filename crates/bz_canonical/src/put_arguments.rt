@@ -1,7 +1,7 @@
 //! The arguments of a rule as they would be written, where lists of strings among them stand otherwise. `put_rule.rt`
 //! asks for all of them; `added.rt` and `commented.rt` ask for the head of the one argument whose lines they have.
 
-ghost use Rattle.std.specs.Prelude.{◌≡◌, ◌<◌, ℕ, List, Bool, length, option_map, IfOk, IfSome, true, false};
+ghost use Rattle.std.specs.Prelude.{◌≡◌, ◌<◌, ℕ, List, length, option_map, IfOk, IfSome, true, false};
 ghost use Rattle.bz_tree.specs.declared.tree.GroupKind.TheVariants.{RuleCall};
 ghost use Rattle.bz_canonical.specs.private.Segments.{AreNotesFront, AreSegmentsFront};
 ghost use Rattle.bz_canonical.specs.private.Values.{AreNodesFront};

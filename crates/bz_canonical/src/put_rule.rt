@@ -1,6 +1,6 @@
 //! A rule as it would be written, where lists of strings in it stand otherwise.
 
-ghost use Rattle.std.specs.Prelude.{ℕ, List, ◌+◌, ◌<◌, ◌-◌, codes, length, take, option_map, if◌then◌else◌, IfOk, IfSome, IsTrue, bytes_eq, ◌≡◌, [], true, false};
+ghost use Rattle.std.specs.Prelude.{ℕ, List, ◌+◌, ◌<◌, ◌-◌, codes, length, take, option_map, if◌then◌else◌, IfOk, IfSome, bytes_eq, ◌≡◌};
 ghost use Rattle.bz_canonical.specs.private.Segments.{AreLinesFront};
 ghost use Rattle.bz_canonical.specs.private.Rewritten.{EndsRule, IsRuleEnd, IsRuleHead, IsRulePlace, IsRuleRead, put_ends};
 

@@ -1,7 +1,7 @@
 //! The rule that a text begins with, as a chunk.
 
 ghost use Rattle.std.specs.Prelude.{◌≡◌, ◌-◌, ◌<◌, ℕ, List, false, length, take, option_map, if◌then◌else◌, IfOk, IfSome};
-ghost use Rattle.bz_canonical.specs.Canonical.{IsCanonical, between};
+ghost use Rattle.bz_canonical.specs.Canonical.{between};
 ghost use Rattle.bz_canonical.specs.private.Rewritten.{IsNamedChunk, IsNamedRule, IsPutPlaceIn, IsRuleHead, IsRuleRead, put_ends};
 ghost use Rattle.bz_canonical.specs.private.Statements.{IsChunkOf};
 

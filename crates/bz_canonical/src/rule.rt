@@ -1,6 +1,6 @@
 //! The call of a rule that stands as it would be written.
 
-ghost use Rattle.std.specs.Prelude.{◌≡◌, ◌<◌, ◌∷◌, ◌++◌, codes, option_map, IfSome, IfNone, IsFalse, Some, None, ℕ, List, [], false};
+ghost use Rattle.std.specs.Prelude.{◌≡◌, ◌<◌, ◌∷◌, ◌++◌, codes, option_map, IfSome, IsFalse, Some, None, ℕ, List, false};
 ghost use Rattle.bz_canonical.specs.Canonical.{HasArgumentName};
 ghost use Rattle.bz_canonical.specs.private.Statements.{IsRuleCallFront};
 
