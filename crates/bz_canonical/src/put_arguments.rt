@@ -263,7 +263,7 @@ pub(crate) fn pass_arguments<'t>(
     let Some(others) = put_others(from, none, written)? else {
         return Ok(None);
     };
-    Ok(pass_last(others, None, depth))
+    pass_last(others, None, depth)
 }
 
 /// Passes the arguments here, with the comments after them.
@@ -286,7 +286,7 @@ pub(crate) fn put_arguments<'t>(
     };
     let Some(value) = others.named else {
         let place = place_between(others.at, start, others.at, start);
-        return Ok(pass_last(others, Some(place), asked.depth));
+        return pass_last(others, Some(place), asked.depth);
     };
     let Some(at) = put_argument(others.at, value, asked.depth, written)? else {
         return Ok(None);
@@ -310,21 +310,23 @@ fn pass_last<'t>(
     read: PutOthers<'t>,
     place: Option<PutPlace<'t>>,
     depth: u8,
-) -> Option<PutArguments<'t>>
+) -> Known<PutArguments<'t>>
     requires { depth < 254 }
-    ensures { IfSome result (AreEnded depth read.entry place.entry) }
+    ensures { IfOk result (λ known. IfSome known (AreEnded depth read.entry place.entry)) }
 {
-    let last = after_last_segments(read.at.rest, depth)?;
+    let Some(last) = after_last_segments(read.at.rest, depth) else {
+        return Ok(None);
+    };
     let more = last.count > 0;
     let one = either(read.one, more);
-    Some(PutArguments {
+    Ok(Some(PutArguments {
         at: Pending {
             from: read.at.from,
             rest: last.rest,
         },
         place: if more { None } else { place },
         some: either(one, last.ended),
-    })
+    }))
 }
 
 /// What follows the arguments here, and the comments after them.

@@ -43,7 +43,7 @@ pub(crate) fn read_rule_chunk<'t>(
     let Some(read) = put_rule(rule.text.as_bytes(), rule.head, asked, depth, written)? else {
         return Ok(None);
     };
-    Ok(chunk_of(rule, left, written.as_slice(), read))
+    chunk_of(rule, left, written.as_slice(), read)
 }
 
 /// The same, where the place of an argument is asked for.
@@ -83,17 +83,21 @@ fn chunk_of<'t>(
     left: bool,
     buffer: &'t [u8],
     read: PutRule<'t>,
-) -> Option<CanonicalChunk<'t>>
-    ensures chunk { IfSome result (λ found. (depth : ℕ) (attr : List ℕ) → IsRuleRead depth attr rule.entry.name.now
-        rule.entry.text.now read.entry.rest.now (if read.entry.as_is
+) -> Known<CanonicalChunk<'t>>
+    ensures chunk { IfOk result (λ known. IfSome known (λ found. (depth : ℕ) (attr : List ℕ)
+        → IsRuleRead depth attr rule.entry.name.now rule.entry.text.now read.entry.rest.now (if read.entry.as_is
         then take (length rule.entry.text.now - length read.entry.rest.now) rule.entry.text.now else buffer.now)
-        (option_map put_ends read.entry.place) → IsChunkOf depth attr rule.entry.text.now found) }
-    ensures name { IfSome result (λ found. IsNamedChunk rule.entry left found) }
+        (option_map put_ends read.entry.place) → IsChunkOf depth attr rule.entry.text.now found)) }
+    ensures name { IfOk result (λ known. IfSome known (λ found. IsNamedChunk rule.entry left found)) }
 {
     let text = rule.text;
-    let chunk = without(text, read.rest.len())?;
-    let written = written_of(chunk, buffer, read.as_is)?;
-    Some(CanonicalChunk {
+    let Some(chunk) = without(text, read.rest.len()) else {
+        return Ok(None);
+    };
+    let Some(written) = written_of(chunk, buffer, read.as_is) else {
+        return Ok(None);
+    };
+    Ok(Some(CanonicalChunk {
         chunk,
         written,
         class: Class::Rule,
@@ -101,7 +105,7 @@ fn chunk_of<'t>(
         kind: None,
         place: place_in_both(text, written, read.place),
         left,
-    })
+    }))
 }
 
 /// What is written of a rule: its chunk, or what is in the buffer.

@@ -1,6 +1,7 @@
 use Rattle.std.proofs.Common.{◌≡◌, ◌++◌, ◌∙◌, ℕ, List, [], Some, append_assoc, subst, true}
 use Rattle.std.specs.Prelude.{Bool, Option, IfSome, option_map}
 use Rattle.std.proofs.lemmas.Option.{IfSome_then}
+use Rattle.std.proofs.lemmas.Result.{IfOk-weaker}
 use Rattle.bz_canonical.specs.private.Rewritten.{AreArgumentsRead, AreOthersRead, IsArgumentRead, IsHeadRead, Puts, pending, put_ends}
 use Rattle.bz_canonical.specs.declared.put_arguments.PutArguments.{PutArguments}
 use Rattle.bz_canonical.specs.declared.put_arguments.PutOthers.{PutOthers}
@@ -17,11 +18,11 @@ returns-in_default-named c =
     let buffer = c.put_others.new.written.items in
     let passed = subst (λ (o : Option PutOthers). IfSome o (λ read. Puts c.args.written.now.items (pending start) buffer (pending read.at)
     (λ begun w. AreOthersRead depth attr start.rest.now read.at.rest.now w read.one))) c.in-Some.is c.in_ok-others.ensures.passed in
-    IfSome_then c.pass_last.result c.pass_last.ensures (λ read ended text begun p.
+    IfOk-weaker c.pass_last.result _ _ (λ known some. IfSome_then known some (λ read ended text begun p.
     let got = passed text begun p in
     let len = c.in-Some-written_len.ensures text (begun ++ got.0) got.1 in
     others_ended depth attr text start.rest.now buffer begun got.0 others (Some c.place_between-place.result) read got.1 got.2.read
-    (got.2.others, c.place_between-place.ensures ∙ (λ i. record { from = others.at.rest.now; to = others.at.rest.now; start = len i; end = len i })) ended)
+    (got.2.others, c.place_between-place.ensures ∙ (λ i. record { from = others.at.rest.now; to = others.at.rest.now; start = len i; end = len i })) ended)) c.pass_last.ensures
 
 pub returns : goal.returns
 returns c = λ text begun p.
