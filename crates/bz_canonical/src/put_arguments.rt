@@ -267,6 +267,7 @@ pub(crate) fn pass_arguments<'t>(
 }
 
 /// Passes the arguments here, with the comments after them.
+#[inline(always)]
 pub(crate) fn put_arguments<'t>(
     from: Pending<'t>,
     asked: Sought<'_>,
