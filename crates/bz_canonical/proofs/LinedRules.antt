@@ -14,7 +14,7 @@ use Rattle.bz_layout.specs.declared.spacing.Gap.TheVariants.{Closed, Line}
 use Rattle.bz_layout.proofs.Pieces.{bytes_append}
 use Rattle.bz_layout_laws.specs.FreeLayout.{Choice, free, own, items_by, text_by}
 use Rattle.bz_canonical.specs.Canonical.{HasArgumentName, IsCanonical}
-use Rattle.bz_canonical.specs.declared.lined.LinedRule.{LinedRule}
+use Rattle.bz_canonical.specs.declared.unnamed.OneArgument.{OneArgument}
 use Rattle.bz_canonical.specs.private.Fronts.{IsTokenFront}
 use Rattle.bz_canonical.specs.private.Segments.{AreLinesFront, IsGroupFront, IsSegmentFront}
 use Rattle.bz_canonical.specs.private.Statements.{IsStatementFront}
@@ -29,79 +29,86 @@ use Rattle.bz_canonical.proofs.UnnamedRules.{call_front, unnamed_statement}
 
 -- what was read of it
 
-pub lined_rule : (below : ℕ) (text start inside first end last side : List ℕ) (rule : LinedRule) → AreLinesFront text start → IsTokenFront Identifier start rule.bracket.now → rule.bracket.now ≡ 40 ∷ inside
-    → inside ≡ 10 ∷ (indent 1 ++ first) → IsSegmentFront RuleCall 1 below first end false → end ≡ 44 ∷ last → last ≡ 10 ∷ rule.close.now → rule.close.now ≡ 41 ∷ side → IsStatementEnd side rule.rest.now
-    → rule.kind.now ≡ take (length start - length rule.bracket.now) start → rule.argument.now ≡ take (length first - length end) first → IsLinedRule (suc below) text rule
-lined_rule below text start inside first end last side rule above f opens line s comma closes close e kind_is argument_is =
-    let kind : rule.kind.now ≡ f.token = kind_is ∙ taken start f.token rule.bracket.now f.front in
+pub lined_rule : (below : ℕ) (text start bracket inside first end last close side rest kind : List ℕ) (rule : OneArgument) → AreLinesFront text start → IsTokenFront Identifier start bracket → bracket ≡ 40 ∷ inside
+    → inside ≡ 10 ∷ (indent 1 ++ first) → IsSegmentFront RuleCall 1 below first end false → end ≡ 44 ∷ last → last ≡ 10 ∷ close → close ≡ 41 ∷ side → IsStatementEnd side rest
+    → kind ≡ take (length start - length bracket) start → rule.chunk.now ≡ take (length text - length rest) text → rule.head.now ≡ take (length text - length inside) text
+    → rule.argument.now ≡ take (length first - length end) first → rule.end.now ≡ take (length close - length rest) close → IsLinedRule (suc below) text kind rule
+lined_rule below text start bracket inside first end last close side rest kind rule above f opens line s comma closes closed e kind_is chunk_is head_is argument_is end_is =
+    let N : List ℕ = bytes_of (comment_lines above.notes) in
+    let S : List ℕ = bytes_of (suffix_piece e.side.note) in
+    let same : kind ≡ f.token = kind_is ∙ taken start f.token bracket f.front in
     let all : List ℕ = bytes_of (items_pieces Broken 1 (Some RuleCall) Closed Start s.xs) in
     let argument : first ≡ rule.argument.now ++ end = s.front Closed ∙ ap (λ (t : List ℕ). t ++ end) (sym (argument_is ∙ taken first all end (s.front Closed))) in
+    let call : inside ≡ 10 ∷ (indent 1 ++ (rule.argument.now ++ (44 ∷ 10 ∷ 41 ∷ side))) = line ∙ ap (λ (t : List ℕ). 10 ∷ (indent 1 ++ t)) (argument ∙ ap (λ (t : List ℕ). rule.argument.now ++ t) (comma ∙ ap (λ (t : List ℕ). 44 ∷ t) (closes ∙ ap (λ (t : List ℕ). 10 ∷ t) closed))) in
+    let begins : text ≡ N ++ (kind ++ (40 ∷ inside)) = above.front ∙ ap (λ (t : List ℕ). N ++ t) (f.front ∙ (λ i. sym same i ++ opens i)) in
     record {
       below = below;
       depth_is = refl;
       notes = above.notes;
       are = above.are;
-      kind_is = rw kind f.is;
-      front = above.front ∙ ap (λ (t : List ℕ). bytes_of (comment_lines above.notes) ++ t) (f.front ∙ ap (λ (t : List ℕ). t ++ rule.bracket.now) (sym kind));
-      bracket = opens ∙ ap (λ (t : List ℕ). 40 ∷ t) (line ∙ ap (λ (t : List ℕ). 10 ∷ (indent 1 ++ t)) (argument ∙ ap (λ (t : List ℕ). rule.argument.now ++ t) (comma ∙ ap (λ (t : List ℕ). 44 ∷ t) closes)));
+      kind_is = rw same f.is;
       xs = s.xs;
       is = s.is;
       flat = s.breaks;
       laid = λ gap. append_cancel_right (gap_bytes gap ++ rule.argument.now) _ end (append_assoc (gap_bytes gap) rule.argument.now end ∙ ap (λ (t : List ℕ). gap_bytes gap ++ t) (sym argument) ∙ s.front gap);
       last = side;
-      close = close;
+      rest = rest;
       end = e;
+      front = begins ∙ ap (λ (t : List ℕ). N ++ (kind ++ (40 ∷ t))) call;
+      chunk = chunk_is;
+      head = head_is ∙ taken text (N ++ (kind ++ 40 ∷ [])) inside (begins ∙ joined N kind);
+      closes = end_is ∙ taken close (41 ∷ (S ++ 10 ∷ [])) rest (closed ∙ ap (λ (t : List ℕ). 41 ∷ t) (e.side.front ∙ ap (λ (t : List ℕ). S ++ t) e.ends ∙ sym (append_assoc S (10 ∷ []) rest)));
     }
+  where
+    joined : (N kind : List ℕ) → N ++ (kind ++ (40 ∷ inside)) ≡ (N ++ (kind ++ 40 ∷ [])) ++ inside
+    joined N kind = simp append_assoc
 
 -- what is written of it
 
-abbrev kind_and_notes : (depth : ℕ) (text : List ℕ) (rule : LinedRule) → IsLinedRule depth text rule → List ℕ
-kind_and_notes depth text rule r = bytes_of (comment_lines r.notes) ++ rule.kind.now
+abbrev kind_and_notes : (depth : ℕ) (text kind : List ℕ) (rule : OneArgument) → IsLinedRule depth text kind rule → List ℕ
+kind_and_notes depth text kind rule r = bytes_of (comment_lines r.notes) ++ kind
 
-abbrev tail_of : (depth : ℕ) (text : List ℕ) (rule : LinedRule) → IsLinedRule depth text rule → List ℕ
-tail_of depth text rule r = bytes_of (suffix_piece r.end.side.note) ++ 10 ∷ []
+abbrev tail_of : (depth : ℕ) (text kind : List ℕ) (rule : OneArgument) → IsLinedRule depth text kind rule → List ℕ
+tail_of depth text kind rule r = bytes_of (suffix_piece r.end.side.note) ++ 10 ∷ []
 
-pub text_is : (depth : ℕ) (text : List ℕ) (rule : LinedRule) (r : IsLinedRule depth text rule)
-    → lined_text rule text ≡ bytes_of (comment_lines r.notes) ++ (rule.kind.now ++ (40 ∷ (rule.argument.now ++ (41 ∷ tail_of depth text rule r))))
-text_is depth text rule r =
-    (λ i. taken text (kind_and_notes depth text rule r) rule.bracket.now (r.front ∙ sym (append_assoc (bytes_of (comment_lines r.notes)) rule.kind.now rule.bracket.now)) i
-    ++ (40 ∷ (rule.argument.now ++ taken rule.close.now (41 ∷ tail_of depth text rule r) rule.rest.now close i)))
-    ∙ append_assoc (bytes_of (comment_lines r.notes)) rule.kind.now (40 ∷ (rule.argument.now ++ (41 ∷ tail_of depth text rule r)))
+pub text_is : (depth : ℕ) (text kind : List ℕ) (rule : OneArgument) (r : IsLinedRule depth text kind rule)
+    → lined_text rule ≡ bytes_of (comment_lines r.notes) ++ (kind ++ (40 ∷ (rule.argument.now ++ (41 ∷ tail_of depth text kind rule r))))
+text_is depth text kind rule r = (λ i. r.head i ++ (rule.argument.now ++ r.closes i)) ∙ joined (bytes_of (comment_lines r.notes)) (41 ∷ tail_of depth text kind rule r)
   where
-    close : rule.close.now ≡ (41 ∷ tail_of depth text rule r) ++ rule.rest.now
-    close = r.close ∙ ap (λ (t : List ℕ). 41 ∷ t) (r.end.side.front ∙ ap (λ (t : List ℕ). bytes_of (suffix_piece r.end.side.note) ++ t) r.end.ends ∙ sym (append_assoc (bytes_of (suffix_piece r.end.side.note)) (10 ∷ []) rule.rest.now))
+    joined : (N T : List ℕ) → (N ++ (kind ++ 40 ∷ [])) ++ (rule.argument.now ++ T) ≡ N ++ (kind ++ (40 ∷ (rule.argument.now ++ T)))
+    joined N T = simp append_assoc
 
-abbrev call_text : (depth : ℕ) (text : List ℕ) (rule : LinedRule) → IsLinedRule depth text rule → List ℕ
-call_text depth text rule r = 40 ∷ (rule.argument.now ++ (41 ∷ tail_of depth text rule r))
+abbrev call_text : (depth : ℕ) (text kind : List ℕ) (rule : OneArgument) → IsLinedRule depth text kind rule → List ℕ
+call_text depth text kind rule r = 40 ∷ (rule.argument.now ++ (41 ∷ tail_of depth text kind rule r))
 
-abbrev call_of : (depth : ℕ) (text : List ℕ) (rule : LinedRule) → (r : IsLinedRule depth text rule) → IsGroupFront RuleCall 0 (suc r.below) (call_text depth text rule r) (tail_of depth text rule r) false
-call_of depth text rule r =
-    call_front r.below (call_text depth text rule r) (rule.argument.now ++ (41 ∷ tail_of depth text rule r)) (41 ∷ tail_of depth text rule r) (tail_of depth text rule r) refl (record {
+abbrev call_of : (depth : ℕ) (text kind : List ℕ) (rule : OneArgument) → (r : IsLinedRule depth text kind rule) → IsGroupFront RuleCall 0 (suc r.below) (call_text depth text kind rule r) (tail_of depth text kind rule r) false
+call_of depth text kind rule r =
+    call_front r.below (call_text depth text kind rule r) (rule.argument.now ++ (41 ∷ tail_of depth text kind rule r)) (41 ∷ tail_of depth text kind rule r) (tail_of depth text kind rule r) refl (record {
       xs = r.xs;
       is = r.is;
-      front = λ gap. sym (append_assoc (gap_bytes gap) rule.argument.now (41 ∷ tail_of depth text rule r)) ∙ ap (λ (t : List ℕ). t ++ (41 ∷ tail_of depth text rule r)) (r.laid gap);
+      front = λ gap. sym (append_assoc (gap_bytes gap) rule.argument.now (41 ∷ tail_of depth text kind rule r)) ∙ ap (λ (t : List ℕ). t ++ (41 ∷ tail_of depth text kind rule r)) (r.laid gap);
       breaks = r.flat;
     }) refl
 
-no_name : (depth : ℕ) (text : List ℕ) (rule : LinedRule) (r : IsLinedRule depth text rule) → (HasArgumentName (codes "name") (lined_text rule text) → ⊥)
-    → HasArgumentName (codes "name") (take (length (call_text depth text rule r) - length (tail_of depth text rule r)) (call_text depth text rule r)) → ⊥
-no_name depth text rule r none has =
-    none (subst (HasArgumentName (codes "name")) (sym (text_is depth text rule r ∙ within (bytes_of (comment_lines r.notes)) (tail_of depth text rule r)))
-    (after_it (codes "name") (kind_and_notes depth text rule r) _ (before_it (codes "name") (40 ∷ (rule.argument.now ++ 41 ∷ [])) (tail_of depth text rule r) (subst (HasArgumentName (codes "name")) (taken (call_text depth text rule r) (40 ∷ (rule.argument.now ++ 41 ∷ [])) (tail_of depth text rule r) (call (tail_of depth text rule r))) has))))
+no_name : (depth : ℕ) (text kind : List ℕ) (rule : OneArgument) (r : IsLinedRule depth text kind rule) → (HasArgumentName (codes "name") (lined_text rule) → ⊥)
+    → HasArgumentName (codes "name") (take (length (call_text depth text kind rule r) - length (tail_of depth text kind rule r)) (call_text depth text kind rule r)) → ⊥
+no_name depth text kind rule r none has =
+    none (subst (HasArgumentName (codes "name")) (sym (text_is depth text kind rule r ∙ within (bytes_of (comment_lines r.notes)) (tail_of depth text kind rule r)))
+    (after_it (codes "name") (kind_and_notes depth text kind rule r) _ (before_it (codes "name") (40 ∷ (rule.argument.now ++ 41 ∷ [])) (tail_of depth text kind rule r) (subst (HasArgumentName (codes "name")) (taken (call_text depth text kind rule r) (40 ∷ (rule.argument.now ++ 41 ∷ [])) (tail_of depth text kind rule r) (call (tail_of depth text kind rule r))) has))))
   where
     call : (T : List ℕ) → 40 ∷ (rule.argument.now ++ (41 ∷ T)) ≡ (40 ∷ (rule.argument.now ++ 41 ∷ [])) ++ T
     call T = simp append_assoc
 
-    within : (N T : List ℕ) → N ++ (rule.kind.now ++ (40 ∷ (rule.argument.now ++ (41 ∷ T)))) ≡ (N ++ rule.kind.now) ++ ((40 ∷ (rule.argument.now ++ 41 ∷ [])) ++ T)
+    within : (N T : List ℕ) → N ++ (kind ++ (40 ∷ (rule.argument.now ++ (41 ∷ T)))) ≡ (N ++ kind) ++ ((40 ∷ (rule.argument.now ++ 41 ∷ [])) ++ T)
     within N T = simp append_assoc
 
-abbrev lined_front : (depth : ℕ) (text : List ℕ) (rule : LinedRule) → (r : IsLinedRule depth text rule) → (HasArgumentName (codes "name") (lined_text rule text) → ⊥)
-    → IsStatementFront (suc r.below) RuleClass None (Some rule.kind.now) (bytes_of (comment_lines r.notes) ++ (rule.kind.now ++ call_text depth text rule r)) [] []
-lined_front depth text rule r none =
-    let start : List ℕ = rule.kind.now ++ call_text depth text rule r in
-    let call = unnamed_front (suc r.below) (call_text depth text rule r) (take (length (call_text depth text rule r) - length (tail_of depth text rule r)) (call_text depth text rule r)) (tail_of depth text rule r) false (call_of depth text rule r) refl (no_name depth text rule r none) in
-    statement_front (suc r.below) RuleClass None (Some rule.kind.now) (bytes_of (comment_lines r.notes) ++ start) start (tail_of depth text rule r) (10 ∷ []) [] r.end.noted (record { notes = r.notes; are = r.are; front = refl })
-    (rule_bare (suc r.below) None (Some rule.kind.now) start (call_text depth text rule r) (tail_of depth text rule r) (record { token = rule.kind.now; is = r.kind_is; stays = refl; front = refl }) call (refl, call.none))
+abbrev lined_front : (depth : ℕ) (text kind : List ℕ) (rule : OneArgument) → (r : IsLinedRule depth text kind rule) → (HasArgumentName (codes "name") (lined_text rule) → ⊥)
+    → IsStatementFront (suc r.below) RuleClass None (Some kind) (bytes_of (comment_lines r.notes) ++ (kind ++ call_text depth text kind rule r)) [] []
+lined_front depth text kind rule r none =
+    let start : List ℕ = kind ++ call_text depth text kind rule r in
+    let call = unnamed_front (suc r.below) (call_text depth text kind rule r) (take (length (call_text depth text kind rule r) - length (tail_of depth text kind rule r)) (call_text depth text kind rule r)) (tail_of depth text kind rule r) false (call_of depth text kind rule r) refl (no_name depth text kind rule r none) in
+    statement_front (suc r.below) RuleClass None (Some kind) (bytes_of (comment_lines r.notes) ++ start) start (tail_of depth text kind rule r) (10 ∷ []) [] r.end.noted (record { notes = r.notes; are = r.are; front = refl })
+    (rule_bare (suc r.below) None (Some kind) start (call_text depth text kind rule r) (tail_of depth text kind rule r) (record { token = kind; is = r.kind_is; stays = refl; front = refl }) call (refl, call.none))
     (record { note = r.end.side.note; is = r.end.side.is; front = refl; some_is = r.end.side.some_is }) refl
 
 -- how it stands
@@ -131,16 +138,16 @@ stands notes kind argument xs suffix rest is = by (comment_lines notes) (items_b
         ) (joined (bytes_of C) (bytes_of S))
 
 -- its chunk
-pub lined_chunk : (depth : ℕ) (attr text : List ℕ) (rule : LinedRule) (chunk : List ℕ) → IsLinedRule depth text rule → (HasArgumentName (codes "name") (lined_text rule text) → ⊥) → chunk ≡ take (length text - length rule.rest.now) text
-    → IsCanonical depth attr RuleClass None (Some rule.kind.now) None chunk (lined_text rule text) text
-lined_chunk depth attr text rule chunk r none chunk_is =
-    let f = lined_front depth text rule r none in
-    subst (λ d. IsCanonical d attr RuleClass None (Some rule.kind.now) None chunk (lined_text rule text) text) r.depth_is
-    (free_chunk (suc r.below) attr None (Some rule.kind.now) f.s on_line text rule.rest.now (lined_text rule text) chunk None f.well (tt, ((λ no. refl, (own_stand r.xs, tt)), tt))
-    (ap (λ xs. unnamed_statement r.notes rule.kind.now xs r.end.side.note) (own_spelled r.xs ∙ r.is.stays)) refl f.named f.nameless
-    (whole ∙ stands r.notes rule.kind.now rule.argument.now r.xs r.end.side.note rule.rest.now (r.laid (Line 1)))
-    (text_is depth text rule r ∙ f.front ∙ append-nil _) f.absent chunk_is (λ t same. tt))
+pub lined_chunk : (depth : ℕ) (attr text kind : List ℕ) (rule : OneArgument) → IsLinedRule depth text kind rule → (HasArgumentName (codes "name") (lined_text rule) → ⊥)
+    → IsCanonical depth attr RuleClass None (Some kind) None rule.chunk.now (lined_text rule) text
+lined_chunk depth attr text kind rule r none =
+    let f = lined_front depth text kind rule r none in
+    subst (λ d. IsCanonical d attr RuleClass None (Some kind) None rule.chunk.now (lined_text rule) text) r.depth_is
+    (free_chunk (suc r.below) attr None (Some kind) f.s on_line text r.rest (lined_text rule) rule.chunk.now None f.well (tt, ((λ no. refl, (own_stand r.xs, tt)), tt))
+    (ap (λ xs. unnamed_statement r.notes kind xs r.end.side.note) (own_spelled r.xs ∙ r.is.stays)) refl f.named f.nameless
+    (whole ∙ stands r.notes kind rule.argument.now r.xs r.end.side.note r.rest (r.laid (Line 1)))
+    (text_is depth text kind rule r ∙ f.front ∙ append-nil _) f.absent r.chunk (λ t same. tt))
   where
-    whole : text ≡ bytes_of (comment_lines r.notes) ++ (rule.kind.now ++ (40 ∷ 10 ∷ (indent 1 ++ (rule.argument.now ++ (44 ∷ 10 ∷ 41 ∷ (bytes_of (suffix_piece r.end.side.note) ++ 10 ∷ rule.rest.now))))))
-    whole = r.front ∙ ap (λ (t : List ℕ). bytes_of (comment_lines r.notes) ++ (rule.kind.now ++ t))
-        (r.bracket ∙ ap (λ (t : List ℕ). 40 ∷ 10 ∷ (indent 1 ++ (rule.argument.now ++ (44 ∷ 10 ∷ t)))) (r.close ∙ ap (λ (t : List ℕ). 41 ∷ t) (r.end.side.front ∙ ap (λ (t : List ℕ). bytes_of (suffix_piece r.end.side.note) ++ t) r.end.ends)))
+    whole : text ≡ bytes_of (comment_lines r.notes) ++ (kind ++ (40 ∷ 10 ∷ (indent 1 ++ (rule.argument.now ++ (44 ∷ 10 ∷ 41 ∷ (bytes_of (suffix_piece r.end.side.note) ++ 10 ∷ r.rest))))))
+    whole = r.front ∙ ap (λ (t : List ℕ). bytes_of (comment_lines r.notes) ++ (kind ++ (40 ∷ 10 ∷ (indent 1 ++ (rule.argument.now ++ (44 ∷ 10 ∷ 41 ∷ t))))))
+        (r.end.side.front ∙ ap (λ (t : List ℕ). bytes_of (suffix_piece r.end.side.note) ++ t) r.end.ends)

@@ -88,8 +88,6 @@ number_value text rest f level depth = record {
   breaks = refl;
 }
 
-pub ruleset leaf_values = (string_value, name_value, number_value)
-
 -- whether a group is broken, by what was counted
 pub broken_by : (kind : GroupKind) (segs : Segs) (end : List (List ℕ)) (n : ℕ) (h c e : Bool) → is_filled end ≡ e → have_comments segs ≡ c → count segs ≡ n → segs_hold segs ≡ h
     → is_broken kind segs end (segs_hold segs) ≡ (e || c || breaks_by_count kind n || (nat_le 2 n && h))

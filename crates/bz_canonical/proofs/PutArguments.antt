@@ -1,6 +1,6 @@
 -- Arguments of a rule, and what is written of them.
 use Rattle.std.proofs.Common.{subst, ◌||◌, ◌≡◌, ◌≤◌, ◌<◌, ℕ, suc, length, List, [], ◌∷◌, ◌++◌, Bool, true, false, refl, sym, ap, ◌∙◌, arith, append_assoc, append-nil}
-use Rattle.std.specs.Prelude.{codes, flat_map, map, nat_le, IfSome, Some, if◌then◌else◌, None, Option, option_to_list}
+use Rattle.std.specs.Prelude.{codes, flat_map, map, nat_le, IfSome, Some, if◌then◌else◌, None, Option, option_map, option_to_list}
 use Rattle.std.proofs.lemmas.Bool.{false≢true}
 use Rattle.std.proofs.lemmas.Bool.Decides.{nat_tests}
 use Rattle.std.proofs.lemmas.List.Folds.{list_any-append}
@@ -33,11 +33,15 @@ use Rattle.bz_canonical.specs.private.Calls.{IsValueRead}
 use Rattle.bz_canonical.specs.private.Fronts.{IsTokenFront}
 use Rattle.bz_token.specs.Common.{is_filled}
 use Rattle.bz_layout_laws.specs.Spelled.{spelled_segs}
-use Rattle.bz_canonical.specs.private.Rewritten.{AreArgumentsRead, AreFormed, AreOthersRead, ArePlacedRead, AreRead, HasPut, IsValueEnd, PutEnds, AreElements, ArePlaced, Element, IsArgumentRead, IsHeadRead, IsPlaced, Placed, args_of, element_list, element_segs, elements_as_is, placed_lines}
+use Rattle.bz_canonical.specs.declared.put_arguments.PutArguments.{PutArguments}
+use Rattle.bz_canonical.specs.declared.put_arguments.PutOthers.{PutOthers}
+use Rattle.bz_canonical.specs.declared.put_arguments.PutPlace.{PutPlace}
+use Rattle.bz_canonical.specs.private.Rewritten.{AreArgumentsRead, AreEnded, AreFormed, AreOthersRead, AreRead, HasPut, IsPending, IsValueEnd, PutEnds, put_ends, AreElements, ArePlaced, Element, IsArgumentRead, IsHeadRead, IsPlaced, Placed, args_of, element_list, element_segs, elements_as_is, placed_lines}
 use Rattle.bz_canonical.specs.private.Segments.{AreNotesFront, AreSegments, AreSegmentsFront, IsBesideFront}
 use Rattle.bz_canonical.proofs.ArgumentLines.{argument_front, lines_after, lines_append, segs_same}
 use Rattle.bz_canonical.proofs.ElementLists.{flat_append}
 use Rattle.bz_canonical.proofs.GroupSegments.{equals_text, most, no_segments}
+use Rattle.bz_canonical.proofs.Pendings.{pend_more, pend_same}
 use Rattle.bz_canonical.proofs.OwnLayout.{own_items, own_spelled, own_stand}
 
 -- elements, as a well-formed statement has them
@@ -311,9 +315,6 @@ one_more depth attr text rest next w v one a p =
     none : (x : Bool) → x ≡ false → (y : Bool) → y ≡ false → (x || (y || false)) ≡ false
     none x x_is y y_is = rw (x_is, y_is) refl
 
-pub all_read : (depth : ℕ) (text middle rest w v : List ℕ) (one more : Bool) → AreRead depth text middle w one → AreRead depth middle rest v more → AreRead depth text rest (w ++ v) (one || more)
-all_read depth text middle rest w v one more a b = append_read depth text middle rest w v one more a b
-
 -- the last of them, as they stand
 pub last_read : (depth : ℕ) (text middle : List ℕ) (n : ℕ) (h k one : Bool) → (t : AreSegmentsFront RuleCall 1 depth text middle n h k) → one ≡ nat_le 1 n
     → (w : List ℕ) × (text ≡ w ++ middle) × AreRead depth text middle w one
@@ -394,21 +395,46 @@ arguments_end depth attr text middle rest begun w one e some a n some_is place h
   has = has;
 }
 
-pub arguments_read : (named : Bool) (depth : ℕ) (attr text to middle rest begun w u : List ℕ) (one more e some : Bool) (ends : PutEnds) → ArePlacedRead depth attr text to begun w one ends named → AreRead depth to middle u more → (n : AreNotesFront 1 middle rest e)
-    → some ≡ ((one || more) || e) → (place : Option PutEnds) → IfSome place (λ p. (p ≡ ends) × (named ≡ false → more ≡ false))
-    → AreArgumentsRead depth attr text rest begun ((w ++ u) ++ bytes_of (comments 1 n.notes)) some place
-arguments_read false depth attr text to middle rest begun w u one more e some ends r t n some_is place known =
-    arguments_end depth attr text middle rest begun (w ++ u) (one || more) e some (append_read depth text to middle w u one more r.0.read t) n some_is place (at place known)
+-- the arguments after others, and the comments after them; the place of one more
+pub others_ended : (depth : ℕ) (attr whole text buffer begun w : List ℕ) (before : PutOthers) (place : Option PutPlace) (read : PutArguments) → IsPending whole buffer (begun ++ w) before.at.from.now before.at.rest.now
+    → (a : AreRead depth text before.at.rest.now w before.one) → IfSome place (λ p. (has attr (args_of a.placed) ≡ false) × (put_ends p ≡ record { from = before.at.rest.now; to = before.at.rest.now; start = length (begun ++ w); end = length (begun ++ w) }))
+    → AreEnded depth before place read → (v : List ℕ) × IsPending whole buffer (begun ++ v) read.at.from.now read.at.rest.now × AreArgumentsRead depth attr text read.at.rest.now begun v read.some (option_map put_ends read.place)
+others_ended depth attr whole text buffer begun w before place read p a known e =
+    let last = last_read depth before.at.rest.now e.middle e.count e.holds e.noted (nat_le 1 e.count) e.segments refl in
+    let all = append_read depth text before.at.rest.now e.middle w last.0 before.one (nat_le 1 e.count) a last.2 in
+    let notes : List ℕ = bytes_of (comments 1 e.notes.notes) in
+    let lines = pend_more whole buffer (begun ++ w) before.at.from.now before.at.rest.now last.0 e.middle p last.1 in
+    let ends = pend_more whole buffer ((begun ++ w) ++ last.0) before.at.from.now e.middle notes read.at.rest.now lines e.notes.front in (
+      (w ++ last.0) ++ notes,
+      subst (λ (from : List ℕ). IsPending whole buffer (begun ++ ((w ++ last.0) ++ notes)) from read.at.rest.now) (sym e.from)
+          (pend_same whole buffer (((begun ++ w) ++ last.0) ++ notes) before.at.from.now read.at.rest.now (begun ++ ((w ++ last.0) ++ notes)) ends (joined last.0 notes)),
+      arguments_end depth attr text e.middle read.at.rest.now begun (w ++ last.0) (before.one || nat_le 1 e.count) e.ended read.some all e.notes e.some_is (option_map put_ends read.place) (at last.0 last.2 read.place e.stays),
+    )
   where
-    at : (place : Option PutEnds) → IfSome place (λ p. (p ≡ ends) × (false ≡ false → more ≡ false)) → IfSome place (HasPut depth attr begun text (r.0.read.placed ++ t.placed))
-    at None known = tt
-    at (Some p) known = subst (HasPut depth attr begun text (r.0.read.placed ++ t.placed)) (sym (known.0 ∙ r.1)) (none_put depth attr text to middle begun w u one more r.0 t (known.1 refl))
-arguments_read true depth attr text to middle rest begun w u one more e some ends r t n some_is place known =
-    let later = append_read depth r.0 to middle r.2 u true more (single_read depth attr r.0 to r.2 true r.5) t in
-    subst (λ (y : List ℕ). AreArgumentsRead depth attr text rest begun (y ++ bytes_of (comments 1 n.notes)) some place) (sym (append_assoc r.1 r.2 u) ∙ ap (λ (y : List ℕ). y ++ u) (sym r.6))
-    (arguments_end depth attr text middle rest begun (r.1 ++ (r.2 ++ u)) (r.3 || true) e some (append_read depth text r.0 middle r.1 (r.2 ++ u) r.3 true r.4.read later) n
-    (some_is ∙ ap (λ b. (b || more) || e) r.7 ∙ ap (λ b. b || e) (sym (or_true r.3))) place (at place known))
+    joined : (x n : List ℕ) → ((begun ++ w) ++ x) ++ n ≡ begun ++ ((w ++ x) ++ n)
+    joined x n = simp append_assoc
+
+    at : (v : List ℕ) (t : AreRead depth before.at.rest.now e.middle v (nat_le 1 e.count)) (kept : Option PutPlace) → IfSome kept (λ q. (place ≡ Some q) × (nat_le 1 e.count ≡ false)) → IfSome (option_map put_ends kept) (HasPut depth attr begun text (a.placed ++ t.placed))
+    at v t None is = tt
+    at v t (Some q) is =
+        let told = subst (λ o. IfSome o (λ p. (has attr (args_of a.placed) ≡ false) × (put_ends p ≡ record { from = before.at.rest.now; to = before.at.rest.now; start = length (begun ++ w); end = length (begun ++ w) }))) is.0 known in
+        subst (HasPut depth attr begun text (a.placed ++ t.placed)) (sym told.1) (none_put depth attr text before.at.rest.now e.middle begun w v before.one (nat_le 1 e.count) (record { read = a; others = told.0 }) t is.1)
+
+-- the first of the name, and all arguments after it
+pub placed_all : (depth : ℕ) (attr text from to rest begun w u x : List ℕ) (one some : Bool) (place : Option PutEnds) (ends : PutEnds) → AreOthersRead depth attr text from w one → IsArgumentRead depth attr from to u true
+    → AreArgumentsRead depth [] to rest ((begun ++ w) ++ u) x some place → ends ≡ record { from = from; to = to; start = length (begun ++ w); end = length ((begun ++ w) ++ u) }
+    → AreArgumentsRead depth attr text rest begun ((w ++ u) ++ x) true (Some ends)
+placed_all depth attr text from to rest begun w u x one some place ends o p a ends_is =
+    let lines : List ℕ = argument_lines (args_of a.placed) in
+    let notes : List ℕ = bytes_of (comments 1 a.end) in
+    let more : Bool = nat_le 1 (length a.placed) in
+    let t : AreRead depth to (notes ++ rest) lines more = record { placed = a.placed; are = a.are; front = a.front; spells = refl; one_is = refl } in
+    let n : AreNotesFront 1 (notes ++ rest) rest (is_filled a.end) = record { notes = a.end; are = a.end_is; front = refl; some_is = refl } in
+    let later = append_read depth from to (notes ++ rest) u lines true more (single_read depth attr from to u true p) t in
+    subst (λ (y : List ℕ). AreArgumentsRead depth attr text rest begun y true (Some ends)) (joined lines notes ∙ ap (λ (y : List ℕ). (w ++ u) ++ y) (sym a.spells))
+    (arguments_end depth attr text (notes ++ rest) rest begun (w ++ (u ++ lines)) (one || true) (is_filled a.end) true (append_read depth text from (notes ++ rest) w (u ++ lines) one true o.read later) n
+    (ap (λ b. b || is_filled a.end) (sym (or_true one))) (Some ends)
+    (subst (HasPut depth attr begun text (o.read.placed ++ (p.placed ∷ a.placed))) (sym ends_is) (one_put depth attr text from to (notes ++ rest) begun w u lines one more o p t)))
   where
-    at : (place : Option PutEnds) → IfSome place (λ p. (p ≡ ends) × (true ≡ false → more ≡ false)) → IfSome place (HasPut depth attr begun text (r.4.read.placed ++ (r.5.placed ∷ t.placed)))
-    at None known = tt
-    at (Some q) known = subst (HasPut depth attr begun text (r.4.read.placed ++ (r.5.placed ∷ t.placed))) (sym (known.0 ∙ r.8)) (one_put depth attr text r.0 to middle begun r.1 r.2 u r.3 more r.4 r.5 t)
+    joined : (l n : List ℕ) → (w ++ (u ++ l)) ++ n ≡ (w ++ u) ++ (l ++ n)
+    joined l n = simp append_assoc

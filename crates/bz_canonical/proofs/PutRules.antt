@@ -443,23 +443,6 @@ rule_pending depth attr text name inside next below rest from buffer w some plac
       rule_read depth attr text name inside next below rest front w back some place h (head_is text name inside next h) a some_is e back_is kept known,
     )
 
-empty_of : (xs : List ℕ) → length xs ≡ 0 → xs ≡ []
-empty_of [] none = refl
-empty_of (x ∷ xs) none = absurd (no none)
-  where
-    no : suc (length xs) ≡ 0 → ⊥
-    no is = omega (arith, is)
-
--- nothing is in the buffer: it stands as it is written
-pub stands_as_is : (text buffer all from rest : List ℕ) → IsPending text buffer all from rest → length buffer ≡ 0 → all ≡ take (length text - length rest) text
-stands_as_is text buffer all from rest p none =
-    let empty : buffer ≡ [] = empty_of buffer none in
-    p.all_is ∙ ap (λ (b : List ℕ). b ++ p.part) empty ∙ sym (taken text p.part rest (sym (p.whole empty) ∙ p.front))
-
--- the rest goes into the buffer
-pub all_put : (text buffer all from rest back : List ℕ) → IsPending text buffer all from rest → back ≡ take (length from - length rest) from → all ≡ buffer ++ back
-all_put text buffer all from rest back p is = p.all_is ∙ ap (λ (t : List ℕ). buffer ++ t) (sym (is ∙ taken from p.part rest p.front))
-
 -- its place in what is read of it
 place_back : (depth : ℕ) (attr : List ℕ) (s t : Statement) (text written : List ℕ) (ends : Option PutEnds) → lineless t ≡ lineless s → IfSome ends (HasPutPlace depth attr s text written) → (place : Option Between) → IsPutPlaceIn text written ends place
     → IfSome place (HasPlace depth attr t)

@@ -1,5 +1,5 @@
 -- The call of a rule by what was read of it.
-use Rattle.std.proofs.Common.{◌≡◌, ℕ, ◌+◌, ◌-◌, ◌<◌, ◌||◌, ◌&&◌, arith, List, [], ◌∷◌, ◌++◌, Bool, true, false, refl, sym, ap, ◌∙◌, append_assoc, subst, length, take, option_and_then}
+use Rattle.std.proofs.Common.{◌≡◌, ℕ, ◌+◌, ◌-◌, ◌<◌, ◌≤◌, ◌||◌, ◌&&◌, arith, List, [], ◌∷◌, ◌++◌, Bool, true, false, refl, sym, ap, ◌∙◌, append_assoc, append-nil, subst, length, take, drop, option_and_then}
 use Rattle.std.specs.Prelude.{bytes_eq, codes, nat_le, Some, None, if◌then◌else◌}
 use Rattle.std.proofs.lemmas.Bool.{false≢true, le-leb}
 use Rattle.std.proofs.Math.Seq.{take-append_seam}
@@ -177,6 +177,12 @@ stands_later name text rest b is other has = by has.before (sym is ∙ has.is)
     by : (before : List ℕ) → b ∷ rest ≡ before ++ (name ++ (codes " =" ++ has.after)) → HasArgumentName name rest
     by [] at = absurd (other has.after (is ∙ at))
     by (x ∷ xs) at = record { before = xs; after = has.after; is = ap all_but_first at }
+
+pub stands_next : (name rest : List ℕ) → 1 ≤ length rest → ((after : List ℕ) → rest ≡ name ++ (codes " =" ++ after) → ⊥) → HasArgumentName name rest → HasArgumentName name (take (length rest - 1) (drop 1 rest))
+stands_next name [] some other has = absurd (omega (arith, some))
+stands_next name (b ∷ rest) some other has =
+    let all : length (b ∷ rest) - 1 ≡ length rest - length {A = ℕ} [] = omega arith in
+    subst (HasArgumentName name) (sym (ap (λ n. take n rest) all ∙ taken rest rest [] (sym (append-nil rest)))) (stands_later name (b ∷ rest) rest b refl other has)
 
 pub never_in_nothing : (name text : List ℕ) → text ≡ [] → HasArgumentName name text → ⊥
 never_in_nothing name text is has = by has.before name (sym has.is ∙ is)

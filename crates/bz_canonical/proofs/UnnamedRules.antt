@@ -1,7 +1,7 @@
 -- A rule without a name whose only argument stands in place, by what was read of it.
 use Rattle.std.proofs.Common.{◌≡◌, ℕ, suc, ◌-◌, length, take, drop, List, [], ◌∷◌, ◌++◌, Bool, true, false, refl, sym, ap, ◌∙◌, append_assoc, append-nil, subst}
 use Rattle.std.proofs.Math.Seq.{take-append_seam, drop-append_seam}
-use Rattle.std.specs.Prelude.{codes, if◌then◌else◌, IfSome, Option, None, Some, option_map, option_to_list}
+use Rattle.std.specs.Prelude.{codes, if◌then◌else◌, Option, None, Some, option_to_list}
 use Rattle.bz_token.specs.declared.token.Kind.TheVariants.{Identifier, Operator}
 use Rattle.bz_token.specs.Common.{is_empty}
 use Rattle.bz_tree.specs.declared.tree.Class.TheVariants.{Rule as RuleClass}
@@ -18,11 +18,11 @@ use Rattle.bz_layout_laws.specs.TextsOfKinds.{SegsHaveTexts}
 use Rattle.bz_layout_laws.proofs.SameInside.{items_same}
 use Rattle.bz_attribute.specs.Rules.{first_named, is_named}
 use Rattle.bz_attribute.proofs.Views.{segments_of}
-use Rattle.bz_canonical.specs.Canonical.{AreReadAlone, Between, HasArgumentName, HasPlace, IsCanonical, argument_lines, between, first_args}
-use Rattle.bz_canonical.specs.declared.chunk.CanonicalChunk.{CanonicalChunk}
+use Rattle.bz_canonical.specs.Canonical.{AreReadAlone, HasArgumentName, HasPlace, IsCanonical, argument_lines, first_args}
+use Rattle.bz_canonical.specs.declared.unnamed.OneArgument.{OneArgument}
 use Rattle.bz_canonical.specs.private.Fronts.{IsTokenFront}
 use Rattle.bz_canonical.specs.private.Segments.{AreLinesFront, IsGroupFront, IsSegmentFront}
-use Rattle.bz_canonical.specs.private.Unnamed.{IsStatementEnd, IsUnnamedRule}
+use Rattle.bz_canonical.specs.private.Unnamed.{IsStatementEnd, IsUnnamedRule, unnamed_head}
 use Rattle.bz_canonical.proofs.CanonicalChunks.{canonical_chunk}
 use Rattle.bz_canonical.proofs.BareStatements.{rule_bare}
 use Rattle.bz_canonical.proofs.GroupSegments.{begin_flat, no_segments}
@@ -121,52 +121,33 @@ call_front depth bracket argument close end opens s closes =
     let g = flat_group RuleCall 0 (suc depth) depth argument close end 41 1 false refl refl all refl closes in
     record { segs = g.segs; below = depth; depth_is = refl; are = g.are; end = g.end; end_is = g.end_is; front = λ gap. ap (λ (t : List ℕ). gap_bytes gap ++ t) opens ∙ g.front gap; breaks = g.breaks }
 
-pub unnamed_rule : (depth : ℕ) (attr text start bracket argument close end call rest : List ℕ) → AreLinesFront text start → IsTokenFront Identifier start bracket → bracket ≡ 40 ∷ argument
+pub unnamed_rule : (depth : ℕ) (attr text start bracket argument close end call rest : List ℕ) (rule : OneArgument) → AreLinesFront text start → IsTokenFront Identifier start bracket → bracket ≡ 40 ∷ argument
     → IsSegmentFront RuleCall 1 depth argument close false → close ≡ 41 ∷ end → call ≡ take (length bracket - length end) bracket → (HasArgumentName (codes "name") call → ⊥) → (HasArgumentName attr call → ⊥)
-    → IsStatementEnd end rest → IsUnnamedRule (suc depth) attr text argument close rest
-unnamed_rule depth attr text start bracket argument close end call rest above f opens s closes call_is no_name none e =
+    → IsStatementEnd end rest → rule.chunk.now ≡ take (length text - length rest) text → rule.head.now ≡ take (length text - length argument) text → rule.argument.now ≡ take (length argument - length close) argument
+    → rule.end.now ≡ take (length close - length rest) close → IsUnnamedRule (suc depth) attr text rule
+unnamed_rule depth attr text start bracket argument close end call rest rule above f opens s closes call_is no_name none e chunk_is head_is argument_is end_is =
     let N : List ℕ = bytes_of (comment_lines above.notes) in
     let S : List ℕ = bytes_of (suffix_piece e.side.note) in
     let g = call_front depth bracket argument close end opens s closes in
     let absent : first_named attr (segments g.segs) ≡ None =
     no_argument_name attr g.segs g.end (λ has. none (subst (HasArgumentName attr) (sym (call_is ∙ taken bracket (bytes_of (item_pieces Broken 0 Closed (group RuleCall g.segs false g.end))) end (g.front Closed))) has)) in
+    let begins : rule.head.now ≡ head_of N f.token = head_is ∙ taken text (head_of N f.token) argument (above.front ∙ ap (λ (t : List ℕ). N ++ t) (f.front ∙ ap (λ (t : List ℕ). f.token ++ t) opens) ∙ head N f.token) in
+    let middle : rule.argument.now ≡ in_place s.xs = argument_is ∙ taken argument (in_place s.xs) close (s.front Closed) in
+    let ends : rule.end.now ≡ 41 ∷ (S ++ 10 ∷ []) = end_is ∙ taken close (41 ∷ (S ++ 10 ∷ [])) rest (closes ∙ ap (λ (t : List ℕ). 41 ∷ t) (e.side.front ∙ ap (λ (t : List ℕ). S ++ t) e.ends ∙ sym (append_assoc S (10 ∷ []) rest))) in
     record {
+      rest = rest;
       front = statement_front (suc depth) RuleClass None None text start end e.middle rest e.noted above (rule_bare (suc depth) None None start bracket end f (unnamed_front (suc depth) bracket call end false g call_is no_name) tt) e.side e.ends;
-      head = head_of N f.token;
-      inner = in_place s.xs;
-      end = 41 ∷ (S ++ 10 ∷ []);
-      begins = above.front ∙ ap (λ (t : List ℕ). N ++ t) (f.front ∙ ap (λ (t : List ℕ). f.token ++ t) opens) ∙ head N f.token;
-      goes_on = s.front Closed;
-      ends = closes ∙ ap (λ (t : List ℕ). 41 ∷ t) (e.side.front ∙ ap (λ (t : List ℕ). S ++ t) e.ends ∙ sym (append_assoc S (10 ∷ []) rest));
-      has = unnamed_place depth attr above.notes f.token e.side.note argument close s absent;
+      chunk = chunk_is;
+      has = rw (begins, middle, ends) (unnamed_place depth attr above.notes f.token e.side.note argument close s absent);
     }
   where
     head : (N kind : List ℕ) → N ++ (kind ++ (40 ∷ argument)) ≡ head_of N kind ++ argument
     head N kind = simp append_assoc
 
--- its chunk, and the texts of its parts in the buffer
-pub unnamed_chunk : (depth : ℕ) (attr text argument close rest chunk head inner end laid : List ℕ) (start : ℕ) (place : Between) → IsUnnamedRule depth attr text argument close rest → chunk ≡ take (length text - length rest) text
-    → head ≡ take (length text - length argument) text → inner ≡ take (length argument - length close) argument → end ≡ take (length close - length rest) close
-    → laid ≡ (head ++ (codes "\n    " ++ (inner ++ codes ","))) ++ (10 ∷ end) → start ≡ length (head ++ (codes "\n    " ++ (inner ++ codes ",")))
-    → place ≡ record { before = take start laid; lines = []; after = drop start laid } → IsCanonical depth attr RuleClass None None (Some place) chunk chunk text
-unnamed_chunk depth attr text argument close rest chunk head inner end laid start place r chunk_is head_is inner_is end_is laid_is start_is place_is =
-    let H : List ℕ = head ++ (codes "\n    " ++ (inner ++ codes ",")) in
-    let begins : head ≡ r.head = head_is ∙ taken text r.head argument r.begins in
-    let middle : inner ≡ r.inner = inner_is ∙ taken argument r.inner close r.goes_on in
-    let ends : end ≡ r.end = end_is ∙ taken close r.end rest r.ends in
-    let same : place ≡ record { before = r.head ++ (codes "\n    " ++ (r.inner ++ codes ",")); lines = []; after = 10 ∷ r.end } = place_is
-    ∙ (λ i. record { before = take (start_is i) (laid_is i); lines = []; after = drop (start_is i) (laid_is i) })
-    ∙ (λ i. record { before = take-append_seam H (10 ∷ end) i; lines = []; after = drop-append_seam H (10 ∷ end) i })
-    ∙ (λ i. record { before = begins i ++ (codes "\n    " ++ (middle i ++ codes ",")); lines = []; after = 10 ∷ ends i }) in
-    canonical_chunk depth attr RuleClass None None (Some place) chunk chunk text rest rest r.front chunk_is chunk_is (subst (HasPlace depth attr r.front.s) (sym same) r.has)
-
-pub canonical_of : (text argument close rest chunk head inner end laid : List ℕ) (start : ℕ) → chunk ≡ take (length text - length rest) text
-    → head ≡ take (length text - length argument) text → inner ≡ take (length argument - length close) argument → end ≡ take (length close - length rest) close
-    → laid ≡ (head ++ (codes "\n    " ++ (inner ++ codes ","))) ++ (10 ∷ end) → start ≡ length (head ++ (codes "\n    " ++ (inner ++ codes ",")))
-    → (told : Option CanonicalChunk) → IfSome told (λ found. (found.class ≡ RuleClass) × (found.name ≡ None) × (found.kind ≡ None)) → IfSome told (λ found. (found.chunk.now ≡ chunk) × (found.written.now ≡ chunk))
-    → IfSome told (λ found. option_map between found.place ≡ Some (record { before = take start laid; lines = []; after = drop start laid }))
-    → IfSome told (λ found. (depth : ℕ) (attr : List ℕ) → IsUnnamedRule depth attr text argument close rest
-    → IsCanonical depth attr found.class (option_map (λ name. name.now) found.name) (option_map (λ kind. kind.now) found.kind) (option_map between found.place) found.chunk.now found.written.now text)
-canonical_of text argument close rest chunk head inner end laid start chunk_is head_is inner_is end_is laid_is start_is None rule same place = tt
-canonical_of text argument close rest chunk head inner end laid start chunk_is head_is inner_is end_is laid_is start_is (Some found) rule same place = λ depth attr r.
-    rw (rule.0, rule.1, rule.2, place, same.0, same.1) (unnamed_chunk depth attr text argument close rest chunk head inner end laid start _ r chunk_is head_is inner_is end_is laid_is start_is refl)
+-- its chunk, where this is in the buffer
+pub unnamed_chunk : (depth : ℕ) (attr text laid before after : List ℕ) (start : ℕ) (rule : OneArgument) → IsUnnamedRule depth attr text rule → laid ≡ unnamed_head rule ++ (10 ∷ rule.end.now) → start ≡ length (unnamed_head rule)
+    → before ≡ take start laid → after ≡ drop start laid → IsCanonical depth attr RuleClass None None (Some (record { before = before; lines = []; after = after })) rule.chunk.now rule.chunk.now text
+unnamed_chunk depth attr text laid before after start rule r laid_is start_is before_is after_is =
+    let front : before ≡ unnamed_head rule = before_is ∙ (λ i. take (start_is i) (laid_is i)) ∙ take-append_seam (unnamed_head rule) (10 ∷ rule.end.now) in
+    let back : after ≡ 10 ∷ rule.end.now = after_is ∙ (λ i. drop (start_is i) (laid_is i)) ∙ drop-append_seam (unnamed_head rule) (10 ∷ rule.end.now) in
+    canonical_chunk depth attr RuleClass None None (Some (record { before = before; lines = []; after = after })) rule.chunk.now rule.chunk.now text r.rest r.rest r.front r.chunk r.chunk (rw (front, back) r.has)

@@ -3,7 +3,6 @@
 ghost use Rattle.std.specs.Prelude.{◌<◌, IfSome};
 ghost use Rattle.bz_canonical.specs.private.Statements.{IsAssignedFront};
 
-use crate::front::{Word, after_word};
 use crate::value::after_nodes;
 
 /// What follows the assignment to a name that ends here.
@@ -12,14 +11,10 @@ pub(crate) fn after_assignment(text: &[u8], depth: u8) -> Option<&[u8]>
     ensures { IfSome result (λ rest. IsAssignedFront depth text.now rest.now) }
 {
     match text {
-        [b' ', b'+', b'=', b' ', value @ ..] => {
+        [b' ', b'=', b' ', value @ ..] | [b' ', b'+', b'=', b' ', value @ ..] => {
             let read = after_nodes(value, 0, depth)?;
             Some(read.rest)
         }
-        _ => {
-            let value = after_word(text, Word::Equals)?;
-            let read = after_nodes(value, 0, depth)?;
-            Some(read.rest)
-        }
+        _ => None,
     }
 }

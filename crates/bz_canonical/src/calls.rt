@@ -3,44 +3,31 @@
 
 ghost use Rattle.std.specs.Prelude.{◌≡◌, ◌∷◌, ◌++◌, ◌<◌, ℕ, List, IfOk, IfSome};
 ghost use Rattle.bz_token.specs.declared.token.Kind.TheVariants.{Identifier};
-ghost use Rattle.bz_layout.specs.Pieces.{indent};
 ghost use Rattle.bz_canonical.specs.private.Calls.{IsArgumentLine, IsInsideRead, IsValueRead};
 ghost use Rattle.bz_canonical.specs.private.Fronts.{IsTokenFront};
 
-use crate::front::{after, after_element_line, after_identifier, after_line, before};
-use crate::lists::put_list;
+use crate::Known;
+use crate::front::{after, after_element_line, after_identifier, before};
+use crate::lists::{after_last, put_list};
 use crate::segments::after_argument;
-use bz_memory::{NoMemory, extend_from_slice, push};
+use bz_memory::{extend_from_slice, push};
 use bz_tree::GroupKind;
 
 /// What follows the value here, and puts it into the buffer as it would be written.
-pub(crate) fn put_value<'t>(
-    text: &'t [u8],
-    depth: u8,
-    written: &mut Vec<u8>,
-) -> Result<Option<&'t [u8]>, NoMemory>
+pub(crate) fn put_value<'t>(text: &'t [u8], depth: u8, written: &mut Vec<u8>) -> Known<&'t [u8]>
     requires some { 0 < depth }
     requires deep { depth < 254 }
     ensures { IfOk result (λ known. IfSome known (λ rest. (w : List ℕ)
         × (written.new.items ≡ written.old.items ++ w) × IsValueRead depth text.now rest.now w)) }
 {
     match text {
-        [b'[', ..] => {
-            let Some(rest) = put_list(text, written)? else {
-                return Ok(None);
-            };
-            Ok(Some(rest))
-        }
+        [b'[', ..] => put_list(text, written),
         _ => put_call(text, depth, written),
     }
 }
 
 /// The same of a call.
-fn put_call<'t>(
-    text: &'t [u8],
-    depth: u8,
-    written: &mut Vec<u8>,
-) -> Result<Option<&'t [u8]>, NoMemory>
+fn put_call<'t>(text: &'t [u8], depth: u8, written: &mut Vec<u8>) -> Known<&'t [u8]>
     requires { depth < 254 }
     ensures { IfOk result (λ known. IfSome known (λ rest. (w : List ℕ)
         × (written.new.items ≡ written.old.items ++ w) × IsValueRead depth text.now rest.now w)) }
@@ -55,10 +42,7 @@ fn put_call<'t>(
         return Ok(None);
     };
     extend_from_slice(written, front)?;
-    let Some(rest) = put_inside(inside, depth - 1, written)? else {
-        return Ok(None);
-    };
-    Ok(Some(rest))
+    put_inside(inside, depth - 1, written)
 }
 
 /// What follows the name of a call here and its first bracket.
@@ -72,32 +56,15 @@ fn after_call_name(text: &[u8]) -> Option<&[u8]>
 
 /// What follows the bracket that closes a call, whose first bracket is before the text, and puts what stands up to there
 /// into the buffer as it would be written.
-fn put_inside<'t>(
-    inside: &'t [u8],
-    depth: u8,
-    written: &mut Vec<u8>,
-) -> Result<Option<&'t [u8]>, NoMemory>
+fn put_inside<'t>(inside: &'t [u8], depth: u8, written: &mut Vec<u8>) -> Known<&'t [u8]>
     requires some { 0 < depth }
     requires deep { depth < 253 }
     ensures { IfOk result (λ known. IfSome known (λ rest. (w : List ℕ)
         × (written.new.items ≡ written.old.items ++ w) × IsInsideRead depth inside.now rest.now w)) }
 {
-    match inside {
-        [b'[', ..] => {
-            let Some(rest) = put_only_list(inside, written)? else {
-                return Ok(None);
-            };
-            Ok(Some(rest))
-        }
-        _ => put_in_place(inside, depth, written),
-    }
-}
-
-/// The same of a list of strings that is the only argument.
-fn put_only_list<'t>(inside: &'t [u8], written: &mut Vec<u8>) -> Result<Option<&'t [u8]>, NoMemory>
-    ensures { IfOk result (λ known. IfSome known (λ rest. (w : List ℕ) × (written.new.items ≡ written.old.items ++ w)
-        × ((depth : ℕ) → 0 < depth → IsInsideRead depth inside.now rest.now w))) }
-{
+    let [b'[', ..] = inside else {
+        return put_in_place(inside, depth, written);
+    };
     let Some(end) = put_list(inside, written)? else {
         return Ok(None);
     };
@@ -109,11 +76,7 @@ fn put_only_list<'t>(inside: &'t [u8], written: &mut Vec<u8>) -> Result<Option<&
 }
 
 /// The same of arguments on lines, none of which has a comment or holds a group on lines: they are written in place.
-fn put_in_place<'t>(
-    inside: &'t [u8],
-    depth: u8,
-    written: &mut Vec<u8>,
-) -> Result<Option<&'t [u8]>, NoMemory>
+fn put_in_place<'t>(inside: &'t [u8], depth: u8, written: &mut Vec<u8>) -> Known<&'t [u8]>
     requires { depth < 253 }
     ensures { IfOk result (λ known. IfSome known (λ rest. (w : List ℕ)
         × (written.new.items ≡ written.old.items ++ w) × IsInsideRead depth inside.now rest.now w)) }
@@ -121,7 +84,7 @@ fn put_in_place<'t>(
     let mut rest = inside;
     let mut between: &[u8] = b"".as_slice();
     for _ in 0..inside.len() {
-        if let Some(end) = after_last_line(rest) {
+        if let Some(end) = after_last(rest, b')') {
             push(written, b')')?;
             return Ok(Some(end));
         }
@@ -134,15 +97,6 @@ fn put_in_place<'t>(
         rest = read.rest;
     }
     Ok(None)
-}
-
-/// What follows the bracket that closes a call on lines.
-fn after_last_line(text: &[u8]) -> Option<&[u8]>
-    ensures { IfSome result (λ rest. text.now ≡ 10 ∷ (indent 1 ++ 41 ∷ rest.now)) }
-{
-    let end = after_line(text, 1)?;
-    let rest = after(end, b')')?;
-    Some(rest)
 }
 
 /// An argument of a call, on a line of its own.

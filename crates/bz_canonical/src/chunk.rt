@@ -2,9 +2,10 @@
 
 ghost use Rattle.std.specs.Prelude.{◌≡◌, ◌-◌, ◌<◌, ℕ, List, Option, false, length, option_map, take, IfOk, IfSome, IsFalse, IsTrue};
 ghost use Rattle.bz_canonical.specs.Canonical.{IsCanonical, between};
-ghost use Rattle.bz_canonical.specs.private.Rewritten.{IsNamedRule};
 ghost use Rattle.bz_canonical.specs.private.Segments.{AreLinesFront};
+ghost use Rattle.bz_canonical.specs.private.Statements.{IsChunkOf};
 
+use crate::Known;
 use crate::comments::after_comments_above;
 use crate::lined::put_lined_rule;
 use crate::put_rule::read_rule_head;
@@ -99,7 +100,7 @@ pub fn read_canonical<'t, R: AsksOfRules>(
     let rule = NamedRule { text, head, name };
     let left = !asked.rules.asks_of(Some(name));
     if left || asked.attr.is_empty() {
-        return read_rule_chunk(rule, left, max_depth, written);
+        return read_rule_chunk(rule, left, None, max_depth, written);
     }
     read_asked_chunk(rule, asked.attr, max_depth, written)
 }
@@ -112,17 +113,16 @@ fn read_rarer_chunk<'t, R: AsksOfRules>(
     asked: Lookup<'_, R>,
     max_depth: u8,
     written: &'t mut Vec<u8>,
-) -> Result<Option<CanonicalChunk<'t>>, NoMemory>
+) -> Known<CanonicalChunk<'t>>
     requires depth { max_depth < 254 }
     requires lines { AreLinesFront text.now start.now }
-    ensures chunk { IfOk result (λ known. IfSome known (λ found. IsCanonical max_depth asked.entry.attr.now found.class
-        (option_map (λ name. name.now) found.name) (option_map (λ kind. kind.now) found.kind)
-        (option_map between found.place) found.chunk.now found.written.now text.now)) }
+    ensures chunk { IfOk result (λ known. IfSome known
+        (IsChunkOf max_depth asked.entry.attr.now text.now)) }
     ensures left { IfOk result (λ known. IfSome known (λ found. found.left ≡ false)) }
 {
     if asked.asks_of(None) {
-        if let Some(rule) = read_unnamed_rule(start, asked.attr, max_depth) {
-            return read_unnamed_chunk(text, rule, written);
+        if let Some(rule) = read_unnamed_rule(text, start, asked.attr, max_depth) {
+            return read_unnamed_chunk(rule, written);
         }
     }
     if let Some(chunk) = read_other_chunk(text, start, max_depth) {
@@ -136,39 +136,25 @@ fn read_rarer_chunk<'t, R: AsksOfRules>(
 fn read_other_chunk<'t>(text: &'t str, start: &'t [u8], max_depth: u8) -> Option<CanonicalChunk<'t>>
     requires depth { max_depth < 254 }
     requires lines { AreLinesFront text.now start.now }
-    ensures chunk { IfSome result (λ found. (attr : List ℕ) → IsCanonical max_depth attr found.class
-        (option_map (λ name. name.now) found.name) (option_map (λ kind. kind.now) found.kind)
-        (option_map between found.place) found.chunk.now found.written.now text.now) }
+    ensures chunk { IfSome result (λ found. (attr : List ℕ) → IsChunkOf max_depth attr text.now found) }
     ensures left { IfSome result (λ found. found.left ≡ false) }
 {
     let read = read_whole_statement(text.as_bytes(), start, max_depth)?;
     let chunk = without(text, read.rest.len())?;
     let written = without(text, read.end.len())?;
-    match read.name {
-        None => Some(CanonicalChunk {
-            chunk,
-            written,
-            class: read.class,
-            name: None,
-            kind: read.kind,
-            place: None,
-            left: false,
-        }),
-        Some(bytes) => {
-            let Ok(name) = check_utf8(bytes) else {
-                return None;
-            };
-            Some(CanonicalChunk {
-                chunk,
-                written,
-                class: read.class,
-                name: Some(name),
-                kind: read.kind,
-                place: None,
-                left: false,
-            })
-        }
-    }
+    let name = match read.name {
+        None => None,
+        Some(bytes) => Some(check_utf8(bytes).ok()?),
+    };
+    Some(CanonicalChunk {
+        chunk,
+        written,
+        class: read.class,
+        name,
+        kind: read.kind,
+        place: None,
+        left: false,
+    })
 }
 
 /// The text without so many of its last bytes, where it may be cut there.

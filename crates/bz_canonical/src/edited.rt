@@ -1,10 +1,10 @@
 //! Elements of a list of strings that go or become another, by the lines of the argument whose value the list is.
 //! `removed.rt` and `replaced.rt` say which. `added.rt` asks whether one equals a value.
 
-ghost use Rattle.std.specs.Prelude.{◌≡◌, ◌++◌, ℕ, List, IfOk, IfSome, IsTrue, OnOk, not, ◌&&◌};
-ghost use Rattle.bz_command.specs.Values.{value_of};
+ghost use Rattle.std.specs.Prelude.{◌≡◌, ◌++◌, ℕ, List, IfOk, IfSome, IsTrue, not, ◌&&◌};
 ghost use Rattle.bz_canonical.specs.private.Edited.{AreElementsEdited, EditsElements, IsListEdited, PassesElement, is_meant, one_more};
 
+use crate::Known;
 use crate::added::{is_value, list_of};
 use crate::front::before;
 use crate::lists::{
@@ -51,7 +51,7 @@ pub(crate) fn put_edited(
     edit: ListEdit<'_>,
     max_depth: u8,
     written: &mut Vec<u8>,
-) -> Result<Option<EditedList>, NoMemory>
+) -> Known<EditedList>
     ensures { IfOk result (λ known. IfSome known
         (EditsElements max_depth home.now edit.entry lines.now written.old.items written.new.items)) }
 {
@@ -118,7 +118,7 @@ pub(crate) fn put_list_edited<'t>(
     edit: ListEdit<'_>,
     max_depth: u8,
     written: &mut Vec<u8>,
-) -> Result<Option<PassedList<'t>>, NoMemory>
+) -> Known<PassedList<'t>>
     ensures { IfOk result (λ known. IfSome known
         (IsListEdited max_depth home.now edit.entry lines.now written.old.items written.new.items)) }
 {
@@ -141,7 +141,7 @@ fn put_elements_edited<'t>(
     begun: Pending<'t>,
     edit: ListEdit<'_>,
     written: &mut Vec<u8>,
-) -> Result<Option<PassedList<'t>>, NoMemory>
+) -> Known<PassedList<'t>>
     ensures { IfOk result (λ known. IfSome known (AreElementsEdited home.now edit.entry begun.entry.from.now
         begun.entry.rest.now written.old.items written.new.items)) }
 {
@@ -191,7 +191,7 @@ fn pass_element<'t>(
     meant: bool,
     edit: ListEdit<'_>,
     written: &mut Vec<u8>,
-) -> Result<Option<Passed<'t>>, NoMemory>
+) -> Known<Passed<'t>>
     ensures { IfOk result (λ known. IfSome known
         (PassesElement passed.entry next.entry meant edit.entry written.old.items written.new.items)) }
 {

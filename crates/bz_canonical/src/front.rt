@@ -97,14 +97,8 @@ pub(crate) fn after_string(text: &[u8]) -> Option<&[u8]>
 {
     // Most stand as they are, in one quote.
     match after_simple_string(text) {
-        Some(rest) => match rest {
-            [b'"', ..] => after_any_string(text),
-            _ => Some(rest),
-        },
-        None => match text {
-            [b'"', ..] => after_any_string(text),
-            _ => None,
-        },
+        Some([b'"', ..]) | None => after_any_string(text),
+        simple => simple,
     }
 }
 
@@ -169,17 +163,6 @@ pub(crate) struct SimpleString<'t> {
     pub(crate) rest: &'t [u8],
 }
 
-/// The string of so many bytes here, which this quote ends.
-#[inline(always)]
-fn read_closed_string(inside: &[u8], len: usize, quote: u8) -> Option<SimpleString<'_>>
-    requires { len ≤ length inside.now }
-    ensures { IfSome result (λ q. (q.inner.now ≡ take len inside.now) × (drop len inside.now ≡ quote ∷ q.rest.now)) }
-{
-    let (inner, end) = inside.split_at(len);
-    let rest = after(end, quote)?;
-    Some(SimpleString { inner, rest })
-}
-
 /// What follows the string in double quotes here, whose value stands as it is.
 #[inline(always)]
 pub(crate) fn after_simple_string(text: &[u8]) -> Option<&[u8]>
@@ -220,8 +203,9 @@ pub(crate) fn read_single_string(text: &[u8]) -> Option<SimpleString<'_>>
     ensures { IfSome result (λ q. IsSingleFront text.now q.inner.now q.rest.now) }
 {
     let inside = after(text, b'\'')?;
-    let string = read_closed_string(inside, plain_len(inside), b'\'')?;
-    Some(string)
+    let (inner, end) = inside.split_at(plain_len(inside));
+    let rest = after(end, b'\'')?;
+    Some(SimpleString { inner, rest })
 }
 
 // Four spaces, looked at as one word.

@@ -10,25 +10,15 @@ use crate::segments::{after_flat_segments, after_segments};
 use crate::value::{Value, either};
 use bz_tree::GroupKind;
 
-/// The bracket that opens a group of this kind.
-fn opening(kind: GroupKind) -> u8
-    ensures { opening kind ≡ result ∷ [] }
+/// The brackets that open and close a group of this kind.
+#[inline(always)]
+pub(crate) fn brackets(kind: GroupKind) -> (u8, u8)
+    ensures { (opening kind ≡ result.0 ∷ []) × (closing kind ≡ result.1 ∷ []) }
 {
     match kind {
-        GroupKind::Call | GroupKind::RuleCall | GroupKind::Load | GroupKind::Paren => b'(',
-        GroupKind::List | GroupKind::Index | GroupKind::ListComp => b'[',
-        GroupKind::Dict | GroupKind::DictComp => b'{',
-    }
-}
-
-/// The bracket that closes it.
-pub(crate) fn closing(kind: GroupKind) -> u8
-    ensures { closing kind ≡ result ∷ [] }
-{
-    match kind {
-        GroupKind::Call | GroupKind::RuleCall | GroupKind::Load | GroupKind::Paren => b')',
-        GroupKind::List | GroupKind::Index | GroupKind::ListComp => b']',
-        GroupKind::Dict | GroupKind::DictComp => b'}',
+        GroupKind::Call | GroupKind::RuleCall | GroupKind::Load | GroupKind::Paren => (b'(', b')'),
+        GroupKind::List | GroupKind::Index | GroupKind::ListComp => (b'[', b']'),
+        GroupKind::Dict | GroupKind::DictComp => (b'{', b'}'),
     }
 }
 
@@ -56,7 +46,7 @@ pub(crate) fn after_group(kind: GroupKind, text: &[u8], level: u8, depth: u8) ->
     if depth == 0 {
         return None;
     }
-    let inside = after(text, opening(kind))?;
+    let inside = after(text, brackets(kind).0)?;
     match inside {
         [b'\n', ..] => after_broken_group(kind, inside, level, depth - 1),
         _ => after_flat_group(kind, inside, level, depth - 1),
@@ -84,7 +74,7 @@ pub(crate) fn after_broken_group(
         return None;
     }
     let end = after_line(read.rest, level)?;
-    let rest = after(end, closing(kind))?;
+    let rest = after(end, brackets(kind).1)?;
     Some(Value { rest, holds: true })
 }
 
@@ -100,7 +90,7 @@ fn after_flat_group(kind: GroupKind, inside: &[u8], level: u8, depth: u8) -> Opt
     if broken {
         return None;
     }
-    let rest = after(read.rest, closing(kind))?;
+    let rest = after(read.rest, brackets(kind).1)?;
     Some(Value {
         rest,
         holds: read.holds,

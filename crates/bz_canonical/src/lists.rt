@@ -5,6 +5,7 @@ ghost use Rattle.bz_layout.specs.Pieces.{indent};
 ghost use Rattle.bz_canonical.specs.private.Segments.{IsBesideFront};
 ghost use Rattle.bz_canonical.specs.private.Rewritten.{AreElementsRead, IsElementRead, IsLast, IsListRead, IsStringRead, between, closing, element_written, spelling};
 
+use crate::Known;
 use crate::comments::{AfterComments, after_comments, after_suffix};
 use crate::front::{Word, after, after_line, after_string, after_word, before, read_single_string};
 use crate::value::either;
@@ -63,10 +64,7 @@ fn put_string(read: ReadString<'_>, written: &mut Vec<u8>) -> Result<(), NoMemor
 }
 
 /// What follows the list of strings here, and puts it into the buffer as it would be written.
-pub(crate) fn put_list<'t>(
-    text: &'t [u8],
-    written: &mut Vec<u8>,
-) -> Result<Option<&'t [u8]>, NoMemory>
+pub(crate) fn put_list<'t>(text: &'t [u8], written: &mut Vec<u8>) -> Known<&'t [u8]>
     ensures { IfOk result (λ known. IfSome known (λ rest. (w : List ℕ)
         × (written.new.items ≡ written.old.items ++ w) × IsListRead text.now rest.now w)) }
 {
@@ -83,14 +81,11 @@ pub(crate) fn put_list<'t>(
         push(written, b']')?;
         return Ok(Some(rest));
     }
-    let Some(elements) = put_elements(inside, first, lines, written)? else {
+    let Some(rest) = put_elements(inside, first, lines, written)? else {
         return Ok(None);
     };
-    if !elements.broken {
-        return Ok(None);
-    }
     extend_from_slice(written, b"\n    ]".as_slice())?;
-    Ok(Some(elements.rest))
+    Ok(Some(rest))
 }
 
 /// What follows the list of this element alone, where it has no comments.
@@ -104,32 +99,24 @@ fn after_only<'t>(only: ReadElement<'t>, lines: bool) -> Option<&'t [u8]>
     after_elements(only.rest, lines)
 }
 
-/// Elements of a list: one at least.
-#[derive(Clone, Copy)]
-pub(crate) struct PutElements<'t> {
-    /// What follows the bracket after them.
-    pub(crate) rest: &'t [u8],
-    /// The list is written on lines: they are two, or one has a comment.
-    pub(crate) broken: bool,
-}
-
-/// Writes the elements here, after the first of them, each on lines of its own, but not the bracket after them.
-pub(crate) fn put_elements<'t>(
+/// What follows the bracket after the elements here, after the first of them. Writes each on lines of its own, but not
+/// the bracket: they are two, or one has a comment.
+fn put_elements<'t>(
     inside: &[u8],
     first: ReadElement<'t>,
     lines: bool,
     written: &mut Vec<u8>,
-) -> Result<Option<PutElements<'t>>, NoMemory>
+) -> Known<&'t [u8]>
     requires { IsElementRead lines false inside.now first }
-    ensures { IfOk result (λ known. IfSome known (λ put. (w : List ℕ)
-        × (written.new.items ≡ written.old.items ++ w) × AreElementsRead inside.now put.rest.now w true put.broken)) }
+    ensures { IfOk result (λ known. IfSome known (λ rest. (w : List ℕ)
+        × (written.new.items ≡ written.old.items ++ w) × AreElementsRead inside.now rest.now w true true)) }
 {
     put_element(first, written)?;
     let mut rest = first.rest;
     let mut broken = first.noted;
     for _ in 0..first.rest.len() {
         if let Some(end) = after_elements(rest, lines) {
-            return Ok(Some(PutElements { rest: end, broken }));
+            return Ok(broken.then_some(end));
         }
         let Some(next) = read_element(rest, lines, true) else {
             return Ok(None);
@@ -255,18 +242,18 @@ pub(crate) fn after_elements(text: &[u8], lines: bool) -> Option<&[u8]>
     ensures { IfSome result (λ rest. text.now ≡ closing lines ++ rest.now) }
 {
     if lines {
-        return after_last(text);
+        return after_last(text, b']');
     }
     after(text, b']')
 }
 
-/// What follows the bracket that closes a list on lines.
+/// What follows the bracket that closes a value on lines.
 #[inline(always)]
-pub(crate) fn after_last(text: &[u8]) -> Option<&[u8]>
-    ensures { IfSome result (λ rest. text.now ≡ 10 ∷ (indent 1 ++ 93 ∷ rest.now)) }
+pub(crate) fn after_last(text: &[u8], bracket: u8) -> Option<&[u8]>
+    ensures { IfSome result (λ rest. text.now ≡ 10 ∷ (indent 1 ++ bracket ∷ rest.now)) }
 {
     let end = after_line(text, 1)?;
-    let rest = after(end, b']')?;
+    let rest = after(end, bracket)?;
     Some(rest)
 }
 

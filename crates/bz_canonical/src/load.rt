@@ -24,18 +24,11 @@ pub(crate) fn after_load(inside: &[u8]) -> Option<&[u8]>
 }
 
 /// What follows the string here, or the name, equals sign and string.
-#[tactic(auto, using(crate::proofs::BareStatements::loaded_string, crate::proofs::BareStatements::renamed_string))]
 fn after_loaded_name(text: &[u8]) -> Option<&[u8]>
     ensures { IfSome result (λ rest. IsSegmentFront Load 0 0 text.now rest.now false) }
 {
     match after_keyword(text) {
-        Some(value) => {
-            let rest = after_string(value)?;
-            Some(rest)
-        }
-        None => {
-            let rest = after_string(text)?;
-            Some(rest)
-        }
+        Some(value) => after_string(value),
+        None => after_string(text),
     }
 }

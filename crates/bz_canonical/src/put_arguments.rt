@@ -1,12 +1,13 @@
 //! The arguments of a rule as they would be written, where lists of strings among them stand otherwise. `put_rule.rt`
 //! asks for all of them; `added.rt` and `commented.rt` ask for the head of the one argument whose lines they have.
 
-ghost use Rattle.std.specs.Prelude.{◌≡◌, ◌<◌, ℕ, List, Bool, length, option_map, IfOk, IfSome, true, false};
+ghost use Rattle.std.specs.Prelude.{◌≡◌, ◌<◌, ℕ, List, length, option_map, IfOk, IfSome, true, false};
 ghost use Rattle.bz_tree.specs.declared.tree.GroupKind.TheVariants.{RuleCall};
 ghost use Rattle.bz_canonical.specs.private.Segments.{AreNotesFront, AreSegmentsFront};
 ghost use Rattle.bz_canonical.specs.private.Values.{AreNodesFront};
-ghost use Rattle.bz_canonical.specs.private.Rewritten.{AreArgumentsRead, AreOthersRead, AreRead, IsHeadRead, ArePlacedRead, IsPending, IsValueEnd, Puts, PutsArgument, pending, put_ends};
+ghost use Rattle.bz_canonical.specs.private.Rewritten.{AreArgumentsRead, AreEnded, AreOthersRead, IsHeadRead, IsPending, IsValueEnd, Puts, PutsArgument, pending, put_ends};
 
+use crate::Known;
 use crate::calls::put_value;
 use crate::comments::after_comments;
 use crate::front::{Word, after_identifier, after_line, after_word, are_same, before};
@@ -14,26 +15,14 @@ use crate::lists::after_comma;
 use crate::segments::{AfterLines, after_segments};
 use crate::string_list::after_string_list;
 use crate::value::{Value, after_first, after_nodes, either};
-use bz_memory::{NoMemory, extend_from_slice};
+use bz_memory::extend_from_slice;
 use bz_tree::GroupKind;
-
-/// None: it is not known what would be written.
-type Known<T> = Result<Option<T>, NoMemory>;
 
 /// The attribute that is asked for, and how many brackets may be open in the value of an argument.
 #[derive(Clone, Copy)]
 pub(crate) struct Sought<'c> {
     pub(crate) attr: &'c [u8],
     pub(crate) depth: u8,
-}
-
-/// The lines of an argument, or of none.
-#[derive(Clone, Copy)]
-pub(crate) struct Lines<'t> {
-    /// The text from the first of them on.
-    pub(crate) from: &'t [u8],
-    /// What follows the last.
-    pub(crate) to: &'t [u8],
 }
 
 /// What is not in the buffer yet, as it stands as it is written.
@@ -171,26 +160,8 @@ struct PutOthers<'t> {
 }
 
 /// Passes the arguments here up to the first of the name, or to the last that has one.
-#[inline(never)]
-fn put_others<'t>(
-    from: Pending<'t>,
-    asked: Sought<'_>,
-    written: &mut Vec<u8>,
-) -> Known<PutOthers<'t>>
-    requires { asked.depth < 254 }
-    ensures passed { IfOk result (λ known. IfSome known (λ read.
-        Puts written.old.items (pending from.entry) written.new.items (pending read.at)
-        (λ begun w. AreOthersRead asked.entry.depth asked.entry.attr.now from.entry.rest.now read.at.rest.now w
-        read.one))) }
-    ensures named { IfOk result (λ known. IfSome known (λ read. IfSome read.named (λ value.
-        IsHeadRead asked.entry.attr.now read.at.rest.now value.now true))) }
-{
-    pass_others(from, asked, written)
-}
-
-/// The same. `pass_arguments`, which most rules need, has this code in it.
 #[inline(always)]
-fn pass_others<'t>(
+fn put_others<'t>(
     from: Pending<'t>,
     asked: Sought<'_>,
     written: &mut Vec<u8>,
@@ -237,68 +208,17 @@ fn pass_others<'t>(
     Ok(None)
 }
 
-/// Where an argument stands in a text and in what is written.
+/// Where the lines of an argument, or of none, stand in a text and in what is written.
 #[derive(Clone, Copy)]
 pub(crate) struct PutPlace<'t> {
-    /// Its lines as they stand.
-    pub(crate) lines: Lines<'t>,
+    /// The text from the first of them on.
+    pub(crate) from: &'t [u8],
+    /// What follows the last.
+    pub(crate) to: &'t [u8],
     /// So long is what is written before it.
     pub(crate) start: usize,
     /// So long is what is written up to its end.
     pub(crate) end: usize,
-}
-
-/// The arguments up to the first of the name. Where there is none: all that have a name.
-#[derive(Clone, Copy)]
-struct PutPlaced<'t> {
-    at: Pending<'t>,
-    place: PutPlace<'t>,
-    /// There is one of the name.
-    named: bool,
-    /// There is one at least.
-    one: bool,
-}
-
-/// Passes the arguments here up to the first of the name and with it, or to the last that has one.
-fn put_placed<'t>(
-    from: Pending<'t>,
-    asked: Sought<'_>,
-    written: &mut Vec<u8>,
-) -> Known<PutPlaced<'t>>
-    requires { asked.depth < 254 }
-    ensures { IfOk result (λ known. IfSome known (λ read.
-        Puts written.old.items (pending from.entry) written.new.items (pending read.at)
-        (λ begun w. ArePlacedRead asked.entry.depth asked.entry.attr.now from.entry.rest.now read.at.rest.now begun w
-        read.one (put_ends read.place) read.named))) }
-{
-    let Some(others) = put_others(from, asked, written)? else {
-        return Ok(None);
-    };
-    let Some(len) = written_len(others.at, written) else {
-        return Ok(None);
-    };
-    match others.named {
-        None => Ok(Some(PutPlaced {
-            at: others.at,
-            place: place_between(others.at, len, others.at, len),
-            named: false,
-            one: others.one,
-        })),
-        Some(value) => {
-            let Some(at) = put_argument(others.at, value, asked.depth, written)? else {
-                return Ok(None);
-            };
-            let Some(end) = written_len(at, written) else {
-                return Ok(None);
-            };
-            Ok(Some(PutPlaced {
-                at,
-                place: place_between(others.at, len, at, end),
-                named: true,
-                one: true,
-            }))
-        }
-    }
 }
 
 fn place_between<'t>(from: Pending<'t>, start: usize, to: Pending<'t>, end: usize) -> PutPlace<'t>
@@ -306,44 +226,20 @@ fn place_between<'t>(from: Pending<'t>, start: usize, to: Pending<'t>, end: usiz
         ≡ record { from = from.entry.rest.now; to = to.entry.rest.now; start = start; end = end } }
 {
     PutPlace {
-        lines: Lines {
-            from: from.rest,
-            to: to.rest,
-        },
+        from: from.rest,
+        to: to.rest,
         start,
         end,
     }
 }
 
-/// Passes the arguments here, which follow the one of the name.
-fn put_later<'t>(placed: PutPlaced<'t>, depth: u8, written: &mut Vec<u8>) -> Known<PutOthers<'t>>
-    requires { depth < 254 }
-    ensures { IfOk result (λ known. IfSome known (λ read.
-        Puts written.old.items (pending placed.entry.at) written.new.items (pending read.at)
-        (λ begun w. AreRead depth placed.entry.at.rest.now read.at.rest.now w read.one))) }
-{
-    if !placed.named {
-        return Ok(Some(PutOthers {
-            at: placed.at,
-            one: false,
-            named: None,
-        }));
-    }
-    let none = Sought {
-        attr: b"".as_slice(),
-        depth,
-    };
-    let Some(later) = put_others(placed.at, none, written)? else {
-        return Ok(None);
-    };
-    Ok(Some(later))
-}
-
-/// All arguments of a rule, and the comments after them.
+/// The arguments of a rule, and the comments after them.
 #[derive(Clone, Copy)]
-pub(crate) struct PassedArguments<'t> {
+pub(crate) struct PutArguments<'t> {
     pub(crate) at: Pending<'t>,
-    /// There is one at least, or a comment.
+    /// The first one of the name. Where there is none: after the last. None: it is not known, or not asked for.
+    pub(crate) place: Option<PutPlace<'t>>,
+    /// There is one at least, or a comment: `put_rule` takes no rule without either.
     pub(crate) some: bool,
 }
 
@@ -353,43 +249,25 @@ pub(crate) fn pass_arguments<'t>(
     from: Pending<'t>,
     depth: u8,
     written: &mut Vec<u8>,
-) -> Known<PassedArguments<'t>>
+) -> Known<PutArguments<'t>>
     requires { depth < 254 }
     ensures { IfOk result (λ known. IfSome known (λ read. (attr : List ℕ)
         → Puts written.old.items (pending from.entry) written.new.items (pending read.at)
-        (λ begun w. AreArgumentsRead depth attr from.entry.rest.now read.at.rest.now begun w read.some None))) }
+        (λ begun w. AreArgumentsRead depth attr from.entry.rest.now read.at.rest.now begun w read.some
+        (option_map put_ends read.place)))) }
 {
     let none = Sought {
         attr: b"".as_slice(),
         depth,
     };
-    let Some(others) = pass_others(from, none, written)? else {
+    let Some(others) = put_others(from, none, written)? else {
         return Ok(None);
     };
-    let Some(last) = after_last_segments(others.at.rest, depth) else {
-        return Ok(None);
-    };
-    let more = either(others.one, last.count > 0);
-    Ok(Some(PassedArguments {
-        at: Pending {
-            from: others.at.from,
-            rest: last.rest,
-        },
-        some: either(more, last.ended),
-    }))
-}
-
-/// The arguments of a rule, and the comments after them.
-#[derive(Clone, Copy)]
-pub(crate) struct PutArguments<'t> {
-    pub(crate) at: Pending<'t>,
-    /// The first one of the name. Where there is none: after the last. None: it is not known.
-    pub(crate) place: Option<PutPlace<'t>>,
-    /// There is one at least, or a comment: `put_rule` takes no rule without either.
-    pub(crate) some: bool,
+    pass_last(others, None, depth)
 }
 
 /// Passes the arguments here, with the comments after them.
+#[inline(always)]
 pub(crate) fn put_arguments<'t>(
     from: Pending<'t>,
     asked: Sought<'_>,
@@ -401,24 +279,54 @@ pub(crate) fn put_arguments<'t>(
         (λ begun w. AreArgumentsRead asked.entry.depth asked.entry.attr.now from.entry.rest.now read.at.rest.now begun
         w read.some (option_map put_ends read.place)))) }
 {
-    let Some(placed) = put_placed(from, asked, written)? else {
+    let Some(others) = put_others(from, asked, written)? else {
         return Ok(None);
     };
-    let Some(later) = put_later(placed, asked.depth, written)? else {
+    let Some(start) = written_len(others.at, written) else {
         return Ok(None);
     };
-    let Some(last) = after_last_segments(later.at.rest, asked.depth) else {
+    let Some(value) = others.named else {
+        let place = place_between(others.at, start, others.at, start);
+        return pass_last(others, Some(place), asked.depth);
+    };
+    let Some(at) = put_argument(others.at, value, asked.depth, written)? else {
         return Ok(None);
     };
-    let more = either(later.one, last.count > 0);
-    let some = either(placed.one, more);
+    let Some(end) = written_len(at, written) else {
+        return Ok(None);
+    };
+    let Some(later) = pass_arguments(at, asked.depth, written)? else {
+        return Ok(None);
+    };
+    Ok(Some(PutArguments {
+        at: later.at,
+        place: Some(place_between(others.at, start, at, end)),
+        some: true,
+    }))
+}
+
+/// Passes what follows these arguments: others that have no name, and comments. The place stays where no others follow.
+#[inline(always)]
+fn pass_last<'t>(
+    read: PutOthers<'t>,
+    place: Option<PutPlace<'t>>,
+    depth: u8,
+) -> Known<PutArguments<'t>>
+    requires { depth < 254 }
+    ensures { IfOk result (λ known. IfSome known (AreEnded depth read.entry place.entry)) }
+{
+    let Some(last) = after_last_segments(read.at.rest, depth) else {
+        return Ok(None);
+    };
+    let more = last.count > 0;
+    let one = either(read.one, more);
     Ok(Some(PutArguments {
         at: Pending {
-            from: later.at.from,
+            from: read.at.from,
             rest: last.rest,
         },
-        place: known_place(placed, more),
-        some: either(some, last.ended),
+        place: if more { None } else { place },
+        some: either(one, last.ended),
     }))
 }
 
@@ -432,32 +340,13 @@ fn after_last_segments(text: &[u8], depth: u8) -> Option<AfterLines<'_>>
 {
     match text {
         // Most calls end here.
-        [b'\n', b')', ..] => Some(after_no_segments(text)),
+        [b'\n', b')', ..] => Some(AfterLines {
+            rest: text,
+            count: 0,
+            holds: false,
+            noted: false,
+            ended: false,
+        }),
         _ => after_segments(GroupKind::RuleCall, text, 1, depth),
     }
-}
-
-#[inline(always)]
-fn after_no_segments(text: &[u8]) -> AfterLines<'_>
-    ensures { (depth : ℕ) → (middle : List ℕ)
-        × AreSegmentsFront RuleCall 1 depth text.now middle result.count result.holds result.noted
-        × AreNotesFront 1 middle result.rest.now result.ended }
-{
-    AfterLines {
-        rest: text,
-        count: 0,
-        holds: false,
-        noted: false,
-        ended: false,
-    }
-}
-
-/// The place of the argument of the name, or the place after all, where none follows.
-fn known_place(placed: PutPlaced<'_>, more: bool) -> Option<PutPlace<'_>>
-    ensures { IfSome result (λ place. (place ≡ placed.entry.place) × (placed.entry.named ≡ false → more ≡ false)) }
-{
-    if more && !placed.named {
-        return None;
-    }
-    Some(placed.place)
 }

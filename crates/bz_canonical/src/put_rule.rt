@@ -1,17 +1,18 @@
 //! A rule as it would be written, where lists of strings in it stand otherwise.
 
-ghost use Rattle.std.specs.Prelude.{ℕ, List, ◌+◌, ◌<◌, ◌-◌, codes, length, take, option_map, if◌then◌else◌, IfOk, IfSome, IsTrue, bytes_eq, ◌≡◌, [], true, false};
+ghost use Rattle.std.specs.Prelude.{ℕ, List, ◌+◌, ◌<◌, ◌-◌, codes, length, take, option_map, if◌then◌else◌, IfOk, IfSome, bytes_eq, ◌≡◌};
 ghost use Rattle.bz_canonical.specs.private.Segments.{AreLinesFront};
-ghost use Rattle.bz_canonical.specs.private.Rewritten.{IsPending, IsRuleEnd, IsRuleHead, IsRulePlace, IsRuleRead, put_ends};
+ghost use Rattle.bz_canonical.specs.private.Rewritten.{EndsRule, IsRuleEnd, IsRuleHead, IsRulePlace, IsRuleRead, put_ends};
 
+use crate::Known;
 use crate::comments::after_suffix;
 use crate::front::{
     Word, after, after_identifier, after_line, after_word, before, read_simple_string,
 };
 use crate::put_arguments::{
-    Lines, PassedArguments, Pending, PutPlace, Sought, pass_arguments, put_arguments,
+    Pending, PutArguments, PutPlace, Sought, pass_arguments, put_arguments,
 };
-use bz_memory::{NoMemory, extend_from_slice};
+use bz_memory::extend_from_slice;
 
 /// A rule, and what follows it.
 #[derive(Clone, Copy)]
@@ -23,18 +24,20 @@ pub(crate) struct PutRule<'t> {
     pub(crate) as_is: bool,
 }
 
-/// Passes the rule here, where the place of no argument is asked for. If it stands otherwise than it is
-/// written, what is written goes into the buffer, whose bytes are lost.
+/// Passes the rule here. If it stands otherwise than it is written, what is written goes into the buffer, whose bytes
+/// are lost. `asked`: the attribute whose place is asked for.
 #[inline(always)]
 pub(crate) fn put_rule<'t>(
     text: &'t [u8],
     head: RuleHead<'t>,
+    asked: Option<&str>,
     depth: u8,
     written: &mut Vec<u8>,
-) -> Result<Option<PutRule<'t>>, NoMemory>
+) -> Known<PutRule<'t>>
     requires deep { depth < 253 }
     requires head { IsRuleHead text.now head.name.now head.inside.now head.rest.now }
-    ensures { IfOk result (λ known. IfSome known (λ read. (attr : List ℕ) → IsRuleRead (depth + 1) attr
+    ensures { IfOk result (λ known. IfSome known (λ read. (attr : List ℕ)
+        → IfSome asked.entry (λ name. attr ≡ name.now) → IsRuleRead (depth + 1) attr
         head.entry.name.now text.now read.rest.now
         (if read.as_is then take (length text.now - length read.rest.now) text.now else written.new.items)
         (option_map put_ends read.place))) }
@@ -44,75 +47,28 @@ pub(crate) fn put_rule<'t>(
         from: text,
         rest: head.rest,
     };
-    let Some(read) = pass_arguments(start, depth, written)? else {
+    let passed = match asked {
+        None => pass_arguments(start, depth, written)?,
+        Some(attr) => {
+            let attr = attr.as_bytes();
+            put_arguments(start, Sought { attr, depth }, written)?
+        }
+    };
+    let Some(read) = passed else {
         return Ok(None);
     };
-    let Some(end) = put_rule_end(read, written)? else {
-        return Ok(None);
-    };
-    Ok(Some(PutRule {
-        place: None,
-        rest: end.rest,
-        as_is: end.as_is,
-    }))
+    put_rule_end(read, asked_place(text, head, asked, read.place), written)
 }
 
-/// The same, where the place of an argument is asked for.
-pub(crate) fn put_asked_rule<'t>(
-    text: &'t [u8],
-    head: RuleHead<'t>,
-    attr: &[u8],
-    depth: u8,
-    written: &mut Vec<u8>,
-) -> Result<Option<PutRule<'t>>, NoMemory>
-    requires deep { depth < 253 }
-    requires head { IsRuleHead text.now head.name.now head.inside.now head.rest.now }
-    ensures { IfOk result (λ known. IfSome known (λ read. IsRuleRead (depth + 1) attr.now
-        head.entry.name.now text.now read.rest.now
-        (if read.as_is then take (length text.now - length read.rest.now) text.now else written.new.items)
-        (option_map put_ends read.place))) }
-{
-    written.clear();
-    let start = Pending {
-        from: text,
-        rest: head.rest,
-    };
-    let Some(read) = put_arguments(start, Sought { attr, depth }, written)? else {
-        return Ok(None);
-    };
-    let passed = PassedArguments {
-        at: read.at,
-        some: read.some,
-    };
-    let Some(end) = put_rule_end(passed, written)? else {
-        return Ok(None);
-    };
-    Ok(Some(PutRule {
-        place: asked_place(text, head, attr, read.place),
-        rest: end.rest,
-        as_is: end.as_is,
-    }))
-}
-
-/// The end of a rule.
-#[derive(Clone, Copy)]
-struct RuleEnd<'t> {
-    rest: &'t [u8],
-    /// The rule stands as it is written, and is not in the buffer.
-    as_is: bool,
-}
-
-/// Passes the end of the rule of these arguments.
+/// Passes the end of the rule of these arguments, which has this place.
 #[inline(always)]
 fn put_rule_end<'t>(
-    read: PassedArguments<'t>,
+    read: PutArguments<'t>,
+    place: Option<PutPlace<'t>>,
     written: &mut Vec<u8>,
-) -> Result<Option<RuleEnd<'t>>, NoMemory>
-    ensures some { IfOk result (λ known. IfSome known (λ end. IsTrue read.entry.some)) }
-    ensures end { IfOk result (λ known. IfSome known (λ end. IsRuleEnd read.entry.at.rest.now end.rest.now)) }
-    ensures written { IfOk result (λ known. IfSome known (λ end. (text all : List ℕ)
-        → IsPending text written.old.items all read.entry.at.from.now end.rest.now
-        → (if end.as_is then take (length text - length end.rest.now) text else written.new.items) ≡ all)) }
+) -> Known<PutRule<'t>>
+    ensures { IfOk result (λ known. IfSome known
+        (EndsRule written.old.items written.new.items read.entry place.entry)) }
 {
     if !read.some {
         return Ok(None);
@@ -120,14 +76,14 @@ fn put_rule_end<'t>(
     let Some(rest) = after_rule(read.at.rest) else {
         return Ok(None);
     };
-    if written.is_empty() {
-        return Ok(Some(RuleEnd { rest, as_is: true }));
+    let as_is = written.is_empty();
+    if !as_is {
+        let Some(back) = before(read.at.from, rest.len()) else {
+            return Ok(None);
+        };
+        extend_from_slice(written, back)?;
     }
-    let Some(back) = before(read.at.from, rest.len()) else {
-        return Ok(None);
-    };
-    extend_from_slice(written, back)?;
-    Ok(Some(RuleEnd { rest, as_is: false }))
+    Ok(Some(PutRule { place, rest, as_is }))
 }
 
 /// The beginning of a rule: the comments above it, its kind, its name.
@@ -172,26 +128,27 @@ fn after_rule(text: &[u8]) -> Option<&[u8]>
     Some(rest)
 }
 
-/// The place of the argument of this name, by that of one after the name of the rule.
+/// The place of the argument that is asked for, by that of one after the name of the rule.
+#[inline(always)]
 fn asked_place<'t>(
     text: &[u8],
     head: RuleHead<'t>,
-    attr: &[u8],
+    asked: Option<&str>,
     place: Option<PutPlace<'t>>,
 ) -> Option<PutPlace<'t>>
-    ensures { IfSome (option_map put_ends result) (IsRulePlace (bytes_eq attr.now (codes "name")) text.now
-        head.entry.inside.now head.entry.rest.now (option_map put_ends place.entry)) }
+    ensures { (attr : List ℕ) → IfSome asked.entry (λ name. attr ≡ name.now) → IfSome (option_map put_ends result)
+        (IsRulePlace (bytes_eq attr (codes "name")) text.now head.entry.inside.now head.entry.rest.now
+        (option_map put_ends place.entry)) }
 {
-    if attr != b"name".as_slice() {
+    let attr = asked?;
+    if attr != "name" {
         return place;
     }
     let start = text.len().checked_sub(head.inside.len())?;
     let end = text.len().checked_sub(head.rest.len())?;
     Some(PutPlace {
-        lines: Lines {
-            from: head.inside,
-            to: head.rest,
-        },
+        from: head.inside,
+        to: head.rest,
         start,
         end,
     })

@@ -1,6 +1,6 @@
 //! A value that goes from an argument whose value is one list of strings, by the lines of the argument.
 
-ghost use Rattle.std.specs.Prelude.{◌≡◌, ◌++◌, ℕ, List, IfOk, IfSome};
+ghost use Rattle.std.specs.Prelude.{IfOk, IfSome};
 ghost use Rattle.bz_canonical.specs.Canonical.{read_alone};
 ghost use Rattle.bz_canonical.specs.Removed.{RemovesFromLines};
 

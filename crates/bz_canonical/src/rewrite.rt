@@ -1,13 +1,14 @@
 //! The rule that a text begins with, as a chunk.
 
 ghost use Rattle.std.specs.Prelude.{◌≡◌, ◌-◌, ◌<◌, ℕ, List, false, length, take, option_map, if◌then◌else◌, IfOk, IfSome};
-ghost use Rattle.bz_canonical.specs.Canonical.{IsCanonical, between};
+ghost use Rattle.bz_canonical.specs.Canonical.{between};
 ghost use Rattle.bz_canonical.specs.private.Rewritten.{IsNamedChunk, IsNamedRule, IsPutPlaceIn, IsRuleHead, IsRuleRead, put_ends};
+ghost use Rattle.bz_canonical.specs.private.Statements.{IsChunkOf};
 
+use crate::Known;
 use crate::chunk::{ArgumentPlace, CanonicalChunk, without};
 use crate::put_arguments::PutPlace;
-use crate::put_rule::{PutRule, RuleHead, put_asked_rule, put_rule};
-use bz_memory::NoMemory;
+use crate::put_rule::{PutRule, RuleHead, put_rule};
 use bz_token::check_utf8;
 use bz_tree::Class;
 
@@ -19,26 +20,27 @@ pub(crate) struct NamedRule<'t> {
     pub(crate) name: &'t str,
 }
 
-/// The chunk of this rule, where it stands as it would be written but for arguments whose value is a list of strings. If
-/// there are such, what is written goes into the buffer, whose bytes are lost. The place of no argument is asked for.
+/// The chunk of this rule, where it stands as it would be written but for arguments whose value is a list of strings.
+/// If there are such, what is written goes into the buffer, whose bytes are lost. `asked`: the attribute whose place is
+/// asked for.
 #[inline(always)]
 pub(crate) fn read_rule_chunk<'t>(
     rule: NamedRule<'t>,
     left: bool,
+    asked: Option<&str>,
     max_depth: u8,
     written: &'t mut Vec<u8>,
-) -> Result<Option<CanonicalChunk<'t>>, NoMemory>
+) -> Known<CanonicalChunk<'t>>
     requires deep { max_depth < 254 }
     requires rule { IsNamedRule rule }
-    ensures chunk { IfOk result (λ known. IfSome known (λ found. (attr : List ℕ) → IsCanonical max_depth attr found.class
-        (option_map (λ name. name.now) found.name) (option_map (λ kind. kind.now) found.kind)
-        (option_map between found.place) found.chunk.now found.written.now rule.entry.text.now)) }
+    ensures chunk { IfOk result (λ known. IfSome known (λ found. (attr : List ℕ)
+        → IfSome asked.entry (λ name. attr ≡ name.now) → IsChunkOf max_depth attr rule.entry.text.now found)) }
     ensures name { IfOk result (λ known. IfSome known (λ found. IsNamedChunk rule.entry left found)) }
 {
     let Some(depth) = max_depth.checked_sub(1) else {
         return Ok(None);
     };
-    let Some(read) = put_rule(rule.text.as_bytes(), rule.head, depth, written)? else {
+    let Some(read) = put_rule(rule.text.as_bytes(), rule.head, asked, depth, written)? else {
         return Ok(None);
     };
     chunk_of(rule, left, written.as_slice(), read)
@@ -51,28 +53,13 @@ pub(crate) fn read_asked_chunk<'t>(
     attr: &str,
     max_depth: u8,
     written: &'t mut Vec<u8>,
-) -> Result<Option<CanonicalChunk<'t>>, NoMemory>
+) -> Known<CanonicalChunk<'t>>
     requires deep { max_depth < 254 }
     requires rule { IsNamedRule rule }
-    ensures chunk { IfOk result (λ known. IfSome known (λ found. IsCanonical max_depth attr.now found.class
-        (option_map (λ name. name.now) found.name) (option_map (λ kind. kind.now) found.kind)
-        (option_map between found.place) found.chunk.now found.written.now rule.entry.text.now)) }
+    ensures chunk { IfOk result (λ known. IfSome known (IsChunkOf max_depth attr.now rule.entry.text.now)) }
     ensures name { IfOk result (λ known. IfSome known (λ found. IsNamedChunk rule.entry false found)) }
 {
-    let Some(depth) = max_depth.checked_sub(1) else {
-        return Ok(None);
-    };
-    let Some(read) = put_asked_rule(
-        rule.text.as_bytes(),
-        rule.head,
-        attr.as_bytes(),
-        depth,
-        written,
-    )?
-    else {
-        return Ok(None);
-    };
-    chunk_of(rule, false, written.as_slice(), read)
+    read_rule_chunk(rule, false, Some(attr), max_depth, written)
 }
 
 /// The name as text, by its place.
@@ -96,13 +83,11 @@ fn chunk_of<'t>(
     left: bool,
     buffer: &'t [u8],
     read: PutRule<'t>,
-) -> Result<Option<CanonicalChunk<'t>>, NoMemory>
-    ensures chunk { IfOk result (λ known. IfSome known (λ found. (depth : ℕ) (attr : List ℕ) → IsRuleRead depth attr rule.entry.name.now
-        rule.entry.text.now read.entry.rest.now (if read.entry.as_is
+) -> Known<CanonicalChunk<'t>>
+    ensures chunk { IfOk result (λ known. IfSome known (λ found. (depth : ℕ) (attr : List ℕ)
+        → IsRuleRead depth attr rule.entry.name.now rule.entry.text.now read.entry.rest.now (if read.entry.as_is
         then take (length rule.entry.text.now - length read.entry.rest.now) rule.entry.text.now else buffer.now)
-        (option_map put_ends read.entry.place) → IsCanonical depth attr found.class
-        (option_map (λ name. name.now) found.name) (option_map (λ kind. kind.now) found.kind)
-        (option_map between found.place) found.chunk.now found.written.now rule.entry.text.now)) }
+        (option_map put_ends read.entry.place) → IsChunkOf depth attr rule.entry.text.now found)) }
     ensures name { IfOk result (λ known. IfSome known (λ found. IsNamedChunk rule.entry left found)) }
 {
     let text = rule.text;
@@ -144,12 +129,12 @@ fn place_in_both<'t>(
 ) -> Option<ArgumentPlace<'t>>
     ensures { IsPutPlaceIn text.now written.now (option_map put_ends place.entry) (option_map between result) }
 {
-    let PutPlace { lines, start, end } = place?;
-    let front = without(text, lines.to.len())?;
-    let before = without(text, lines.from.len())?;
+    let place = place?;
+    let front = without(text, place.to.len())?;
+    let before = without(text, place.from.len())?;
     let (_, lines) = front.split_at_checked(before.len())?;
-    let (before, _) = written.split_at_checked(start)?;
-    let (_, after) = written.split_at_checked(end)?;
+    let (before, _) = written.split_at_checked(place.start)?;
+    let (_, after) = written.split_at_checked(place.end)?;
     Some(ArgumentPlace {
         before,
         lines,

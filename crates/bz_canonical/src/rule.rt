@@ -1,6 +1,6 @@
 //! The call of a rule that stands as it would be written.
 
-ghost use Rattle.std.specs.Prelude.{◌≡◌, ◌<◌, ◌∷◌, ◌++◌, codes, option_map, IfSome, IfNone, IsFalse, Some, None, ℕ, List, [], false};
+ghost use Rattle.std.specs.Prelude.{◌≡◌, ◌<◌, ◌∷◌, ◌++◌, codes, option_map, IfSome, IsFalse, Some, None, ℕ, List, false};
 ghost use Rattle.bz_canonical.specs.Canonical.{HasArgumentName};
 ghost use Rattle.bz_canonical.specs.private.Statements.{IsRuleCallFront};
 
@@ -97,7 +97,7 @@ pub(crate) fn has_argument_name(text: &[u8], name: &[u8]) -> bool
     ensures { IsFalse result → HasArgumentName name.now text.now → ⊥ }
 {
     let mut rest = text;
-    while let Some(next) = after_any_byte(rest) {
+    while let [_, next @ ..] = rest {
         if begins_argument(rest, name) {
             return true;
         }
@@ -113,24 +113,7 @@ fn begins_argument(text: &[u8], name: &[u8]) -> bool
     ensures { IsFalse result → (after : List ℕ) → text.now ≡ name.now ++ (codes " =" ++ after) → ⊥ }
 {
     match text.split_at_checked(name.len()) {
-        Some((front, rest)) => begins_equals(rest) && are_equal(front, name),
+        Some((front, rest)) => matches!(rest, [b' ', b'=', ..]) && are_equal(front, name),
         None => false,
-    }
-}
-
-#[inline(always)]
-fn begins_equals(text: &[u8]) -> bool
-    ensures { IsFalse result → (after : List ℕ) → text.now ≡ codes " =" ++ after → ⊥ }
-{
-    matches!(text, [b' ', b'=', ..])
-}
-
-fn after_any_byte(text: &[u8]) -> Option<&[u8]>
-    ensures some { IfSome result (λ rest. (b : ℕ) × (text.now ≡ b ∷ rest.now)) }
-    ensures none { IfNone result (text.now ≡ []) }
-{
-    match text {
-        [_, rest @ ..] => Some(rest),
-        [] => None,
     }
 }

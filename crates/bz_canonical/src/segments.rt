@@ -1,16 +1,16 @@
 //! The segments of a group: elements, entries, arguments.
 
-ghost use Rattle.std.specs.Prelude.{◌≡◌, ◌+◌, ◌<◌, ◌||◌, ◌∷◌, ◌++◌, ℕ, List, codes, IfSome, nat_le, true, false};
+ghost use Rattle.std.specs.Prelude.{◌≡◌, ◌+◌, ◌<◌, ◌∷◌, ◌++◌, ℕ, List, codes, IfSome, nat_le, true, false};
 ghost use Rattle.bz_token.specs.declared.token.Kind.TheVariants.{Identifier};
 ghost use Rattle.bz_tree.specs.Statement.{is_call};
 ghost use Rattle.bz_layout.specs.Pieces.{indent};
 ghost use Rattle.bz_canonical.specs.private.Fronts.{IsTokenFront};
-ghost use Rattle.bz_canonical.specs.private.Segments.{AreFlatFront, AreNotesFront, AreSegmentsFront, IsBesideFront, IsSegmentFront};
+ghost use Rattle.bz_canonical.specs.private.Segments.{AreFlatFront, AreNotesFront, AreSegmentsFront, IsSegmentFront};
 ghost use Rattle.bz_canonical.specs.private.Values.{AreNodesFront};
 
 use crate::comments::{after_comments, after_suffix};
 use crate::front::{Word, after, after_element_line, after_identifier, after_line, after_word};
-use crate::group::{after_broken_group, closing};
+use crate::group::{after_broken_group, brackets};
 use crate::value::{Value, after_first, after_leaf, after_nodes, either};
 use bz_tree::GroupKind;
 
@@ -104,7 +104,7 @@ pub(crate) fn after_flat_segments(
     ensures { IfSome result (λ read. (n : ℕ) × (read.one ≡ nat_le 1 n) × (read.two ≡ nat_le 2 n)
         × AreFlatFront kind true level depth text.now read.rest.now n read.holds) }
 {
-    if after(text, closing(kind)).is_some() {
+    if after(text, brackets(kind).1).is_some() {
         return Some(AfterFlat {
             rest: text,
             one: false,
@@ -151,19 +151,15 @@ fn after_segment(kind: GroupKind, text: &[u8], level: u8, depth: u8) -> Option<V
             let Value { rest, holds } = after_nodes(value, level, depth)?;
             Some(Value { rest, holds })
         }
-        _ => {
-            if !is_call(kind) {
-                return None;
+        GroupKind::Call | GroupKind::RuleCall => match text {
+            // Most arguments of `select`.
+            [b'{', b'\n', ..] => {
+                let Value { rest, holds } = after_broken_dict(text, level, depth)?;
+                Some(Value { rest, holds })
             }
-            match text {
-                // Most arguments of `select`.
-                [b'{', b'\n', ..] => {
-                    let Value { rest, holds } = after_broken_dict(text, level, depth)?;
-                    Some(Value { rest, holds })
-                }
-                _ => after_argument(kind, text, level, depth),
-            }
-        }
+            _ => after_argument(kind, text, level, depth),
+        },
+        _ => None,
     }
 }
 
@@ -206,12 +202,6 @@ pub(crate) fn after_argument(
             Some(Value { rest, holds })
         }
     }
-}
-
-fn is_call(kind: GroupKind) -> bool
-    ensures { result ≡ is_call kind }
-{
-    matches!(kind, GroupKind::Call | GroupKind::RuleCall)
 }
 
 /// What follows the name of an argument and its equals sign.

@@ -28,7 +28,7 @@ pub(crate) fn after_string_list(text: &[u8], depth: u8) -> Option<&[u8]>
             if !broken {
                 return None;
             }
-            let end = after_last(rest)?;
+            let end = after_last(rest, b']')?;
             return Some(end);
         };
         rest = side.rest;

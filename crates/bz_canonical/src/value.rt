@@ -28,24 +28,14 @@ pub(crate) fn either(a: bool, b: bool) -> bool
 }
 
 /// What follows the string, number or name here.
-#[tactic(auto, using(crate::proofs::Operands::leaf_values))]
 #[inline(always)]
 pub(crate) fn after_leaf(text: &[u8]) -> Option<&[u8]>
     ensures { IfSome result (λ rest. (level depth : ℕ) → IsValueFront level depth text.now rest.now false) }
 {
     match text {
-        [b'"', ..] => {
-            let rest = after_string(text)?;
-            Some(rest)
-        }
-        [b'0'..=b'9', ..] => {
-            let rest = after_number(text)?;
-            Some(rest)
-        }
-        _ => {
-            let rest = after_identifier(text)?;
-            Some(rest)
-        }
+        [b'"', ..] => after_string(text),
+        [b'0'..=b'9', ..] => after_number(text),
+        _ => after_identifier(text),
     }
 }
 
@@ -103,14 +93,8 @@ fn after_word_or_string(text: &[u8]) -> Option<&[u8]>
     ensures { IfSome result (λ rest. (level depth : ℕ) → IsPrimaryFront level depth text.now rest.now false) }
 {
     match text {
-        [b'"', ..] => {
-            let rest = after_string(text)?;
-            Some(rest)
-        }
-        _ => {
-            let rest = after_identifier(text)?;
-            Some(rest)
-        }
+        [b'"', ..] => after_string(text),
+        _ => after_identifier(text),
     }
 }
 
@@ -166,14 +150,8 @@ fn after_short(text: &[u8], depth: u8) -> Option<&[u8]>
     ensures { IfSome result (λ rest. (level : ℕ) → IsTermFront level depth text.now rest.now false) }
 {
     match text {
-        [b'[', ..] => {
-            let rest = after_short_list(text, depth)?;
-            Some(rest)
-        }
-        _ => {
-            let rest = after_lone_string(text)?;
-            Some(rest)
-        }
+        [b'[', ..] => after_short_list(text, depth),
+        _ => after_lone_string(text),
     }
 }
 

@@ -1,4 +1,4 @@
-use Rattle.std.proofs.Common.{true, false, ℕ, List, ◌≡◌, ◌+◌, ◌-◌, arith, ◌∙◌, ◌||◌, ◌∷◌, ◌++◌, refl, sym, subst, ap}
+use Rattle.std.proofs.Common.{rules, true, false, ℕ, List, ◌≡◌, ◌+◌, ◌-◌, arith, ◌∙◌, ◌||◌, ◌∷◌, ◌++◌, refl, sym, subst, ap}
 use Rattle.bz_tree.specs.declared.tree.GroupKind.TheVariants.{Dict}
 use Rattle.std.specs.Prelude.{codes}
 use Rattle.bz_canonical.specs.private.Values.{AreNodesFront}
@@ -72,14 +72,14 @@ pub group::after_broken_group-returns : goal.group::after_broken_group-returns
 group::after_broken_group-returns m c =
     let read = c.in_ok-read.ensures in
     let many = four_or c.in_ok-read.read.ended c.in_ok-read.read.noted _ _ ∙ sym (c.either-broken.ensures ∙ ap (λ b. c.in_ok-read.read.ended || b) (c.either-noted.ensures ∙ ap (λ b. c.in_ok-read.read.noted || b) (c.breaks-many.ensures c.in_ok-read.read.count refl refl))) ∙ c.if-not-broken.false in
-    broken_group c.args.kind c.args.level (c.args.depth + 1) c.args.depth c.args.inside.now read.0 c.in_ok-read.read.rest.now c.in_ok-end.end.now c.in_ok-rest.rest.now c.closing.result c.in_ok-read.read.count c.in_ok-read.read.holds c.in_ok-read.read.noted c.in_ok-read.read.ended
-    (omega arith) c.closing.ensures c.requires.commas read.1 read.2 many c.in_ok-end.ensures c.in_ok-rest.ensures
+    broken_group c.args.kind c.args.level (c.args.depth + 1) c.args.depth c.args.inside.now read.0 c.in_ok-read.read.rest.now c.in_ok-end.end.now c.in_ok-rest.rest.now c.brackets.result.1 c.in_ok-read.read.count c.in_ok-read.read.holds c.in_ok-read.read.noted c.in_ok-read.read.ended
+    (omega arith) c.brackets.ensures.1 c.requires.commas read.1 read.2 many c.in_ok-end.ensures c.in_ok-rest.ensures
 
 pub group::after_flat_group-returns : goal.group::after_flat_group-returns
 group::after_flat_group-returns m c =
     let read = c.in_ok-read.ensures in
-    flat_group c.args.kind c.args.level (c.args.depth + 1) c.args.depth c.args.inside.now c.in_ok-read.read.rest.now c.in_ok-rest.rest.now c.closing.result read.0 c.in_ok-read.read.holds
-    (omega arith) c.closing.ensures read.3 (sym (c.breaks-broken.ensures read.0 read.1 read.2) ∙ c.if-broken.false) c.in_ok-rest.ensures
+    flat_group c.args.kind c.args.level (c.args.depth + 1) c.args.depth c.args.inside.now c.in_ok-read.read.rest.now c.in_ok-rest.rest.now c.brackets.result.1 read.0 c.in_ok-read.read.holds
+    (omega arith) c.brackets.ensures.1 read.3 (sym (c.breaks-broken.ensures read.0 read.1 read.2) ∙ c.if-broken.false) c.in_ok-rest.ensures
 
 pub segments::after_flat_segments-returns-then-is_some : goal.segments::after_flat_segments-returns-then-is_some
 segments::after_flat_segments-returns-then-is_some m c = (0, refl, refl, none_flat c.args.kind c.args.level c.args.depth c.args.text.now)
@@ -103,7 +103,7 @@ segments::after_segment-returns-in_ok-rest-in-Dict m c =
 pub segments::after_segment-returns-in_ok-rest-in-123 : goal.segments::after_segment-returns-in_ok-rest-in-123
 segments::after_segment-returns-in_ok-rest-in-123 m c =
     positional_segment c.args.kind c.args.level c.args.depth c.args.text.now c.in_ok-rest-in-123.field-0.rest.now c.in_ok-rest-in-123.field-0.holds
-    (sym c.is_call.ensures ∙ c.if-not-is_call.false) c.in_ok-rest-in-123.ensures
+    (search rules) c.in_ok-rest-in-123.ensures
 
 pub segments::after_broken_dict-returns : goal.segments::after_broken_dict-returns
 segments::after_broken_dict-returns m c =

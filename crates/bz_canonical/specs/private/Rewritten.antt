@@ -27,11 +27,14 @@ use Rattle.bz_canonical.specs.declared.chunk.CanonicalChunk.{CanonicalChunk}
 use Rattle.bz_canonical.specs.declared.lists.ReadElement.{ReadElement}
 use Rattle.bz_canonical.specs.declared.lists.ReadString.{ReadString}
 use Rattle.bz_canonical.specs.declared.put_arguments.Pending.{Pending}
+use Rattle.bz_canonical.specs.declared.put_arguments.PutArguments.{PutArguments}
+use Rattle.bz_canonical.specs.declared.put_arguments.PutOthers.{PutOthers}
 use Rattle.bz_canonical.specs.declared.put_arguments.PutPlace.{PutPlace}
+use Rattle.bz_canonical.specs.declared.put_rule.PutRule.{PutRule}
 use Rattle.bz_canonical.specs.declared.rewrite.NamedRule.{NamedRule}
 use Rattle.bz_canonical.specs.private.Arguments.{Ends, alone}
 use Rattle.bz_canonical.specs.private.Fronts.{IsQuotedFront}
-use Rattle.bz_canonical.specs.private.Segments.{AreOf, IsBesideFront}
+use Rattle.bz_canonical.specs.private.Segments.{AreNotesFront, AreOf, AreSegmentsFront, IsBesideFront}
 use Rattle.bz_canonical.specs.private.Values.{AreNodesFront}
 
 -- a byte that stands for itself in a string, in double quotes too
@@ -247,7 +250,7 @@ pub record PutEnds : Type 0 where
   pub end : ℕ
 
 abbrev pub put_ends : PutPlace → PutEnds
-put_ends place = record { from = place.lines.from.now; to = place.lines.to.now; start = place.start; end = place.end }
+put_ends place = record { from = place.from.now; to = place.to.now; start = place.start; end = place.end }
 
 -- The first argument of a name among others, where `begun` is written before them; or none has it, and the place is after all.
 pub record HasPut (depth : ℕ) (attr begun text : List ℕ) (placed : List Placed) (place : PutEnds) : Type 0 where
@@ -263,13 +266,6 @@ pub record HasPut (depth : ℕ) (attr begun text : List ℕ) (placed : List Plac
   pub start : place.start ≡ length (begun ++ argument_lines (args_of before))
   pub end : place.end ≡ length ((begun ++ argument_lines (args_of before)) ++ argument_lines (args_of one))
 
--- arguments up to the first of the name and with it, or others, and the place
-abbrev pub ArePlacedRead : ℕ → List ℕ → List ℕ → List ℕ → List ℕ → List ℕ → Bool → PutEnds → Bool → Type 0
-ArePlacedRead depth attr text rest begun written one place false = AreOthersRead depth attr text rest written one × (place ≡ record { from = rest; to = rest; start = length (begun ++ written); end = length (begun ++ written) })
-ArePlacedRead depth attr text rest begun written one place true =
-    (from v u : List ℕ) × (more : Bool) × AreOthersRead depth attr text from v more × IsArgumentRead depth attr from rest u true × (written ≡ v ++ u) × (one ≡ true)
-    × (place ≡ record { from = from; to = rest; start = length (begun ++ v); end = length ((begun ++ v) ++ u) })
-
 -- all arguments, and the comments after them
 pub record AreArgumentsRead (depth : ℕ) (attr text rest begun written : List ℕ) (some : Bool) (place : Option PutEnds) : Type 0 where
   pub placed : List Placed
@@ -280,6 +276,19 @@ pub record AreArgumentsRead (depth : ℕ) (attr text rest begun written : List �
   pub spells : written ≡ argument_lines (args_of placed) ++ bytes_of (comments 1 end)
   pub some_is : some ≡ (nat_le 1 (length placed) || is_filled end)
   pub has : IfSome place (HasPut depth attr begun text placed)
+
+-- what follows arguments: others that have no name, and comments; the place that is left
+pub record AreEnded (depth : ℕ) (before : PutOthers) (place : Option PutPlace) (read : PutArguments) : Type 0 where
+  pub middle : List ℕ
+  pub count : ℕ
+  pub holds : Bool
+  pub noted : Bool
+  pub ended : Bool
+  pub from : read.at.from.now ≡ before.at.from.now
+  pub segments : AreSegmentsFront RuleCall 1 depth before.at.rest.now middle count holds noted
+  pub notes : AreNotesFront 1 middle read.at.rest.now ended
+  pub some_is : read.some ≡ ((before.one || nat_le 1 count) || ended)
+  pub stays : IfSome read.place (λ kept. (place ≡ Some kept) × (nat_le 1 count ≡ false))
 
 -- the name of an argument and its equals sign, with the comments above it
 pub record IsHeadRead (attr text value : List ℕ) (named : Bool) : Type 0 where
@@ -320,6 +329,13 @@ pub record IsRuleEnd (text rest : List ℕ) : Type 0 where
   pub note : Option (List ℕ)
   pub is : AreComments (beside note)
   pub front : text ≡ 10 ∷ 41 ∷ (bytes_of (suffix_piece note) ++ 10 ∷ rest)
+
+-- the end of a rule of these arguments, and what is written of the rule
+pub record EndsRule (old new : List ℕ) (read : PutArguments) (place : Option PutPlace) (rule : PutRule) : Type 0 where
+  pub some : read.some ≡ true
+  pub place_is : rule.place ≡ place
+  pub end : IsRuleEnd read.at.rest.now rule.rest.now
+  pub written : (text all : List ℕ) → IsPending text old all read.at.from.now rule.rest.now → (if rule.as_is then take (length text - length rule.rest.now) text else new) ≡ all
 
 -- the place of the name, if that is asked for, or of an argument after it
 abbrev pub IsRulePlace : Bool → List ℕ → List ℕ → List ℕ → Option PutEnds → PutEnds → Type 0

@@ -1,5 +1,5 @@
 -- The statement at the front of a text that stands as it is laid out, for private clauses.
-use Rattle.std.specs.Prelude.{◌≡◌, ◌≤◌, codes, ℕ, List, [], ◌∷◌, ◌++◌, Bool, true, false, if◌then◌else◌, map, Option, None, IfNone, IfSome}
+use Rattle.std.specs.Prelude.{◌≡◌, ◌≤◌, codes, ℕ, List, [], ◌∷◌, ◌++◌, Bool, true, false, if◌then◌else◌, map, Option, None, IfNone, IfSome, option_map}
 use Rattle.bz_token.specs.declared.token.Kind.TheVariants.{String}
 use Rattle.bz_tree.specs.declared.tree.kinds.Preceding.TheVariants.{Other}
 use Rattle.bz_tree.specs.declared.tree.Class.{Class}
@@ -18,7 +18,8 @@ use Rattle.bz_layout_laws.specs.Spelled.{spelled, spelled_statement}
 use Rattle.bz_layout_laws.specs.TextsOfKinds.{HaveTexts}
 use Rattle.bz_layout_laws.specs.WellFormed.{IsWellFormed}
 use Rattle.bz_attribute.specs.Rules.{first_named, name_in, rule_of}
-use Rattle.bz_canonical.specs.Canonical.{HasArgumentName, HasName, IsNameless, rule_args, rule_name}
+use Rattle.bz_canonical.specs.Canonical.{HasArgumentName, HasName, IsCanonical, IsNameless, between, rule_args, rule_name}
+use Rattle.bz_canonical.specs.declared.chunk.CanonicalChunk.{CanonicalChunk}
 use Rattle.bz_canonical.specs.private.Fronts.{IsTokenFront}
 use Rattle.bz_canonical.specs.private.Segments.{AreFlatFront, IsGroupFront}
 use Rattle.bz_canonical.specs.private.Values.{AreNodesFront}
@@ -84,3 +85,7 @@ pub record IsStatementFront (depth : ℕ) (class : Class) (name kind : Option (L
   pub front : text ≡ layout_text s ++ end
   pub ends : end ≡ empty_line class ++ rest
   pub absent : (attr : List ℕ) → (HasArgumentName attr (layout_text s) → ⊥) → first_named attr (rule_args (rule_of s.nodes)) ≡ None
+
+-- a chunk that is found at the front of a text
+abbrev pub IsChunkOf : ℕ → List ℕ → List ℕ → CanonicalChunk → Type 0
+IsChunkOf depth attr text found = IsCanonical depth attr found.class (option_map (λ name. name.now) found.name) (option_map (λ kind. kind.now) found.kind) (option_map between found.place) found.chunk.now found.written.now text

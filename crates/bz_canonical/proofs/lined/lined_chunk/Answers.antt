@@ -6,8 +6,7 @@ use Rattle.bz_canonical.proofs.LinedRules.{lined_chunk}
 use Rattle.bz_canonical.proofs.lined.lined_chunk.Goals as goal
 
 pub returns-clause-chunk : goal.returns-clause-chunk
-returns-clause-chunk c = λ depth attr rule laid.
-    let text : List ℕ = c.args.text.now in
+returns-clause-chunk c = λ depth attr text rule laid.
     let none : HasArgumentName (codes "name") c.args.laid.now → ⊥ = subst (λ (n : List ℕ). HasArgumentName n c.args.laid.now → ⊥) c.as_slice.ensures (c.has_argument_name.ensures c.if-has_argument_name.false) in
-    subst (λ (w : List ℕ). IsCanonical depth attr RuleClass None (Some c.args.rule.kind.now) None c.in_ok-chunk.chunk.now w text) (sym (c.in-Ok.ensures.0 ∙ laid))
-    (lined_chunk depth attr text c.args.rule c.in_ok-chunk.chunk.now rule (subst (λ (w : List ℕ). HasArgumentName (codes "name") w → ⊥) laid none) c.in_ok-chunk.ensures)
+    subst (λ (w : List ℕ). IsCanonical depth attr RuleClass None (Some c.args.kind.now) None c.args.rule.chunk.now w text) (sym (c.in-Ok.ensures.0 ∙ laid))
+    (lined_chunk depth attr text c.args.kind.now c.args.rule rule (subst (λ (w : List ℕ). HasArgumentName (codes "name") w → ⊥) laid none))

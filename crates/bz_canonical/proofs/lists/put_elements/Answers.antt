@@ -1,5 +1,7 @@
-use Rattle.std.proofs.Common.{◌++◌, true}
-use Rattle.bz_canonical.specs.private.Rewritten.{element_written}
+use Rattle.std.proofs.Common.{◌≡◌, ◌++◌, ℕ, List, true, false}
+use Rattle.std.specs.Prelude.{Bool, IfSome}
+use Rattle.std.specs.Bool.{then_some}
+use Rattle.bz_canonical.specs.private.Rewritten.{AreElementsRead, element_written}
 use Rattle.bz_canonical.proofs.ElementLists.{elements_read, passed_first, passed_others, put_two}
 use Rattle.bz_canonical.proofs.lists.put_elements.Goals as goal
 
@@ -18,4 +20,9 @@ loop-preserved c =
 pub returns-in-Some : goal.returns-in-Some
 returns-in-Some c =
     let i = c.loop.invariant in
-    (i.0, i.1, elements_read c.args.lines true c.loop.broken c.args.inside.now c.loop.rest.now c.in-Some.end.now i.0 i.2 c.in-Some.ensures)
+    rw c.then_some.ensures (told c.loop.broken i.0 i.1 (elements_read c.args.lines true c.loop.broken c.args.inside.now c.loop.rest.now c.in-Some.end.now i.0 i.2 c.in-Some.ensures))
+  where
+    told : (broken : Bool) (w : List ℕ) → c.loop.written.items ≡ c.args.written.now.items ++ w → AreElementsRead c.args.inside.now c.in-Some.end.now w true broken
+        → IfSome (then_some broken c.in-Some.end) (λ rest. (w : List ℕ) × (c.loop.written.items ≡ c.args.written.now.items ++ w) × AreElementsRead c.args.inside.now rest.now w true true)
+    told true w is read = (w, is, read)
+    told false w is read = tt

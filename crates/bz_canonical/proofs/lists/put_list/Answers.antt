@@ -1,4 +1,4 @@
-use Rattle.std.proofs.Common.{◌≡◌, ◌++◌, ◌∷◌, [], ◌∙◌, ℕ, List, ap, subst, sym, true}
+use Rattle.std.proofs.Common.{◌≡◌, ◌++◌, ◌∷◌, [], ◌∙◌, ℕ, List, ap, refl, subst, sym, true}
 use Rattle.std.specs.Prelude.{codes, IfSome}
 use Rattle.bz_canonical.specs.private.Rewritten.{AreElementsRead, IsListRead, spelling}
 use Rattle.bz_canonical.proofs.ElementLists.{list_broken, list_of_one, put_three}
@@ -19,12 +19,11 @@ returns-in-Some-after_only c =
 pub returns : goal.returns
 returns c =
     let inside = c.in-Some.inside.now in
-    let elements = c.in-Some-2.elements in
-    let end = elements.rest.now in
-    let got = subst (λ o. IfSome o (λ put. (w : List ℕ) × (c.put_elements.new.written.items ≡ c.push.new.list.items ++ w) × AreElementsRead inside put.rest.now w true put.broken)) c.in-Some-2.is c.in_ok-elements.ensures in
+    let end = c.in-Some-2.rest.now in
+    let got = subst (λ o. IfSome o (λ rest. (w : List ℕ) × (c.put_elements.new.written.items ≡ c.push.new.list.items ++ w) × AreElementsRead inside rest.now w true true)) c.in-Some-2.is c.in_ok-rest.ensures in
     let w = 91 ∷ (got.0 ++ codes "\n    ]") in (
       w,
       put_three c.args.written.now.items c.push.new.list.items c.put_elements.new.written.items c.extend_from_slice.new.list.items (91 ∷ []) got.0 (codes "\n    ]") c.in_ok-push.ensures.items got.1
           (c.in_ok-extend_from_slice.ensures.items ∙ ap (λ (t : List ℕ). c.put_elements.new.written.items ++ t) c.as_slice.ensures),
-      subst (λ t. IsListRead t end w) (sym c.in-Some.ensures) (list_broken true elements.broken inside end got.0 got.2 c.if-not-elements.false),
+      subst (λ t. IsListRead t end w) (sym c.in-Some.ensures) (list_broken true true inside end got.0 got.2 refl),
     )

@@ -3,7 +3,7 @@ use Rattle.std.specs.Prelude.{Bool, IfSome}
 use Rattle.bz_canonical.specs.private.Rewritten.{IsArgumentRead, IsHeadRead, Puts, pending}
 use Rattle.bz_canonical.proofs.Pendings.{pend_more, pend_same}
 use Rattle.bz_canonical.proofs.PutArguments.{none_others, one_more, value_read}
-use Rattle.bz_canonical.proofs.put_arguments.pass_others.Goals as goal
+use Rattle.bz_canonical.proofs.put_arguments.put_others.Goals as goal
 
 pub loop-init : goal.loop-init
 loop-init c = λ text begun p. (
