@@ -1,76 +1,48 @@
-//! Readers and writers of std as a `Source` and a `Sink`.
+//! A reader of std as a `Source`, and a writer of std as a `Sink`.
 //!
 //! That none of them gives or takes more than it was handed is in the contracts of `Read` and
 //! `Write`.
 
-ghost use Rattle.std.specs.Prelude.{◌≡◌, ◌<◌, ◌≤◌, [], ◌∷◌, ◌++◌, length, take, IfOk, OnErr};
+ghost use Rattle.std.specs.Prelude.{◌≡◌, ◌<◌, ◌≤◌, [], ◌∷◌, ◌++◌, length, take};
 ghost use Rattle.std.specs.Io.KnownBytes.{Appends};
 ghost use Rattle.bz_devices.specs.Device.{Counts, Gave};
 ghost use Rattle.bz_devices.specs.DeviceLaws.{gave_nothing_lem, gave_more_lem, appends_nothing, appends_more, counts_nothing, counts_pieces, counts_bytes};
 ghost use Rattle.std.specs.List.{concat};
 
 use crate::device::{Failed, Sink, Source};
-use std::io::{ErrorKind, Read, Write};
+use crate::tally::Tally;
+use std::io::{Read, Write};
 use std::marker::Model;
 
-/// A reader or a writer of std, with what it did so far. Each error counts as a failure.
+/// A `Source` over a reader. Each error of the reader is a failure, that of a read that was
+/// interrupted too: no read is made again.
 #[derive(Drop)]
-pub struct StdDevice<D> {
-    device: D,
-    /// How many bytes the reads gave, or the writes appended. It stays at its greatest value.
-    bytes: u64,
-    failures: u64,
+pub struct FromRead<R> {
+    reader: R,
+    tally: Tally,
 }
 
-impl<D> Model for StdDevice<D> {
+impl<R> Model for FromRead<R> {
     ghost use Rattle.bz_devices.specs.Device.{Counted};
 
-    ghost Value = { Counted D };
+    ghost Value = { Counted R };
 
-    ghost view = { λ s. record { device = s.device; bytes = s.bytes; failures = s.failures } };
+    ghost view = { λ s. record { device = s.reader; bytes = s.tally.bytes; failures = s.tally.failures } };
 }
 
-impl<D> StdDevice<D> {
-    /// The device, with no failure so far.
-    pub fn new(device: D) -> StdDevice<D>
-        ensures { result ≡ record { device = device; bytes = 0; failures = 0 } }
+impl<R> FromRead<R> {
+    /// The reader as a source: no byte and no failure so far.
+    pub fn new(reader: R) -> FromRead<R>
+        ensures { result ≡ record { device = reader; bytes = 0; failures = 0 } }
     {
-        StdDevice {
-            device,
-            bytes: 0,
-            failures: 0,
+        FromRead {
+            reader,
+            tally: Tally::new(),
         }
     }
 }
 
-/// A `Source` over a reader. A read that was interrupted is no failure: it is made again.
-pub type FromRead<R> = StdDevice<R>;
-
-/// A `Sink` over a writer. A write of 0 bytes is a failure.
-pub type ToWrite<W> = StdDevice<W>;
-
-/// Reads until the system does not interrupt the read, as std's own loops do. An interrupted read
-/// gave nothing.
-fn read_uninterrupted<R: Read>(reader: &mut R, buf: &mut [u8]) -> Result<usize, Failed>
-    requires { 0 < length buf.old }
-    ensures within { IfOk result (λ n. n ≤ length buf.new) }
-    ensures ok { IfOk result (λ n. Gave (R.remaining reader.old) (R.remaining reader.new) (take n buf.new ∷ [])) }
-    ensures err { OnErr result (Gave (R.remaining reader.old) (R.remaining reader.new) []) }
-{
-    for _attempt in 0..u64::MAX {
-        match reader.read(buf) {
-            Ok(n) => return Ok(n),
-            Err(error) => {
-                if error.kind() != ErrorKind::Interrupted {
-                    return Err(Failed);
-                }
-            }
-        }
-    }
-    Err(Failed)
-}
-
-impl<R: Read> Source for StdDevice<R> {
+impl<R: Read> Source for FromRead<R> {
     // By the bytes that are left, where they are known, and by their count.
     ghost gave = { λ old pieces new. Gave (R.remaining old.device) (R.remaining new.device) pieces
         × Counts old.bytes new.bytes (length (concat pieces)) };
@@ -85,24 +57,51 @@ impl<R: Read> Source for StdDevice<R> {
     ) };
 
     fn read(&mut self, buf: &mut [u8]) -> Result<usize, Failed> {
-        match read_uninterrupted(&mut self.device, buf) {
+        match self.reader.read(buf) {
             Ok(n) => {
-                self.bytes = self.bytes.saturating_add(n as u64);
+                self.tally.count(n);
                 Ok(n)
             }
-            Err(failed) => {
-                self.failures = self.failures.saturating_add(1);
-                Err(failed)
+            Err(_error) => {
+                self.tally.fail();
+                Err(Failed)
             }
         }
     }
 
     fn failures(&self) -> u64 {
-        self.failures
+        self.tally.failures
     }
 }
 
-impl<W: Write> Sink for StdDevice<W> {
+/// A `Sink` over a writer. Each error of the writer is a failure, and so is a write of 0 bytes.
+#[derive(Drop)]
+pub struct ToWrite<W> {
+    writer: W,
+    tally: Tally,
+}
+
+impl<W> Model for ToWrite<W> {
+    ghost use Rattle.bz_devices.specs.Device.{Counted};
+
+    ghost Value = { Counted W };
+
+    ghost view = { λ s. record { device = s.writer; bytes = s.tally.bytes; failures = s.tally.failures } };
+}
+
+impl<W> ToWrite<W> {
+    /// The writer as a sink: no byte and no failure so far.
+    pub fn new(writer: W) -> ToWrite<W>
+        ensures { result ≡ record { device = writer; bytes = 0; failures = 0 } }
+    {
+        ToWrite {
+            writer,
+            tally: Tally::new(),
+        }
+    }
+}
+
+impl<W: Write> Sink for ToWrite<W> {
     // By the bytes that were written, where they are known, and by their count.
     ghost took = { λ old bytes new. Appends (W.contents old.device) (W.contents new.device) bytes
         × Counts old.bytes new.bytes (length bytes) };
@@ -117,19 +116,19 @@ impl<W: Write> Sink for StdDevice<W> {
     ) };
 
     fn write(&mut self, bytes: &[u8]) -> Result<usize, Failed> {
-        match self.device.write(bytes) {
+        match self.writer.write(bytes) {
             Ok(n) if n > 0 => {
-                self.bytes = self.bytes.saturating_add(n as u64);
+                self.tally.count(n);
                 Ok(n)
             }
             _ => {
-                self.failures = self.failures.saturating_add(1);
+                self.tally.fail();
                 Err(Failed)
             }
         }
     }
 
     fn failures(&self) -> u64 {
-        self.failures
+        self.tally.failures
     }
 }
