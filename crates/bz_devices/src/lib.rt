@@ -12,4 +12,3 @@ pub mod input;
 pub mod limits;
 pub mod output;
 pub mod std_device;
-mod tally;

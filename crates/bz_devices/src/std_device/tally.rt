@@ -5,7 +5,7 @@ ghost use Rattle.bz_devices.specs.Device.{Counts, Rises};
 
 /// What a device did so far. Each count stays at its greatest value.
 #[derive(Clone, Copy)]
-pub(crate) struct Tally {
+pub(super) struct Tally {
     /// How many bytes the reads gave, or the writes appended.
     pub bytes: u64,
     /// How many calls failed.
@@ -13,7 +13,7 @@ pub(crate) struct Tally {
 }
 
 impl Tally {
-    pub(crate) fn new() -> Tally
+    pub(super) fn new() -> Tally
         ensures { result ≡ record { bytes = 0; failures = 0 } }
     {
         Tally {
@@ -23,7 +23,7 @@ impl Tally {
     }
 
     /// Counts a call that gave or took `n` bytes.
-    pub(crate) fn count(&mut self, n: usize)
+    pub(super) fn count(&mut self, n: usize)
         ensures bytes { Counts self.old.bytes self.new.bytes n }
         ensures steady { self.new.failures ≡ self.old.failures }
     {
@@ -31,7 +31,7 @@ impl Tally {
     }
 
     /// Counts a call that failed.
-    pub(crate) fn fail(&mut self)
+    pub(super) fn fail(&mut self)
         ensures failed { Rises self.old.failures self.new.failures }
         ensures steady { self.new.bytes ≡ self.old.bytes }
     {
