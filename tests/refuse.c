@@ -3,9 +3,8 @@
 
    A refused call does nothing, and answers as the system would: no memory, a full disk, a fault of the device. A write to a
    file that is lost tells no fault, nor does an unlink that keeps the file, as where another program puts it there again. A
-   read that is interrupted, and a read or write of one byte where more were wanted, are no faults. No file is to be renamed
-   before it is closed: a system may refuse that. Before a call of fchmod that stops the process stops itself, until it is
-   told to go on.  */
+   read or write of one byte where more were wanted is no fault. No file is to be renamed before it is closed: a system may
+   refuse that. Before a call of fchmod that stops the process stops itself, until it is told to go on.  */
 #define _GNU_SOURCE
 #include <dlfcn.h>
 #include <errno.h>

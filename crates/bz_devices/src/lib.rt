@@ -1,7 +1,7 @@
 //! Where the bytes of a run come from and go to, a buffer before a sink, and the input's next chunk.
 //!
-//! A `Source` gives bytes in pieces and a `Sink` takes them; both may fail at any call. `FromRead` and
-//! `ToWrite` make them of a reader and a writer of std, and `Buffered` keeps bytes back before a sink.
+//! A `Source` gives bytes in pieces and a `Sink` takes them; both may fail at any call. `FromRead` makes
+//! a source of a reader of std, `ToWrite` a sink of a writer, and `Buffered` keeps bytes back before a sink.
 //! `next_chunk` reads a source no further than is needed to know where the next chunk ends.
 #![tactic(auto)]
 

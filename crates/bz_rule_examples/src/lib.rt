@@ -13,6 +13,8 @@ mod labels;
 #[cfg(test)]
 mod layout;
 #[cfg(test)]
+mod lists;
+#[cfg(test)]
 mod rows;
 pub mod table;
 pub mod texts;

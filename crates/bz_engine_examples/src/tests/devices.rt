@@ -37,28 +37,6 @@ fn writes_pieces(rt: HostRuntime) {
     );
 }
 
-/// A reader whose first reads are interrupted.
-#[derive(Drop)]
-struct Shaken {
-    interruptions: u64,
-    ends: bool,
-}
-
-impl Read for Shaken {
-    fn read(&mut self, buf: &mut [u8]) -> io::Result<usize> {
-        if self.interruptions > 0 {
-            self.interruptions -= 1;
-            return Err(io::Error::from(ErrorKind::Interrupted));
-        }
-        if self.ends || buf.is_empty() {
-            return Ok(0);
-        }
-        self.ends = true;
-        buf[0] = b'x';
-        Ok(1)
-    }
-}
-
 /// A writer that takes nothing.
 #[derive(Drop)]
 struct Full;
@@ -136,16 +114,6 @@ fn stands_on_std(rt: HostRuntime) -> Result<(), Fail> {
     check_run(&rt, rt.alloc(), &mut source, 0, b"f(n = 7)\n")
 }
 
-// A read that was interrupted is made again and is no failure.
-#[test]
-fn reads_again_if_interrupted(rt: HostRuntime) -> Result<(), Fail> {
-    let mut shaken = FromRead::new(Shaken {
-        interruptions: 100,
-        ends: false,
-    });
-    check_run(&rt, rt.alloc(), &mut shaken, 3, b"x\n")
-}
-
 #[test]
 fn ends_at_a_full_writer(rt: HostRuntime) -> Result<(), Fail> {
     let mut source = FromRead::new(b"f()\n".as_slice());
@@ -156,10 +124,11 @@ fn ends_at_a_full_writer(rt: HostRuntime) -> Result<(), Fail> {
     Ok(())
 }
 
-const KINDS: [ErrorKind; 3] = [
+const KINDS: [ErrorKind; 4] = [
     ErrorKind::Other,
     ErrorKind::IsADirectory,
     ErrorKind::WouldBlock,
+    ErrorKind::Interrupted,
 ];
 
 fn check_failed_read(rt: &impl Abort, alloc: Global, kind: ErrorKind) -> Result<(), Fail> {
@@ -167,7 +136,7 @@ fn check_failed_read(rt: &impl Abort, alloc: Global, kind: ErrorKind) -> Result<
     let mut source = FromRead::new(&mut reader);
     let mut drip = Drip::new(alloc, 99, None);
     let answer = ran(alloc, &mut source, &mut drip)?;
-    let found = (answer, Source::failures(&source), drip.writes);
+    let found = (answer, source.failures(), drip.writes);
     check(rt, "run", &found, &(Err(RunFault::ReadFailed), 1, 0));
     check(rt, "calls", &reader.calls, &1);
     Ok(())
@@ -178,13 +147,13 @@ fn check_failed_write(rt: &impl Abort, alloc: Global, kind: ErrorKind) -> Result
     let mut source = FromRead::new(b"f()\n".as_slice());
     let mut sink = ToWrite::new(&mut writer);
     let answer = ran(alloc, &mut source, &mut sink)?;
-    let found = (answer, Source::failures(&source), Sink::failures(&sink));
+    let found = (answer, source.failures(), sink.failures());
     check(rt, "run", &found, &(Err(RunFault::WriteFailed), 0, 1));
     check(rt, "calls", &writer.calls, &1);
     Ok(())
 }
 
-// A read or a write that failed is not made again, though it would succeed, but told.
+// A read or a write that failed, one that was interrupted too, is not made again, though it would succeed, but told.
 #[test]
 fn ends_at_a_failed_read(rt: HostRuntime) -> Result<(), Fail> {
     for kind in KINDS {
