@@ -1,5 +1,6 @@
 mod CommandFileExamples
 mod CommandWords
+mod EachAlone
 mod FileLines
 mod FlagExamples
 mod FlagSteps

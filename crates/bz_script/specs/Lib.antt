@@ -1,4 +1,5 @@
 pub mod CommandFiles
+pub mod EachPackage
 pub mod Flags
 pub mod Groups
 pub mod Inputs

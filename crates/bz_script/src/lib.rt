@@ -7,6 +7,7 @@ pub mod flags;
 pub mod group;
 pub mod help;
 pub mod inputs;
+pub mod laws;
 pub mod mistake;
 pub mod names;
 pub mod packages;
