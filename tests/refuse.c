@@ -3,8 +3,9 @@
 
    A refused call does nothing, and answers as the system would: no memory, a full disk, a fault of the device. A write to a
    file that is lost tells no fault, nor does an unlink that keeps the file, as where another program puts it there again. A
-   read or write of one byte where more were wanted is no fault. No file is to be renamed before it is closed: a system may
-   refuse that. Before a call of fchmod that stops the process stops itself, until it is told to go on.  */
+   read or write of one byte where more were wanted is no fault. No file is to be renamed or removed before it is closed: a
+   system may refuse the one, and keeps the blocks of the other. Before a call of fchmod that stops the process stops itself,
+   until it is told to go on.  */
 #define _GNU_SOURCE
 #include <dlfcn.h>
 #include <errno.h>
@@ -116,6 +117,7 @@ int rename(const char *from, const char *to) {
 
 int unlink(const char *path) {
     if (is_refused("kept unlink", 0)) return 0;
+    if (is_one_written() && is_refused("unlink of an open file", EBUSY)) return -1;
     return is_refused("unlink", EPERM) ? -1 : NEXT(unlink)(path);
 }
 

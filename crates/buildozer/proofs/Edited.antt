@@ -1,24 +1,36 @@
 -- A file that is edited holds what it held, or the whole text of a run that is kept.
-use Rattle.std.proofs.Common.{◌≡◌, ℕ, Bool, true, false, not, ◌||◌, ◌&&◌, if◌then◌else◌, List, [], ◌∷◌, Option, None, Some, Result, Ok, sym, ◌∙◌, ap, subst, refl, Contains, ⊎_elim, ◌⊎◌, inl, inr}
+use Rattle.std.proofs.Common.{◌≡◌, ◌≢◌, ℕ, Bool, true, false, not, ◌||◌, ◌&&◌, if◌then◌else◌, List, [], ◌∷◌, ◌++◌, Option, None, Some, IfSome, Result, Ok, Err, IfOk, IfErr, OnErr, sym, ◌∙◌, ap, subst, refl, Contains, ⊎_elim, ◌⊎◌, inl, inr, string_bytes}
+use Rattle.std.specs.Prelude.{⊤}
 use Rattle.std.proofs.lemmas.Bool.{false≢true}
-use Rattle.bz_folder.specs.Files.{Content, Event}
-use Rattle.bz_folder.specs.Replace.{Replacement}
-use Rattle.bz_folder.specs.Sequence.{SafeRun, Wanted, EachMay}
+use Rattle.std.proofs.Math.Decide.{ℕ_discrete}
+use mathlib.Core.List.{List-discrete}
+use Rattle.bz_devices.specs.declared.device.Failed.{Failed as FailedCall}
+use Rattle.bz_folder.specs.Files.{Content, Files, Event}
+use Rattle.bz_folder.specs.Moments.{along_append, along_weaker}
+use Rattle.bz_folder.specs.Replace.{IsSafe, IsEnd, ReplacesSafely, Replacement}
+use Rattle.bz_folder.specs.declared.folder.Opened.{Opened}
+use Rattle.bz_folder.specs.Sequence.{SafeRun, Wanted, AmongWanted, EachMay}
 use Rattle.bz_folder.specs.SequenceLaws.{run_nothing, run_one}
 use Rattle.bz_folder.specs.declared.trouble.Trouble.{Trouble}
+use Rattle.bz_folder.specs.declared.trouble.Trouble.TheVariants.{OutOfMemory as NoMemoryFor, Clean, LeftBehind}
+use Rattle.bz_engine.specs.declared.run_fault.RunFault.{RunFault}
+use Rattle.bz_engine.specs.declared.run_fault.RunFault.TheVariants.{OutOfMemory, ReadFailed, WriteFailed, InputTooLong, StatementTooLong, Stopped}
+use Rattle.buildozer.specs.declared.edit_file.FileFault.{FileFault}
+use Rattle.buildozer.specs.declared.edit_file.FileFault.TheVariants.{Run, CannotWrite}
 use Rattle.bz_engine.specs.declared.report.Report.{Report}
 use Rattle.bz_command.specs.Labels.{Package}
 use Rattle.buildozer.specs.declared.file_run.Ended.{Ended}
-use Rattle.buildozer.specs.declared.file_run.Ended.TheVariants.{Told, Failed, NotYet}
-use Rattle.buildozer.specs.Runs.{Asked, IsRun, IsKeptText, is_kept, is_whole}
+use Rattle.buildozer.specs.declared.file_run.Ended.TheVariants.{Told, Failed as EndedByFault, NotYet}
+use Rattle.buildozer.specs.Runs.{Asked, IsRun, IsKeptText, is_kept, is_whole, run_of, IsFaultOver}
 use Rattle.buildozer.specs.FileRuns.{GaveText, GaveAnswer}
-use Rattle.buildozer.specs.Files.{IsFileOf, MayBe, MayHold, MayHoldNothing, IsEdited}
-use Rattle.buildozer.specs.Handled.{IsStatusOver, IsFileStatus, LeavesFiles}
-use Rattle.bz_engine.specs.Outcome.{status_of}
+use Rattle.buildozer.specs.Files.{IsFileOf, MayBe, MayHold, MayHoldNothing, IsEdited, Holds, AreLeft, Leaves, IsPlaced, file_fault, IsFileFault, IsOfFolder}
+use Rattle.buildozer.specs.Handled.{IsStatusOver, IsFileStatus, IsPut, LeavesFiles}
+use Rattle.bz_engine.specs.Outcome.{Run as RunOf, Told as ToldOf, IsOutcome, status_of, told_by, told_of}
+use Rattle.bz_engine.specs.declared.report.SyntaxFault.{SyntaxFault}
 use Rattle.bz_script.specs.Groups.{Step}
 use Rattle.bz_script.specs.Names.{IsBuildPath}
 use Rattle.bz_script.specs.Packages.{by_package}
-use Rattle.buildozer.specs.Program.{MayHold as MayHoldAny, Task, asked_for}
+use Rattle.buildozer.specs.Program.{MayHold as MayHoldAny, Task, asked_for, in_place}
 use Rattle.buildozer.specs.declared.file_run.FileRun.{FileRun}
 
 abbrev or_else : {A : Type 0} → Option A → A → A
@@ -27,8 +39,99 @@ or_else None y = y
 
 abbrev report_in : Ended → Report → Report
 report_in (Told r) s = r
-report_in (Failed e) s = s
+report_in (EndedByFault e) s = s
 report_in NotYet s = s
+
+-- a file that was not replaced is as it was
+old_at_end : (file : List ℕ) (wanted : Option Content) (result : Result Bool Trouble) → result ≢ Ok true → (start now : Files) → IsEnd file wanted result start now → now file ≡ start file
+old_at_end file wanted (Ok true) other start now h = absurd (other refl)
+old_at_end file wanted (Ok false) other start now h = h.0
+old_at_end file wanted (Err Clean) other start now h = h.0
+old_at_end file wanted (Err (NoMemoryFor _)) other start now h = h.0
+old_at_end file wanted (Err LeftBehind) other start now h = h
+
+all_old : (file : List ℕ) (wanted : Option Content) (start now : Files) → IsSafe file wanted start now → now file ≡ start file → AreLeft ((file, None) ∷ []) start now
+all_old file wanted start now s same path other = at_path (List-discrete ℕ_discrete path file)
+  where
+    at_path : Dec (path ≡ file) → now path ≡ start path
+    at_path (yes e) = subst (λ p. now p ≡ start p) (sym e) same
+    at_path (no n) = s.others path n (λ e. other (inl e))
+
+module _ {D A : Type 0} (did : D → List Event → D → Type 0) (gives : A → List ℕ → Result Bool FailedCall → A → Type 0) (a b : D) (before after : A) (file : List ℕ) (mode : ℕ) where
+  leaves_old : (result : Result Bool Trouble) → Replacement did gives a b before after file mode result → result ≢ Ok true → Leaves did ((file, None) ∷ []) a b
+  leaves_old result r other = record {
+    events = r.events;
+    made = r.made;
+    left = λ start. along_weaker (IsSafe file r.wanted start) (λ now. ⊤) (IsEnd file r.wanted result start) (AreLeft ((file, None) ∷ []) start) (λ now s. tt)
+        (λ now s end. all_old file r.wanted start now s (old_at_end file r.wanted result other start now end)) r.events start (r.safe start);
+  }
+
+  abbrev LeavesGiven : Type 0
+  LeavesGiven = (text : List ℕ) × gives before text (Ok true) after × Leaves did ((file, Some (text, mode)) ∷ []) a b
+
+  leaves_wanted : (wanted : Option Content) (events : List Event) → did a events b → IfSome wanted (λ content. gives before content.0 (Ok true) after × (content.1 ≡ mode))
+      → ReplacesSafely file wanted (Ok true) events → (text : List ℕ) × gives before text (Ok true) after → LeavesGiven
+  leaves_wanted None events made kept safe given = (
+    given.0,
+    given.1,
+    record {
+      events = events;
+      made = made;
+      left = λ start. along_weaker (IsSafe file None start) (λ now. ⊤) (IsEnd file None (Ok true) start) (AreLeft ((file, Some (given.0, mode)) ∷ []) start) (λ now s. tt)
+          (λ now s end. absurd (false≢true end.0)) events start (safe start);
+    },
+  )
+  leaves_wanted (Some content) events made kept safe given = (
+    content.0,
+    kept.0,
+    record {
+      events = events;
+      made = made;
+      left = λ start. along_weaker (IsSafe file (Some content) start) (λ now. ⊤) (IsEnd file (Some content) (Ok true) start) (AreLeft ((file, Some (content.0, mode)) ∷ []) start) (λ now s. tt)
+          (λ now s end path other. ((λ e. subst (λ p. now p ≡ Some (content.0, mode)) (sym e) (end.1 ∙ ap (λ bits. Some (content.0, bits)) kept.1)), (λ n. s.others path n (λ e. other (inl e))))) events start (safe start);
+    },
+  )
+
+  leaves_new : (result : Result Bool Trouble) → Replacement did gives a b before after file mode result → result ≡ Ok true
+      → (text : List ℕ) × gives before text (Ok true) after → LeavesGiven
+  leaves_new result r is given = leaves_wanted r.wanted r.events r.made r.kept (subst (λ answer. ReplacesSafely file r.wanted answer r.events) is r.safe) given
+
+abbrev fault_in : Ended → RunFault → RunFault
+fault_in (EndedByFault f) g = f
+fault_in (Told r) g = g
+fault_in NotYet g = g
+
+not_ended : (fault : RunFault) → NotYet ≡ EndedByFault fault → ⊥
+not_ended fault same = cc
+
+not_told : (report : Report) (fault : RunFault) → Told report ≡ EndedByFault fault → ⊥
+not_told report fault same = cc
+
+not_asked : (asked : Asked) → (let none : Option Asked = None in none ≡ Some asked) → ⊥
+not_asked asked same = cc
+
+pub true_fault : {S : Type 0} (gave : S → List (List ℕ) → S → Type 0) (failures : S → ℕ) (source : S) (fault : RunFault) (source_after : S) → IsFaultOver gave failures source fault source_after
+    → IsFileFault gave failures source (file_fault fault)
+true_fault gave failures source (OutOfMemory why) after h = (after, h)
+true_fault gave failures source ReadFailed after h = (after, h)
+true_fault gave failures source WriteFailed after h = tt
+true_fault gave failures source InputTooLong after h = (after, h)
+true_fault gave failures source (StatementTooLong line) after h = (after, h)
+true_fault gave failures source Stopped after h = (after, h)
+
+pub if_err : {T E : Type 0} {P Q : E → Type 0} → ((e : E) → P e → Q e) → (r : Result T E) → IfErr r P → IfErr r Q
+if_err f (Ok x) h = tt
+if_err f (Err e) h = f e h
+
+-- what is not the run's fault is true
+pub of_folder : {S : Type 0} (gave : S → List (List ℕ) → S → Type 0) (failures : S → ℕ) (source : S) (fault : FileFault) → IsOfFolder fault → IsFileFault gave failures source fault
+of_folder gave failures source CannotWrite h = tt
+of_folder gave failures source (Run (OutOfMemory why)) h = (source, tt)
+of_folder gave failures source (Run ReadFailed) h = absurd h
+of_folder gave failures source (Run WriteFailed) h = absurd h
+of_folder gave failures source (Run InputTooLong) h = absurd h
+of_folder gave failures source (Run (StatementTooLong line)) h = absurd h
+of_folder gave failures source (Run Stopped) h = absurd h
 
 module _ {S : Type 0} (gave : S → List (List ℕ) → S → Type 0) (failures : S → ℕ) (before after : FileRun S) (asked : Asked) (is : before.asked ≡ Some asked) where
   -- what was asked is what the run did
@@ -82,13 +185,82 @@ module _ {S : Type 0} (gave : S → List (List ℕ) → S → Type 0) (failures 
       run_one did MayHoldNothing (λ old text answer new. GaveAnswer gave failures old.asked old.source text answer new.source new.ended) a b before after file mode result r
       (λ text g. false≢true (sym unkept ∙ sym (edited text true report g ended).replaced_is))
 
+  -- what the file holds in the end
+  pub placed : {D F : Type 0} (did : D → List Event → D → Type 0) (a b : D) (file : List ℕ) (opened : Opened S) → before.source ≡ opened.source → file ≡ string_bytes opened.path
+      → (replaced : Result Bool Trouble)
+      → Replacement did (λ old text answer new. GaveAnswer gave failures old.asked old.source text answer new.source new.ended) a b before after file opened.mode replaced
+      → (replaced ≡ Ok true → (text : List ℕ) × GaveAnswer gave failures before.asked before.source text (Ok true) after.source after.ended)
+      → (result : Result (Report × Bool) F) → IfOk result (λ told. (after.ended ≡ Told told.0) × (replaced ≡ Ok told.1)) → OnErr result (replaced ≢ Ok true)
+      → IsPlaced gave did asked opened result a b
+  unfolding edited
+  placed did a b file opened from at replaced r given (Ok (report, true)) told failed =
+      let text = leaves_new did (λ old text answer new. GaveAnswer gave failures old.asked old.source text answer new.source new.ended) a b before after file opened.mode replaced r told.1 (given told.1) in
+      subst (λ path. (ran : IsEdited gave opened.source asked report true) × Leaves did ((path, Some (ran.text, opened.mode)) ∷ []) a b) at
+      (subst (λ source. (ran : IsEdited gave source asked report true) × Leaves did ((file, Some (ran.text, opened.mode)) ∷ []) a b) from
+      (edited text.0 true report text.1 told.0, text.2))
+  placed did a b file opened from at replaced r given (Ok (report, false)) told failed =
+      subst (λ path. Leaves did ((path, None) ∷ []) a b) at
+      (leaves_old did (λ old text answer new. GaveAnswer gave failures old.asked old.source text answer new.source new.ended) a b before after file opened.mode replaced r
+      (λ yes. let both : Ok false ≡ Ok true = sym told.1 ∙ yes in cc))
+  placed did a b file opened from at replaced r given (Err fault) told failed =
+      subst (λ path. Leaves did ((path, None) ∷ []) a b) at
+      (leaves_old did (λ old text answer new. GaveAnswer gave failures old.asked old.source text answer new.source new.ended) a b before after file opened.mode replaced r failed)
+
+  -- why the run failed is true
+  pub faulted : (source : S) → before.source ≡ source → before.ended ≡ NotYet → (fault : RunFault) → after.ended ≡ EndedByFault fault
+      → (after ≡ before) ⊎ ((text : List ℕ) × (answer : Result Bool FailedCall) × GaveAnswer gave failures before.asked before.source text answer after.source after.ended)
+      → (told : FileFault) → told ≡ file_fault fault → IsFileFault gave failures source told
+  faulted source from new fault ended (inl same) told told_is = absurd (not_ended fault (sym new ∙ ap (λ (r : FileRun S). r.ended) (sym same) ∙ ended))
+  faulted source from new fault ended (inr (text, Ok kept, g)) told told_is = absurd (not_told g.report fault (sym g.ended_is ∙ ended))
+  faulted source from new fault ended (inr (text, Err failed, inl none)) told told_is = absurd (not_asked asked (sym none ∙ is))
+  faulted source from new fault ended (inr (text, Err failed, inr why)) told told_is =
+      subst (IsFileFault gave failures source) (sym told_is)
+      (true_fault gave failures source fault after.source
+      (subst (λ s. IsFaultOver gave failures s fault after.source) from
+      (subst (λ f. IsFaultOver gave failures before.source f after.source) (ap (λ e. fault_in e fault) (sym why.1 ∙ ended)) why.2)))
+
 -- a folder of which no call was made
 pub untouched : {D : Type 0} (did : D → List Event → D → Type 0) (May : List ℕ → Content → Type 0) → ((s : D) → did s [] s) → (s : D) → SafeRun did May s s
 untouched did May nothing s = run_nothing did May nothing s
 
-pub left_alone : {D : Type 0} (did : D → List Event → D → Type 0) (May : List ℕ → Content → Type 0) (is_shown : Bool) → ((s : D) → did s [] s) → (s : D) (status : ℕ)
-    → LeavesFiles did May is_shown s s status
-left_alone did May is_shown nothing s status = record { safe = untouched did May nothing s; idle = λ three. untouched did MayHoldNothing nothing s; shown = λ is. nothing s }
+-- what is at a path after some were put, and others after them
+holds_more : (ps qs : List Wanted) (path : List ℕ) (a b c : Option Content) → Holds ps path a b → Holds qs path b c → Holds (ps ++ qs) path a c
+holds_more [] qs path a b c h k = subst (λ x. Holds qs path x c) h k
+holds_more ((file, None) ∷ ps) qs path a b c h k = holds_more ps qs path a b c h k
+holds_more ((file, Some content) ∷ ps) qs path a b c h k = ((λ e. holds_more ps qs path (Some content) b c (h.0 e) k), (λ n. holds_more ps qs path a b c (h.1 n) k))
+
+among_left : (P : Wanted → Type 0) (ps qs : List Wanted) → AmongWanted P ps → AmongWanted P (ps ++ qs)
+among_left P [] qs h = absurd h
+among_left P (w ∷ ps) qs (inl h) = inl h
+among_left P (w ∷ ps) qs (inr h) = inr (among_left P ps qs h)
+
+among_right : (P : Wanted → Type 0) (ps qs : List Wanted) → AmongWanted P qs → AmongWanted P (ps ++ qs)
+among_right P [] qs h = h
+among_right P (w ∷ ps) qs h = inr (among_right P ps qs h)
+
+pub leaves_nothing : {D : Type 0} (did : D → List Event → D → Type 0) → ((s : D) → did s [] s) → (s : D) → Leaves did [] s s
+leaves_nothing did nothing s = record { events = []; made = nothing s; left = λ start. (tt, λ path other. refl) }
+
+pub leaves_more : {D : Type 0} (did : D → List Event → D → Type 0) → ((a b c : D) (es fs : List Event) → did a es b → did b fs c → did a (es ++ fs) c)
+    → (ps qs : List Wanted) (a b c : D) → Leaves did ps a b → Leaves did qs b c → Leaves did (ps ++ qs) a c
+leaves_more did joins ps qs a b c p q = record {
+  events = p.events ++ q.events;
+  made = joins a b c p.events q.events p.made q.made;
+  left = λ start. along_append (λ now. ⊤) (λ now. ⊤) (AreLeft ps start) (AreLeft (ps ++ qs) start) p.events q.events start (λ m s. tt) (p.left start)
+      (λ m s before. along_weaker (λ now. ⊤) (λ now. ⊤) (AreLeft qs m) (AreLeft (ps ++ qs) start) (λ now s. tt)
+      (λ now s after path other. holds_more ps qs path (start path) (m path) (now path) (before path (λ e. other (among_left _ ps qs e))) (after path (λ e. other (among_right _ ps qs e)))) q.events m (q.left m));
+}
+
+pub left_alone : {D F : Type 0} (did : D → List Event → D → Type 0) (leads : List ℕ → List ℕ → F → Type 0) (gave : F → List (List ℕ) → F → Type 0) (stdout : Bool) (asked : Asked)
+    → ((s : D) → did s [] s) → (s : D) (status : ℕ) → (in_place stdout asked ≡ true → status ≡ 0 → ⊥) → LeavesFiles did leads gave stdout asked s s status
+left_alone did leads gave stdout asked nothing s status none = record {
+  safe = untouched did (MayHold leads gave asked) nothing s;
+  puts = [];
+  put = record { may = tt; some = λ is zero. absurd (none is zero) };
+  left = leaves_nothing did nothing s;
+  idle = λ three. untouched did MayHoldNothing nothing s;
+  shown = λ is. nothing s;
+}
 
 each_weaker : (May More : List ℕ → Content → Type 0) → ((file : List ℕ) (content : Content) → May file content → More file content)
     → (wants : List Wanted) → EachMay May wants → EachMay More wants
@@ -121,6 +293,12 @@ of_package did leads gave keep_going script task is_asked a b r =
     safe_weaker did (MayHold leads gave (asked_for keep_going task)) (MayHoldAny leads gave keep_going script)
     (λ file content may. record { task = task; is_asked = is_asked; may = may }) a b r
 
+two_not_zero : (let two : ℕ = 2 in two ≡ 0) → ⊥
+two_not_zero same = cc
+
+pub two_zero : (status : ℕ) → status ≡ 2 → status ≡ 0 → ⊥
+two_zero status two zero = two_not_zero (sym two ∙ zero)
+
 -- a report of a run in which nothing changed is not kept
 abbrev status_by : Bool → Bool → ℕ
 status_by failed changed = if failed then 2 else (if changed then 0 else 3)
@@ -136,6 +314,70 @@ unchanged_unkept false changed rest is = refl
 
 pub three_unkept : (keep_going : Bool) (report : Report) → status_of report ≡ 3 → is_kept keep_going report ≡ false
 three_unkept keep_going report is = unchanged_unkept (is_whole report.end) report.changed (keep_going || not report.failed) (three_unchanged report.failed report.changed is)
+
+zero_parts : (failed changed : Bool) → status_by failed changed ≡ 0 → (failed ≡ false) × (changed ≡ true)
+zero_parts true changed is = absurd cc
+zero_parts false true is = (refl, refl)
+zero_parts false false is = absurd cc
+
+kept_of : (whole changed keep_going failed : Bool) → whole ≡ true → changed ≡ true → failed ≡ false → (whole && (changed && (keep_going || not failed))) ≡ true
+kept_of true true true false w c f = refl
+kept_of true true false false w c f = refl
+kept_of false changed keep_going failed w c f = absurd (false≢true w)
+kept_of true false keep_going failed w c f = absurd (false≢true c)
+kept_of true true keep_going true w c f = absurd (false≢true (sym f))
+
+-- a run that did not fail read its file whole
+whole_told : (report : Report) (told : Option SyntaxFault → ToldOf) (fault : Option SyntaxFault) → told_by report ≡ told fault
+    → is_whole (told None).end ≡ true → ((f : SyntaxFault) → (told (Some f)).failed ≡ true) → report.failed ≡ false → is_whole report.end ≡ true
+whole_told report told None is whole failed calm = ap (λ (t : ToldOf). is_whole t.end) is ∙ whole
+whole_told report told (Some fault) is whole failed calm = absurd (false≢true (sym calm ∙ ap (λ (t : ToldOf). t.failed) is ∙ failed fault))
+
+whole_by : (run : RunOf) (file text : List ℕ) (report : Report) → IsOutcome run file text (told_by report) → report.failed ≡ false → is_whole report.end ≡ true
+whole_by run file text report (inl w) calm = whole_told report (told_of run.home run.passes w.statements) w.fault w.told_is refl (λ f. refl) calm
+whole_by run file text report (inr e) calm = absurd (false≢true (sym calm ∙ ap (λ (t : ToldOf). t.failed) e.told_is))
+
+zero_replaced : {S : Type 0} (gave : S → List (List ℕ) → S → Type 0) (source : S) (asked : Asked) (report : Report) (replaced : Bool) → IsEdited gave source asked report replaced
+    → status_of report ≡ 0 → replaced ≡ true
+zero_replaced gave source asked report replaced e zero =
+    let parts = zero_parts report.failed report.changed zero in
+    e.replaced_is ∙ kept_of (is_whole report.end) report.changed asked.keep_going report.failed (whole_by (run_of asked) _ e.text report (e.outcome.each [] (λ at_end. refl)) parts.0) parts.1 parts.0
+
+module _ {D F : Type 0} (did : D → List Event → D → Type 0) (leads : List ℕ → List ℕ → F → Type 0) (gave : F → List (List ℕ) → F → Type 0) (stdout : Bool) (asked : Asked) (a b : D) where
+  -- what was put in the place of a package's file
+  abbrev pub PutsFile : ℕ → Type 0
+  PutsFile status = (puts : List Wanted) × IsPut leads gave stdout asked status puts × Leaves did puts a b
+
+  pub puts_edited : (opened : Opened F) → IsFileOf leads asked.home (string_bytes opened.path) opened.source → (E : Type 0) (report : Report) (replaced : Bool)
+      → (let result : Result (Report × Bool) E = Ok (report, replaced) in IsPlaced gave did asked opened result a b) → IsEdited gave opened.source asked report replaced
+      → (status : ℕ) → status ≡ status_of report → PutsFile status
+  puts_edited opened is_its E report true p e status status_is = (
+    (string_bytes opened.path, Some (p.0.text, opened.mode)) ∷ [],
+    record {
+      may = (
+        record {
+          source = opened.source;
+          is_its = is_its;
+          kept = record { read = p.0.read; source_after = p.0.source_after; gave_is = p.0.gave_is; report = report; outcome = p.0.outcome; kept = sym p.0.replaced_is };
+        },
+        tt,
+      );
+      some = λ is zero. (string_bytes opened.path, (p.0.text, opened.mode), refl);
+    },
+    p.1,
+  )
+  puts_edited opened is_its E report false p e status status_is = (
+    (string_bytes opened.path, None) ∷ [],
+    record {
+      may = (tt, tt);
+      some = λ is zero. absurd (false≢true (zero_replaced gave opened.source asked report false e (sym status_is ∙ zero)));
+    },
+    p,
+  )
+
+  -- where it failed, nothing was
+  pub puts_none : (file : List ℕ) → Leaves did ((file, None) ∷ []) a b → (status : ℕ) → status ≡ 2 → PutsFile status
+  puts_none file left status two = ((file, None) ∷ [], record { may = (tt, tt); some = λ is zero. absurd (two_zero status two zero) }, left)
 
 -- what a status says of a package, where it comes from its file
 pub edited_status : {F : Type 0} (leads : List ℕ → List ℕ → F → Type 0) (gave : F → List (List ℕ) → F → Type 0) (asked : Asked) (file : List ℕ) (source : F) → IsFileOf leads asked.home file source

@@ -1,10 +1,17 @@
 -- What files may hold while the program edits them.
-use Rattle.std.specs.Prelude.{◌≡◌, ℕ, Bool, List}
-use Rattle.bz_folder.specs.Files.{Content}
+use Rattle.std.specs.Prelude.{◌≡◌, ◌≢◌, ℕ, Bool, true, false, List, [], ◌∷◌, Option, Some, None, Result, Ok, Err, ⊤, string_bytes}
+use Rattle.bz_folder.specs.Files.{Content, Files, Event, Along}
+use Rattle.bz_folder.specs.Paths.{temporary_path}
+use Rattle.bz_folder.specs.Sequence.{Wanted, AmongWanted}
+use Rattle.bz_folder.specs.declared.folder.Opened.{Opened}
 use Rattle.bz_engine.specs.declared.report.Report.{Report}
+use Rattle.bz_engine.specs.declared.run_fault.RunFault.{RunFault}
+use Rattle.bz_engine.specs.declared.run_fault.RunFault.TheVariants.{OutOfMemory, ReadFailed, WriteFailed, InputTooLong, StatementTooLong, Stopped}
+use Rattle.buildozer.specs.declared.edit_file.FileFault.{FileFault}
+use Rattle.buildozer.specs.declared.edit_file.FileFault.TheVariants.{Run, CannotWrite}
 use Rattle.bz_command.specs.Labels.{Package}
 use Rattle.bz_script.specs.Names.{IsBuildPath}
-use Rattle.buildozer.specs.Runs.{Asked, IsRun, is_kept, IsKeptText}
+use Rattle.buildozer.specs.Runs.{Asked, IsRun, is_kept, IsKeptText, IsFaultOver}
 
 -- what is opened at a path of a package's BUILD file may be this file, and it is read from this source
 pub record IsFileOf {F : Type 0} (leads : List ℕ → List ℕ → F → Type 0) (home : Package) (file : List ℕ) (source : F) : Type 0 where
@@ -36,3 +43,51 @@ pub record IsEdited {S : Type 0} (gave : S → List (List ℕ) → S → Type 0)
   pub text : List ℕ
   pub outcome : IsRun asked read text report
   pub replaced_is : replaced ≡ is_kept asked.keep_going report
+
+-- why a file was not edited, where its run has no report for this reason: what it could not write is the file
+abbrev pub file_fault : RunFault → FileFault
+file_fault (OutOfMemory why) = Run (OutOfMemory why)
+file_fault ReadFailed = Run ReadFailed
+file_fault WriteFailed = CannotWrite
+file_fault InputTooLong = Run InputTooLong
+file_fault (StatementTooLong line) = Run (StatementTooLong line)
+file_fault Stopped = Run Stopped
+
+-- why a file was not edited is true: of the run over it; of memory and of the calls for its folder nothing is said
+abbrev pub IsFileFault : {S : Type 0} → (S → List (List ℕ) → S → Type 0) → (S → ℕ) → S → FileFault → Type 0
+IsFileFault {S} gave failures source (Run fault) = (source_after : S) × IsFaultOver gave failures source fault source_after
+IsFileFault gave failures source CannotWrite = ⊤
+
+-- a fault that is not the run's
+abbrev pub IsOfFolder : FileFault → Type 0
+IsOfFolder CannotWrite = ⊤
+IsOfFolder (Run (OutOfMemory why)) = ⊤
+IsOfFolder (Run ReadFailed) = ⊥
+IsOfFolder (Run WriteFailed) = ⊥
+IsOfFolder (Run InputTooLong) = ⊥
+IsOfFolder (Run (StatementTooLong line)) = ⊥
+IsOfFolder (Run Stopped) = ⊥
+
+-- what is at a path after each of these was put in the place of its file, one after another, where it is something
+abbrev pub Holds : List Wanted → List ℕ → Option Content → Option Content → Type 0
+Holds [] path old now = now ≡ old
+Holds ((file, None) ∷ puts) path old now = Holds puts path old now
+Holds ((file, Some content) ∷ puts) path old now = (path ≡ file → Holds puts path (Some content) now) × (path ≢ file → Holds puts path old now)
+
+-- each path holds this, but for those of the files' temporary ones
+abbrev pub AreLeft : List Wanted → Files → Files → Type 0
+AreLeft puts old now = (path : List ℕ) → (AmongWanted (λ put. path ≡ temporary_path put.0) puts → ⊥) → Holds puts path (old path) (now path)
+
+-- after the calls that were made the files are left so, whatever was there at first
+pub record Leaves {D : Type 0} (did : D → List Event → D → Type 0) (puts : List Wanted) (folder folder_after : D) : Type 0 where
+  pub events : List Event
+  pub made : did folder events folder_after
+  pub left : (start : Files) → Along (λ now. ⊤) (AreLeft puts start) events start
+
+-- The file that was opened has, in the end, the text of the run that told this report, and the permission bits that it had, where this
+-- is told to have replaced it. Else it has what it had.
+abbrev pub IsPlaced : {S D F : Type 0} → (S → List (List ℕ) → S → Type 0) → (D → List Event → D → Type 0) → Asked → Opened S → Result (Report × Bool) F → D → D → Type 0
+IsPlaced gave did asked opened (Ok (report, true)) folder folder_after =
+    (edited : IsEdited gave opened.source asked report true) × Leaves did ((string_bytes opened.path, Some (edited.text, opened.mode)) ∷ []) folder folder_after
+IsPlaced gave did asked opened (Ok (report, false)) folder folder_after = Leaves did ((string_bytes opened.path, None) ∷ []) folder folder_after
+IsPlaced gave did asked opened (Err fault) folder folder_after = Leaves did ((string_bytes opened.path, None) ∷ []) folder folder_after

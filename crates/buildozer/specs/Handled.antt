@@ -1,14 +1,14 @@
 -- The packages of a script are handled one after another, each with its status (buildozer README, "Error codes").
-use Rattle.std.specs.Prelude.{◌≡◌, ◌⊎◌, ℕ, ◌==◌, Bool, true, false, ◌&&◌, not, List, [], ◌∷◌, None, Some}
+use Rattle.std.specs.Prelude.{◌≡◌, ◌⊎◌, ℕ, ◌==◌, Bool, true, false, ◌&&◌, not, List, [], ◌∷◌, ◌++◌, None, Some}
 use Rattle.bz_folder.specs.Files.{Content, Event}
-use Rattle.bz_folder.specs.Sequence.{SafeRun}
+use Rattle.bz_folder.specs.Sequence.{SafeRun, Wanted, EachMay}
 use Rattle.bz_engine.specs.Outcome.{status_of}
 use Rattle.bz_engine.specs.declared.report.Report.{Report}
 use Rattle.bz_command.specs.Labels.{Package}
 use Rattle.bz_script.specs.Groups.{Step}
 use Rattle.bz_script.specs.Packages.{by_package}
-use Rattle.buildozer.specs.Files.{IsFileOf, MayHoldNothing}
-use Rattle.buildozer.specs.Program.{Task, asked_for}
+use Rattle.buildozer.specs.Files.{IsFileOf, Leaves, MayHold, MayHoldNothing}
+use Rattle.buildozer.specs.Program.{Task, asked_for, in_place, is_shown}
 use Rattle.buildozer.specs.Runs.{Asked, IsRun}
 use Rattle.bz_script.specs.Statuses.{whole_status}
 
@@ -44,13 +44,23 @@ module _ {F S : Type 0} (leads : List ℕ → List ℕ → F → Type 0) (gave :
   abbrev pub IsStatusOf : Asked → S → S → ℕ → Type 0
   IsStatusOf asked input input_after status = IsStatusAt asked.home asked input input_after status
 
--- What a run for one package, with this status, left of a folder. At each moment each file has what it had, or what it may hold. At
--- status 3 no file was touched, but for a temporary one. A run that is shown changes no folder.
-pub record LeavesFiles {D : Type 0} (did : D → List Event → D → Type 0) (May : List ℕ → Content → Type 0) (is_shown : Bool)
-    (folder folder_after : D) (status : ℕ) : Type 0 where
-  pub safe : SafeRun did May folder folder_after
+-- A package with this status put this in the place of files: if anything, the whole text of a run that is kept, in the place of its own
+-- file. At status 0 it did so, where it is edited in its file.
+pub record IsPut {F : Type 0} (leads : List ℕ → List ℕ → F → Type 0) (gave : F → List (List ℕ) → F → Type 0) (stdout : Bool) (asked : Asked) (status : ℕ)
+    (puts : List Wanted) : Type 0 where
+  pub may : EachMay (MayHold leads gave asked) puts
+  pub some : in_place stdout asked ≡ true → status ≡ 0 → (file : List ℕ) × (content : Content) × (puts ≡ (file, Some content) ∷ [])
+
+-- What a run for one package, with this status, left of a folder. At each moment each file has what it had, or what it may hold, and in
+-- the end what was put there. At status 3 no file was touched, but for a temporary one. A run that is shown changes no folder.
+pub record LeavesFiles {D F : Type 0} (did : D → List Event → D → Type 0) (leads : List ℕ → List ℕ → F → Type 0) (gave : F → List (List ℕ) → F → Type 0)
+    (stdout : Bool) (asked : Asked) (folder folder_after : D) (status : ℕ) : Type 0 where
+  pub safe : SafeRun did (MayHold leads gave asked) folder folder_after
+  pub puts : List Wanted
+  pub put : IsPut leads gave stdout asked status puts
+  pub left : Leaves did puts folder folder_after
   pub idle : status ≡ 3 → SafeRun did MayHoldNothing folder folder_after
-  pub shown : is_shown ≡ true → did folder [] folder_after
+  pub shown : is_shown stdout asked.passes ≡ true → did folder [] folder_after
 
 -- whether no package comes after one with this status
 abbrev pub is_last : Bool → ℕ → Bool
@@ -66,9 +76,21 @@ module _ {F S : Type 0} (leads : List ℕ → List ℕ → F → Type 0) (gave :
       × (is_last keep_going status ≡ true → (statuses ≡ []) × (input_after ≡ input_then))
       × (is_last keep_going status ≡ false → Handled keep_going tasks input_then statuses input_after)
 
--- the packages of a script were handled, and this is the status of the whole run
-pub record IsStatusOfAll {F S : Type 0} (leads : List ℕ → List ℕ → F → Type 0) (gave : F → List (List ℕ) → F → Type 0) (input_gave : S → List (List ℕ) → S → Type 0)
-    (keep_going : Bool) (script : List Step) (input input_after : S) (whole : ℕ) : Type 0 where
+-- these were put by the packages, in order, up to the one that is the last
+abbrev pub ArePut : {F : Type 0} → (List ℕ → List ℕ → F → Type 0) → (F → List (List ℕ) → F → Type 0) → Bool → Bool → List Task → List ℕ → List Wanted → Type 0
+ArePut leads gave stdout keep_going tasks [] puts = puts ≡ []
+ArePut leads gave stdout keep_going [] (status ∷ statuses) puts = ⊥
+ArePut leads gave stdout keep_going (task ∷ tasks) (status ∷ statuses) puts =
+    (first : List Wanted) × (others : List Wanted) × (puts ≡ first ++ others)
+    × IsPut leads gave stdout (asked_for keep_going task) status first × ArePut leads gave stdout keep_going tasks statuses others
+
+-- The packages of a script were handled, and this is the status of the whole run. In the end each file has what was put there last, or
+-- what it had.
+pub record IsStatusOfAll {D F S : Type 0} (did : D → List Event → D → Type 0) (leads : List ℕ → List ℕ → F → Type 0) (gave : F → List (List ℕ) → F → Type 0)
+    (input_gave : S → List (List ℕ) → S → Type 0) (stdout keep_going : Bool) (script : List Step) (folder folder_after : D) (input input_after : S) (whole : ℕ) : Type 0 where
   pub statuses : List ℕ
   pub handled : Handled leads gave input_gave keep_going (by_package script) input statuses input_after
   pub whole_is : whole ≡ whole_status statuses
+  pub puts : List Wanted
+  pub put : ArePut leads gave stdout keep_going (by_package script) statuses puts
+  pub left : Leaves did puts folder folder_after

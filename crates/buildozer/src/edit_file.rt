@@ -1,6 +1,6 @@
 //! A run that edits a file in place.
 
-ghost use Rattle.std.specs.Prelude.{◌≡◌, Ok, IfOk, false, string_bytes};
+ghost use Rattle.std.specs.Prelude.{◌≡◌, ◌≢◌, Ok, IfOk, IfErr, OnErr, true, false, string_bytes};
 ghost use Rattle.bz_folder.specs.Sequence.{SafeRun};
 ghost use Rattle.buildozer.specs.Files as spec;
 
@@ -30,6 +30,9 @@ pub fn edit_file<D: Folder>(
     ensures safe { SafeRun D.did (spec.MayBe D.File.gave opened.source asked (string_bytes opened.path))
         draft.old.folder draft.new.folder }
     ensures edited { IfOk result (λ edited. spec.IsEdited D.File.gave opened.source asked edited.0 edited.1) }
+    // The file holds that run's text in the end where it was replaced, and else what it held.
+    ensures placed { spec.IsPlaced D.File.gave D.did asked opened result draft.old.folder draft.new.folder }
+    ensures failed { IfErr result (λ fault. spec.IsFileFault D.File.gave D.File.failures opened.source fault) }
     // Where the file was not replaced, no file was touched, but for a temporary one.
     ensures idle { IfOk result (λ edited. edited.1 ≡ false
         → SafeRun D.did spec.MayHoldNothing draft.old.folder draft.new.folder) }
@@ -49,7 +52,9 @@ fn report_and_kept(
     report: Report,
     replaced: Result<bool, Trouble>,
 ) -> Result<(Report, bool), FileFault>
-    ensures { IfOk result (λ told. (told.0 ≡ report) × (replaced ≡ Ok told.1)) }
+    ensures told { IfOk result (λ told. (told.0 ≡ report) × (replaced ≡ Ok told.1)) }
+    ensures failed { OnErr result (replaced ≢ Ok true) }
+    ensures fault { IfErr result (λ fault. spec.IsOfFolder fault) }
 {
     match replaced {
         Ok(kept) => Ok((report, kept)),
@@ -58,7 +63,9 @@ fn report_and_kept(
 }
 
 /// Why a run failed that wrote a file: what it could not write is the file.
-fn fault_of_run(fault: RunFault) -> FileFault {
+fn fault_of_run(fault: RunFault) -> FileFault
+    ensures { result ≡ spec.file_fault fault }
+{
     match fault {
         RunFault::WriteFailed => FileFault::CannotWrite,
         _ => FileFault::Run(fault),
@@ -66,14 +73,18 @@ fn fault_of_run(fault: RunFault) -> FileFault {
 }
 
 /// Why a run did not begin.
-fn fault_of_start(replaced: Result<bool, Trouble>) -> FileFault {
+fn fault_of_start(replaced: Result<bool, Trouble>) -> FileFault
+    ensures { spec.IsOfFolder result }
+{
     match replaced {
         Ok(_) => FileFault::CannotWrite,
         Err(trouble) => fault_of_trouble(trouble),
     }
 }
 
-fn fault_of_trouble(trouble: Trouble) -> FileFault {
+fn fault_of_trouble(trouble: Trouble) -> FileFault
+    ensures { spec.IsOfFolder result }
+{
     match trouble {
         Trouble::OutOfMemory(why) => FileFault::Run(RunFault::OutOfMemory(why)),
         Trouble::Clean | Trouble::LeftBehind => FileFault::CannotWrite,

@@ -1,6 +1,6 @@
 //! A run that writes to standard output.
 
-ghost use Rattle.std.specs.Prelude.{◌≡◌, ℕ, List, IfOk};
+ghost use Rattle.std.specs.Prelude.{◌≡◌, ℕ, List, IfOk, IfErr};
 ghost use Rattle.buildozer.specs.Console.{Shows};
 ghost use Rattle.buildozer.specs.Streams as spec;
 
@@ -19,6 +19,8 @@ pub fn edit_stream<S: Source, O: Sink, E: Sink>(
     ensures edited { IfOk result
         (λ status.
         spec.IsStreamed S.gave O.took E.took asked file.now source.old source.new console.old console.new status) }
+    ensures failed { IfErr result (λ fault.
+        spec.IsCutShort S.gave S.failures O.took E.took source.old source.new console.old console.new fault) }
     ensures devices { (read : List (List ℕ)) × (shown : List ℕ) × (told : List ℕ)
         × S.gave source.old read source.new × Shows O.took E.took console.old shown told console.new }
 {

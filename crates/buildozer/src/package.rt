@@ -1,9 +1,12 @@
 //! What is done for one package.
 
-ghost use Rattle.std.specs.Prelude.{◌≡◌, ◌⊎◌, IfOk, if◌then◌else◌, string_bytes};
-ghost use Rattle.buildozer.specs.Files.{IsFileOf, MayHold};
+ghost use Rattle.std.specs.Prelude.{◌≡◌, ◌⊎◌, ℕ, List, [], IfOk, if◌then◌else◌, string_bytes};
+ghost use Rattle.buildozer.specs.Console.{Shows};
+ghost use Rattle.buildozer.specs.Files.{IsFileOf};
 ghost use Rattle.buildozer.specs.Handled.{IsFileStatus, IsStatusOf, IsStatusOver, LeavesFiles};
 ghost use Rattle.buildozer.specs.Program.{is_shown};
+ghost use Rattle.buildozer.specs.Streams.{IsStreamed, IsFaultTold};
+ghost use Rattle.buildozer.specs.Texts.{message_of, IsFaultText};
 ghost use Rattle.bz_script.specs.Names.{IsBuildPath};
 
 use crate::console::Console;
@@ -40,7 +43,7 @@ pub fn edit_package<D: Folder, S: Source, O: Sink, E: Sink>(
     asked: Asked,
     devices: &mut Devices<D, S, O, E>,
 ) -> u8
-    ensures files { LeavesFiles D.did (MayHold D.leads D.File.gave asked) (is_shown flags.now.stdout asked.passes)
+    ensures files { LeavesFiles D.did D.leads D.File.gave flags.now.stdout asked
         devices.old.draft.folder devices.new.draft.folder result }
     ensures status { IsStatusOf D.leads D.File.gave S.gave asked devices.old.input devices.new.input result }
 {
@@ -68,7 +71,9 @@ fn edit_shown<S: Source, O: Sink, E: Sink>(
     source: &mut S,
     console: &mut Console<O, E>,
 ) -> u8
-    ensures { IsStatusOver S.gave asked source.old source.new result }
+    ensures status { IsStatusOver S.gave asked source.old source.new result }
+    ensures told { IsStreamed S.gave O.took E.took asked name.now source.old source.new console.old console.new result
+        ⊎ IsFaultTold S.gave S.failures O.took E.took name.now source.old source.new console.old console.new result }
 {
     match edit_stream(asked, name, source, console) {
         Ok(status) => status,
@@ -86,7 +91,7 @@ fn edit_found<D: Folder, S, O: Sink, E: Sink>(
 ) -> u8
     requires first { IsBuildPath asked.home (string_bytes files.now.first) }
     requires second { IsBuildPath asked.home (string_bytes files.now.second) }
-    ensures files { LeavesFiles D.did (MayHold D.leads D.File.gave asked) (is_shown flags.now.stdout asked.passes)
+    ensures files { LeavesFiles D.did D.leads D.File.gave flags.now.stdout asked
         devices.old.draft.folder devices.new.draft.folder result }
     ensures input { devices.new.input ≡ devices.old.input }
     ensures status { (result ≡ 2) ⊎ IsFileStatus D.leads D.File.gave asked result }
@@ -150,7 +155,7 @@ fn edit_opened<D: Folder, S, O: Sink, E: Sink>(
     devices: &mut Devices<D, S, O, E>,
 ) -> u8
     requires { IsFileOf D.leads asked.home (string_bytes opened.path) opened.source }
-    ensures files { LeavesFiles D.did (MayHold D.leads D.File.gave asked) (is_shown flags.now.stdout asked.passes)
+    ensures files { LeavesFiles D.did D.leads D.File.gave flags.now.stdout asked
         devices.old.draft.folder devices.new.draft.folder result }
     ensures input { devices.new.input ≡ devices.old.input }
     ensures status { (result ≡ 2) ⊎ IsFileStatus D.leads D.File.gave asked result }
@@ -182,7 +187,9 @@ fn put_fault<O: Sink, E: Sink>(
     fault: RunFault,
     console: &mut Console<O, E>,
 ) -> u8
-    ensures { result ≡ 2 }
+    ensures status { result ≡ 2 }
+    ensures told { (text : List ℕ) × IsFaultText fault text
+        × Shows O.took E.took console.old [] (message_of name.now text) console.new }
 {
     match fault {
         RunFault::OutOfMemory(_) => console.put_message(name, "out of memory"),

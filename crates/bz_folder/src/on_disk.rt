@@ -87,9 +87,10 @@ impl<R: Files<File = File> + Drop> OnDisk<R> {
     }
 }
 
-/// A folder is not read as a file, a pipe would be waited for, and a device is not to be replaced.
-fn require_regular(there: &Metadata) -> io::Result<()> {
-    if there.is_file() {
+/// A pipe would be waited for, and a device is not to be replaced. A folder can be opened, and is
+/// never replaced, since no read of it succeeds.
+fn require_file_or_folder(there: &Metadata) -> io::Result<()> {
+    if there.is_file() || there.is_dir() {
         return Ok(());
     }
     Err(io::Error::from(ErrorKind::InvalidInput))
@@ -113,7 +114,7 @@ impl<R: Files<File = File>> OnDisk<R> {
     /// Opens a file that stays.
     fn open_to_read(&self, path: &str) -> io::Result<Opened<FromRead<File>>> {
         let there = fs::metadata(&self.files, path)?;
-        require_regular(&there)?;
+        require_file_or_folder(&there)?;
         Ok(Opened {
             source: FromRead::new(File::open(&self.files, path)?),
             mode: there.permissions().mode() & PERMISSION_BITS,
@@ -142,14 +143,14 @@ impl<R: Files<File = File>> OnDisk<R> {
         Err(io::Error::from(ErrorKind::InvalidInput))
     }
 
-    /// The path of a regular file itself, where a link stands at the end of the path.
+    /// The path of the file or folder itself, where a link stands at the end of the path.
     fn resolve(&self, path: &str) -> io::Result<String> {
         let there = fs::symlink_metadata(&self.files, path)?;
         if there.is_symlink() {
             let file = self.files.canonicalize(self.alloc, path)?.into_string();
-            return require_regular(&fs::symlink_metadata(&self.files, &file)?).and(Ok(file));
+            return require_file_or_folder(&fs::symlink_metadata(&self.files, &file)?).and(Ok(file));
         }
-        require_regular(&there)?;
+        require_file_or_folder(&there)?;
         Ok(from_str(self.alloc, path)?)
     }
 

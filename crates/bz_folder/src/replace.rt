@@ -1,6 +1,7 @@
 //! A file is replaced.
 
-ghost use Rattle.std.specs.Prelude.{◌≡◌, ℕ, ◌<◌, List, [], length, Bool, true, false, Ok, Err, Result};
+ghost use Rattle.std.specs.Prelude.{◌≡◌, ◌⊎◌, ℕ, ◌<◌, List, [], length, Bool, true, false, Ok, Err, Result};
+ghost use Rattle.bz_devices.specs.declared.device.Failed.{Failed};
 ghost use Rattle.bz_folder.specs.Files.{Event};
 ghost use Rattle.bz_folder.specs.Paths.{temporary_path};
 ghost use Rattle.bz_folder.specs.DraftValue.{capacity};
@@ -47,6 +48,9 @@ pub fn replace_file<D: Folder, A: Author>(
 ) -> Result<bool, Trouble>
     ensures safe { Replacement D.did A.gives draft.old.folder draft.new.folder author.old author.new
         file.now mode result }
+    // The author was asked at most once.
+    ensures asked { (author.new ≡ author.old)
+        ⊎ ((text : List ℕ) × (answer : Result Bool Failed) × A.gives author.old text answer author.new) }
     // What was put was given to be kept.
     ensures wanted { result ≡ Ok true → (text : List ℕ) × A.gives author.old text (Ok true) author.new }
     // What is not to be kept is not written anywhere while it is short.

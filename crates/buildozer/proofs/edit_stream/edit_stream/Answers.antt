@@ -1,12 +1,27 @@
-use Rattle.std.proofs.Common.{[], ◌++◌}
+use Rattle.std.proofs.Common.{[], ◌++◌, Result, Ok, Err, IsErrAnd, sym, subst}
+use Rattle.std.specs.Prelude.{IfErr}
 use Rattle.bz_devices.specs.Buffer.{took_nothing_lem, took_more_lem}
+use Rattle.buildozer.specs.Runs.{IsFaultOver}
 use Rattle.buildozer.specs.Texts.{lines_text, messages_text}
 use Rattle.buildozer.proofs.edit_stream.edit_stream.Goals as goal
+
+if_fault : {T E : Type 0} {Q : E → Type 0} (r : Result T E) (P : E → Type 0) → IsErrAnd r P → ((e : E) → P e → Q e) → IfErr r Q
+if_fault (Ok x) P h f = tt
+if_fault (Err e) P h f = f e h
 
 pub returns-in_err-report-clause-devices : goal.returns-in_err-report-clause-devices
 returns-in_err-report-clause-devices g c =
     let moved = c.run.ensures.devices in
     (moved.0, moved.1, [], moved.2, record { out = moved.3; err = took_nothing_lem g.E.Sink.took g.met.E.Sink.took_nothing c.args.console.now.err })
+
+pub returns-in_err-report-clause-failed : goal.returns-in_err-report-clause-failed
+returns-in_err-report-clause-failed g c =
+    let moved = c.run.ensures.devices in
+    if_fault c.from_residual.result _ c.from_residual.ensures.1 (λ fault is. record {
+      cause = subst (λ f. IsFaultOver g.S.Source.gave g.S.Source.failures c.args.source.now f c.run.new.source) (sym is) c.in_err-report.ensures.fault;
+      shown = moved.1;
+      shows = record { out = moved.3; err = took_nothing_lem g.E.Sink.took g.met.E.Sink.took_nothing c.args.console.now.err };
+    })
 
 pub returns-clause-edited : goal.returns-clause-edited
 returns-clause-edited g c =
