@@ -97,7 +97,7 @@ found_in_added home values a h some =
     ∙ any_head (is_chosen home (Values (v ∷ []))) (map string new) lists some
     ∙ ap (λ (b : Bool). stands_in home lists v || b) (strings_chosen home v new) ∙ k) values (fresh_covers home lists [] values)
 
-parts_new : (home : Package) (attr : List ℕ) (values : List (List ℕ)) → parts (value (new_argument home attr values)) ≡ new_elements home [] values ∷ []
+pub parts_new : (home : Package) (attr : List ℕ) (values : List (List ℕ)) → parts (value (new_argument home attr values)) ≡ new_elements home [] values ∷ []
 parts_new home attr values = ap (λ (ss : List Segment). ss ∷ []) (segments_of (new_elements home [] values))
 
 found_in_new : (home : Package) (attr : List ℕ) (values : List (List ℕ)) → list_all (λ v. chooses home (Values (v ∷ [])) (new_argument home attr values)) values ≡ true
@@ -125,11 +125,11 @@ added_named home attr values a h =
     ]
 
 -- the first argument of the name after `add`
-abbrev first_added : Package → List ℕ → List (List ℕ) → Option Segment → Segment
+abbrev pub first_added : Package → List ℕ → List (List ℕ) → Option Segment → Segment
 first_added home attr values None = new_argument home attr values
 first_added home attr values (Some a) = with_added home values a
 
-first_after_add : (home : Package) (attr : List ℕ) (values : List (List ℕ)) (args : List Segment) → first_named attr (add home attr values args) ≡ Some (first_added home attr values (first_named attr args))
+pub first_after_add : (home : Package) (attr : List ℕ) (values : List (List ℕ)) (args : List Segment) → first_named attr (add home attr values args) ≡ Some (first_added home attr values (first_named attr args))
 first_after_add home attr values args =
     elim (first_named attr args) as (λ o. first_named attr args ≡ o → first_named attr (add home attr values args) ≡ Some (first_added home attr values o)) [
       | None ↦ λ e.

@@ -16,11 +16,13 @@ pub mod KeptArguments
 mod KeptComments
 mod KindFormed
 mod Likeness
+pub mod LinesStay
 mod ListParts
 pub mod MarksStay
 mod MentionedStay
 mod NamesKept
 mod NewTexts
+mod NoDoubles
 mod OthersLeave
 mod PassingParts
 mod PassingRules
@@ -32,6 +34,7 @@ mod RuleFormed
 mod SecondTime
 mod Segments
 mod SetAgain
+mod SetPrinted
 pub mod SpelledDone
 mod SpelledNodes
 mod Tests

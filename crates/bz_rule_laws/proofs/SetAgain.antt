@@ -23,7 +23,7 @@ in_named attr new a named = elim (cases_Bool (is_value new (value a))) [
   | inr other ↦ rw other (ap (is_text attr) (name_put (new_value new) a (attribute_named attr a named)) ∙ named)
 ]
 
-first_set : (attr : List ℕ) (new : New) (args : List Segment) (a : Segment) → first_named attr args ≡ Some a
+pub first_set : (attr : List ℕ) (new : New) (args : List Segment) (a : Segment) → first_named attr args ≡ Some a
     → first_named attr (edit_first (is_named attr) (λ s. set_in new s ∷ []) args) ≡ Some (set_in new a)
 first_set attr new args a h = first_after attr (set_in new) args (in_named attr new) ∙ ap (option_map (set_in new)) h
 

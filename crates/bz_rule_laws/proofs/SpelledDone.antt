@@ -90,7 +90,7 @@ strings_spelled [] (s ∷ ss) = refl
 strings_spelled (word ∷ words) [] = refl
 strings_spelled (word ∷ words) (s ∷ ss) = rw (string_spelled s.nodes, strings_spelled words ss) refl
 
-is_value_spelled : (new : New) (nodes : List Item) → is_value new (map spelled nodes) ≡ is_value new nodes
+pub is_value_spelled : (new : New) (nodes : List Item) → is_value new (map spelled nodes) ≡ is_value new nodes
 is_value_spelled (NewString word) nodes = ap (is_text word) (string_spelled nodes)
 is_value_spelled (NewNumber digits) [] = refl
 is_value_spelled (NewNumber digits) (x ∷ []) = int_spelled digits x
