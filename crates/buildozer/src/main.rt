@@ -15,7 +15,7 @@ use bz_memory::{NoMemory, WordsFault, push, words};
 use bz_script::flags::Flags;
 use bz_script::group::Script;
 use bz_script::help;
-use bz_script::start::read_request;
+use bz_script::start::{Request, read_request};
 use bz_script::usage::{StartFault, UsageFault};
 use console::Console;
 use edit_all::edit_all;
@@ -70,13 +70,20 @@ fn main(rt: HostRuntime) -> ExitCode {
             return ExitCode::from(USAGE);
         }
     };
-    let (flags, script) = match read_request(&rt, alloc, words.as_slice()) {
+    let Request {
+        flags,
+        script,
+        notes,
+    } = match read_request(&rt, alloc, words.as_slice()) {
         Ok(asked) => asked,
         Err(fault) => {
             tell_usage(&rt, &fault, words.as_slice());
             return ExitCode::from(USAGE);
         }
     };
+    if !flags.quiet {
+        let _ = eprint!(rt; "{notes}");
+    }
     match edit(&rt, alloc, &flags, script) {
         Ok(status) => ExitCode::from(status),
         Err(_) => {

@@ -3,43 +3,43 @@ use Rattle.std.proofs.Common.{◌≡◌, ℕ, List, [], ◌∷◌, Bool, true, f
 use Rattle.std.specs.Prelude.{codes}
 use Rattle.bz_script.specs.Flags.{Read, flags_of, argument_of, flag_of, undashed, leading}
 use Rattle.bz_script.specs.Refused.{refused}
-use Rattle.bz_script.specs.declared.usage.FlagFault.{FlagFault}
-use Rattle.bz_script.specs.declared.usage.FlagFault.TheVariants.{Unknown, BadBoolean, NoFile}
-use Rattle.bz_script.specs.declared.usage.UsageFault.TheVariants.{Flag, WordsWithFile}
+use Rattle.bz_script.specs.declared.usage.Refused.{Refused}
+use Rattle.bz_script.specs.declared.usage.UsageFault.{UsageFault}
+use Rattle.bz_script.specs.declared.usage.UsageFault.TheVariants.{UnknownFlag, BadBoolean, NoValue, WordsWithFile}
 
 -- `-k`, `-stdout`, `-quiet` and the file, and the words that are left
 abbrev are : Bool → Bool → Bool → Option (List ℕ) → List (List ℕ) → Read
 are k stdout quiet file words = Ok (record { k = k; stdout = stdout; quiet = quiet; file = file }, words)
 
 -- the fault of a word of the command line
-abbrev bad : ℕ → List ℕ → FlagFault → Read
-bad number word why = Err (Flag (refused 0 number word) why)
+abbrev bad : ℕ → List ℕ → (Refused → UsageFault) → Read
+bad number word why = Err (why (refused 0 number word))
 
 no_words : flags_of [] ≡ are false false false None []
 unfolding leading
 no_words = refl
 
-unknown : flags_of (codes "-x" ∷ []) ≡ bad 1 (codes "-x") Unknown
+unknown : flags_of (codes "-x" ∷ []) ≡ bad 1 (codes "-x") UnknownFlag
 unfolding leading argument_of flag_of undashed
 unknown = refl
 
-unknown_with_value : flags_of (codes "-k" ∷ codes "-x=1" ∷ []) ≡ bad 2 (codes "-x=1") Unknown
+unknown_with_value : flags_of (codes "-k" ∷ codes "-x=1" ∷ []) ≡ bad 2 (codes "-x=1") UnknownFlag
 unfolding leading argument_of flag_of undashed
 unknown_with_value = refl
 
-help : flags_of (codes "-help" ∷ []) ≡ bad 1 (codes "-help") Unknown
+help : flags_of (codes "-help" ∷ []) ≡ bad 1 (codes "-help") UnknownFlag
 unfolding leading argument_of flag_of undashed
 help = refl
 
-three_dashes : flags_of (codes "---k" ∷ []) ≡ bad 1 (codes "---k") Unknown
+three_dashes : flags_of (codes "---k" ∷ []) ≡ bad 1 (codes "---k") UnknownFlag
 unfolding leading argument_of flag_of undashed
 three_dashes = refl
 
-no_name : flags_of (codes "-=x" ∷ []) ≡ bad 1 (codes "-=x") Unknown
+no_name : flags_of (codes "-=x" ∷ []) ≡ bad 1 (codes "-=x") UnknownFlag
 unfolding leading argument_of flag_of undashed
 no_name = refl
 
-no_name_after_two : flags_of (codes "--=x" ∷ []) ≡ bad 1 (codes "--=x") Unknown
+no_name_after_two : flags_of (codes "--=x" ∷ []) ≡ bad 1 (codes "--=x") UnknownFlag
 unfolding leading argument_of flag_of undashed
 no_name_after_two = refl
 
@@ -51,7 +51,7 @@ empty_boolean : flags_of (codes "-k=" ∷ []) ≡ bad 1 (codes "-k=") BadBoolean
 unfolding leading argument_of flag_of undashed
 empty_boolean = refl
 
-no_value : flags_of (codes "-f" ∷ []) ≡ bad 1 (codes "-f") NoFile
+no_value : flags_of (codes "-f" ∷ []) ≡ bad 1 (codes "-f") NoValue
 unfolding leading argument_of flag_of undashed
 no_value = refl
 
@@ -59,7 +59,7 @@ words_with_file : flags_of (codes "-f" ∷ codes "a" ∷ codes "b" ∷ codes "c"
 unfolding leading argument_of flag_of undashed
 words_with_file = refl
 
-flag_fault_first : flags_of (codes "-f" ∷ codes "a" ∷ codes "-x" ∷ codes "b" ∷ []) ≡ bad 3 (codes "-x") Unknown
+flag_fault_first : flags_of (codes "-f" ∷ codes "a" ∷ codes "-x" ∷ codes "b" ∷ []) ≡ bad 3 (codes "-x") UnknownFlag
 unfolding leading argument_of flag_of undashed
 flag_fault_first = refl
 

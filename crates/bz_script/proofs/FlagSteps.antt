@@ -2,11 +2,10 @@
 use Rattle.std.proofs.Common.{◌≡◌, ℕ, suc, ◌+◌, Bool, false, List, [], ◌∷◌, length, Option, None, Ok, Err, refl, arith, inl, inr}
 use Rattle.std.specs.List.{list_any, position_or_len}
 use Rattle.std.proofs.lemmas.Bool.{cases_Bool}
-use Rattle.bz_script.specs.Flags.{Read, is_equals, value_in, argument_of, leading, with_switch, file_of, NonFlag, Terminator, SetSwitch, SetFile, FileNext, Bad}
+use Rattle.bz_script.specs.Flags.{Read, is_equals, value_in, argument_of, leading, with_switch, file_of, NonFlag, Terminator, SetSwitch, SetFile, FileNext, Bad, refused_as}
 use Rattle.bz_script.specs.declared.flags.Flags.{Flags}
 use Rattle.bz_script.specs.declared.flags.Switch.{Switch}
-use Rattle.bz_script.specs.declared.usage.FlagFault.{FlagFault}
-use Rattle.bz_script.specs.declared.usage.FlagFault.TheVariants.{NoFile}
+use Rattle.bz_script.specs.declared.flags.FlagFault.{FlagFault}
 use Rattle.bz_script.specs.declared.usage.UsageFault.TheVariants as fault
 use Rattle.bz_script.specs.Refused.{refused}
 
@@ -54,7 +53,7 @@ at_file_next number flags word words texts all path more file parts is next name
 
 pub at_no_value : (number : ℕ) (flags : Flags) (word : List ℕ) (words texts : List (List ℕ)) (all : Read)
     → texts ≡ word ∷ words → FileNext ≡ argument_of word → words ≡ []
-    → leading number flags None texts ≡ all → Err (fault.Flag (refused 0 number word) NoFile) ≡ all
+    → leading number flags None texts ≡ all → Err (fault.NoValue (refused 0 number word)) ≡ all
 unfolding leading
 at_no_value number flags word words texts all parts is empty same =
     let waits = rw (parts, ← is, leading) at same in
@@ -62,7 +61,7 @@ at_no_value number flags word words texts all parts is empty same =
 
 pub at_fault : (number : ℕ) (flags : Flags) (word : List ℕ) (words texts : List (List ℕ)) (all : Read) (why : FlagFault)
     → texts ≡ word ∷ words → Bad why ≡ argument_of word
-    → leading number flags None texts ≡ all → Err (fault.Flag (refused 0 number word) why) ≡ all
+    → leading number flags None texts ≡ all → Err (refused_as why (refused 0 number word)) ≡ all
 unfolding leading
 at_fault number flags word words texts all why parts is same = rw (parts, ← is, leading) at same
 

@@ -7,8 +7,8 @@ use Rattle.bz_script.specs.declared.flags.Switch.{Switch}
 use Rattle.bz_script.specs.declared.flags.Switch.TheVariants.{K, Stdout, Quiet}
 use Rattle.bz_script.specs.declared.flags.FlagName.{FlagName}
 use Rattle.bz_script.specs.declared.flags.FlagName.TheVariants as name
-use Rattle.bz_script.specs.declared.usage.FlagFault.{FlagFault}
-use Rattle.bz_script.specs.declared.usage.FlagFault.TheVariants.{Unknown, BadBoolean, NoFile}
+use Rattle.bz_script.specs.declared.flags.FlagFault.{FlagFault}
+use Rattle.bz_script.specs.declared.flags.FlagFault.TheVariants.{Unknown, BadBoolean, NoValue}
 use Rattle.bz_script.specs.declared.usage.Refused.{Refused}
 use Rattle.bz_script.specs.declared.usage.UsageFault.{UsageFault}
 use Rattle.bz_script.specs.declared.usage.UsageFault.TheVariants as fault
@@ -112,13 +112,18 @@ file_of (byte ∷ path) = Some (byte ∷ path)
 abbrev pub with_file : List ℕ → Flags → Flags
 with_file path flags = record flags { file = file_of path }
 
+abbrev pub refused_as : FlagFault → Refused → UsageFault
+refused_as Unknown word = fault.UnknownFlag word
+refused_as BadBoolean word = fault.BadBoolean word
+refused_as NoValue word = fault.NoValue word
+
 abbrev pub Read : Type 0
 Read = Result (Flags × List (List ℕ)) UsageFault
 
 -- The flags that stand first among words that are counted from a number, after some flags; and the words that are left.
 -- A `-f` whose value is to come waits.
 unfoldable pub leading : ℕ → Flags → Option Refused → List (List ℕ) → Read
-leading number flags (Some waiting) [] = Err (fault.Flag waiting NoFile)
+leading number flags (Some waiting) [] = Err (fault.NoValue waiting)
 leading number flags (Some waiting) (path ∷ words) = leading (number + 1) (with_file path flags) None words
 leading number flags None [] = Ok (flags, [])
 leading number flags None (word ∷ words) = elim (argument_of word) as (λ _. Read) [
@@ -127,7 +132,7 @@ leading number flags None (word ∷ words) = elim (argument_of word) as (λ _. R
   | SetSwitch switch on ↦ leading (number + 1) (with_switch switch on flags) None words
   | SetFile path ↦ leading (number + 1) (with_file path flags) None words
   | FileNext ↦ leading (number + 1) flags (Some (refused 0 number word)) words
-  | Bad why ↦ Err (fault.Flag (refused 0 number word) why)
+  | Bad why ↦ Err (refused_as why (refused 0 number word))
 ]
 
 -- The flags, where no word is left of so many; a first one that is left is told.

@@ -4,8 +4,10 @@ pub mod Flags
 pub mod Groups
 pub mod Inputs
 pub mod Names
+pub mod Notes
 pub mod Packages
 pub mod Refused
+pub mod Requests
 pub mod Results
 pub mod Statuses
 pub mod private

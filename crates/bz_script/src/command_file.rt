@@ -43,7 +43,7 @@ fn read_lines(alloc: Global, text: &str) -> Result<Script, UsageFault>
 }
 
 /// The line without one carriage return at its end.
-fn without_return(line: &str) -> &str
+pub(crate) fn without_return(line: &str) -> &str
     ensures { result.now ≡ strip_carriage_return line.now }
 {
     line.strip_suffix('\r').unwrap_or(line)
@@ -62,7 +62,7 @@ fn read_line(alloc: Global, number: u64, line: &str) -> Result<Script, UsageFaul
 }
 
 /// Whether a line is of spaces and tabs alone, or a comment.
-fn is_skipped(line: &str) -> bool
+pub(crate) fn is_skipped(line: &str) -> bool
     ensures { result ≡ spec.is_skipped line.now }
 {
     for byte in line.as_bytes() {
@@ -81,7 +81,7 @@ fn fields_in<'a>(alloc: Global, line: &'a str) -> Result<Vec<&'a str>, NoMemory>
 }
 
 /// The part without the spaces round it. Tabs stay.
-fn trimmed(part: &str) -> &str
+pub(crate) fn trimmed(part: &str) -> &str
     ensures { result.now ≡ spec.trimmed part.now }
 {
     part.trim_matches(' ')

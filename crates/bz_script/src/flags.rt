@@ -7,7 +7,7 @@ ghost use Rattle.bz_script.specs.Flags as spec;
 ghost use Rattle.bz_script.specs.Refused as place;
 ghost use Rattle.bz_script.specs.Results.{map_ok};
 
-use crate::usage::{FlagFault, Refused, UsageFault};
+use crate::usage::{Refused, UsageFault};
 use bz_command::Text;
 use bz_memory::NoMemory;
 use std::alloc::Global;
@@ -30,7 +30,7 @@ pub struct Flags {
 
 /// A boolean flag.
 #[derive(Clone, Copy)]
-enum Switch {
+pub(crate) enum Switch {
     K,
     Stdout,
     Quiet,
@@ -42,9 +42,20 @@ enum FlagName {
     File,
 }
 
+/// Why a word is no flag.
+#[derive(Clone, Copy)]
+pub(crate) enum FlagFault {
+    /// There is no flag of this name.
+    Unknown,
+    /// The value of a boolean flag is neither true nor false.
+    BadBoolean,
+    /// No word follows `-f`.
+    NoValue,
+}
+
 /// What a word is to the flags.
 #[derive(Clone, Copy)]
-enum Argument<'a> {
+pub(crate) enum Argument<'a> {
     /// The flags end before it.
     NonFlag,
     /// The flags end after it.
@@ -104,7 +115,7 @@ fn read_leading(alloc: Global, words: &[String]) -> Result<(Flags, &[String]), U
             }
             Ok(Argument::FileNext) => {
                 let Some((path, after)) = split_word(after) else {
-                    return Err(refused(alloc, number, word, FlagFault::NoFile));
+                    return Err(refused(alloc, number, word, FlagFault::NoValue));
                 };
                 flags.file = file_named(alloc, path)?;
                 number += 1;
@@ -118,16 +129,21 @@ fn read_leading(alloc: Global, words: &[String]) -> Result<(Flags, &[String]), U
 
 /// The fault of a word of the command line.
 fn refused(alloc: Global, number: u64, word: &str, fault: FlagFault) -> UsageFault
-    ensures { result ≢ UsageFault.OutOfMemory no_memory → result ≡ UsageFault.Flag (place.refused 0 number word.now) fault }
+    ensures { result ≢ UsageFault.OutOfMemory no_memory → result ≡ spec.refused_as fault (place.refused 0 number word.now) }
 {
-    match Refused::new(alloc, COMMAND_LINE, number, word) {
-        Ok(refused) => UsageFault::Flag { refused, fault },
-        Err(why) => UsageFault::OutOfMemory(why),
+    let refused = match Refused::new(alloc, COMMAND_LINE, number, word) {
+        Ok(refused) => refused,
+        Err(why) => return UsageFault::OutOfMemory(why),
+    };
+    match fault {
+        FlagFault::Unknown => UsageFault::UnknownFlag { refused },
+        FlagFault::BadBoolean => UsageFault::BadBoolean { refused },
+        FlagFault::NoValue => UsageFault::NoValue { refused },
     }
 }
 
 /// The first word, and the words after it.
-fn split_word(words: &[String]) -> Option<(&str, &[String])>
+pub(crate) fn split_word(words: &[String]) -> Option<(&str, &[String])>
     ensures words { MatchOption result (map string_bytes words.now ≡ [])
         (λ parts. map string_bytes words.now ≡ parts.0.now ∷ map string_bytes parts.1.now) }
     ensures rest { IfSome result (λ parts. length parts.1.now + 1 ≡ length words.now) }
@@ -160,7 +176,7 @@ fn file_named(alloc: Global, path: &str) -> Result<Option<Text>, NoMemory>
 
 /// Reads a word that stands where a flag may stand.
 #[tactic(auto, unfolding(crate::specs::Flags::argument_of))]
-fn read_argument(word: &str) -> Result<Argument<'_>, FlagFault>
+pub(crate) fn read_argument(word: &str) -> Result<Argument<'_>, FlagFault>
     ensures { argument_view result ≡ spec.argument_of word.now }
 {
     if word == "--" {
@@ -174,7 +190,7 @@ fn read_argument(word: &str) -> Result<Argument<'_>, FlagFault>
 
 /// What follows the one or two dashes of a flag.
 #[tactic(auto, unfolding(crate::specs::Flags::undashed))]
-fn undashed(word: &str) -> Option<&str>
+pub(crate) fn undashed(word: &str) -> Option<&str>
     ensures { option_map (λ text. text.now) result ≡ spec.undashed word.now }
 {
     if word == "-" {
@@ -203,7 +219,7 @@ fn read_flag(text: &str) -> Result<Argument<'_>, FlagFault>
 }
 
 /// The name, and what follows the first `=`.
-fn split_value(text: &str) -> (&str, Option<&str>)
+pub(crate) fn split_value(text: &str) -> (&str, Option<&str>)
     ensures name { result.0.now ≡ spec.name_in text.now }
     ensures value { option_map (λ value. value.now) result.1 ≡ spec.value_in text.now }
 {

@@ -1,6 +1,6 @@
 //! The page that tells how the program is used.
 
-use crate::usage::{FlagFault, StartFault, UsageFault};
+use crate::usage::{StartFault, UsageFault};
 
 /// The page begins with this; the commands follow ([`USAGE`](bz_rule::USAGE)), and then its end.
 pub const BEGINNING: &str = "\
@@ -32,12 +32,7 @@ status: 0 something changed, 1 usage, 2 a failure, 3 nothing changed
 pub fn is_wanted(fault: &StartFault, words: &[String]) -> bool {
     match fault {
         StartFault::Usage(UsageFault::NoCommand { .. }) => words.is_empty(),
-        StartFault::Usage(
-            UsageFault::Flag {
-                fault: FlagFault::Unknown,
-                ..
-            },
-        ) => words.iter().any(|word| asks(word)),
+        StartFault::Usage(UsageFault::UnknownFlag { .. }) => words.iter().any(|word| asks(word)),
         _ => false,
     }
 }

@@ -1,7 +1,7 @@
 //! What is wrong with the words of a call, by kind, and the text that is told of each kind. `usage.rt` makes a `Mistake`
 //! of each fault of the readers, and shows it.
 
-use crate::usage::{FlagFault, Refused};
+use crate::usage::Refused;
 use bz_command::{LabelFault, NO_SUCH_FIELD, is_left_out_field};
 use bz_memory::NoMemory;
 use bz_rule::{CommandFault, LEFT_OUT, USAGE};
@@ -17,9 +17,9 @@ const UNKNOWN_FLAG: &str = "no such flag; the flags are -k, -stdout, -quiet and 
 const DASHED_TARGET: &str =
     "no such flag; a target of standard input comes after the commands, or after --";
 
-const BAD_BOOLEAN: &str = "the value of this flag is true or false";
+pub const BAD_BOOLEAN: &str = "the value of this flag is true or false";
 
-const NO_FILE: &str = "a command file must follow, or - for standard input";
+pub const NO_VALUE: &str = "a command file must follow, or - for standard input";
 
 // Flags, command files and standard input.
 pub const WORDS_WITH_FILE: &str =
@@ -53,6 +53,9 @@ const NO_TARGET_ON_LINE: &str =
 const SPACE_IN_COMMENT: &str =
     "too many words; write a backslash before each space of the text, as in 'comment made\\ by\\ hand'";
 
+const QUOTED_COMMENT: &str =
+    "write a backslash before each space of the text, and no quotes, as in 'comment made\\ by\\ hand'";
+
 const ONE_VALUE: &str = "name and kind take one value, as in 'set kind cc_test'";
 
 const BAD_ATTRIBUTE: &str =
@@ -71,6 +74,11 @@ const BYTE_ORDER_MARK: &str =
 
 const UNKNOWN_COMMAND: &str = "no such command; buildozer -help lists them";
 
+const QUOTED: &str = "one pair of quotes is enough, as in buildozer 'add deps //x' //app:base";
+
+const QUOTED_IN_FILE: &str =
+    "a command stands without quotes in a command file, as in add deps //x|//app:base";
+
 const BLANK: &str = "the words of a command have spaces between them, no tabs or other blanks";
 
 // A word that is no target.
@@ -85,6 +93,8 @@ const REPOSITORY: &str =
     "no other repository can be edited; write a target of this one, as in //app:base";
 
 const PATTERN: &str = "no pattern over packages is read; name each package, as in //app:*";
+
+const ROOT: &str = "the root package has no path; write //:base, or //:* for all its rules";
 
 const DOT_PART: &str =
     "no . or .. in a package; write its path below the current folder, as in //app:base";
@@ -104,6 +114,9 @@ const TWO_COLONS: &str = "a target has one colon, as in //app:base";
 const BAD_PERCENT: &str =
     "after % comes a kind or the number of a line, as in //app:%cc_test or //app:%12";
 
+/// What a shell or another language puts round a text.
+const QUOTES: [char; 2] = ['"', '\''];
+
 /// What is wrong. Its text stands after the word that is refused, where one is.
 #[derive(Clone, Copy)]
 pub enum Mistake {
@@ -111,7 +124,7 @@ pub enum Mistake {
     /// All that is told.
     Text(&'static str),
     /// The form of the command.
-    Unquoted(&'static str),
+    NameAlone(&'static str),
     WrongCount(&'static str),
     /// The name of the command.
     LeftOut(&'static str),
@@ -123,10 +136,10 @@ impl fmt::Display for Mistake {
         match *self {
             Mistake::OutOfMemory(_) => f.write_str("out of memory"),
             Mistake::Text(text) => f.write_str(text),
-            Mistake::Unquoted(form) => {
+            Mistake::NameAlone(form) => {
                 write!(
                     f,
-                    "a command is one word, so put quotes around it: '{form}'"
+                    "words are missing; a command and its words stand in one pair of quotes: '{form}'"
                 )
             }
             Mistake::WrongCount(form) => write!(f, "too few or too many words; write '{form}'"),
@@ -142,13 +155,12 @@ impl fmt::Display for Mistake {
 }
 
 impl Mistake {
-    /// What is wrong with a word that stands where a flag may stand.
-    pub fn of_flag(refused: &Refused, fault: FlagFault) -> &'static str {
-        match fault {
-            FlagFault::Unknown if refused.word.as_str().starts_with("-:") => DASHED_TARGET,
-            FlagFault::Unknown => UNKNOWN_FLAG,
-            FlagFault::BadBoolean => BAD_BOOLEAN,
-            FlagFault::NoFile => NO_FILE,
+    /// What is wrong with a word that stands where a flag may stand, and is none.
+    pub fn of_flag(refused: &Refused) -> &'static str {
+        if refused.word.as_str().starts_with("-:") {
+            DASHED_TARGET
+        } else {
+            UNKNOWN_FLAG
         }
     }
 
@@ -174,8 +186,7 @@ impl Mistake {
         match fault {
             CommandFault::OutOfMemory(why) => Mistake::OutOfMemory(why),
             CommandFault::WrongCount => of_count(word, refused.line),
-            CommandFault::BadAttribute if prints_left_out(word) => Mistake::Text(NO_SUCH_FIELD),
-            CommandFault::BadAttribute => Mistake::Text(BAD_ATTRIBUTE),
+            CommandFault::BadAttribute => Mistake::Text(of_attribute(word)),
             CommandFault::BadKind => Mistake::Text(BAD_KIND),
             CommandFault::CommentLine => Mistake::Text(COMMENT_LINE),
             CommandFault::SameAttribute => Mistake::Text(SAME_ATTRIBUTE),
@@ -199,16 +210,31 @@ impl Mistake {
         }
     }
 
-    /// What is wrong with a word whose first word is nearly a command's name.
-    pub fn of_name(word: &str) -> Option<Mistake> {
+    /// What is wrong with a word whose first word is nearly a command's name; `line` is 0 for the command line.
+    pub fn of_name(word: &str, line: u64) -> Option<Mistake> {
         if word.starts_with('\u{feff}') {
             return Some(Mistake::Text(BYTE_ORDER_MARK));
         }
         let name = first_word(word);
+        if is_quoted_command(name) {
+            return Some(Mistake::Text(of_quotes(line)));
+        }
         match LEFT_OUT.iter().find(|command| **command == name) {
             Some(command) => Some(Mistake::LeftOut(*command)),
             None => nearest(name).map(Mistake::NearCommand),
         }
+    }
+}
+
+/// Whether a quote stands before a command's name, or on both its sides.
+fn is_quoted_command(name: &str) -> bool {
+    name.starts_with(QUOTES) && form_of(name.trim_matches(QUOTES)).is_some()
+}
+
+fn of_quotes(line: u64) -> &'static str {
+    match line {
+        0 => QUOTED,
+        _ => QUOTED_IN_FILE,
     }
 }
 
@@ -233,7 +259,7 @@ fn of_blanks(word: &str, line: u64) -> Option<Mistake> {
     if form_of(name).is_some() {
         return Some(Mistake::Text(BLANK));
     }
-    if let Some(mistake) = Mistake::of_name(word) {
+    if let Some(mistake) = Mistake::of_name(word, line) {
         return Some(mistake);
     }
     Some(if name.contains(['/', ':']) || second_word(word).is_none() {
@@ -251,6 +277,9 @@ fn of_package(package: &str) -> &'static str {
     }
     if path.split('/').any(|part| part == "...") {
         return PATTERN;
+    }
+    if path == "." {
+        return ROOT;
     }
     if path.split('/').any(|part| part == "." || part == "..") {
         return DOT_PART;
@@ -281,13 +310,24 @@ fn of_target(target: &str) -> &'static str {
     SPACE
 }
 
-/// What is wrong with the number of a command's words. On the command line (`line` 0) a name alone is taken for a
-/// command without its quotes.
+/// What is wrong with a command whose words have one that is to be an attribute's name, and is none.
+fn of_attribute(word: &str) -> &'static str {
+    if prints_left_out(word) {
+        return NO_SUCH_FIELD;
+    }
+    match (first_word(word), second_word(word)) {
+        ("comment", Some(text)) if text.starts_with(QUOTES) => QUOTED_COMMENT,
+        _ => BAD_ATTRIBUTE,
+    }
+}
+
+/// What is wrong with the number of a command's words. On the command line (`line` 0) a name alone may also be a command
+/// without its quotes.
 fn of_count(word: &str, line: u64) -> Mistake {
     let name = first_word(word);
     let form = form_of(name).unwrap_or("");
     if name.len() == word.len() && line == 0 {
-        return Mistake::Unquoted(form);
+        return Mistake::NameAlone(form);
     }
     match (name, second_word(word)) {
         ("comment", Some(_)) => Mistake::Text(SPACE_IN_COMMENT),

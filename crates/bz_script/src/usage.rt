@@ -41,26 +41,25 @@ impl fmt::Display for Refused {
     }
 }
 
-/// Why a word is no flag.
-#[derive(Clone, Copy, Debug)]
-pub enum FlagFault {
-    /// There is no flag of this name.
-    Unknown,
-    /// The value of a flag is neither true nor false.
-    BadBoolean,
-    /// No word follows `-f`.
-    NoFile,
-}
-
 /// Why the words of the command line, or a command file, ask for nothing.
 #[derive(Debug, Drop, Error)]
 pub enum UsageFault {
     #[error("out of memory")]
     OutOfMemory(NoMemory),
-    #[error("{refused}: {}", Mistake::of_flag(refused, *fault))]
-    Flag {
+    /// There is no flag of this name.
+    #[error("{refused}: {}", Mistake::of_flag(refused))]
+    UnknownFlag {
         refused: Refused,
-        fault: FlagFault,
+    },
+    /// The value of a boolean flag is neither true nor false.
+    #[error("{refused}: {}", mistake::BAD_BOOLEAN)]
+    BadBoolean {
+        refused: Refused,
+    },
+    /// No word follows `-f`.
+    #[error("{refused}: {}", mistake::NO_VALUE)]
+    NoValue {
+        refused: Refused,
     },
     /// The first word is told; it is empty where there is none.
     #[error("{}", NoCommand(first))]
@@ -112,7 +111,7 @@ struct NoCommand<'a>(&'a Refused);
 impl<'a> fmt::Display for NoCommand<'a> {
     fn fmt<W: fmt::Write>(&self, f: &mut fmt::Formatter<W>) -> fmt::Result {
         let first = self.0;
-        match Mistake::of_name(first.word.as_str()) {
+        match Mistake::of_name(first.word.as_str(), first.line) {
             Some(mistake) => write!(f, "{first}: {mistake}"),
             None => write!(
                 f,
@@ -144,5 +143,15 @@ pub enum StartFault {
     #[error("{}: {}", .0, mistake::LONG_FILE)]
     LongCommands(Quoted),
     #[error(transparent)]
-    Usage(#[from] UsageFault),
+    Usage(UsageFault),
+}
+
+impl From<UsageFault> for StartFault {
+    ghost use Rattle.bz_script.specs.declared.usage.StartFault.TheVariants.{Usage};
+
+    ghost from_gives = { λ fault e. e ≡ Usage fault };
+
+    fn from(fault: UsageFault) -> StartFault {
+        StartFault::Usage(fault)
+    }
 }

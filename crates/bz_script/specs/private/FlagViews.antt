@@ -3,7 +3,7 @@ use Rattle.std.specs.Prelude.{Result, Ok, Err}
 use Rattle.bz_script.specs.Flags as spec
 use Rattle.bz_script.specs.declared.flags.Argument.{Argument}
 use Rattle.bz_script.specs.declared.flags.Argument.TheVariants.{NonFlag, Terminator, SetSwitch, SetFile, FileNext}
-use Rattle.bz_script.specs.declared.usage.FlagFault.{FlagFault}
+use Rattle.bz_script.specs.declared.flags.FlagFault.{FlagFault}
 
 abbrev pub argument_view : Result Argument FlagFault → spec.Argument
 argument_view (Err why) = spec.Bad why
