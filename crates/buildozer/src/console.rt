@@ -80,8 +80,7 @@ fn put_line<W: Sink>(sink: &mut Buffered<W>, line: &str)
 fn put_lines<W: Sink>(sink: &mut Buffered<W>, lines: &Texts)
     ensures { Took W.took sink.old (lines_text lines.now) sink.new }
 {
-    let mut rest = lines.iter();
-    while let Some(line) = rest.next() {
+    for line in lines {
         put_line(sink, line);
     }
 }
@@ -97,8 +96,7 @@ fn put_message<W: Sink>(sink: &mut Buffered<W>, file: &str, message: &str)
 fn put_messages<W: Sink>(sink: &mut Buffered<W>, file: &str, messages: &Texts)
     ensures { Took W.took sink.old (messages_text file.now messages.now) sink.new }
 {
-    let mut rest = messages.iter();
-    while let Some(message) = rest.next() {
+    for message in messages {
         put_message(sink, file, message);
     }
 }

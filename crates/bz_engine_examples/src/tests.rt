@@ -5,6 +5,7 @@ mod checks;
 mod devices;
 mod faults;
 mod limits;
+mod reports;
 mod runs;
 mod sessions;
 mod sizes;

@@ -3,7 +3,7 @@ use Rattle.std.proofs.Common.{◌≡◌, ℕ, List, [], ◌∷◌, ◌++◌, map
 use Rattle.std.proofs.lemmas.Grind.{flat_map-append}
 use Rattle.std.proofs.lemmas.List.{map-append}
 use Rattle.std.specs.List.{flat_map}
-use Rattle.std.specs.Prelude.{Option, None, Some, option_map, option_to_list, IfSome, IfNone}
+use Rattle.std.specs.Prelude.{Option, None, Some, option_map, option_to_list, MatchOption}
 use Rattle.bz_passes.specs.declared.entry.Entry.{Entry}
 use Rattle.bz_passes.specs.declared.entry.Entry.TheVariants.{Line, Warning, Failure}
 use Rattle.bz_passes.specs.declared.entry.EntryKind.{EntryKind}
@@ -79,30 +79,30 @@ line_rest es ks ms r = from r.0 r.1 r.2 r.3
     from (Warning text ∷ rest) k m s = absurd cc
     from (Failure text ∷ rest) k m s = absurd cc
 
-pub warning_rest : {X : Type 0} (f : X → List ℕ) (es : List Entry) (ks : List EntryKind) (ms ms2 : List (List ℕ)) (next : Option X) → IfSome next (λ x. ms ≡ f x ∷ ms2)
-    → IfNone next ((ms ≡ []) × (ms2 ≡ [])) → Rest es (kind.Warning ∷ ks) ms → Rest es ks ms2
-warning_rest {X} f es ks ms ms2 next some none r = from next some none r.0 r.1 r.2 r.3
+pub warning_rest : {X : Type 0} (f : X → List ℕ) (es : List Entry) (ks : List EntryKind) (ms ms2 : List (List ℕ)) (next : Option X)
+    → MatchOption next ((ms ≡ []) × (ms2 ≡ [])) (λ x. ms ≡ f x ∷ ms2) → Rest es (kind.Warning ∷ ks) ms → Rest es ks ms2
+warning_rest {X} f es ks ms ms2 next gives r = from next gives r.0 r.1 r.2 r.3
   where
-    from : (next : Option X) → IfSome next (λ x. ms ≡ f x ∷ ms2) → IfNone next ((ms ≡ []) × (ms2 ≡ [])) → (rest : List Entry) → (kind.Warning ∷ ks) ≡ map kind_of rest
+    from : (next : Option X) → MatchOption next ((ms ≡ []) × (ms2 ≡ [])) (λ x. ms ≡ f x ∷ ms2) → (rest : List Entry) → (kind.Warning ∷ ks) ≡ map kind_of rest
         → ms ≡ flat_map message_text rest → take 1 (flat_map failure_text rest) ≡ take 1 (flat_map failure_text es) → Rest es ks ms2
-    from next some none [] k m s = absurd cc
-    from next some none (Line text ∷ rest) k m s = absurd cc
-    from None some none (Warning text ∷ rest) k m s = let none = none.0 in absurd cc
-    from (Some x) some none (Warning text ∷ rest) k m s = (rest, cc, cc, s)
-    from next some none (Failure text ∷ rest) k m s = absurd cc
+    from next gives [] k m s = absurd cc
+    from next gives (Line text ∷ rest) k m s = absurd cc
+    from None gives (Warning text ∷ rest) k m s = let none = gives.0 in absurd cc
+    from (Some x) gives (Warning text ∷ rest) k m s = (rest, cc, cc, s)
+    from next gives (Failure text ∷ rest) k m s = absurd cc
 
-pub failure_is : {X : Type 0} (f : X → List ℕ) (es : List Entry) (ks : List EntryKind) (ms ms2 : List (List ℕ)) (next : Option X) → IfSome next (λ x. ms ≡ f x ∷ ms2)
-    → IfNone next ((ms ≡ []) × (ms2 ≡ [])) → Rest es (kind.Failure ∷ ks) ms → option_to_list (option_map f next) ≡ take 1 (flat_map failure_text es)
-failure_is {X} f es ks ms ms2 next some none r = from next some none r.0 r.1 r.2 r.3
+pub failure_is : {X : Type 0} (f : X → List ℕ) (es : List Entry) (ks : List EntryKind) (ms ms2 : List (List ℕ)) (next : Option X)
+    → MatchOption next ((ms ≡ []) × (ms2 ≡ [])) (λ x. ms ≡ f x ∷ ms2) → Rest es (kind.Failure ∷ ks) ms → option_to_list (option_map f next) ≡ take 1 (flat_map failure_text es)
+failure_is {X} f es ks ms ms2 next gives r = from next gives r.0 r.1 r.2 r.3
   where
-    from : (next : Option X) → IfSome next (λ x. ms ≡ f x ∷ ms2) → IfNone next ((ms ≡ []) × (ms2 ≡ [])) → (rest : List Entry) → (kind.Failure ∷ ks) ≡ map kind_of rest
+    from : (next : Option X) → MatchOption next ((ms ≡ []) × (ms2 ≡ [])) (λ x. ms ≡ f x ∷ ms2) → (rest : List Entry) → (kind.Failure ∷ ks) ≡ map kind_of rest
         → ms ≡ flat_map message_text rest → take 1 (flat_map failure_text rest) ≡ take 1 (flat_map failure_text es)
         → option_to_list (option_map f next) ≡ take 1 (flat_map failure_text es)
-    from next some none [] k m s = absurd cc
-    from next some none (Line text ∷ rest) k m s = absurd cc
-    from next some none (Warning text ∷ rest) k m s = absurd cc
-    from None some none (Failure text ∷ rest) k m s = let none = none.0 in absurd cc
-    from (Some x) some none (Failure text ∷ rest) k m s = let same : f x ≡ text = cc in ap (λ t. t ∷ []) same ∙ s
+    from next gives [] k m s = absurd cc
+    from next gives (Line text ∷ rest) k m s = absurd cc
+    from next gives (Warning text ∷ rest) k m s = absurd cc
+    from None gives (Failure text ∷ rest) k m s = let none = gives.0 in absurd cc
+    from (Some x) gives (Failure text ∷ rest) k m s = let same : f x ≡ text = cc in ap (λ t. t ∷ []) same ∙ s
 
 pub none_is : (es : List Entry) (ms : List (List ℕ)) → Rest es [] ms → [] ≡ take 1 (flat_map failure_text es)
 none_is es ms r = from r.0 r.1 r.3

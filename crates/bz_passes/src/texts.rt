@@ -1,6 +1,7 @@
 //! Many texts in little memory.
 
-ghost use Rattle.std.specs.Prelude.{◌≡◌, ℕ, List, [], ◌∷◌, ◌++◌, length, ◌==◌, OnOk, OnErr, IfSome, IfNone};
+ghost use Rattle.std.specs.Prelude.{◌≡◌, ℕ, List, [], ◌∷◌, ◌++◌, length, slice_get, option_map, ◌==◌, OnOk, OnErr};
+ghost use Rattle.std.specs.Iterator.{YieldsFirstRef, item_count};
 
 use bz_memory::{NoMemory, extend_from_slice, push_str, reserve, reserve_for};
 use std::alloc::Global;
@@ -85,6 +86,13 @@ impl Texts {
         self.lens.clear();
     }
 
+    /// The text at this place, from 0: none after the last. It takes as many steps as there are texts before it.
+    pub fn get(&self, at: usize) -> Option<&str>
+        ensures { option_map (λ text. text.now) result ≡ slice_get self.now at }
+    {
+        self.iter().nth(at)
+    }
+
     /// An iterator over the texts, in order.
     pub fn iter(&self) -> EachText<'_>
         ensures { result ≡ self.now }
@@ -114,12 +122,14 @@ impl<'a> Model for EachText<'a> {
     ghost invariant = { λ t. AreTexts t.lens.now t.joined.now };
 }
 
-impl<'a> EachText<'a> {
-    /// The next text. None: all were given.
-    pub fn next(&mut self) -> Option<&'a str>
-        ensures some { IfSome result (λ text. self.old ≡ text.now ∷ self.new) }
-        ensures none { IfNone result ((self.old ≡ []) × (self.new ≡ [])) }
-    {
+impl<'a> Iterator for EachText<'a> {
+    type Item = &'a str;
+
+    ghost next_gives = { YieldsFirstRef (λ texts. texts) };
+
+    ghost remaining = { item_count (λ texts. texts) };
+
+    fn next(&mut self) -> Option<&'a str> {
         let Some((len, lens)) = self.lens.split_first() else {
             return None;
         };
@@ -127,5 +137,21 @@ impl<'a> EachText<'a> {
         self.lens = lens;
         self.joined = joined;
         Some(text)
+    }
+
+    fn size_hint(&self) -> (usize, Option<usize>) {
+        (self.lens.len(), Some(self.lens.len()))
+    }
+}
+
+impl<'a> IntoIterator for &'a Texts {
+    type Item = &'a str;
+
+    type IntoIter = EachText<'a>;
+
+    ghost into_iter_gives = { λ texts each. each ≡ texts.now };
+
+    fn into_iter(self) -> EachText<'a> {
+        self.iter()
     }
 }

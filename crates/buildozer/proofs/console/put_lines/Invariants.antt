@@ -1,4 +1,4 @@
-use Rattle.std.proofs.Common.{◌≡◌, ℕ, List, ◌++◌, length}
+use Rattle.std.proofs.Common.{◌≡◌, ℕ, List, ◌++◌}
 use Rattle.bz_devices.specs.Buffer.{Took}
 use Rattle.buildozer.specs.Texts.{lines_text}
 use Rattle.buildozer.proofs.console.put_lines.Given as goal
@@ -7,8 +7,5 @@ abbrev pub invariant-loop-line : goal.invariant-loop-line
 invariant-loop-line g l = record {
   done : List ℕ;
   took : Took g.W.Sink.took l.initial.sink done l.sink;
-  all : done ++ lines_text l.rest ≡ lines_text l.lines;
+  all : done ++ lines_text l.line-iterator ≡ lines_text l.lines;
 }
-
-abbrev pub decreases-loop-line : goal.decreases-loop-line
-decreases-loop-line g l = length l.rest

@@ -1,15 +1,17 @@
-use Rattle.std.proofs.Common.{[], ◌++◌, ap}
+use Rattle.std.proofs.Common.{rules, ◌≡◌, [], ◌++◌, ap}
 use Rattle.bz_devices.specs.Buffer.{took_nothing_lem, took_more_lem}
 use Rattle.buildozer.specs.Texts.{message_of, messages_text}
 use Rattle.buildozer.proofs.Written.{written_next}
 use Rattle.buildozer.proofs.console.put_messages.Goals as goal
 
 pub loop-message-init : goal.loop-message-init
-loop-message-init g c = record {
-  done = [];
-  took = took_nothing_lem g.W.Sink.took g.met.W.Sink.took_nothing c.args.sink.now;
-  all = ap (messages_text c.args.file.now) c.iter-rest.ensures;
-}
+loop-message-init g c =
+    let begun : c.into_iter-message-iterator.result ≡ c.args.messages.now = search rules in
+    record {
+      done = [];
+      took = took_nothing_lem g.W.Sink.took g.met.W.Sink.took_nothing c.args.sink.now;
+      all = ap (messages_text c.args.file.now) begun;
+    }
 
 pub loop-message-preserved : goal.loop-message-preserved
 loop-message-preserved g c =
@@ -19,5 +21,5 @@ loop-message-preserved g c =
     record {
       done = inv.done ++ one message;
       took = took_more_lem g.W.Sink.took g.met.W.Sink.took_more c.args.sink.now c.loop-message.sink c.put_message.new.sink inv.done (one message) inv.took c.put_message.ensures;
-      all = written_next one inv.done (messages_text c.args.file.now c.args.messages.now) c.loop-message.rest c.next.new.self message c.in-Some.ensures.some inv.all;
+      all = written_next one inv.done (messages_text c.args.file.now c.args.messages.now) c.loop-message.message-iterator c.next.new.self message c.in-Some.ensures.steps inv.all;
     }

@@ -1,4 +1,4 @@
-use Rattle.std.proofs.Common.{◌≡◌, ℕ, List, ◌++◌, length}
+use Rattle.std.proofs.Common.{◌≡◌, ℕ, List, ◌++◌}
 use Rattle.bz_devices.specs.Buffer.{Took}
 use Rattle.buildozer.specs.Texts.{messages_text}
 use Rattle.buildozer.proofs.console.put_messages.Given as goal
@@ -7,8 +7,5 @@ abbrev pub invariant-loop-message : goal.invariant-loop-message
 invariant-loop-message g l = record {
   done : List ℕ;
   took : Took g.W.Sink.took l.initial.sink done l.sink;
-  all : done ++ messages_text l.file l.rest ≡ messages_text l.file l.messages;
+  all : done ++ messages_text l.file l.message-iterator ≡ messages_text l.file l.messages;
 }
-
-abbrev pub decreases-loop-message : goal.decreases-loop-message
-decreases-loop-message g l = length l.rest

@@ -22,7 +22,7 @@ loop-kind-preserved c =
           (line_rest es after c.loop-kind.messages (subst (λ kinds. Rest es kinds c.loop-kind.messages) (drop_more ks i _ c.loop-kind-test.true ∙ ap (λ kind. kind ∷ after) w.in-Line.is) c.loop-kind.invariant))
       | in-Warning w ↦
           subst (Rest es after) (sym w.messages-is)
-          (warning_rest (λ text. text.now) es after c.loop-kind.messages w.next-warning.new.self w.next-warning.result w.next-warning.ensures.some w.next-warning.ensures.none
+          (warning_rest (λ text. text.now) es after c.loop-kind.messages w.next-warning.new.self w.next-warning.result w.next-warning.ensures.steps
           (subst (λ kinds. Rest es kinds c.loop-kind.messages) (drop_more ks i _ c.loop-kind-test.true ∙ ap (λ kind. kind ∷ after) w.in-Warning.is) c.loop-kind.invariant))
     ]
 
@@ -32,7 +32,7 @@ returns-in-Failure c =
     let ks = c.deref-kind-items.result.now in
     let i = c.loop-kind.kind-index in
     let after = drop (i + 1) ks in
-    failure_is (λ text. text.now) es after c.loop-kind.messages c.next.new.self c.next.result c.next.ensures.some c.next.ensures.none
+    failure_is (λ text. text.now) es after c.loop-kind.messages c.next.new.self c.next.result c.next.ensures.steps
     (subst (λ kinds. Rest es kinds c.loop-kind.messages) (drop_more ks i _ c.loop-kind-test.true ∙ ap (λ kind. kind ∷ after) c.in-Failure.is) c.loop-kind.invariant)
 
 pub returns : goal.returns

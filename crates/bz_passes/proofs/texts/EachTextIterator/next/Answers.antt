@@ -1,6 +1,6 @@
 use Rattle.std.proofs.Common.{rules, ◌≡◌, ◌∷◌}
 use Rattle.bz_passes.proofs.Cuts.{first_ends}
-use Rattle.bz_passes.proofs.texts.EachText.next.Goals as goal
+use Rattle.bz_passes.proofs.texts.EachTextIterator.next.Goals as goal
 
 pub split_at-requires : goal.split_at-requires
 split_at-requires c =
