@@ -15,6 +15,8 @@ mod LeftExamples
 mod FileWords
 mod ManySteps
 mod UnmentionedKept
+mod LinesKept
+mod OtherNamesCommute
 mod ScriptAgain
 mod RunAgain
 mod RepeatExamples

@@ -60,7 +60,7 @@ keeps home passes s =
     as_said (Some t) kept = kept
 
 -- one statement among others
-one_left : (home : Package) (passes : Script) (front back : List Statement) (s : Statement)
+pub one_left : (home : Package) (passes : Script) (front back : List Statement) (s : Statement)
     → left_by home passes (front ++ s ∷ back) ≡ left_by home passes front ++ (left_in (slot_after (meaning home) passes (Some s) ∷ []) ++ left_by home passes back)
 one_left home passes front back s =
     left_of_both home passes front (s ∷ back)

@@ -1,4 +1,6 @@
 pub mod Comments
+pub mod Lines
+pub mod OtherNames
 pub mod Sound
 pub mod Status
 pub mod Steps

@@ -3,6 +3,8 @@
 
 pub mod again;
 pub mod comments;
+pub mod lines;
+pub mod other_names;
 pub mod reading;
 pub mod repeatable;
 pub mod script;

@@ -15,6 +15,7 @@ mod KeepsFirst
 pub mod KeptArguments
 mod KeptComments
 mod KindFormed
+mod LawExamples
 mod Likeness
 pub mod LinesStay
 mod ListParts

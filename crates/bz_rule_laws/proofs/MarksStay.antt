@@ -47,10 +47,14 @@ pub rule_stays : (f : List Segment → List Segment) (o : Option (List Segment))
 rule_stays f None = refl
 rule_stays f (Some args) = refl
 
-pub marks_stay : (target : Target) (c : Command) (home : Package) (s t : Statement) → is_steady c ≡ true → looks_past target c ≡ true → after c home (Some s) ≡ Some t → marks target t ≡ marks target s
-marks_stay (Name name) c home s t steady past h =
+-- whatever the command is, if it changes no name
+pub name_marks_stay : (name : List ℕ) (c : Command) (home : Package) (s t : Statement) → may_change c (codes "name") ≡ false → after c home (Some s) ≡ Some t → marks (Name name) t ≡ marks (Name name) s
+name_marks_stay name c home s t other h =
     name_seen name t.start (rule_of t.nodes) ∙ ap (by_name name) (there_after c home s t h)
-    ∙ name_stays name c home (not_true (may_change c (codes "name")) past) (there (rule_of s.nodes)) ∙ sym (name_seen name s.start (rule_of s.nodes))
+    ∙ name_stays name c home other (there (rule_of s.nodes)) ∙ sym (name_seen name s.start (rule_of s.nodes))
+
+pub marks_stay : (target : Target) (c : Command) (home : Package) (s t : Statement) → is_steady c ≡ true → looks_past target c ≡ true → after c home (Some s) ≡ Some t → marks target t ≡ marks target s
+marks_stay (Name name) c home s t steady past h = name_marks_stay name c home s t (not_true (may_change c (codes "name")) past) h
 marks_stay Pkg c home s t steady past h =
     package_seen t.start (rule_of t.nodes) ∙ ap (by_kind (codes "package")) (kind_kept c home s t steady (not_true (sets_a_kind c) past) h) ∙ sym (package_seen s.start (rule_of s.nodes))
 marks_stay All c home s t steady past h =
