@@ -22,6 +22,10 @@ pub fn put_gap(before: Option<Class>, after: Class, text: &mut Vec<u8>) -> Resul
     ensures gap { text.new.items
         ≡ (if is_ok result then text.old.items ++ gap_text (lines_before before after) else text.old.items) }
 {
-    let gap = if blank_between(before, after) { "\n" } else { "" };
+    let gap = if blank_between(before, after) {
+        "\n"
+    } else {
+        ""
+    };
     extend_from_slice(text, gap.as_bytes())
 }
