@@ -1,7 +1,7 @@
 //! Which statements a target marks, where they are trees. Nothing is allocated. `Head::is_marked_by` says it of rows.
 
 ghost use Rattle.std.specs.Prelude.{◌≡◌, bytes_eq, option_and_then, option_map};
-ghost use Rattle.bz_tree.specs.View.{node_view, nodes_view, seg_view, segs_view, view};
+ghost use Rattle.bz_tree.specs.View.{node_view, nodes_view, seg_view, segs_view, text_of, view};
 ghost use Rattle.bz_command.specs.Values.{value_of};
 ghost use Rattle.bz_attribute.specs.Marks as spec;
 ghost use Rattle.bz_attribute.specs.Rules as rules;
@@ -83,7 +83,7 @@ fn is_kind(kind: &[Node<'_>], text: &str) -> bool
 }
 
 fn text_of<'n>(leaf: &'n Leaf<'_>) -> &'n str
-    ensures { result.now ≡ leaf.now.text.now }
+    ensures { result.now ≡ text_of leaf.now.text }
 {
     leaf.text
 }
