@@ -1,11 +1,10 @@
 -- The call of a rule, at the end of the nodes.
-use Rattle.std.proofs.Common.{◌≡◌, ℕ, ◌+◌, ◌-◌, ◌≤◌, List, [], ◌∷◌, ◌++◌, true, false, length, get_or, take, refl, ap, sym, ◌∙◌, arith, None, append_assoc, append-nil, Bool, is_some, inl, inr}
-use Rattle.std.proofs.lemmas.Bool.{cases_Bool}
+use Rattle.std.proofs.Common.{◌≡◌, ℕ, ◌+◌, ◌-◌, ◌≤◌, List, [], ◌∷◌, ◌++◌, true, false, length, get_or, take, refl, ap, sym, ◌∙◌, arith, Some, None, append_assoc, append-nil, Bool}
 use Rattle.std.proofs.lemmas.List.{take_more, take_all, map-append}
 use Rattle.bz_tree.specs.declared.tree.Node.{Node, Group}
 use Rattle.bz_tree.specs.declared.tree.GroupKind.TheVariants.{RuleCall}
 use Rattle.bz_tree.specs.Tree.{Item, leaf, group, segs_of}
-use Rattle.bz_attribute.proofs.Views.{view_of_group}
+use Rattle.bz_attribute.proofs.Views.{segments_of, view_of_group}
 use Rattle.bz_tree.specs.View.{node_view, nodes_view, segs_view, texts}
 use Rattle.bz_tree.specs.declared.tree.Group.{Group as GroupValue, out-Group}
 use Rattle.bz_attribute.specs.Rules.{rule_of, rule_from, call_at, dotted}
@@ -48,13 +47,11 @@ abbrev call_of : GroupValue → Item
 call_of g = group RuleCall (segs_of (segs_view (out-Group g).segs.items)) (out-Group g).one_comma (texts (out-Group g).end.items)
 
 -- a call after a kind is a rule
-call_is : (kind : List Item) (g : GroupValue) → dotted true kind ≡ is_some (call_at kind (call_of g))
-call_is kind g = elim (cases_Bool (dotted true kind)) [ inl dots ↦ rw dots refl | inr none ↦ rw none refl ]
+pub a_rule : (kind : List Item) (x : Item) (g : GroupValue) → x ≡ call_of g → dotted true kind ≡ true
+    → call_at kind x ≡ Some (record { kind = kind; args = segs_view (out-Group g).segs.items; one_comma = (out-Group g).one_comma; end = texts (out-Group g).end.items })
+a_rule kind x g call dots = ap (call_at kind) call ∙ rw (dots, segments_of (segs_view (out-Group g).segs.items)) refl
 
-called : (kind : List Item) (x : Item) (g : GroupValue) → x ≡ call_of g → dotted true kind ≡ is_some (call_at kind x)
-called kind x g is = call_is kind g ∙ ap (λ (z : Item). is_some (call_at kind z)) (sym is)
-
-rule_last : (ns : List Node) (x : Node) → 1 ≤ length ns → x ≡ get_or ns (length ns - 1) x → rule_of (nodes_view ns) ≡ call_at (nodes_view (take (length ns - 1) ns)) (node_view x)
+pub rule_last : (ns : List Node) (x : Node) → 1 ≤ length ns → x ≡ get_or ns (length ns - 1) x → rule_of (nodes_view ns) ≡ call_at (nodes_view (take (length ns - 1) ns)) (node_view x)
 rule_last ns x some is =
     rule_at ns x (length ns - 1) (omega arith) ∙ ap (λ (z : Node). call_at (nodes_view (take (length ns - 1) ns)) (node_view z)) (sym is)
 
@@ -63,9 +60,8 @@ pub group_call : (x : Node) (g : GroupValue) → x ≡ Group g → (out-Group g)
 group_call x g is kind = ap node_view is ∙ view_of_group g ∙ rw kind refl
 
 -- what the last node and the nodes before it say of all
-pub rule_without_call : (ns : List Node) (x : Node) → 1 ≤ length ns → x ≡ get_or ns (length ns - 1) x → is_rule_call (node_view x) ≡ false → false ≡ is_some (rule_of (nodes_view ns))
-rule_without_call ns x some is none = sym (ap is_some (rule_last ns x some is ∙ no_call (nodes_view (take (length ns - 1) ns)) (node_view x) none))
+pub rule_without_call : (ns : List Node) (x : Node) → 1 ≤ length ns → x ≡ get_or ns (length ns - 1) x → is_rule_call (node_view x) ≡ false → rule_of (nodes_view ns) ≡ None
+rule_without_call ns x some is none = rule_last ns x some is ∙ no_call (nodes_view (take (length ns - 1) ns)) (node_view x) none
 
-pub rule_with_call : (ns : List Node) (x : Node) (g : GroupValue) → 1 ≤ length ns → x ≡ get_or ns (length ns - 1) x → node_view x ≡ call_of g
-    → dotted true (nodes_view (take (length ns - 1) ns)) ≡ is_some (rule_of (nodes_view ns))
-rule_with_call ns x g some is call = called (nodes_view (take (length ns - 1) ns)) (node_view x) g call ∙ sym (ap is_some (rule_last ns x some is))
+pub rule_without_dots : (ns : List Node) (x : Node) → 1 ≤ length ns → x ≡ get_or ns (length ns - 1) x → dotted true (nodes_view (take (length ns - 1) ns)) ≡ false → rule_of (nodes_view ns) ≡ None
+rule_without_dots ns x some is none = rule_last ns x some is ∙ no_dots (nodes_view (take (length ns - 1) ns)) (node_view x) none

@@ -1,3 +1,4 @@
 pub mod Apart
 pub mod ElementSets
 pub mod Parts
+pub mod RuleViews

@@ -2,23 +2,39 @@
 
 ghost use Rattle.std.specs.Prelude.{◌≡◌, is_some, option_map, true};
 ghost use Rattle.bz_tree.specs.View.{node_view, nodes_view};
+ghost use Rattle.bz_attribute.specs.private.RuleViews.{rule_view};
 ghost use Rattle.bz_attribute.specs.Rules as spec;
 
 use bz_token::Kind;
-use bz_tree::{GroupKind, Node};
+use bz_tree::{Group, GroupKind, Node};
+
+/// What stands before the call of a rule, and the call.
+#[derive(Clone, Copy)]
+pub(crate) struct Rule<'n, 'a> {
+    pub(crate) kind: &'n [Node<'a>],
+    pub(crate) call: &'n Group<'a>,
+}
+
+/// The rule that nodes are.
+pub(crate) fn rule_of<'n, 'a>(nodes: &'n [Node<'a>]) -> Option<Rule<'n, 'a>>
+    ensures { option_map rule_view result ≡ spec.rule_of (nodes_view nodes.now) }
+{
+    let [kind @ .., last] = nodes else {
+        return None;
+    };
+    match last {
+        Node::Group(call) if call.kind == GroupKind::RuleCall && are_dotted(kind) => {
+            Some(Rule { kind, call })
+        }
+        _ => None,
+    }
+}
 
 /// Whether nodes are those of a rule.
-#[tactic(auto, using(crate::proofs::Calls::group_call, crate::proofs::Calls::rule_with_call, crate::proofs::Calls::rule_without_call, crate::proofs::Views::view_of_group))]
 pub fn is_rule(nodes: &[Node<'_>]) -> bool
     ensures { result ≡ is_some (spec.rule_of (nodes_view nodes.now)) }
 {
-    let [kind @ .., last] = nodes else {
-        return false;
-    };
-    match last {
-        Node::Group(call) if call.kind == GroupKind::RuleCall => are_dotted(kind),
-        _ => false,
-    }
+    rule_of(nodes).is_some()
 }
 
 // Identifiers joined by dots.
@@ -35,7 +51,7 @@ fn are_dotted(kind: &[Node<'_>]) -> bool
     matches!(left, [name] if is_identifier_item(name))
 }
 
-fn is_operator_item(node: &Node<'_>, operator: &str) -> bool
+pub(crate) fn is_operator_item(node: &Node<'_>, operator: &str) -> bool
     ensures { result ≡ spec.is_operator_item operator.now (node_view node.now) }
 {
     matches!(node, Node::Token(leaf) if matches!(leaf.kind, Kind::Operator) && leaf.text == operator)

@@ -30,5 +30,5 @@ mod walk;
 mod write;
 
 pub use flat_text::flat;
-pub use gaps::put_gap;
+pub use gaps::{blank_between, put_gap};
 pub use row::{put_row, put_stmt};

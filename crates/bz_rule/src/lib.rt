@@ -8,7 +8,7 @@ mod row_parts;
 mod slot;
 mod statement_row;
 
-pub use bz_attribute::{Done, Note, label};
+pub use bz_attribute::{Done, Note, label, matches};
 pub use bz_command::{LabelFault, Package, Target, Text, quote, read_label, same, value_is};
 pub use command::{Action, Command, CommandFault, LEFT_OUT, USAGE, one_attribute};
 pub use reader::read_command;

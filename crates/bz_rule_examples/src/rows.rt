@@ -4,7 +4,7 @@ use crate::checks::{check_table, check_value};
 use crate::table::plain;
 use crate::trees::{class_name, kind_name};
 use bumpalo::Bump;
-use bz_token::{LexFault, tokens};
+use bz_token::{LexFault, tokens_in};
 use bz_tree::{ParseFault, Part, Row, read_row, read_statement, read_text};
 use std::alloc::Global;
 use std::test::Fail;
@@ -226,7 +226,7 @@ fn row_of<'a>(bump: &'a Bump, text: &'a str) -> Result<Option<Row<'a>>, Fail> {
     if text.len() > 1000 {
         return Ok(None);
     }
-    match tokens(bump, text, 1, 100) {
+    match tokens_in(bump, text, 1, 100) {
         Ok(tokens) => Ok(read_row(bump, tokens)?),
         Err(_) => Ok(None),
     }
@@ -265,7 +265,7 @@ fn shown_tokens(alloc: Global, text: &str) -> Result<String, Fail> {
         return Ok(String::from_str(alloc, "long")?);
     }
     let bump = Bump::new(alloc);
-    match tokens(&bump, text, 1, 100) {
+    match tokens_in(&bump, text, 1, 100) {
         Err(_) => shown_text(alloc, text),
         Ok(tokens) => {
             let read = read_statement(alloc, &bump, text, 1, tokens);

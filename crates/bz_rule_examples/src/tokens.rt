@@ -5,7 +5,7 @@ ghost use Rattle.bz_token.specs.Cuts.{is_physical_line};
 
 use crate::checks::{check_table, check_value};
 use bumpalo::Bump;
-use bz_token::{Cut, Cutter, Front, LexFault, Next, Token, check_utf8, first_chunk, tokens};
+use bz_token::{Cut, Cutter, Front, LexFault, Next, Token, check_utf8, first_chunk, tokens_in};
 use std::alloc::Global;
 use std::process::Abort;
 use std::test::Fail;
@@ -131,7 +131,7 @@ fn shown(alloc: Global, text: &str) -> Result<String, Fail> {
         return Err("a long text".into());
     }
     let bump = Bump::new(alloc);
-    let shown = match tokens(&bump, text, 1, 100) {
+    let shown = match tokens_in(&bump, text, 1, 100) {
         Ok(found) => shown_tokens(alloc, found)?,
         Err(fault) => format!(in alloc; "{fault:?}\n")?,
     };
@@ -146,7 +146,7 @@ fn tokens_of_texts(rt: HostRuntime) -> Result<(), Fail> {
 /// A text whose brackets may be so deep in one another has this first fault.
 fn check_fault(rt: &impl Abort, alloc: Global, text: &str, max_depth: u8, fault: LexFault) {
     let bump = Bump::new(alloc);
-    let found = tokens(&bump, text, 1, max_depth).err();
+    let found = tokens_in(&bump, text, 1, max_depth).err();
     check_value(rt, text, &found, &Some(fault));
 }
 

@@ -1,4 +1,4 @@
-//! The tokens of a text. `parse` of bz_tree calls `tokens` for a whole text; `first_chunk` (`chunk.rt`) and
+//! The tokens of a text. `parse` of bz_tree calls `tokens_in` for a whole text; `first_chunk` (`chunk.rt`) and
 //! `TokenReader` (`reader.rt`) have a `Lexer` read line by line.
 
 ghost use Rattle.std.specs.Prelude.{◌≡◌, ◌≤◌, ◌<◌, ◌+◌, ◌^◌, ◌==◌, ◌⊎◌, ◌↔◌, [], List, ℕ, max, true, false, not, length, take, drop, count_by, map, IfOk, IfErr, IsTrue, Some, None, nat_eq};
@@ -352,10 +352,8 @@ fn closed<'b, 'a>(tokens: &'b [Token<'a>]) -> Result<&'b [Token<'a>], LexFault>
     }
 }
 
-/// Reads a text as its tokens, those of the Starlark specification and comments; or finds its first fault from left to
-/// right. `first_line` is the number of the text's first line. More than `max_depth` brackets open at once are a fault.
-/// The list of tokens is in the arena.
-pub fn tokens<'b, 'a>(
+/// As [`tokens`](crate::tokens), for callers that read many texts: the list of tokens is in the arena.
+pub fn tokens_in<'b, 'a>(
     bump: &'b Bump,
     text: &'a str,
     first_line: u64,

@@ -17,6 +17,7 @@ mod scan_string;
 mod scan_token;
 mod table;
 mod token;
+mod token_list;
 mod utf8;
 mod word;
 
@@ -25,7 +26,8 @@ pub use cutter::{Cut, Cutter, Next};
 pub use fault::LexFault;
 pub use identifier::is_identifier;
 pub use lengths::{comment_len, identifier_len, integer_len, string_len};
-pub use lexer::tokens;
+pub use lexer::tokens_in;
 pub use reader::TokenReader;
 pub use token::{Kind, Token};
+pub use token_list::tokens;
 pub use utf8::check_utf8;

@@ -20,7 +20,7 @@ use crate::tree::span::{counted_end_of, end_line, first_seen, first_token, last_
 use crate::tree::{Class, Leaf, Node, Stmt};
 use bumpalo::Bump;
 use bz_memory::{NoMemory, with_capacity};
-use bz_token::{Kind, LexFault, Token, tokens};
+use bz_token::{Kind, LexFault, Token, tokens_in};
 use std::alloc::Global;
 
 // The statement of the tokens, which are no block. None: they have none.
@@ -150,7 +150,7 @@ pub fn parse<'a>(
     ensures fault { IfErr result (IsFaultIn first_line max_depth text.now) }
 {
     let bump = Bump::new(alloc);
-    match tokens(&bump, text, first_line, max_depth) {
+    match tokens_in(&bump, text, first_line, max_depth) {
         Ok(tokens) => parse_tokens(alloc, text, first_line, tokens),
         Err(LexFault::OutOfMemory(why)) => Err(ParseFault::OutOfMemory(why)),
         Err(fault) => Err(ParseFault::Lex(fault)),

@@ -8,7 +8,7 @@ use Rattle.bz_token.specs.Brackets.{open_tokens}
 use Rattle.bz_token.specs.private.Scans.{opened, IsLeftOpen}
 use Rattle.bz_token.proofs.Steps.{end_gap}
 use Rattle.bz_token.proofs.Progress.{read_fresh, after_gap, if_ok, if_err, passed_on, all_read, none_opened, outside, left_open, empty_from_test, some_from_test}
-use Rattle.bz_token.proofs.lexer.tokens.Goals as goal
+use Rattle.bz_token.proofs.lexer.tokens_in.Goals as goal
 
 pub loop-cursor-init : goal.loop-cursor-init
 loop-cursor-init c =
