@@ -77,7 +77,7 @@ returns-clause-status g c =
       | in-Some+then-status-eq-FAILED+then-not-flags w ↦
           at_end (IsStatusOfAll g.D.Folder.did g.D.Folder.leads g.D.Folder.absent g.D.File.Source.gave g.D.File.Source.failures g.S.Source.gave g.S.Source.failures g.O.Sink.took g.E.Sink.took c.args.flags.now c.args.script.items c.args.devices.now) w.devices-is w.whole-is
           (handled_last g.D.Folder.did g.D.Folder.leads g.D.Folder.absent g.D.File.Source.gave g.D.File.Source.failures g.S.Source.gave g.S.Source.failures g.O.Sink.took g.E.Sink.took c.args.flags.now
-          (record { did_nothing = g.met.D.Folder.did_nothing; did_more = g.met.D.Folder.did_more; out_nothing = g.met.O.Sink.took_nothing; out_more = g.met.O.Sink.took_more; err_nothing = g.met.E.Sink.took_nothing; err_more = g.met.E.Sink.took_more }) c.args.script.items c.args.devices.now _ c.loop-home.devices w.edit_package-status.new.devices c.loop-home.whole _ (w.in-Some.home, w.in-Some.passes)
+          (record { did_nothing = g.met.D.Folder.did_nothing; did_more = g.met.D.Folder.did_more; out_nothing = g.met.O.Sink.took_nothing; out_more = g.met.O.Sink.took_more; err_nothing = g.met.E.Sink.took_nothing; err_more = g.met.E.Sink.took_more }) c.args.script.items c.args.devices.now _ c.loop-home.devices w.edit_package-status.new.devices c.loop-home.whole _ (w.in-Some.home, w.in-Some.passes.items)
           (w.edit_package-status.ensures.handled.0, w.edit_package-status.result) c.loop-home.invariant.handled w.edit_package-status.ensures.handled.1 w.whole_status-whole-in-loop-home.ensures _
           (turn _ _ _ c.in_ok-packages.ensures c.loop-home.yielded _ _ _ c.into_iter-home-iterator.ensures.into_iter_gives.0 c.loop-home.yielded_by _ c.next.ensures.steps (w.in-Some.home, w.in-Some.passes) w.in-Some.is)
           (ap (λ k. is_last k w.edit_package-status.result) w.if-not-flags.true ∙ ap (is_last false) w.if-status-eq-FAILED.true))
