@@ -1,6 +1,6 @@
 -- The packages of a script are handled one after another: what each tells, what it leaves of its file, and its status (buildozer README,
 -- "Error codes"; this project's own rule). Begin with `IsStatusOfAll`.
-use Rattle.std.specs.Prelude.{◌≡◌, ◌⊎◌, ℕ, ◌==◌, Bool, true, false, ◌&&◌, not, if◌then◌else◌, List, [], ◌∷◌, ◌++◌, map, Option, None, Some, codes, string_bytes}
+use Rattle.std.specs.Prelude.{◌≡◌, ◌⊎◌, ℕ, ◌==◌, Bool, true, false, ◌&&◌, not, if◌then◌else◌, List, [], ◌∷◌, ◌++◌, map, None, Some, codes, string_bytes}
 use Rattle.std.specs.List.{flat_map}
 use Rattle.bz_folder.specs.Files.{Event}
 use Rattle.bz_folder.specs.Sequence.{SafeRun, Wanted}
