@@ -21,16 +21,15 @@ use Rattle.bz_engine.specs.declared.report.Report.{Report}
 use Rattle.bz_command.specs.Labels.{Package}
 use Rattle.buildozer.specs.declared.file_run.Ended.{Ended}
 use Rattle.buildozer.specs.declared.file_run.Ended.TheVariants.{Told, Failed as EndedByFault, NotYet}
-use Rattle.buildozer.specs.Runs.{Asked, IsRun, IsKeptText, is_kept, is_whole, run_of, IsFaultOver}
+use Rattle.buildozer.specs.Runs.{Asked, IsRun, IsKeptText, is_kept, is_whole, IsFaultOver}
 use Rattle.buildozer.specs.FileRuns.{GaveText, GaveAnswer}
 use Rattle.buildozer.specs.Files.{IsFileOf, MayBe, MayHold, MayHoldNothing, IsEdited, Holds, AreLeft, Leaves, IsPlaced, file_fault, IsFileFault, IsOfFolder}
-use Rattle.buildozer.specs.Handled.{IsStatusOver, IsFileStatus, IsPut, LeavesFiles}
-use Rattle.bz_engine.specs.Outcome.{Run as RunOf, Told as ToldOf, IsOutcome, status_of, told_by, told_of}
-use Rattle.bz_engine.specs.declared.report.SyntaxFault.{SyntaxFault}
+use Rattle.buildozer.specs.Handled.{AreFilesOf, IsFirst, IsTried, IsOpened, LeavesFiles}
+use Rattle.bz_engine.specs.Outcome.{status_of}
 use Rattle.bz_script.specs.Groups.{Step}
 use Rattle.bz_script.specs.Names.{IsBuildPath}
 use Rattle.bz_script.specs.Packages.{by_package}
-use Rattle.buildozer.specs.Program.{MayHold as MayHoldAny, Task, asked_for, in_place}
+use Rattle.buildozer.specs.Program.{MayHold as MayHoldAny, Task, asked_for}
 use Rattle.buildozer.specs.declared.file_run.FileRun.{FileRun}
 
 abbrev or_else : {A : Type 0} → Option A → A → A
@@ -241,6 +240,10 @@ among_right P (w ∷ ps) qs h = inr (among_right P ps qs h)
 pub leaves_nothing : {D : Type 0} (did : D → List Event → D → Type 0) → ((s : D) → did s [] s) → (s : D) → Leaves did [] s s
 leaves_nothing did nothing s = record { events = []; made = nothing s; left = λ start. (tt, λ path other. refl) }
 
+-- where nothing was put
+pub leaves_as : {D : Type 0} (did : D → List Event → D → Type 0) → ((s : D) → did s [] s) → (s : D) (puts : List Wanted) → puts ≡ [] → Leaves did puts s s
+leaves_as did nothing s puts none = subst (λ these. Leaves did these s s) (sym none) (leaves_nothing did nothing s)
+
 pub leaves_more : {D : Type 0} (did : D → List Event → D → Type 0) → ((a b c : D) (es fs : List Event) → did a es b → did b fs c → did a (es ++ fs) c)
     → (ps qs : List Wanted) (a b c : D) → Leaves did ps a b → Leaves did qs b c → Leaves did (ps ++ qs) a c
 leaves_more did joins ps qs a b c p q = record {
@@ -252,12 +255,9 @@ leaves_more did joins ps qs a b c p q = record {
 }
 
 pub left_alone : {D F : Type 0} (did : D → List Event → D → Type 0) (leads : List ℕ → List ℕ → F → Type 0) (gave : F → List (List ℕ) → F → Type 0) (stdout : Bool) (asked : Asked)
-    → ((s : D) → did s [] s) → (s : D) (status : ℕ) → (in_place stdout asked ≡ true → status ≡ 0 → ⊥) → LeavesFiles did leads gave stdout asked s s status
-left_alone did leads gave stdout asked nothing s status none = record {
+    → ((s : D) → did s [] s) → (s : D) (status : ℕ) → LeavesFiles did leads gave stdout asked s s status
+left_alone did leads gave stdout asked nothing s status = record {
   safe = untouched did (MayHold leads gave asked) nothing s;
-  puts = [];
-  put = record { may = tt; some = λ is zero. absurd (none is zero) };
-  left = leaves_nothing did nothing s;
   idle = λ three. untouched did MayHoldNothing nothing s;
   shown = λ is. nothing s;
 }
@@ -280,11 +280,18 @@ of_file did leads gave asked edited source is_its a b r =
     safe_weaker did (MayBe gave source asked edited) (MayHold leads gave asked)
     (λ file content may. record { source = source; is_its = subst (λ f. IsFileOf leads asked.home f source) (sym may.is_it) is_its; kept = may.kept }) a b r
 
--- the file that was opened at one of two paths of a package's BUILD file
-pub file_of : {F : Type 0} (leads : List ℕ → List ℕ → F → Type 0) (home : Package) (first second file : List ℕ) (source : F) → IsBuildPath home first → IsBuildPath home second
-    → {Absent : Type 0} → leads first file source ⊎ (Absent × leads second file source) → IsFileOf leads home file source
-file_of leads home first second file source is_first is_second found =
-    ⊎_elim (λ l. record { path = first; is_its = is_first; leads_to = l }) (λ l. record { path = second; is_its = is_second; leads_to = l.1 }) found
+-- a path that is tried is one of the package's BUILD file
+build_path : {D : Type 0} (absent : D → List ℕ → Type 0) (folder : D) (home : Package) (path : List ℕ) → IsTried absent folder home path → IsBuildPath home path
+build_path absent folder None path t = t.are
+build_path absent folder (Some home) path t = ⊎_elim (λ is. inl (is ∙ t.are.0)) (λ is. inr (is.1 ∙ t.are.1)) t.is_first
+
+pub tried_as : {D : Type 0} (absent : D → List ℕ → Type 0) (folder : D) (home : Package) (first second path : List ℕ) → AreFilesOf home first second → IsFirst absent folder first second path
+    → IsTried absent folder home path
+tried_as absent folder home first second path are is = record { first = first; second = second; are = are; is_first = is }
+
+pub file_of : {D F : Type 0} (leads : List ℕ → List ℕ → F → Type 0) (absent : D → List ℕ → Type 0) (folder : D) (home : Package) (path : List ℕ) (opened : Opened F)
+    → IsOpened leads absent folder home path opened → IsFileOf leads home (string_bytes opened.path) opened.source
+file_of leads absent folder home path opened o = record { path = path; is_its = build_path absent folder home path o.tried; leads_to = o.leads_to }
 
 -- a package's run is a run of the program
 pub of_package : {D F : Type 0} (did : D → List Event → D → Type 0) (leads : List ℕ → List ℕ → F → Type 0) (gave : F → List (List ℕ) → F → Type 0) (keep_going : Bool) (script : List Step) (task : Task)
@@ -292,12 +299,6 @@ pub of_package : {D F : Type 0} (did : D → List Event → D → Type 0) (leads
 of_package did leads gave keep_going script task is_asked a b r =
     safe_weaker did (MayHold leads gave (asked_for keep_going task)) (MayHoldAny leads gave keep_going script)
     (λ file content may. record { task = task; is_asked = is_asked; may = may }) a b r
-
-two_not_zero : (let two : ℕ = 2 in two ≡ 0) → ⊥
-two_not_zero same = cc
-
-pub two_zero : (status : ℕ) → status ≡ 2 → status ≡ 0 → ⊥
-two_zero status two zero = two_not_zero (sym two ∙ zero)
 
 -- a report of a run in which nothing changed is not kept
 abbrev status_by : Bool → Bool → ℕ
@@ -315,85 +316,12 @@ unchanged_unkept false changed rest is = refl
 pub three_unkept : (keep_going : Bool) (report : Report) → status_of report ≡ 3 → is_kept keep_going report ≡ false
 three_unkept keep_going report is = unchanged_unkept (is_whole report.end) report.changed (keep_going || not report.failed) (three_unchanged report.failed report.changed is)
 
-zero_parts : (failed changed : Bool) → status_by failed changed ≡ 0 → (failed ≡ false) × (changed ≡ true)
-zero_parts true changed is = absurd cc
-zero_parts false true is = (refl, refl)
-zero_parts false false is = absurd cc
-
-kept_of : (whole changed keep_going failed : Bool) → whole ≡ true → changed ≡ true → failed ≡ false → (whole && (changed && (keep_going || not failed))) ≡ true
-kept_of true true true false w c f = refl
-kept_of true true false false w c f = refl
-kept_of false changed keep_going failed w c f = absurd (false≢true w)
-kept_of true false keep_going failed w c f = absurd (false≢true c)
-kept_of true true keep_going true w c f = absurd (false≢true (sym f))
-
--- a run that did not fail read its file whole
-whole_told : (report : Report) (told : Option SyntaxFault → ToldOf) (fault : Option SyntaxFault) → told_by report ≡ told fault
-    → is_whole (told None).end ≡ true → ((f : SyntaxFault) → (told (Some f)).failed ≡ true) → report.failed ≡ false → is_whole report.end ≡ true
-whole_told report told None is whole failed calm = ap (λ (t : ToldOf). is_whole t.end) is ∙ whole
-whole_told report told (Some fault) is whole failed calm = absurd (false≢true (sym calm ∙ ap (λ (t : ToldOf). t.failed) is ∙ failed fault))
-
-whole_by : (run : RunOf) (file text : List ℕ) (report : Report) → IsOutcome run file text (told_by report) → report.failed ≡ false → is_whole report.end ≡ true
-whole_by run file text report (inl w) calm = whole_told report (told_of run.home run.passes w.statements) w.fault w.told_is refl (λ f. refl) calm
-whole_by run file text report (inr e) calm = absurd (false≢true (sym calm ∙ ap (λ (t : ToldOf). t.failed) e.told_is))
-
-zero_replaced : {S : Type 0} (gave : S → List (List ℕ) → S → Type 0) (source : S) (asked : Asked) (report : Report) (replaced : Bool) → IsEdited gave source asked report replaced
-    → status_of report ≡ 0 → replaced ≡ true
-zero_replaced gave source asked report replaced e zero =
-    let parts = zero_parts report.failed report.changed zero in
-    e.replaced_is ∙ kept_of (is_whole report.end) report.changed asked.keep_going report.failed (whole_by (run_of asked) _ e.text report (e.outcome.each [] (λ at_end. refl)) parts.0) parts.1 parts.0
-
-module _ {D F : Type 0} (did : D → List Event → D → Type 0) (leads : List ℕ → List ℕ → F → Type 0) (gave : F → List (List ℕ) → F → Type 0) (stdout : Bool) (asked : Asked) (a b : D) where
-  -- what was put in the place of a package's file
-  abbrev pub PutsFile : ℕ → Type 0
-  PutsFile status = (puts : List Wanted) × IsPut leads gave stdout asked status puts × Leaves did puts a b
-
-  pub puts_edited : (opened : Opened F) → IsFileOf leads asked.home (string_bytes opened.path) opened.source → (E : Type 0) (report : Report) (replaced : Bool)
-      → (let result : Result (Report × Bool) E = Ok (report, replaced) in IsPlaced gave did asked opened result a b) → IsEdited gave opened.source asked report replaced
-      → (status : ℕ) → status ≡ status_of report → PutsFile status
-  puts_edited opened is_its E report true p e status status_is = (
-    (string_bytes opened.path, Some (p.0.text, opened.mode)) ∷ [],
-    record {
-      may = (
-        record {
-          source = opened.source;
-          is_its = is_its;
-          kept = record { read = p.0.read; source_after = p.0.source_after; gave_is = p.0.gave_is; report = report; outcome = p.0.outcome; kept = sym p.0.replaced_is };
-        },
-        tt,
-      );
-      some = λ is zero. (string_bytes opened.path, (p.0.text, opened.mode), refl);
-    },
-    p.1,
-  )
-  puts_edited opened is_its E report false p e status status_is = (
-    (string_bytes opened.path, None) ∷ [],
-    record {
-      may = (tt, tt);
-      some = λ is zero. absurd (false≢true (zero_replaced gave opened.source asked report false e (sym status_is ∙ zero)));
-    },
-    p,
-  )
-
-  -- where it failed, nothing was
-  pub puts_none : (file : List ℕ) → Leaves did ((file, None) ∷ []) a b → (status : ℕ) → status ≡ 2 → PutsFile status
-  puts_none file left status two = ((file, None) ∷ [], record { may = (tt, tt); some = λ is zero. absurd (two_zero status two zero) }, left)
-
--- what a status says of a package, where it comes from its file
-pub edited_status : {F : Type 0} (leads : List ℕ → List ℕ → F → Type 0) (gave : F → List (List ℕ) → F → Type 0) (asked : Asked) (file : List ℕ) (source : F) → IsFileOf leads asked.home file source
-    → (report : Report) (replaced : Bool) → IsEdited gave source asked report replaced → (status : ℕ) → status ≡ status_of report → IsFileStatus leads gave asked status
-edited_status leads gave asked file source is_its report replaced e status status_is = record {
-  file = file;
-  source = source;
-  source_after = e.source_after;
-  is_its = is_its;
-  ran = record { read = e.read; gave_is = e.gave_is; text = e.text; report = report; outcome = e.outcome; status_is = status_is };
-}
-
-pub shown_status : {F : Type 0} (leads : List ℕ → List ℕ → F → Type 0) (gave : F → List (List ℕ) → F → Type 0) (asked : Asked) (file : List ℕ) (source source_after : F) → IsFileOf leads asked.home file source
-    → (status : ℕ) → IsStatusOver gave asked source source_after status → (status ≡ 2) ⊎ IsFileStatus leads gave asked status
-shown_status leads gave asked file source source_after is_its status is =
-    ⊎_elim (λ failed. inl failed.0) (λ ran. inr (record { file = file; source = source; source_after = source_after; is_its = is_its; ran = ran })) is
+-- what was put in a file's place
+pub put_as : {D F : Type 0} (E : Type 0) (did : D → List Event → D → Type 0) (gave : F → List (List ℕ) → F → Type 0) (asked : Asked) (a b : D) (opened : Opened F) (report : Report) (replaced : Bool)
+    → (let result : Result (Report × Bool) E = Ok (report, replaced) in IsPlaced gave did asked opened result a b) → IsEdited gave opened.source asked report replaced
+    → (edited : IsEdited gave opened.source asked report replaced) × Leaves did ((string_bytes opened.path, if replaced then Some (edited.text, opened.mode) else None) ∷ []) a b
+put_as E did gave asked a b opened report true p e = p
+put_as E did gave asked a b opened report false p e = (e, p)
 
 -- one of two values, as a function of the test
 abbrev pub if_reads : {P : Type 0} → P → P → Bool → P

@@ -1,15 +1,22 @@
 -- How packages are handled one after another, and their statuses joined.
-use Rattle.std.proofs.Common.{◌≡◌, ℕ, ◌==◌, Bool, true, false, ◌||◌, if◌then◌else◌, List, [], ◌∷◌, ◌++◌, refl, sym, ◌∙◌, ap, subst, append_assoc, append-nil, map, None, Some, ⊎_elim}
+use Rattle.std.proofs.Common.{◌≡◌, ◌⊎◌, ℕ, ◌==◌, Bool, true, false, ◌||◌, if◌then◌else◌, List, [], ◌∷◌, ◌++◌, refl, sym, ◌∙◌, ap, subst, append_assoc, append-nil, map, None, Some, inl, inr}
 use Rattle.bz_command.specs.Labels.{Package}
 use Rattle.std.proofs.lemmas.Bool.{false≢true, eqb-true}
 use Rattle.std.proofs.lemmas.List.{map-append}
+use Rattle.std.proofs.lemmas.List.Concat.{flat_map-append}
 use Rattle.std.proofs.lemmas.List.Folds.{list_any-append}
+use Rattle.std.specs.List.{flat_map}
+use Rattle.bz_engine.specs.Outcome.{status_of}
+use Rattle.bz_engine.specs.declared.report.Report.{Report}
 use Rattle.bz_script.specs.Groups.{Step}
+use Rattle.bz_script.specs.declared.flags.Flags.{Flags}
 use Rattle.bz_folder.specs.Files.{Event}
-use Rattle.bz_folder.specs.Sequence.{Wanted}
+use Rattle.buildozer.specs.Console.{Shows, has_failed}
 use Rattle.buildozer.specs.Files.{Leaves}
-use Rattle.buildozer.specs.Handled.{IsRunStatus, IsStatusAt, IsStatusOf, IsPut, LeavesFiles, is_last, Handled, ArePut, IsStatusOfAll}
+use Rattle.buildozer.specs.Handled.{Account, IsShownAs, IsAccountAt, IsHandled, is_last, Done, AreHandled, IsStatusOfAll}
+use Rattle.buildozer.specs.declared.package.Devices.{Devices}
 use Rattle.buildozer.proofs.Edited.{leaves_nothing, leaves_more}
+use Rattle.buildozer.proofs.Shown.{shows_nothing, shows_more}
 use Rattle.buildozer.specs.Runs.{Asked}
 use Rattle.bz_script.specs.Packages.{by_package}
 use Rattle.buildozer.specs.Program.{Task, asked_for}
@@ -55,124 +62,149 @@ pub goes_on_after : (keep_going : Bool) (status : ℕ) → (status ≡ 2 → ⊥
 goes_on_after true status other = refl
 goes_on_after false status other = not_two (status == 2) status refl other
 
-module _ {F : Type 0} (leads : List ℕ → List ℕ → F → Type 0) (gave : F → List (List ℕ) → F → Type 0) (stdout keep_going : Bool) where
-  -- these were put by the packages that come first, each of which has a status
-  abbrev AllPut : List Task → List ℕ → List Wanted → Type 0
-  AllPut [] [] puts = puts ≡ []
-  AllPut [] (status ∷ statuses) puts = ⊥
-  AllPut (task ∷ tasks) [] puts = ⊥
-  AllPut (task ∷ tasks) (status ∷ statuses) puts =
-      (first : List Wanted) × (others : List Wanted) × (puts ≡ first ++ others) × IsPut leads gave stdout (asked_for keep_going task) status first × AllPut tasks statuses others
+-- what is said of each element of a list, and of one more
+flat_map_next : {A B : Type 0} (f : A → List B) (xs : List A) (x : A) → flat_map f xs ++ f x ≡ flat_map f (xs ++ x ∷ [])
+flat_map_next f xs x = ap (λ ys. flat_map f xs ++ ys) (sym (append-nil (f x))) ∙ sym (flat_map-append f xs (x ∷ []))
 
-  put_more : (done : List Task) (statuses : List ℕ) (puts : List Wanted) (task : Task) (status : ℕ) (next : List Wanted) → AllPut done statuses puts
-      → IsPut leads gave stdout (asked_for keep_going task) status next → AllPut (done ++ task ∷ []) (statuses ++ status ∷ []) (puts ++ next)
-  put_more [] [] puts task status next h p = (next, [], ap (λ x. x ++ next) h ∙ sym (append-nil next), p, refl)
-  put_more [] (other ∷ statuses) puts task status next h p = absurd h
-  put_more (other ∷ done) [] puts task status next h p = absurd h
-  put_more (other ∷ done) (before ∷ statuses) puts task status next h p =
-      (h.0, h.1 ++ next, ap (λ x. x ++ next) h.2 ∙ append_assoc h.0 h.1 next, h.3, put_more done statuses h.1 task status next h.4 p)
+-- a package's own status is 2, or that of a report
+abbrev IsOwn : ℕ → Type 0
+IsOwn status = (status ≡ 2) ⊎ ((report : Report) × (status ≡ status_of report))
 
-  put_all : (done : List Task) (statuses : List ℕ) (puts : List Wanted) → AllPut done statuses puts → (left : List Task) → ArePut leads gave stdout keep_going (done ++ left) statuses puts
-  put_all [] [] puts h left = h
-  put_all [] (other ∷ statuses) puts h left = absurd h
-  put_all (other ∷ done) [] puts h left = absurd h
-  put_all (other ∷ done) (before ∷ statuses) puts h left = (h.0, h.1, h.2, h.3, put_all done statuses h.1 h.4 left)
+own_shown : {S : Type 0} (gave : S → List (List ℕ) → S → Type 0) (failures : S → ℕ) (asked : Asked) (name : List ℕ) (source source_after : S) (account : Account)
+    → IsShownAs gave failures asked name source source_after account → IsOwn account.status
+own_shown gave failures asked name source source_after account (inl ran) = inr (ran.report, ap (λ (a : Account). a.status) ran.account_is)
+own_shown gave failures asked name source source_after account (inr cut) = inl (ap (λ (a : Account). a.status) cut.account_is)
 
-module _ {D F S : Type 0} (did : D → List Event → D → Type 0) (leads : List ℕ → List ℕ → F → Type 0) (gave : F → List (List ℕ) → F → Type 0) (input_gave : S → List (List ℕ) → S → Type 0) (stdout keep_going : Bool) (script : List Step)
-    (origin : D) (start : S) where
-  -- The statuses of the packages that come first: with those of the packages after them, they are the statuses of all. And what these put.
-  pub record HandledTo (done : List Task) (folder : D) (input : S) (whole : ℕ) : Type 0 where
-    pub puts : List Wanted
-    pub left : Leaves did puts origin folder
-    pub statuses : List ℕ
-    pub whole_is : whole ≡ whole_status statuses
-    pub put : AllPut leads gave stdout keep_going done statuses puts
-    pub goes_on : (left : List Task) (more : List ℕ) (end : S) → by_package script ≡ done ++ left → Handled leads gave input_gave keep_going left input more end
-        → Handled leads gave input_gave keep_going (by_package script) start (statuses ++ more) end
+-- the laws of what both outputs and the folder did
+pub record Laws {D O E : Type 0} (did : D → List Event → D → Type 0) (out_took : O → List ℕ → O → Type 0) (err_took : E → List ℕ → E → Type 0) : Type 0 where
+  pub did_nothing : (s : D) → did s [] s
+  pub did_more : (a b c : D) (es fs : List Event) → did a es b → did b fs c → did a (es ++ fs) c
+  pub out_nothing : (s : O) → out_took s [] s
+  pub out_more : (a b c : O) (xs ys : List ℕ) → out_took a xs b → out_took b ys c → out_took a (xs ++ ys) c
+  pub err_nothing : (s : E) → err_took s [] s
+  pub err_more : (a b c : E) (xs ys : List ℕ) → err_took a xs b → err_took b ys c → err_took a (xs ++ ys) c
 
-  pub handled_none : ((s : D) → did s [] s) → (whole : ℕ) → whole ≡ whole_status [] → HandledTo [] origin start whole
-  handled_none nothing whole is = record {
-    puts = [];
-    left = leaves_nothing did nothing origin;
-    put = refl;
-    statuses = [];
+module _ {D F S O E : Type 0} (did : D → List Event → D → Type 0) (leads : List ℕ → List ℕ → F → Type 0) (absent : D → List ℕ → Type 0)
+    (gave : F → List (List ℕ) → F → Type 0) (failures : F → ℕ) (input_gave : S → List (List ℕ) → S → Type 0) (input_failures : S → ℕ)
+    (out_took : O → List ℕ → O → Type 0) (err_took : E → List ℕ → E → Type 0) (flags : Flags) (script : List Step)
+    (start : Devices D S O E) where
+  -- The packages that come first were handled: with those after them, all are.
+  pub record HandledTo (done : List Task) (devices : Devices D S O E) (whole : ℕ) : Type 0 where
+    pub dones : List Done
+    pub whole_is : whole ≡ whole_status (map (λ d. d.1) dones)
+    pub left : Leaves did (flat_map (λ d. d.0.puts) dones) start.draft.folder devices.draft.folder
+    pub shows : Shows out_took err_took start.console (flat_map (λ d. d.0.shown) dones) (flat_map (λ d. d.0.told) dones) devices.console
+    pub goes_on : (left : List Task) (more : List Done) (end : Devices D S O E) → by_package script ≡ done ++ left
+        → AreHandled did leads absent gave failures input_gave input_failures out_took err_took flags left devices more end
+        → AreHandled did leads absent gave failures input_gave input_failures out_took err_took flags (by_package script) start (dones ++ more) end
+
+module _ {D F S O E : Type 0} (did : D → List Event → D → Type 0) (leads : List ℕ → List ℕ → F → Type 0) (absent : D → List ℕ → Type 0)
+    (gave : F → List (List ℕ) → F → Type 0) (failures : F → ℕ) (input_gave : S → List (List ℕ) → S → Type 0) (input_failures : S → ℕ)
+    (out_took : O → List ℕ → O → Type 0) (err_took : E → List ℕ → E → Type 0) (flags : Flags) (laws : Laws did out_took err_took) (script : List Step)
+    (start : Devices D S O E) where
+  abbrev pub To : List Task → Devices D S O E → ℕ → Type 0
+  To = HandledTo did leads absent gave failures input_gave input_failures out_took err_took flags script start
+
+  pub handled_none : (whole : ℕ) → whole ≡ whole_status [] → To [] start whole
+  handled_none whole is = record {
+    dones = [];
     whole_is = is;
-    goes_on = λ left more end all h. subst (λ tasks. Handled leads gave input_gave keep_going tasks start more end) (sym all) h;
+    left = leaves_nothing did laws.did_nothing start.draft.folder;
+    shows = shows_nothing out_took err_took laws.out_nothing laws.err_nothing start.console;
+    goes_on = λ left more end all h. subst (λ tasks. AreHandled did leads absent gave failures input_gave input_failures out_took err_took flags tasks start more end) (sym all) h;
   }
 
   -- the status of the packages with that of one more
-  with_next : (statuses : List ℕ) (whole next status : ℕ) → whole ≡ whole_status statuses → next ≡ whole_status (whole ∷ status ∷ [])
-      → next ≡ whole_status (statuses ++ status ∷ [])
-  with_next statuses whole next status is next_is = next_is ∙ ap (λ w. whole_status (w ∷ status ∷ [])) is ∙ whole_status-more statuses status
+  with_next : (dones : List Done) (whole next : ℕ) (done : Done) → whole ≡ whole_status (map (λ d. d.1) dones) → next ≡ whole_status (whole ∷ done.1 ∷ [])
+      → next ≡ whole_status (map (λ d. d.1) (dones ++ done ∷ []))
+  with_next dones whole next done is next_is =
+      next_is ∙ ap (λ w. whole_status (w ∷ done.1 ∷ [])) is ∙ whole_status-more (map (λ d. d.1) dones) done.1
+      ∙ ap whole_status (sym (map-append (λ d. d.1) dones (done ∷ [])))
 
-  more : ((a b c : D) (es fs : List Event) → did a es b → did b fs c → did a (es ++ fs) c) → (done : List Task) (task : Task) (folder folder_then : D) (input input_then : S) (whole next status : ℕ) → HandledTo done folder input whole
-      → LeavesFiles did leads gave stdout (asked_for keep_going task) folder folder_then status → IsStatusOf leads gave input_gave (asked_for keep_going task) input input_then status → is_last keep_going status ≡ false → next ≡ whole_status (whole ∷ status ∷ [])
-      → HandledTo (done ++ task ∷ []) folder_then input_then next
-  more joins done task folder folder_then input input_then whole next status before files is_status not_last next_is = record {
-    puts = before.puts ++ files.puts;
-    left = leaves_more did joins before.puts files.puts origin folder folder_then before.left files.left;
-    put = put_more leads gave stdout keep_going done before.statuses before.puts task status files.puts before.put files.put;
-    statuses = before.statuses ++ status ∷ [];
-    whole_is = with_next before.statuses whole next status before.whole_is next_is;
-    goes_on = λ left more end all h.
-        subst (λ statuses. Handled leads gave input_gave keep_going (by_package script) start statuses end) (sym (append_assoc before.statuses (status ∷ []) more))
-        (before.goes_on (task ∷ left) (status ∷ more) end (all ∙ append_assoc done (task ∷ []) left)
-        (input_then, is_status, (λ last. absurd (false≢true (sym not_last ∙ last))), λ _. h));
-  }
+  module _ (before : List Task) (devices devices_then : Devices D S O E) (whole next : ℕ) (task : Task) (done : Done) (first : To before devices whole)
+      (this : IsHandled did leads absent gave failures input_gave input_failures out_took err_took flags (asked_for flags.k task) devices devices_then done.0 done.1)
+      (next_is : next ≡ whole_status (whole ∷ done.1 ∷ [])) where
+    left_next : Leaves did (flat_map (λ d. d.0.puts) (first.dones ++ done ∷ [])) start.draft.folder devices_then.draft.folder
+    left_next =
+        subst (λ puts. Leaves did puts start.draft.folder devices_then.draft.folder) (flat_map_next (λ (d : Done). d.0.puts) first.dones done)
+        (leaves_more did laws.did_more (flat_map (λ d. d.0.puts) first.dones) done.0.puts start.draft.folder devices.draft.folder devices_then.draft.folder first.left this.left)
+
+    shows_next : Shows out_took err_took start.console (flat_map (λ d. d.0.shown) (first.dones ++ done ∷ [])) (flat_map (λ d. d.0.told) (first.dones ++ done ∷ [])) devices_then.console
+    shows_next =
+        subst (λ shown. Shows out_took err_took start.console shown (flat_map (λ d. d.0.told) (first.dones ++ done ∷ [])) devices_then.console) (flat_map_next (λ (d : Done). d.0.shown) first.dones done)
+        (subst (λ told. Shows out_took err_took start.console (flat_map (λ d. d.0.shown) first.dones ++ done.0.shown) told devices_then.console) (flat_map_next (λ (d : Done). d.0.told) first.dones done)
+        (shows_more out_took err_took laws.out_more laws.err_more start.console devices.console devices_then.console (flat_map (λ d. d.0.shown) first.dones) (flat_map (λ d. d.0.told) first.dones) done.0.shown done.0.told
+        first.shows this.shows))
+
+    more : is_last flags.k done.1 ≡ false → To (before ++ task ∷ []) devices_then next
+    more not_last = record {
+      dones = first.dones ++ done ∷ [];
+      whole_is = with_next first.dones whole next done first.whole_is next_is;
+      left = left_next;
+      shows = shows_next;
+      goes_on = λ left rest end all h.
+          subst (λ dones. AreHandled did leads absent gave failures input_gave input_failures out_took err_took flags (by_package script) start dones end) (sym (append_assoc first.dones (done ∷ []) rest))
+          (first.goes_on (task ∷ left) (done ∷ rest) end (all ∙ append_assoc before (task ∷ []) left)
+          (devices_then, this, (λ last. absurd (false≢true (sym not_last ∙ last))), λ _. h));
+    }
+
+    pub handled_last : (left : List Task) → by_package script ≡ before ++ task ∷ left → is_last flags.k done.1 ≡ true
+        → IsStatusOfAll did leads absent gave failures input_gave input_failures out_took err_took flags script start devices_then next
+    handled_last left all last = record {
+      dones = first.dones ++ done ∷ [];
+      handled = first.goes_on (task ∷ left) (done ∷ []) devices_then all (devices_then, this, (λ _. (refl, refl)), λ not_last. absurd (false≢true (sym not_last ∙ last)));
+      whole_is = with_next first.dones whole next done first.whole_is next_is;
+      left = left_next;
+      shows = shows_next;
+    }
 
   -- the same after a turn of a loop over entries, each of them seen as a task
-  pub handled_more : ((a b c : D) (es fs : List Event) → did a es b → did b fs c → did a (es ++ fs) c) → {E : Type 0} (view : E → Task) (yielded : List E) (entry : E) (folder folder_then : D) (input input_then : S) (whole next status : ℕ) → HandledTo (map view yielded) folder input whole
-      → LeavesFiles did leads gave stdout (asked_for keep_going (view entry)) folder folder_then status
-      → IsStatusOf leads gave input_gave (asked_for keep_going (view entry)) input input_then status → is_last keep_going status ≡ false → next ≡ whole_status (whole ∷ status ∷ [])
-      → HandledTo (map view (yielded ++ entry ∷ [])) folder_then input_then next
-  handled_more joins view yielded entry folder folder_then input input_then whole next status before files is_status not_last next_is =
-      subst (λ done. HandledTo done folder_then input_then next) (sym (map-append view yielded (entry ∷ [])))
-      (more joins (map view yielded) (view entry) folder folder_then input input_then whole next status before files is_status not_last next_is)
+  pub handled_more : {T : Type 0} (view : T → Task) (yielded : List T) (entry : T) (devices devices_then : Devices D S O E) (whole next : ℕ) (done : Done) → To (map view yielded) devices whole
+      → IsHandled did leads absent gave failures input_gave input_failures out_took err_took flags (asked_for flags.k (view entry)) devices devices_then done.0 done.1
+      → is_last flags.k done.1 ≡ false → next ≡ whole_status (whole ∷ done.1 ∷ []) → To (map view (yielded ++ entry ∷ [])) devices_then next
+  handled_more view yielded entry devices devices_then whole next done first this not_last next_is =
+      subst (λ tasks. To tasks devices_then next) (sym (map-append view yielded (entry ∷ [])))
+      (more (map view yielded) devices devices_then whole next (view entry) done first this next_is not_last)
 
-  pub handled_all : (done : List Task) (folder : D) (input : S) (whole : ℕ) → HandledTo done folder input whole → by_package script ≡ done → IsStatusOfAll did leads gave input_gave stdout keep_going script origin folder start input whole
-  handled_all done folder input whole before all = record {
-    puts = before.puts;
-    left = before.left;
-    put = subst (λ tasks. ArePut leads gave stdout keep_going tasks before.statuses before.puts) (append-nil done ∙ sym all) (put_all leads gave stdout keep_going done before.statuses before.puts before.put []);
-    statuses = before.statuses;
-    handled = subst (λ statuses. Handled leads gave input_gave keep_going (by_package script) start statuses input) (append-nil before.statuses)
-        (before.goes_on [] [] input (all ∙ sym (append-nil done)) (refl, refl));
-    whole_is = before.whole_is;
+  pub handled_all : (before : List Task) (devices : Devices D S O E) (whole : ℕ) → To before devices whole → by_package script ≡ before
+      → IsStatusOfAll did leads absent gave failures input_gave input_failures out_took err_took flags script start devices whole
+  handled_all before devices whole first all = record {
+    dones = first.dones;
+    handled = subst (λ dones. AreHandled did leads absent gave failures input_gave input_failures out_took err_took flags (by_package script) start dones devices) (append-nil first.dones)
+        (first.goes_on [] [] devices (all ∙ sym (append-nil before)) (refl, refl));
+    whole_is = first.whole_is;
+    left = first.left;
+    shows = first.shows;
   }
 
-  pub handled_last : ((a b c : D) (es fs : List Event) → did a es b → did b fs c → did a (es ++ fs) c) → (done left : List Task) (task : Task) (folder folder_then : D) (input input_then : S) (whole next status : ℕ) → HandledTo done folder input whole
-      → by_package script ≡ done ++ task ∷ left → LeavesFiles did leads gave stdout (asked_for keep_going task) folder folder_then status → IsStatusOf leads gave input_gave (asked_for keep_going task) input input_then status → is_last keep_going status ≡ true
-      → next ≡ whole_status (whole ∷ status ∷ []) → IsStatusOfAll did leads gave input_gave stdout keep_going script origin folder_then start input_then next
-  handled_last joins done left task folder folder_then input input_then whole next status before all files is_status last next_is = record {
-    puts = before.puts ++ files.puts;
-    left = leaves_more did joins before.puts files.puts origin folder folder_then before.left files.left;
-    put = subst (λ tasks. ArePut leads gave stdout keep_going tasks (before.statuses ++ status ∷ []) (before.puts ++ files.puts)) (append_assoc done (task ∷ []) left ∙ sym all)
-        (put_all leads gave stdout keep_going (done ++ task ∷ []) (before.statuses ++ status ∷ []) (before.puts ++ files.puts)
-        (put_more leads gave stdout keep_going done before.statuses before.puts task status files.puts before.put files.put) left);
-    statuses = before.statuses ++ status ∷ [];
-    handled = before.goes_on (task ∷ left) (status ∷ []) input_then all (input_then, is_status, (λ _. (refl, refl)), λ not_last. absurd (false≢true (sym not_last ∙ last)));
-    whole_is = with_next before.statuses whole next status before.whole_is next_is;
-  }
+  own_at : (home : Package) (asked : Asked) (folder : D) (input input_after : S) (account : Account)
+      → IsAccountAt leads absent gave failures input_gave input_failures flags home asked folder input input_after account → IsOwn account.status
+  own_at None asked folder input input_after account is = own_shown input_gave input_failures asked _ input input_after account is
+  own_at (Some home) asked folder input input_after account (same, inl none) = inl (ap (λ (a : Account). a.status) none)
+  own_at (Some home) asked folder input input_after account (same, inr (path, inl unopened)) = inl (ap (λ (a : Account). a.status) unopened.1)
+  own_at (Some home) asked folder input input_after account (same, inr (path, inr (opened, is, inl shown))) = own_shown gave failures asked path opened.source shown.1 account shown.2
+  own_at (Some home) asked folder input input_after account (same, inr (path, inr (opened, is, inr (placed, inl edited)))) = inr (edited.report, ap (λ (a : Account). a.status) edited.account_is)
+  own_at (Some home) asked folder input input_after account (same, inr (path, inr (opened, is, inr (placed, inr kept)))) = inl (ap (λ (a : Account). a.status) kept.account_is)
 
-  run_three : {T : Type 0} (moved : T → List (List ℕ) → T → Type 0) (asked : Asked) (source source_after : T) (status : ℕ) → IsRunStatus moved asked source source_after status
-      → (status == 2) ≡ false → (status == 0) ≡ false → status ≡ 3
-  run_three moved asked source source_after status ran two none = three_from ran.report.failed ran.report.changed status ran.status_is two none
+  own_three : (own : ℕ) → IsOwn own → (own == 2) ≡ false → (own == 0) ≡ false → own ≡ 3
+  own_three own (inl failed) two none = absurd (false≢true (sym two ∙ ap (λ n. n == 2) failed))
+  own_three own (inr (report, is)) two none = three_from report.failed report.changed own is two none
 
-  failed_not : (status : ℕ) → (status == 2) ≡ false → status ≡ 2 → status ≡ 3
-  failed_not status two is = absurd (false≢true (sym two ∙ ap (λ n. n == 2) is))
+  output_three : (failed : Bool) (own status : ℕ) → status ≡ (if failed then 2 else own) → IsOwn own → (status == 2) ≡ false → (status == 0) ≡ false → status ≡ 3
+  output_three true own status is from two none = absurd (false≢true (sym two ∙ ap (λ n. n == 2) is))
+  output_three false own status is from two none = own_three status (subst IsOwn (sym is) from) two none
 
-  package_three : (home : Package) (asked : Asked) (input input_then : S) (status : ℕ) → IsStatusAt leads gave input_gave home asked input input_then status
-      → (status == 2) ≡ false → (status == 0) ≡ false → status ≡ 3
-  package_three None asked input input_then status is two none =
-      ⊎_elim (λ failed. failed_not status two failed.0) (λ ran. run_three input_gave asked input input_then status ran two none) is
-  package_three (Some folder) asked input input_then status is two none =
-      ⊎_elim (failed_not status two) (λ file. run_three gave asked file.source file.source_after status file.ran two none) is.1
+  package_three : (asked : Asked) (devices devices_then : Devices D S O E) (account : Account) (status : ℕ)
+      → IsHandled did leads absent gave failures input_gave input_failures out_took err_took flags asked devices devices_then account status → (status == 2) ≡ false → (status == 0) ≡ false → status ≡ 3
+  package_three asked devices devices_then account status this two none =
+      output_three (has_failed devices_then.console) account.status status this.status_is (own_at asked.home asked devices.draft.folder devices.input devices_then.input account this.is_its) two none
 
   -- where the status of packages and of one more is 3, that of both is 3
-  pub three_both : (done : List Task) (asked : Asked) (folder : D) (input input_then : S) (whole next status : ℕ) → HandledTo done folder input whole → IsStatusOf leads gave input_gave asked input input_then status
+  pub three_both : (before : List Task) (asked : Asked) (devices devices_then : Devices D S O E) (whole next : ℕ) (account : Account) (status : ℕ) → To before devices whole
+      → IsHandled did leads absent gave failures input_gave input_failures out_took err_took flags asked devices devices_then account status
       → next ≡ whole_status (whole ∷ status ∷ []) → next ≡ 3 → (whole ≡ 3) × (status ≡ 3)
-  three_both done asked folder input input_then whole next status before is_status next_is three =
+  three_both before asked devices devices_then whole next account status first this next_is three =
       let parts = three_of (whole == 2) (status == 2) (whole == 0) (status == 0) (sym next_is ∙ three) in (
-        three_from (some_is 2 before.statuses) (some_is 0 before.statuses) whole before.whole_is parts.0 parts.2,
-        package_three asked.home asked input input_then status is_status parts.1 parts.3,
+        three_from (some_is 2 (map (λ d. d.1) first.dones)) (some_is 0 (map (λ d. d.1) first.dones)) whole first.whole_is parts.0 parts.2,
+        package_three asked devices devices_then account status this parts.1 parts.3,
       )

@@ -1,5 +1,5 @@
 -- What standard output and standard error are handed.
-use Rattle.std.specs.Prelude.{ℕ, List}
+use Rattle.std.specs.Prelude.{ℕ, Bool, ◌||◌, List}
 use Rattle.bz_devices.specs.Buffer.{Took}
 use Rattle.buildozer.specs.declared.console.Console.{Console}
 
@@ -8,3 +8,7 @@ pub record Shows {O E : Type 0} (out_took : O → List ℕ → O → Type 0) (er
     (old : Console O E) (shown told : List ℕ) (new : Console O E) : Type 0 where
   pub out : Took out_took old.out shown new.out
   pub err : Took err_took old.err told new.err
+
+-- whether one of them has failed, so that bytes are lost
+abbrev pub has_failed : {O E : Type 0} → Console O E → Bool
+has_failed console = console.out.failed || console.err.failed

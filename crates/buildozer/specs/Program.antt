@@ -1,5 +1,5 @@
 -- What the program may put into the files of the packages.
-use Rattle.std.specs.Prelude.{ℕ, Bool, ◌||◌, ◌&&◌, not, is_some, List, Contains}
+use Rattle.std.specs.Prelude.{ℕ, Bool, ◌||◌, List, Contains}
 use Rattle.std.specs.List.{list_all}
 use Rattle.bz_engine.specs.Outcome.{Script, is_query}
 use Rattle.bz_folder.specs.Files.{Content}
@@ -28,10 +28,6 @@ pub record MayHold {F : Type 0} (leads : List ℕ → List ℕ → F → Type 0)
 -- what is shown on standard output in place of its file: all that is asked where the flag says so, and a script that only asks
 abbrev pub is_shown : Bool → Script → Bool
 is_shown stdout passes = stdout || is_query passes
-
--- what is edited in its file: neither standard input nor shown
-abbrev pub in_place : Bool → Asked → Bool
-in_place stdout asked = is_some asked.home && not (is_shown stdout asked.passes)
 
 -- no file of the script's packages is to be replaced
 abbrev pub are_shown : Bool → List Step → Bool

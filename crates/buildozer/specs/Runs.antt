@@ -1,7 +1,7 @@
 -- A run over the statements of one file, and when what it wrote is kept (buildozer README, "Error codes"; this project's own rule).
-use Rattle.std.specs.Prelude.{◌≡◌, ℕ, Bool, true, false, ◌&&◌, ◌||◌, not, List, length, ⊤}
+use Rattle.std.specs.Prelude.{◌≡◌, ℕ, Bool, true, false, ◌&&◌, ◌||◌, not, IsTrue, List, [], ◌++◌, length, ⊤}
 use Rattle.bz_devices.specs.Ahead.{HasTooLong}
-use Rattle.bz_devices.specs.Device.{NoneEnds, Rises}
+use Rattle.bz_devices.specs.Device.{ends, NoneEnds, Rises}
 use Rattle.bz_engine.specs.EveryFile.{ForEveryFile}
 use Rattle.bz_engine.specs.Outcome.{Script, Run, Told, IsOutcome, IsFrontOf, told_by}
 use Rattle.bz_engine.specs.declared.report.Report.{Report}
@@ -36,6 +36,12 @@ run_of asked = record { home = asked.home; passes = asked.passes; keep_going = a
 -- of the passes over its statements.
 abbrev pub IsRun : Asked → List (List ℕ) → List ℕ → Report → Type 0
 IsRun asked read text report = ForEveryFile read (λ file. IsOutcome (run_of asked) file text (told_by report))
+
+-- these reads gave a front of this file, or, where their end was met, all of it
+pub record IsReadOf (file : List ℕ) (read : List (List ℕ)) : Type 0 where
+  pub rest : List ℕ
+  pub over : IsTrue (ends read) → rest ≡ []
+  pub file_is : file ≡ concat read ++ rest
 
 -- For every such file this text is a front of the text of each outcome.
 abbrev pub IsFront : Asked → List (List ℕ) → List ℕ → Type 0

@@ -31,10 +31,10 @@ pub fn edit_all<D: Folder, S: Source, O: Sink, E: Sink>(
 ) -> Result<u8, NoMemory>
     ensures safe { SafeRun D.did (spec.MayHold D.leads D.File.gave flags.now.k script.items)
         devices.old.draft.folder devices.new.draft.folder }
-    // Each package that comes has a status, and without `-k` none comes after one that failed. At status 0 the file of
-    // one that is edited in place has the text of its run, or of a later one that leads to the same file.
-    ensures status { IfOk result (IsStatusOfAll D.did D.leads D.File.gave S.gave flags.now.stdout flags.now.k script.items
-        devices.old.draft.folder devices.new.draft.folder devices.old.input devices.new.input) }
+    // Each package that comes has its account and its status: what was read, shown, told, and put in a file's place.
+    // Without `-k` none comes after one that failed.
+    ensures status { IfOk result (IsStatusOfAll D.did D.leads D.absent D.File.gave D.File.failures S.gave S.failures
+        O.took E.took flags.now script.items devices.old devices.new) }
     // At status 3 no file was touched, but for a temporary one.
     ensures idle { result ≡ Ok 3
         → SafeRun D.did MayHoldNothing devices.old.draft.folder devices.new.draft.folder }

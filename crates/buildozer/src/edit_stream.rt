@@ -20,7 +20,7 @@ pub fn edit_stream<S: Source, O: Sink, E: Sink>(
         (λ status.
         spec.IsStreamed S.gave O.took E.took asked file.now source.old source.new console.old console.new status) }
     ensures failed { IfErr result (λ fault.
-        spec.IsCutShort S.gave S.failures O.took E.took source.old source.new console.old console.new fault) }
+        spec.IsCutShort S.gave S.failures O.took E.took asked source.old source.new console.old console.new fault) }
     ensures devices { (read : List (List ℕ)) × (shown : List ℕ) × (told : List ℕ)
         × S.gave source.old read source.new × Shows O.took E.took console.old shown told console.new }
 {

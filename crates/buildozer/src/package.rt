@@ -1,13 +1,11 @@
 //! What is done for one package.
 
-ghost use Rattle.std.specs.Prelude.{◌≡◌, ◌⊎◌, ℕ, List, [], IfOk, if◌then◌else◌, string_bytes};
+ghost use Rattle.std.specs.Prelude.{◌≡◌, ◌⊎◌, ℕ, List, [], IfOk, IfErr, if◌then◌else◌, string_bytes};
 ghost use Rattle.buildozer.specs.Console.{Shows};
-ghost use Rattle.buildozer.specs.Files.{IsFileOf};
-ghost use Rattle.buildozer.specs.Handled.{IsFileStatus, IsStatusOf, IsStatusOver, LeavesFiles};
+ghost use Rattle.buildozer.specs.Handled as spec;
 ghost use Rattle.buildozer.specs.Program.{is_shown};
-ghost use Rattle.buildozer.specs.Streams.{IsStreamed, IsFaultTold};
-ghost use Rattle.buildozer.specs.Texts.{message_of, IsFaultText};
-ghost use Rattle.bz_script.specs.Names.{IsBuildPath};
+ghost use Rattle.buildozer.specs.Texts.{message_of, fixed_told, hint_told, unopened_text, IsFaultText, IsFileFaultText};
+ghost use Rattle.bz_script.specs.Names.{in_folder};
 
 use crate::console::Console;
 use crate::edit_file::{FileFault, edit_file};
@@ -43,11 +41,33 @@ pub fn edit_package<D: Folder, S: Source, O: Sink, E: Sink>(
     asked: Asked,
     devices: &mut Devices<D, S, O, E>,
 ) -> u8
-    ensures files { LeavesFiles D.did D.leads D.File.gave flags.now.stdout asked
+    ensures files { spec.LeavesFiles D.did D.leads D.File.gave flags.now.stdout asked
         devices.old.draft.folder devices.new.draft.folder result }
-    ensures status { IsStatusOf D.leads D.File.gave S.gave asked devices.old.input devices.new.input result }
+    ensures handled { (account : spec.Account) × spec.IsHandled D.did D.leads D.absent D.File.gave D.File.failures
+        S.gave S.failures O.took E.took flags.now asked devices.old devices.new account result }
 {
-    let status = match asked.home.path() {
+    let status = edit_home(alloc, flags, asked, devices);
+    match devices.console.flush() {
+        Ok(()) => status,
+        Err(_) => FAILED,
+    }
+}
+
+/// Edits the file of a package, or standard input where that is the package.
+fn edit_home<D: Folder, S: Source, O: Sink, E: Sink>(
+    alloc: Global,
+    flags: &Flags,
+    asked: Asked,
+    devices: &mut Devices<D, S, O, E>,
+) -> u8
+    ensures files { spec.LeavesFiles D.did D.leads D.File.gave flags.now.stdout asked
+        devices.old.draft.folder devices.new.draft.folder result }
+    ensures account { spec.HasAccount D.did O.took E.took
+        (spec.IsAccountOf D.leads D.absent D.File.gave D.File.failures S.gave S.failures flags.now asked
+        devices.old.draft.folder devices.old.input devices.new.input)
+        devices.old.draft.folder devices.new.draft.folder devices.old.console devices.new.console result }
+{
+    match asked.home.path() {
         None => edit_shown(alloc, asked, "-", &mut devices.input, &mut devices.console),
         Some(folder) => match BuildFiles::of(alloc, folder) {
             Ok(files) => edit_found(alloc, flags, asked, &files, devices),
@@ -56,10 +76,6 @@ pub fn edit_package<D: Folder, S: Source, O: Sink, E: Sink>(
                 FAILED
             }
         },
-    };
-    match devices.console.flush() {
-        Ok(()) => status,
-        Err(_) => FAILED,
     }
 }
 
@@ -71,9 +87,9 @@ fn edit_shown<S: Source, O: Sink, E: Sink>(
     source: &mut S,
     console: &mut Console<O, E>,
 ) -> u8
-    ensures status { IsStatusOver S.gave asked source.old source.new result }
-    ensures told { IsStreamed S.gave O.took E.took asked name.now source.old source.new console.old console.new result
-        ⊎ IsFaultTold S.gave S.failures O.took E.took name.now source.old source.new console.old console.new result }
+    ensures { (account : spec.Account) × spec.IsShownAs S.gave S.failures asked name.now source.old source.new account
+        × Shows O.took E.took console.old account.shown account.told console.new
+        × (account.puts ≡ []) × (result ≡ account.status) }
 {
     match edit_stream(asked, name, source, console) {
         Ok(status) => status,
@@ -89,12 +105,13 @@ fn edit_found<D: Folder, S, O: Sink, E: Sink>(
     files: &BuildFiles,
     devices: &mut Devices<D, S, O, E>,
 ) -> u8
-    requires first { IsBuildPath asked.home (string_bytes files.now.first) }
-    requires second { IsBuildPath asked.home (string_bytes files.now.second) }
-    ensures files { LeavesFiles D.did D.leads D.File.gave flags.now.stdout asked
+    requires { spec.AreFilesOf asked.home (string_bytes files.now.first) (string_bytes files.now.second) }
+    ensures files { spec.LeavesFiles D.did D.leads D.File.gave flags.now.stdout asked
         devices.old.draft.folder devices.new.draft.folder result }
     ensures input { devices.new.input ≡ devices.old.input }
-    ensures status { (result ≡ 2) ⊎ IsFileStatus D.leads D.File.gave asked result }
+    ensures account { spec.HasAccount D.did O.took E.took
+        (spec.IsFileAs D.leads D.absent D.File.gave D.File.failures flags.now asked devices.old.draft.folder)
+        devices.old.draft.folder devices.new.draft.folder devices.old.console devices.new.console result }
 {
     match open_first(devices.draft.folder(), files, purpose_of(flags, &asked)) {
         Ok((opened, name)) => edit_opened(alloc, flags, asked, name, opened, devices),
@@ -115,13 +132,21 @@ fn purpose_of(flags: &Flags, asked: &Asked) -> Purpose
 
 /// Tells that a file cannot be opened. A flag that stands after the commands is read as a package.
 fn put_unopened<O: Sink, E: Sink>(name: &str, console: &mut Console<O, E>) -> u8
-    ensures { result ≡ 2 }
+    ensures status { result ≡ 2 }
+    ensures told { Shows O.took E.took console.old [] (unopened_text name.now) console.new }
 {
     console.put_message(name, "cannot open");
-    if name.starts_with('-') {
+    put_hint(name, console);
+    FAILED
+}
+
+/// Tells where flags stand, if the path of a file begins as one.
+fn put_hint<O: Sink, E: Sink>(name: &str, console: &mut Console<O, E>)
+    ensures { Shows O.took E.took console.old [] (hint_told name.now) console.new }
+{
+    if name.starts_with("-") {
         console.put_message(name, DASHED_PACKAGE);
     }
-    FAILED
 }
 
 /// Opens the first of the files that is there, and gives its name. An `Err` names the one that was tried last.
@@ -130,10 +155,11 @@ fn open_first<'a, D: Folder>(
     files: &'a BuildFiles,
     purpose: Purpose,
 ) -> Result<(Opened<D::File>, &'a str), &'a str>
-    ensures { IfOk result (λ found.
-        D.leads (string_bytes files.now.first) (string_bytes found.0.path) found.0.source
-        ⊎ (D.absent folder.now (string_bytes files.now.first)
-        × D.leads (string_bytes files.now.second) (string_bytes found.0.path) found.0.source)) }
+    ensures opened { IfOk result (λ found.
+        spec.IsFirst D.absent folder.now (string_bytes files.now.first) (string_bytes files.now.second) found.1.now
+        × D.leads found.1.now (string_bytes found.0.path) found.0.source) }
+    ensures unopened { IfErr result (λ name.
+        spec.IsFirst D.absent folder.now (string_bytes files.now.first) (string_bytes files.now.second) name.now) }
 {
     match folder.open(&files.first, purpose) {
         Ok(opened) => Ok((opened, files.first.as_str())),
@@ -154,11 +180,13 @@ fn edit_opened<D: Folder, S, O: Sink, E: Sink>(
     opened: Opened<D::File>,
     devices: &mut Devices<D, S, O, E>,
 ) -> u8
-    requires { IsFileOf D.leads asked.home (string_bytes opened.path) opened.source }
-    ensures files { LeavesFiles D.did D.leads D.File.gave flags.now.stdout asked
+    requires { spec.IsOpened D.leads D.absent devices.old.draft.folder asked.home name.now opened }
+    ensures files { spec.LeavesFiles D.did D.leads D.File.gave flags.now.stdout asked
         devices.old.draft.folder devices.new.draft.folder result }
     ensures input { devices.new.input ≡ devices.old.input }
-    ensures status { (result ≡ 2) ⊎ IsFileStatus D.leads D.File.gave asked result }
+    ensures account { spec.HasAccount D.did O.took E.took
+        (spec.IsOpenedAs D.File.gave D.File.failures flags.now asked name.now opened)
+        devices.old.draft.folder devices.new.draft.folder devices.old.console devices.new.console result }
 {
     if purpose_of(flags, &asked) == Purpose::Read {
         let mut source = opened.source;
@@ -166,15 +194,43 @@ fn edit_opened<D: Folder, S, O: Sink, E: Sink>(
     }
     match edit_file(asked, opened, &mut devices.draft) {
         Ok((report, replaced)) => {
-            if replaced && !flags.quiet {
-                devices.console.put_fixed(name);
-            }
+            put_replaced(flags, name, replaced, &mut devices.console);
             devices.console.put_report(name, &report);
             report.status()
         }
-        Err(FileFault::Run(fault)) => put_fault(alloc, name, fault, &mut devices.console),
-        Err(FileFault::CannotWrite) => {
-            devices.console.put_message(name, "cannot write");
+        Err(fault) => put_file_fault(alloc, name, fault, &mut devices.console),
+    }
+}
+
+/// Tells that a file was replaced, unless the flags say not to.
+fn put_replaced<O: Sink, E: Sink>(
+    flags: &Flags,
+    name: &str,
+    replaced: bool,
+    console: &mut Console<O, E>,
+)
+    ensures { Shows O.took E.took console.old [] (fixed_told flags.now.quiet replaced name.now) console.new }
+{
+    if replaced && !flags.quiet {
+        console.put_fixed(name);
+    }
+}
+
+/// Tells why a file was not edited.
+fn put_file_fault<O: Sink, E: Sink>(
+    alloc: Global,
+    name: &str,
+    fault: FileFault,
+    console: &mut Console<O, E>,
+) -> u8
+    ensures status { result ≡ 2 }
+    ensures told { (text : List ℕ) × IsFileFaultText fault text
+        × Shows O.took E.took console.old [] (message_of name.now text) console.new }
+{
+    match fault {
+        FileFault::Run(fault) => put_fault(alloc, name, fault, console),
+        FileFault::CannotWrite => {
+            console.put_message(name, "cannot write");
             FAILED
         }
     }

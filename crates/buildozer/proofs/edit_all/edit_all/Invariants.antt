@@ -11,8 +11,8 @@ invariant-loop-home g l =
     let gave = g.D.File.Source.gave in
     record {
       safe : SafeRun g.D.Folder.did (MayHold leads gave l.flags.k l.fn.script.items) l.initial.devices.draft.folder l.devices.draft.folder;
-      handled : HandledTo g.D.Folder.did leads gave g.S.Source.gave l.flags.stdout l.flags.k l.fn.script.items l.initial.devices.draft.folder l.initial.devices.input (map (λ e. (e.0, e.1.items)) l.yielded)
-          l.devices.draft.folder l.devices.input l.whole;
+      handled : HandledTo g.D.Folder.did leads g.D.Folder.absent gave g.D.File.Source.failures g.S.Source.gave g.S.Source.failures g.O.Sink.took g.E.Sink.took l.flags l.fn.script.items l.initial.devices
+          (map (λ e. (e.0, e.1.items)) l.yielded) l.devices l.whole;
       idle : l.whole ≡ 3 → SafeRun g.D.Folder.did MayHoldNothing l.initial.devices.draft.folder l.devices.draft.folder;
       shown : are_shown l.flags.stdout l.fn.script.items ≡ true → g.D.Folder.did l.initial.devices.draft.folder [] l.devices.draft.folder;
     }

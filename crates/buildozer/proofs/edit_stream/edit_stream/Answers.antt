@@ -16,11 +16,14 @@ returns-in_err-report-clause-devices g c =
 
 pub returns-in_err-report-clause-failed : goal.returns-in_err-report-clause-failed
 returns-in_err-report-clause-failed g c =
-    let moved = c.run.ensures.devices in
+    let cut = c.in_err-report.ensures.front in
     if_fault c.from_residual.result _ c.from_residual.ensures.1 (λ fault is. record {
       cause = subst (λ f. IsFaultOver g.S.Source.gave g.S.Source.failures c.args.source.now f c.run.new.source) (sym is) c.in_err-report.ensures.fault;
-      shown = moved.1;
-      shows = record { out = moved.3; err = took_nothing_lem g.E.Sink.took g.met.E.Sink.took_nothing c.args.console.now.err };
+      read = cut.0;
+      gave_is = cut.2;
+      shown = cut.1;
+      front = cut.4;
+      shows = record { out = cut.3; err = took_nothing_lem g.E.Sink.took g.met.E.Sink.took_nothing c.args.console.now.err };
     })
 
 pub returns-clause-edited : goal.returns-clause-edited

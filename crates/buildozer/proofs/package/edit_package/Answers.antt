@@ -1,60 +1,41 @@
-use Rattle.std.proofs.Common.{◌≡◌, Bool, true, not, ◌&&◌, is_some, None, Some, inl, inr, ◌∙◌, ap, subst, string_bytes, sym}
-use Rattle.std.proofs.lemmas.Bool.{false≢true}
-use Rattle.bz_script.specs.Names.{IsBuildPath}
-use Rattle.buildozer.specs.Handled.{LeavesFiles}
-use Rattle.buildozer.specs.Program.{is_shown, in_place}
-use Rattle.buildozer.specs.Runs.{Asked}
-use Rattle.buildozer.proofs.Edited.{left_alone, two_zero}
+use Rattle.std.proofs.Common.{◌≡◌, ◌⊎◌, ℕ, Bool, true, false, ◌||◌, if◌then◌else◌, inl, inr, refl, sym, ◌∙◌, ap}
+use Rattle.buildozer.proofs.Shown.{shows_all}
 use Rattle.buildozer.proofs.package.edit_package.Goals as goal
-use Rattle.buildozer.proofs.package.edit_package.Goals.{in-None, in-Some+in-Ok, in-Some+in-Err}
 
--- standard input is not edited in place
-not_in_place : (stdout : Bool) (asked : Asked) → asked.home ≡ None → in_place stdout asked ≡ true → ⊥
-not_in_place stdout asked none is = false≢true (sym (ap (λ home. is_some home && not (is_shown stdout asked.passes)) none) ∙ is)
+none_failed : (out err : Bool) (own : ℕ) → out ≡ false → err ≡ false → own ≡ (if out || err then 2 else own)
+none_failed out err own o e = sym (ap (λ b. if b || err then 2 else own) o ∙ ap (λ b. if b then 2 else own) e)
 
-pub edit_found-requires : goal.edit_found-requires
-edit_found-requires g c =
-    let home : Some c.in-Some.folder.now ≡ c.args.asked.home = c.in-Some.ensures.value ∙ ap (λ (a : Asked). a.home) c.asked.view_is in
-    record {
-      first = subst (λ h. IsBuildPath h (string_bytes c.in-Ok.files.first)) home (inl c.in-Ok.ensures.first);
-      second = subst (λ h. IsBuildPath h (string_bytes c.in-Ok.files.second)) home (inr c.in-Ok.ensures.second);
-    }
+one_failed : (out err : Bool) (own : ℕ) → (out ≡ true) ⊎ (err ≡ true) → 2 ≡ (if out || err then 2 else own)
+one_failed true err own h = refl
+one_failed false true own h = refl
+one_failed false false own (inl h) = absurd cc
+one_failed false false own (inr h) = absurd cc
 
-pub returns-in-Ok-flush-clause-files : goal.returns-in-Ok-flush-clause-files
-returns-in-Ok-flush-clause-files g c =
-    let did = g.D.Folder.did in
-    let leads = g.D.Folder.leads in
-    let gave = g.D.File.Source.gave in
-    let stdout = c.args.flags.now.stdout in
-    let asked = c.args.asked in
-    let old = c.args.devices.now.draft.folder in
-    let status = c.match-path.status in
-    elim c.match-path.branch [
-      | in-None w ↦ subst (λ d. LeavesFiles did leads gave stdout asked old d.draft.folder status) (sym w.devices-is)
-          (left_alone did leads gave stdout asked g.met.D.Folder.did_nothing old _ (λ is zero. not_in_place stdout asked (sym (w.in-None.ensures.value ∙ ap (λ (a : Asked). a.home) c.asked.view_is)) is))
-      | in-Some+in-Ok w ↦ subst (λ d. LeavesFiles did leads gave stdout asked old d.draft.folder status) (sym w.devices-is)
-          (subst (λ s. LeavesFiles did leads gave stdout asked old w.edit_found.new.devices.draft.folder s) (sym w.status-is) w.edit_found.ensures.files)
-      | in-Some+in-Err w ↦ subst (λ d. LeavesFiles did leads gave stdout asked old d.draft.folder status) (sym w.devices-is)
-          (left_alone did leads gave stdout asked g.met.D.Folder.did_nothing old _ (λ is. two_zero _ w.status-is))
-    ]
+pub returns-in-Ok-clause-handled : goal.returns-in-Ok-clause-handled
+returns-in-Ok-clause-handled g c =
+    let here = c.edit_home-status.ensures.account in (
+      here.account,
+      record {
+        is_its = here.is_its;
+        left = here.left;
+        shows = shows_all g.O.Sink.took g.E.Sink.took g.met.O.Sink.took_more g.met.E.Sink.took_more c.args.devices.now.console c.edit_home-status.new.devices.console c.flush.new.self here.account.shown here.account.told
+            here.shows c.flush.ensures.shows;
+        status_is = here.status_is ∙ none_failed c.flush.new.self.out.failed c.flush.new.self.err.failed here.account.status c.in-Ok.ensures.out.1 c.in-Ok.ensures.err.1;
+      },
+    )
 
-pub returns-clause-files : goal.returns-clause-files
-returns-clause-files g c =
-    let did = g.D.Folder.did in
-    let leads = g.D.Folder.leads in
-    let gave = g.D.File.Source.gave in
-    let stdout = c.args.flags.now.stdout in
-    let asked = c.args.asked in
-    let old = c.args.devices.now.draft.folder in
-    elim c.match-path.branch [
-      | in-None w ↦ subst (λ d. LeavesFiles did leads gave stdout asked old d.draft.folder 2) (sym w.devices-is) (left_alone did leads gave stdout asked g.met.D.Folder.did_nothing old 2 (λ is zero. absurd cc))
-      | in-Some+in-Ok w ↦ subst (λ d. LeavesFiles did leads gave stdout asked old d.draft.folder 2) (sym w.devices-is) (record {
-        safe = w.edit_found.ensures.files.safe;
-        puts = w.edit_found.ensures.files.puts;
-        put = record { may = w.edit_found.ensures.files.put.may; some = λ is zero. absurd cc };
-        left = w.edit_found.ensures.files.left;
-        idle = λ three. absurd cc;
-        shown = w.edit_found.ensures.files.shown;
-      })
-      | in-Some+in-Err w ↦ subst (λ d. LeavesFiles did leads gave stdout asked old d.draft.folder 2) (sym w.devices-is) (left_alone did leads gave stdout asked g.met.D.Folder.did_nothing old 2 (λ is zero. absurd cc))
-    ]
+pub returns-in-Err-clause-handled : goal.returns-in-Err-clause-handled
+returns-in-Err-clause-handled g c =
+    let here = c.edit_home-status.ensures.account in (
+      here.account,
+      record {
+        is_its = here.is_its;
+        left = here.left;
+        shows = shows_all g.O.Sink.took g.E.Sink.took g.met.O.Sink.took_more g.met.E.Sink.took_more c.args.devices.now.console c.edit_home-status.new.devices.console c.flush.new.self here.account.shown here.account.told
+            here.shows c.flush.ensures.shows;
+        status_is = one_failed c.flush.new.self.out.failed c.flush.new.self.err.failed here.account.status c.in-Err.ensures.failed;
+      },
+    )
+
+pub returns-in-Err-clause-files : goal.returns-in-Err-clause-files
+returns-in-Err-clause-files g c = record { safe = c.edit_home-status.ensures.files.safe; idle = λ three. absurd cc; shown = c.edit_home-status.ensures.files.shown }

@@ -1,5 +1,4 @@
-use Rattle.std.proofs.Common.{◌≡◌, ◌++◌, codes, inl, inr, refl, sym, ◌∙◌, subst}
-use Rattle.std.specs.Fmt.{decimal}
+use Rattle.std.proofs.Common.{codes, inl, inr, refl, sym, ◌∙◌, subst}
 use Rattle.buildozer.specs.Texts.{IsFaultText}
 use Rattle.buildozer.proofs.package.put_fault.Goals as goal
 
