@@ -2,7 +2,7 @@
 //!
 //! That it gives no more than it was handed is in the contract of `Read`.
 
-ghost use Rattle.std.specs.Prelude.{◌≡◌, ◌<◌, ◌≤◌, [], ◌∷◌, ◌++◌, length, take};
+ghost use Rattle.std.specs.Prelude.{◌≡◌, length};
 ghost use Rattle.bz_devices.specs.Device.{Counts, Gave};
 ghost use Rattle.bz_devices.specs.DeviceLaws.{gave_nothing_lem, gave_more_lem, counts_nothing, counts_pieces};
 ghost use Rattle.std.specs.List.{concat};

@@ -2,7 +2,7 @@
 //!
 //! That it takes no more than it was handed is in the contract of `Write`.
 
-ghost use Rattle.std.specs.Prelude.{◌≡◌, ◌<◌, ◌≤◌, [], ◌∷◌, ◌++◌, length, take};
+ghost use Rattle.std.specs.Prelude.{◌≡◌, length};
 ghost use Rattle.std.specs.Io.KnownBytes.{Appends};
 ghost use Rattle.bz_devices.specs.Device.{Counts};
 ghost use Rattle.bz_devices.specs.DeviceLaws.{appends_nothing, appends_more, counts_nothing, counts_bytes};
