@@ -9,9 +9,13 @@ mod checks;
 #[cfg(test)]
 mod commands;
 #[cfg(test)]
+mod copies;
+#[cfg(test)]
 mod labels;
 #[cfg(test)]
 mod layout;
+#[cfg(test)]
+mod places;
 #[cfg(test)]
 mod rows;
 pub mod table;

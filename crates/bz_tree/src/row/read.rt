@@ -26,7 +26,7 @@ fn row_of_tree<'a>(bump: &'a Bump, stmt: Stmt<'a>) -> Result<Row<'a>, NoMemory>
     ensures { IfOk result (IsRowOf (view stmt.entry)) }
 {
     let mut parts = Vec::new(bump);
-    push_parts(&stmt, &mut parts)?;
+    push_parts(bump, &stmt, &mut parts)?;
     Ok(Row {
         parts,
         class: stmt.class,

@@ -7,65 +7,80 @@ ghost use Rattle.bz_tree.specs.Rows.{above, beside_part, item_parts, items_parts
 
 use crate::row::Part;
 use crate::tree::{Group, Node, Seg, Stmt};
-use bz_memory::{NoMemory, push};
+use bumpalo::Bump;
+use bz_memory::{NoMemory, alloc_str, push};
 use std::alloc::Allocator;
+use std::borrow::CowStr;
 
-/// Appends the parts of a statement. `Err`: memory was refused, and some of them may have been appended.
+// A text that lasts as long as the arena: the slice where it is borrowed, a copy in the arena where it is owned.
+fn text_in<'a>(bump: &'a Bump, text: &CowStr<'a>) -> Result<&'a str, NoMemory>
+    ensures { IfOk result (λ slice. slice.now ≡ text_of text.now) }
+{
+    match text {
+        CowStr::Borrowed(slice) => Ok(*slice),
+        CowStr::Owned(string) => alloc_str(bump, string.as_str()),
+    }
+}
+
+/// Appends the parts of a statement; texts that it owns are copied into the arena. `Err`: memory was refused, and some of them may have been appended.
 pub fn push_parts<'a, A: Allocator>(
+    bump: &'a Bump,
     stmt: &Stmt<'a>,
     parts: &mut Vec<Part<'a>, A>,
 ) -> Result<(), NoMemory>
     ensures { OnOk result (map part_view parts.new.items ≡ map part_view parts.old.items ++ parts_of (view stmt.now)) }
 {
-    push_above(&stmt.before, parts)?;
-    push_nodes(&stmt.nodes, parts)?;
-    push_beside(stmt.suffix, parts)
+    push_above(bump, &stmt.before, parts)?;
+    push_nodes(bump, &stmt.nodes, parts)?;
+    push_beside(bump, &stmt.suffix, parts)
 }
 
-/// Appends a part `Above` for each comment. `Err`: memory was refused, and some of them may have been appended.
-pub fn push_above<'a, A: Allocator>(
-    comments: &[&'a str],
+fn push_above<'a, A: Allocator>(
+    bump: &'a Bump,
+    comments: &[CowStr<'a>],
     parts: &mut Vec<Part<'a>, A>,
 ) -> Result<(), NoMemory>
     ensures { OnOk result (map part_view parts.new.items
         ≡ map part_view parts.old.items ++ map above (texts comments.now)) }
 {
     for comment in comments {
-        push(parts, Part::Above(*comment))?;
+        push(parts, Part::Above(text_in(bump, comment)?))?;
     }
     Ok(())
 }
 
-/// Appends a part `Beside` for the comment, if there is one. `Err`: memory was refused.
-pub fn push_beside<'a, A: Allocator>(
-    comment: Option<&'a str>,
+fn push_beside<'a, A: Allocator>(
+    bump: &'a Bump,
+    comment: &Option<CowStr<'a>>,
     parts: &mut Vec<Part<'a>, A>,
 ) -> Result<(), NoMemory>
     ensures { OnOk result
-        (map part_view parts.new.items ≡ map part_view parts.old.items ++ beside_part (option_map text_of comment.entry)) }
+        (map part_view parts.new.items ≡ map part_view parts.old.items ++ beside_part (option_map text_of comment.now)) }
 {
     match comment {
         None => Ok(()),
-        Some(text) => push(parts, Part::Beside(text)),
+        Some(text) => push(parts, Part::Beside(text_in(bump, text)?)),
     }
 }
 
 #[cycle(parts)]
 fn push_segment<'a, A: Allocator>(
+    bump: &'a Bump,
     seg: &Seg<'a>,
     parts: &mut Vec<Part<'a>, A>,
 ) -> Result<(), NoMemory>
     ensures { OnOk result (map part_view parts.new.items
         ≡ map part_view parts.old.items ++ segs_parts (segs_of (segs_view (seg.now ∷ [])))) }
 {
-    push_above(&seg.before, parts)?;
-    push_nodes(&seg.nodes, parts)?;
+    push_above(bump, &seg.before, parts)?;
+    push_nodes(bump, &seg.nodes, parts)?;
     push(parts, Part::End)?;
-    push_beside(seg.suffix, parts)
+    push_beside(bump, &seg.suffix, parts)
 }
 
 #[cycle(parts)]
 fn push_group<'a, A: Allocator>(
+    bump: &'a Bump,
     group: &Group<'a>,
     parts: &mut Vec<Part<'a>, A>,
 ) -> Result<(), NoMemory>
@@ -74,15 +89,16 @@ fn push_group<'a, A: Allocator>(
 {
     push(parts, Part::Open(group.kind))?;
     for seg in &group.segs {
-        push_segment(seg, parts)?;
+        push_segment(bump, seg, parts)?;
     }
-    push_above(&group.end, parts)?;
+    push_above(bump, &group.end, parts)?;
     push(parts, Part::Close(group.one_comma))
 }
 
-/// Appends the parts of these nodes. `Err`: memory was refused, and some of them may have been appended.
+/// Appends the parts of these nodes; texts that they own are copied into the arena. `Err`: memory was refused, and some of them may have been appended.
 #[cycle(parts)]
 pub fn push_nodes<'a, A: Allocator>(
+    bump: &'a Bump,
     nodes: &[Node<'a>],
     parts: &mut Vec<Part<'a>, A>,
 ) -> Result<(), NoMemory>
@@ -92,8 +108,8 @@ pub fn push_nodes<'a, A: Allocator>(
 {
     for node in nodes {
         match node {
-            Node::Token(leaf) => push(parts, Part::Token(leaf.kind, leaf.text))?,
-            Node::Group(group) => push_group(group, parts)?,
+            Node::Token(leaf) => push(parts, Part::Token(leaf.kind, text_in(bump, &leaf.text)?))?,
+            Node::Group(group) => push_group(bump, group, parts)?,
         }
     }
     Ok(())

@@ -13,6 +13,7 @@ use crate::tree::span::last_token;
 use bz_memory::{NoMemory, push};
 use bz_token::{Kind, Token};
 use std::alloc::Global;
+use std::borrow::CowStr;
 
 /// Whether the token begins a block.
 pub(crate) fn is_block_word(token: &Token<'_>) -> bool
@@ -117,13 +118,13 @@ pub(crate) fn is_block(tokens: &[Token<'_>]) -> bool
 pub(crate) fn comments_above<'a>(
     alloc: Global,
     tokens: &[Token<'a>],
-) -> Result<Vec<&'a str>, NoMemory>
+) -> Result<Vec<CowStr<'a>>, NoMemory>
     ensures value { IfOk result (λ v. texts v.items ≡ above (map placed tokens.now)) }
 {
     let mut comments = Vec::new(alloc);
     for token in tokens {
         match mark_of(token) {
-            Mark::Comment => push(&mut comments, token.text)?,
+            Mark::Comment => push(&mut comments, CowStr::Borrowed(token.text))?,
             Mark::Newline => {}
             _ => return Ok(comments),
         }

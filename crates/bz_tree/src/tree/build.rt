@@ -21,6 +21,7 @@ use crate::tree::{Group, GroupKind, Leaf, Node, Seg};
 use bz_memory::{NoMemory, append, push};
 use bz_token::Token;
 use std::alloc::Global;
+use std::borrow::CowStr;
 use std::mem;
 
 // A bracket that is still open, or the top.
@@ -44,7 +45,10 @@ fn leaf_of<'a>(token: &Token<'a>) -> Node<'a>
 {
     Node::Token(Leaf {
         kind: token.kind,
-        text: token.text,
+        text: CowStr::Borrowed(token.text),
+        line: token.line,
+        col: token.col,
+        fresh: token.fresh,
     })
 }
 

@@ -22,6 +22,7 @@ use bumpalo::Bump;
 use bz_memory::{NoMemory, with_capacity};
 use bz_token::{Kind, LexFault, Token, tokens};
 use std::alloc::Global;
+use std::borrow::CowStr;
 
 // The statement of the tokens, which are no block. None: they have none.
 fn plain_statement<'a>(alloc: Global, tokens: &[Token<'a>]) -> Result<Option<Stmt<'a>>, NoMemory>
@@ -78,7 +79,10 @@ fn chunk_statement<'a>(
     let before = comments_above(alloc, tokens)?;
     let kept = Leaf {
         kind: Kind::Kept,
-        text: kept_text(text, first_line, &header, &last),
+        text: CowStr::Borrowed(kept_text(text, first_line, &header, &last)),
+        line: header.line,
+        col: header.col,
+        fresh: header.fresh,
     };
     let mut nodes = with_capacity(alloc, 1)?;
     nodes.push_reserved(Node::Token(kept));

@@ -55,7 +55,7 @@ fn is_rule(nodes: &[Node<'_>]) -> bool
     let mut naming = Naming::Name;
     for node in nodes {
         naming = match node {
-            Node::Token(leaf) => named(naming, leaf.kind, leaf.text),
+            Node::Token(leaf) => named(naming, leaf.kind, leaf.text.as_str()),
             Node::Group(group) => called(naming, group.kind),
         };
     }
@@ -104,7 +104,7 @@ fn is_assign(node: &Node<'_>) -> bool
     ensures { result ≡ is_assign (node_view node.now) }
 {
     match node {
-        Node::Token(leaf) => is_assignment(token_role(leaf.kind, leaf.text)),
+        Node::Token(leaf) => is_assignment(token_role(leaf.kind, leaf.text.as_str())),
         Node::Group(_) => false,
     }
 }
@@ -127,7 +127,7 @@ pub(crate) fn class_of(nodes: &[Node<'_>]) -> Class
     match nodes.first() {
         None => Class::Comment,
         Some(Node::Token(leaf)) if leaf.kind == Kind::Kept => Class::Block,
-        Some(Node::Token(leaf)) if leaf.kind == Kind::Keyword && leaf.text == "load" => Class::Load,
+        Some(Node::Token(leaf)) if leaf.kind == Kind::Keyword && leaf.text.as_str() == "load" => Class::Load,
         Some(_) if has_assign(nodes) => Class::Assign,
         Some(_) if is_rule(nodes) => Class::Rule,
         Some(_) => Class::Other,

@@ -8,6 +8,7 @@ use crate::tree::span::newlines;
 use crate::tree::{Node, Seg};
 use bz_memory::{NoMemory, append, push};
 use std::alloc::Global;
+use std::borrow::CowStr;
 use std::mem;
 
 // What stands directly before a comment. A node has the line on which it begins, and its text if it is a token: it ends
@@ -25,7 +26,7 @@ pub(crate) enum Before<'a> {
 pub(crate) struct Walk<'a> {
     pub(crate) segs: Vec<Seg<'a>>,
     pub(crate) here: Seg<'a>,
-    pub(crate) after: Vec<&'a str>,
+    pub(crate) after: Vec<CowStr<'a>>,
     pub(crate) last: Before<'a>,
     pub(crate) trailing: bool,
     // No segment is empty.
@@ -36,7 +37,7 @@ pub(crate) struct Walk<'a> {
 pub(crate) struct Inside<'a> {
     pub(crate) segs: Vec<Seg<'a>>,
     pub(crate) trailing: bool,
-    pub(crate) end: Vec<&'a str>,
+    pub(crate) end: Vec<CowStr<'a>>,
 }
 
 // One more comment after a segment's comma.
@@ -46,9 +47,9 @@ fn add_to_last<'a>(segs: &mut Vec<Seg<'a>>, text: &'a str) -> Result<(), NoMemor
 {
     if let Some(mut seg) = segs.pop() {
         if seg.suffix.is_some() {
-            push(&mut seg.before, text)?;
+            push(&mut seg.before, CowStr::Borrowed(text))?;
         } else {
-            seg.suffix = Some(text);
+            seg.suffix = Some(CowStr::Borrowed(text));
         }
         segs.push_reserved(seg);
     }
@@ -142,11 +143,11 @@ impl<'a> Walk<'a> {
     {
         match mem::replace(&mut self.last, Before::Nothing) {
             Before::Node(begin, token) if ends_on(begin, newlines(token), line) => {
-                self.here.suffix = Some(text);
+                self.here.suffix = Some(CowStr::Borrowed(text));
                 Ok(())
             }
             Before::Comma(end) if end == line => add_to_last(&mut self.segs, text),
-            _ => push(&mut self.after, text),
+            _ => push(&mut self.after, CowStr::Borrowed(text)),
         }
     }
 
