@@ -40,9 +40,10 @@ pub fn apply<'a>(
     let bump = Bump::new(alloc);
     let mut row = Some(StatementRow::of_stmt(alloc, &bump, stmt)?);
     let done = execute(Env { alloc, home }, command, &mut row)?;
-    if done.changed {
-        *slot = tree_of(alloc, row)?;
+    if !done.changed {
+        return Ok(done);
     }
+    *slot = tree_of(alloc, row)?;
     Ok(done)
 }
 

@@ -163,7 +163,8 @@ impl<'a> StatementRow<'a> {
         ensures { IfOk result (λ stmt. view stmt ≡ self.entry) }
     {
         let row = self.row;
-        stmt_of_parts(alloc, row.parts.as_slice(), row.class, row.start, row.end)?.copy(alloc)
+        let stmt = stmt_of_parts(alloc, row.parts.as_slice(), row.class, row.start, row.end)?;
+        stmt.copy(alloc)
     }
 
     // What is printed of it. Of what is no rule nothing is.

@@ -1,6 +1,6 @@
 //! The parts of a statement that has a tree, in the order in which they are written.
 
-ghost use Rattle.std.specs.Prelude.{◌≡◌, [], ◌∷◌, ◌++◌, OnOk, map, option_map};
+ghost use Rattle.std.specs.Prelude.{◌≡◌, [], ◌∷◌, ◌++◌, IfOk, OnOk, map, option_map};
 ghost use Rattle.bz_tree.specs.Tree.{items_of, segs_of};
 ghost use Rattle.bz_tree.specs.View.{text_of, texts, view, nodes_view, group_view, segs_view};
 ghost use Rattle.bz_tree.specs.Rows.{above, beside_part, item_parts, items_parts, segs_parts, parts_of, part_view};

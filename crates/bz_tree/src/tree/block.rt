@@ -4,6 +4,7 @@ ghost use Rattle.std.specs.Prelude.{◌≡◌, ◌<◌, IfOk, map, reverse};
 ghost use Rattle.std.specs.Bool.{then_some};
 ghost use Rattle.bz_token.specs.Places.{placed};
 ghost use Rattle.bz_tree.specs.View.{texts};
+ghost use Rattle.bz_tree.specs.Borrowed.{owned_in};
 ghost use Rattle.bz_tree.specs.Kinds.{mark_of};
 ghost use Rattle.bz_tree.specs.Blocks.{is_block_word, is_colon, indented, block_indent, has_colon, header_line, logical_lines, is_block, above};
 ghost use Rattle.bz_tree.specs.Statement.{last_token};
@@ -120,6 +121,7 @@ pub(crate) fn comments_above<'a>(
     tokens: &[Token<'a>],
 ) -> Result<Vec<CowStr<'a>>, NoMemory>
     ensures value { IfOk result (λ v. texts v.items ≡ above (map placed tokens.now)) }
+    ensures borrowed { IfOk result (λ v. owned_in v.items ≡ 0) }
 {
     let mut comments = Vec::new(alloc);
     for token in tokens {
