@@ -48,10 +48,7 @@ pub fn apply<'a>(
 }
 
 // The tree of a row, if there is one.
-fn tree_of<'a>(
-    alloc: Global,
-    row: Option<StatementRow<'_>>,
-) -> Result<Option<Stmt<'a>>, NoMemory>
+fn tree_of<'a>(alloc: Global, row: Option<StatementRow<'_>>) -> Result<Option<Stmt<'a>>, NoMemory>
     ensures { IfOk result (λ slot. slot_view slot ≡ row.entry) }
 {
     match row {

@@ -85,7 +85,12 @@ fn commands_that_change_nothing(rt: HostRuntime) -> Result<(), Fail> {
     let add = read_command(alloc, "add deps x")?.ok_or("no command")?;
     let mut slot = None;
     let done = apply(alloc, &add, &home, &mut slot)?;
-    check_value(&rt, "empty", &(done.changed, slot.is_none()), &(false, true));
+    check_value(
+        &rt,
+        "empty",
+        &(done.changed, slot.is_none()),
+        &(false, true),
+    );
     let mut slot = Some(statement(alloc, RULE)?);
     let done = apply(alloc, &add, &home, &mut slot)?;
     let left = slot.ok_or("no statement")?;

@@ -131,7 +131,8 @@ pub(crate) fn class_of(nodes: &[Node<'_>]) -> Class
     match nodes.first() {
         None => Class::Comment,
         Some(Node::Token(leaf)) if leaf.kind == Kind::Kept => Class::Block,
-        Some(Node::Token(leaf)) if leaf.kind == Kind::Keyword && leaf.text.as_str() == "load" => Class::Load,
+        Some(Node::Token(leaf)) if leaf.kind == Kind::Keyword && leaf.text.as_str() == "load" =>
+            Class::Load,
         Some(_) if has_assign(nodes) => Class::Assign,
         Some(_) if is_rule(nodes) => Class::Rule,
         Some(_) => Class::Other,

@@ -84,7 +84,7 @@ returns-clause-value c =
     let grouped = made-group (record { kind = kind; segs = inside.segs; one_comma = c.if-len-eq1.one_comma; end = inside.end }) ∙ ap (λ b. group kind (segs_of (segs_view inside.segs.items)) b (texts inside.end.items)) one in
     let added = c.in_ok-add_group.ensures.value ∙ (ap (λ g. with_own (level c.replace-walk.new.dest) (node c.args.token.now.line g)) grouped ∙ ap (λ f. with_own (level f) (node c.args.token.now.line (group_with kind (inside_view inside)))) c.replace-walk.ensures.after) in
     closes c.args.shape (placed c.args.token.now) top (levels c.args.self.now.outer.items) (level below) (level c.add_group.new.self) (levels c.pop.new.self.items) (group_with kind (inside_view inside)) same
-          (ap (λ k. closed k top.walked) c.in-Some.is ∙ some) (last_first level c.args.self.now.outer.items c.pop.new.self.items below c.in-Some-pop.ensures.items) added
+    (ap (λ k. closed k top.walked) c.in-Some.is ∙ some) (last_first level c.args.self.now.outer.items c.pop.new.self.items below c.in-Some-pop.ensures.items) added
 
 pub returns-in_default-2-clause-borrowed : goal.returns-in_default-2-clause-borrowed
 returns-in_default-2-clause-borrowed c =
