@@ -14,8 +14,8 @@ use bz_memory::NoMemory;
 use bz_tree::Stmt;
 use std::alloc::Global;
 
-/// Applies a command to what a slot holds, in the package of its file. A statement that is changed owns its texts, and its
-/// leaves may have any place.
+/// Applies a command to what a slot holds, in the package of its file. A statement that is changed owns its texts, and
+/// its leaves may have any place.
 pub fn apply<'a>(
     alloc: Global,
     command: &Command,

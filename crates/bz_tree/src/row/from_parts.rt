@@ -172,8 +172,8 @@ fn last_beside<'a>(parts: &[Part<'a>]) -> Option<CowStr<'a>>
     beside_text(last)
 }
 
-/// Builds the statement whose parts these are, of this class and on these lines. Each text is borrowed from its part, and
-/// its leaves may have any place. `Err`: memory was refused.
+/// Builds the statement whose parts these are, of this class and on these lines. Each text is borrowed from its part,
+/// and its leaves may have any place. `Err`: memory was refused.
 pub fn stmt_of_parts<'a>(
     alloc: Global,
     parts: &[Part<'a>],

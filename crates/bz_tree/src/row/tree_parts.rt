@@ -22,7 +22,8 @@ fn text_in<'a>(bump: &'a Bump, text: &CowStr<'a>) -> Result<&'a str, NoMemory>
     }
 }
 
-/// Appends the parts of a statement; texts that it owns are copied into the arena. `Err`: memory was refused, and some of them may have been appended.
+/// Appends the parts of a statement; texts that it owns are copied into the arena. `Err`: memory was refused, and some
+/// of the parts may have been appended.
 pub fn push_parts<'a, A: Allocator>(
     bump: &'a Bump,
     stmt: &Stmt<'a>,
@@ -95,7 +96,8 @@ fn push_group<'a, A: Allocator>(
     push(parts, Part::Close(group.one_comma))
 }
 
-/// Appends the parts of these nodes; texts that they own are copied into the arena. `Err`: memory was refused, and some of them may have been appended.
+/// Appends the parts of these nodes; texts that they own are copied into the arena. `Err`: memory was refused, and some
+/// of the parts may have been appended.
 #[cycle(parts)]
 pub fn push_nodes<'a, A: Allocator>(
     bump: &'a Bump,

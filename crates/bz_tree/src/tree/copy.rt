@@ -13,8 +13,8 @@ impl<'a> Stmt<'a> {
     ghost use Rattle.bz_tree.specs.View.{view};
     ghost use Rattle.bz_tree.specs.Places.{spelling};
 
-    /// An equal statement, line numbers and the places of its leaves included. It owns its texts, so it outlives this one
-    /// and the chunk. `Err`: memory was refused.
+    /// An equal statement, line numbers and the places of its leaves included. It owns its texts, so it outlives this
+    /// one and the chunk. `Err`: memory was refused.
     pub fn copy<'b>(&self, alloc: Global) -> Result<Stmt<'b>, NoMemory>
         ensures equal { IfOk result (λ s. view s ≡ view self.now) }
         ensures places { IfOk result (λ s. spelling s ≡ spelling self.now) }
