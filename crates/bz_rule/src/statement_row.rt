@@ -89,11 +89,11 @@ impl<'a> StatementRow<'a> {
         }
     }
 
-    /// The statement of a tree.
+    /// The statement of a tree, whose texts are copied into the arena.
     pub fn of_stmt(
         alloc: Global,
         bump: &'a Bump,
-        stmt: &Stmt<'a>,
+        stmt: &Stmt<'_>,
     ) -> Result<StatementRow<'a>, NoMemory>
         ensures { IfOk result (λ row. row ≡ view stmt.now) }
     {
