@@ -3,8 +3,9 @@
 use crate::checks::{check, check_value, statement};
 use bz_rule::value_is;
 use bz_token::{Kind, Token};
-use bz_tree::{Leaf, Node, Stmt};
+use bz_tree::{Group, Leaf, Node, Stmt};
 use std::alloc::Global;
+use std::process::Abort;
 use std::test::Fail;
 
 const OWNERS: &str = r#"f(
@@ -73,15 +74,19 @@ fn put_leaf(leaf: &Leaf<'_>, out: &mut String) -> Result<(), Fail> {
 }
 
 #[cycle(places)]
+fn put_group(group: &Group<'_>, out: &mut String) -> Result<(), Fail> {
+    for seg in &group.segs {
+        put_leaves(&seg.nodes, out)?;
+    }
+    Ok(())
+}
+
+#[cycle(places)]
 fn put_leaves(nodes: &[Node<'_>], out: &mut String) -> Result<(), Fail> {
     for node in nodes {
         match node {
             Node::Token(leaf) => put_leaf(leaf, out)?,
-            Node::Group(group) => {
-                for seg in &group.segs {
-                    put_leaves(&seg.nodes, out)?;
-                }
-            }
+            Node::Group(group) => put_group(group, out)?,
         }
     }
     Ok(())
@@ -94,22 +99,22 @@ fn leaves(alloc: Global, stmt: &Stmt<'_>) -> Result<String, Fail> {
     Ok(out)
 }
 
+// Of a statement and of its copy.
+fn check_places(rt: &impl Abort, alloc: Global, text: &str, wanted: &str) -> Result<(), Fail> {
+    let stmt = statement(alloc, text)?;
+    check(rt, text, leaves(alloc, &stmt)?.as_str(), wanted);
+    let copy = stmt.copy(alloc)?;
+    check(rt, text, leaves(alloc, &copy)?.as_str(), wanted);
+    Ok(())
+}
+
 #[test]
 fn places_of_leaves(rt: HostRuntime) -> Result<(), Fail> {
     let alloc = rt.alloc();
-    let rows = [
-        (OWNERS, OWNERS_PLACES),
-        (COMMAS, COMMAS_PLACES),
-        (COMPREHENSION, COMPREHENSION_PLACES),
-        (BLOCK, BLOCK_PLACES),
-    ];
-    for (text, wanted) in rows {
-        let stmt = statement(alloc, text)?;
-        check(&rt, text, leaves(alloc, &stmt)?.as_str(), wanted);
-        let copy = stmt.copy(alloc)?;
-        check(&rt, text, leaves(alloc, &copy)?.as_str(), wanted);
-    }
-    Ok(())
+    check_places(&rt, alloc, OWNERS, OWNERS_PLACES)?;
+    check_places(&rt, alloc, COMMAS, COMMAS_PLACES)?;
+    check_places(&rt, alloc, COMPREHENSION, COMPREHENSION_PLACES)?;
+    check_places(&rt, alloc, BLOCK, BLOCK_PLACES)
 }
 
 /// A leaf as a token, of which `value_is` can be asked.
