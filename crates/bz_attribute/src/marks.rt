@@ -85,5 +85,5 @@ fn is_kind(kind: &[Node<'_>], text: &str) -> bool
 fn text_of<'n>(leaf: &'n Leaf<'_>) -> &'n str
     ensures { result.now ≡ text_of leaf.now.text }
 {
-    leaf.text
+    leaf.text.as_str()
 }

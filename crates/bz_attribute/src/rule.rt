@@ -54,7 +54,7 @@ fn are_dotted(kind: &[Node<'_>]) -> bool
 pub(crate) fn is_operator_item(node: &Node<'_>, operator: &str) -> bool
     ensures { result ≡ spec.is_operator_item operator.now (node_view node.now) }
 {
-    matches!(node, Node::Token(leaf) if matches!(leaf.kind, Kind::Operator) && leaf.text == operator)
+    matches!(node, Node::Token(leaf) if matches!(leaf.kind, Kind::Operator) && leaf.text.as_str() == operator)
 }
 
 fn is_identifier_item(node: &Node<'_>) -> bool
@@ -69,7 +69,7 @@ pub fn only_text<'n>(nodes: &'n [Node<'_>]) -> Option<&'n str>
 {
     match nodes {
         [node] => match node {
-            Node::Token(leaf) if matches!(leaf.kind, Kind::String) => Some(leaf.text),
+            Node::Token(leaf) if matches!(leaf.kind, Kind::String) => Some(leaf.text.as_str()),
             _ => None,
         },
         _ => None,

@@ -5,6 +5,7 @@ ghost use Rattle.bz_tree.specs.View.{nodes_view};
 ghost use Rattle.bz_layout.specs.Layout.{flat_text};
 
 use crate::walk::RowWriter;
+use bumpalo::Bump;
 use bz_memory::NoMemory;
 use bz_tree::{GroupKind, Node, push_nodes};
 use std::alloc::Global;
@@ -18,8 +19,9 @@ pub fn flat(
 ) -> Result<String, NoMemory>
     ensures text { IfOk result (λ s. string_bytes s ≡ flat_text in_group (nodes_view nodes.now)) }
 {
+    let bump = Bump::new(alloc);
     let mut parts = Vec::new(alloc);
-    push_nodes(nodes, &mut parts)?;
+    push_nodes(&bump, nodes, &mut parts)?;
     let mut text = String::new(alloc);
     let mut walk = RowWriter::new(alloc, Vec::new(alloc), in_group)?;
     walk.run(&parts, &mut text)?;

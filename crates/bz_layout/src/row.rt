@@ -11,6 +11,7 @@ ghost use Rattle.bz_layout.specs.private.RowLayout.{IsBegunBy, Puts, leading, li
 use crate::append::Append;
 use crate::marks::marks_of;
 use crate::walk::RowWriter;
+use bumpalo::Bump;
 use bz_memory::NoMemory;
 use bz_tree::{Class, Part, Row, Stmt, push_parts};
 use std::alloc::Global;
@@ -70,8 +71,9 @@ pub fn put_stmt(alloc: Global, stmt: &Stmt<'_>, out: &mut Vec<u8>) -> Result<(),
     ensures appended { OnOk result (out.new.items ≡ out.old.items ++ layout_text (view stmt.now)) }
     ensures unchanged { OnErr result (out.new.items ≡ out.old.items) }
 {
+    let bump = Bump::new(alloc);
     let mut parts = Vec::new(alloc);
-    push_parts(stmt, &mut parts)?;
+    push_parts(&bump, stmt, &mut parts)?;
     put_parts(alloc, &parts, stmt.class, out)
 }
 

@@ -62,6 +62,10 @@ fails_noted (Some n) h = refl
 pub failure_stays : (c : Command) (home : Package) (slot new : Option Statement) (d : Done) → new ≡ after c home slot → d ≡ done_of c home slot → fails d.note ≡ true → new ≡ slot
 failure_stays c home slot new d is told h = is ∙ noted_stays c home slot (fails_noted (done_of c home slot).note (ap (λ (z : Done). fails z.note) (sym told) ∙ h))
 
+-- where nothing is told to change, all stays
+pub unchanged_stays : (c : Command) (home : Package) (slot : Option Statement) (d : Done) → d ≡ done_of c home slot → d.changed ≡ false → slot ≡ after c home slot
+unchanged_stays c home slot d told h = let law = lawful c home in sym (law.stays slot (ap (λ (z : Done). z.changed) (sym told) ∙ h))
+
 both_ways : (b : Bool) (A : Type 0) → (b ≡ false → A) → (b ≡ true → A → ⊥) → (b ≡ true) ↔ (A → ⊥)
 both_ways true A keep differ = (λ h. differ refl, λ h. refl)
 both_ways false A keep differ = (λ h. absurd cc, λ h. absurd (h (keep refl)))

@@ -6,22 +6,22 @@ ghost use Rattle.bz_attribute.specs.Effects as spec;
 ghost use Rattle.bz_rule.specs.Commands as commands;
 
 use crate::command::Command;
-use crate::statement_row::{StatementRow, done_unless, execute};
+use crate::statement_row::{StatementRow, execute};
 use bumpalo::Bump;
-use bz_attribute::{Done, Env, Executed, is_rule};
+use bz_attribute::{Done, Env, is_rule};
 use bz_command::Package;
 use bz_memory::NoMemory;
 use bz_tree::Stmt;
 use std::alloc::Global;
 
-/// Applies a command to what a slot holds, in the package of its file. Parts and new texts stand in the arena.
+/// Applies a command to what a slot holds, in the package of its file. A statement that is changed owns its texts, and
+/// its leaves may have any place.
 pub fn apply<'a>(
     alloc: Global,
-    bump: &'a Bump,
     command: &Command,
     home: &Package,
     slot: &mut Option<Stmt<'a>>,
-) -> Executed
+) -> Result<Done, NoMemory>
     ensures slot { OnOk result (slot_view slot.new ≡ commands.after command.now home.now (slot_view slot.old)) }
     ensures done { IfOk result (λ done. done ≡ commands.done_of command.now home.now (slot_view slot.old)) }
     ensures changed { IfOk result (λ done. (done.changed ≡ true) ↔ (slot_view slot.new ≡ slot_view slot.old → ⊥)) }
@@ -37,23 +37,22 @@ pub fn apply<'a>(
     if !is_rule(&stmt.nodes) {
         return Ok(Done::quiet(false));
     }
-    let mut row = Some(StatementRow::of_stmt(alloc, bump, stmt)?);
-    let done = execute(Env { alloc, home }, command, &mut row);
-    done_unless(put_back(alloc, row, slot), done)
+    let bump = Bump::new(alloc);
+    let mut row = Some(StatementRow::of_stmt(alloc, &bump, stmt)?);
+    let done = execute(Env { alloc, home }, command, &mut row)?;
+    if !done.changed {
+        return Ok(done);
+    }
+    *slot = tree_of(alloc, row)?;
+    Ok(done)
 }
 
-// Puts the tree of a row into a slot. An `Err` leaves the slot as it was.
-fn put_back<'a>(
-    alloc: Global,
-    row: Option<StatementRow<'a>>,
-    slot: &mut Option<Stmt<'a>>,
-) -> Result<(), NoMemory>
-    ensures ok { OnOk result (slot_view slot.new ≡ row.entry) }
-    ensures err { OnErr result (slot_view slot.new ≡ slot_view slot.old) }
+// The tree of a row, if there is one.
+fn tree_of<'a>(alloc: Global, row: Option<StatementRow<'_>>) -> Result<Option<Stmt<'a>>, NoMemory>
+    ensures { IfOk result (λ slot. slot_view slot ≡ row.entry) }
 {
-    *slot = match row {
-        None => None,
-        Some(row) => Some(row.into_tree(alloc)?),
-    };
-    Ok(())
+    match row {
+        None => Ok(None),
+        Some(row) => Ok(Some(row.into_tree(alloc)?)),
+    }
 }

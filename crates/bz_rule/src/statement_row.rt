@@ -89,16 +89,16 @@ impl<'a> StatementRow<'a> {
         }
     }
 
-    /// The statement of a tree.
+    /// The statement of a tree, whose texts are copied into the arena.
     pub fn of_stmt(
         alloc: Global,
         bump: &'a Bump,
-        stmt: &Stmt<'a>,
+        stmt: &Stmt<'_>,
     ) -> Result<StatementRow<'a>, NoMemory>
         ensures { IfOk result (λ row. row ≡ view stmt.now) }
     {
         let mut parts = Vec::new(bump);
-        push_parts(stmt, &mut parts)?;
+        push_parts(bump, stmt, &mut parts)?;
         let head = if is_rule(&stmt.nodes) {
             Head::of_parts(alloc, bump, &parts, stmt.start, stmt.end)?
         } else {
@@ -158,12 +158,13 @@ impl<'a> StatementRow<'a> {
         put_row(alloc, &self.row, out)
     }
 
-    /// Its tree. `Err`: memory was refused.
-    pub(crate) fn into_tree(self, alloc: Global) -> Result<Stmt<'a>, NoMemory>
+    /// Its tree, which owns its texts. `Err`: memory was refused.
+    pub(crate) fn into_tree<'b>(self, alloc: Global) -> Result<Stmt<'b>, NoMemory>
         ensures { IfOk result (λ stmt. view stmt ≡ self.entry) }
     {
         let row = self.row;
-        stmt_of_parts(alloc, row.parts.as_slice(), row.class, row.start, row.end)
+        let stmt = stmt_of_parts(alloc, row.parts.as_slice(), row.class, row.start, row.end)?;
+        stmt.copy(alloc)
     }
 
     // What is printed of it. Of what is no rule nothing is.
@@ -226,7 +227,7 @@ impl<'a> StatementRow<'a> {
 }
 
 // `put.and(done)`: only here is it proved how what was done is dropped.
-pub(crate) fn done_unless(put: Result<(), NoMemory>, done: Executed) -> Executed
+fn done_unless(put: Result<(), NoMemory>, done: Executed) -> Executed
     ensures { result ≡ result_and put done }
 {
     put?;

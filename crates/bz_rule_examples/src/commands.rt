@@ -3,7 +3,6 @@
 
 use crate::checks::{check_table, read};
 use crate::labels::package;
-use bumpalo::Bump;
 use bz_layout::put_stmt;
 use bz_rule::{Command, Done, Package, apply, read_command};
 use bz_tree::Stmt;
@@ -138,9 +137,8 @@ fn shown(alloc: Global, done: &Done, slot: &Option<Stmt<'_>>) -> Result<String, 
 }
 
 fn done_to(alloc: Global, command: &Command, home: &Package, text: &str) -> Result<String, Fail> {
-    let bump = Bump::new(alloc);
     let mut slot = read(alloc, text)?;
-    let done = apply(alloc, &bump, command, home, &mut slot)?;
+    let done = apply(alloc, command, home, &mut slot)?;
     shown(alloc, &done, &slot)
 }
 

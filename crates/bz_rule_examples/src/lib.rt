@@ -9,11 +9,15 @@ mod checks;
 #[cfg(test)]
 mod commands;
 #[cfg(test)]
+mod copies;
+#[cfg(test)]
 mod labels;
 #[cfg(test)]
 mod layout;
 #[cfg(test)]
 mod lists;
+#[cfg(test)]
+mod places;
 #[cfg(test)]
 mod rows;
 pub mod table;

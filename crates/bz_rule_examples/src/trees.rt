@@ -5,6 +5,7 @@ use crate::checks::{check, check_table, read, statement};
 use crate::table::{BLOCK, cut_rows};
 use bz_tree::{Class, Group, GroupKind, Node, Seg, Stmt};
 use std::alloc::Global;
+use std::borrow::CowStr;
 use std::test::Fail;
 
 /// A chunk, and the copy of its statement or its fault. A statement is its class, and then the comments above it, its
@@ -300,18 +301,18 @@ Lex(BadBracket { line: 1, col: 5 })
 Lex(OpenText { line: 1, col: 6 })
 "##;
 
-fn put_texts(texts: &[&str], out: &mut String) -> Result<(), Fail> {
+fn put_texts(texts: &[CowStr<'_>], out: &mut String) -> Result<(), Fail> {
     for text in texts {
-        out.push_str(text)?;
+        out.push_str(text.as_str())?;
         out.push(' ')?;
     }
     Ok(())
 }
 
-fn put_suffix(suffix: Option<&str>, out: &mut String) -> Result<(), Fail> {
+fn put_suffix(suffix: &Option<CowStr<'_>>, out: &mut String) -> Result<(), Fail> {
     out.push(':')?;
     if let Some(text) = suffix {
-        out.push_str(text)?;
+        out.push_str(text.as_str())?;
     }
     Ok(())
 }
@@ -331,7 +332,7 @@ fn put_close(group: &Group<'_>, out: &mut String) -> Result<(), Fail> {
 fn put_nodes(nodes: &[Node<'_>], out: &mut String) -> Result<(), Fail> {
     for node in nodes {
         match node {
-            Node::Token(leaf) => out.push_str(leaf.text)?,
+            Node::Token(leaf) => out.push_str(leaf.text.as_str())?,
             Node::Group(group) => put_group(group, out)?,
         }
         out.push(' ')?;
@@ -345,7 +346,7 @@ fn put_seg(seg: &Seg<'_>, out: &mut String) -> Result<(), Fail> {
     put_texts(&seg.before, out)?;
     out.push(':')?;
     put_nodes(&seg.nodes, out)?;
-    put_suffix(seg.suffix, out)?;
+    put_suffix(&seg.suffix, out)?;
     out.push('>')?;
     Ok(())
 }
@@ -391,7 +392,7 @@ fn put_tree(stmt: &Stmt<'_>, out: &mut String) -> Result<(), Fail> {
     put_texts(&stmt.before, out)?;
     out.push(':')?;
     put_nodes(&stmt.nodes, out)?;
-    put_suffix(stmt.suffix, out)
+    put_suffix(&stmt.suffix, out)
 }
 
 /// The copy of a statement.

@@ -1,5 +1,6 @@
 -- Lemmas on trees: brackets, owners of comments, blocks.
 pub mod Views
+pub mod Borrowed
 pub mod Walking
 pub mod ByOwns
 pub mod OneBracket

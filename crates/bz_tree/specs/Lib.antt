@@ -1,5 +1,7 @@
 pub mod Tree
 pub mod View
+pub mod Borrowed
+pub mod Places
 pub mod Kinds
 pub mod Owners
 pub mod Brackets

@@ -1,6 +1,8 @@
 -- The statement that a `Stmt` stands for, texts as bytes.
 use Rattle.std.specs.Prelude.{ℕ, List, map, Option, option_map}
-use Rattle.std.specs.Borrow.{Bor}
+use Rattle.std.specs.Cow.{cow_str_bytes}
+use Rattle.std.specs.declared.borrow.CowStr.{CowStr}
+use Rattle.std.specs.declared.alloc.Global.{Global}
 use Rattle.bz_tree.specs.declared.tree.Stmt.{Stmt}
 use Rattle.bz_tree.specs.declared.tree.Node.{Node, fold-Node}
 use Rattle.bz_tree.specs.declared.tree.Seg.{Seg, fold-Seg}
@@ -9,10 +11,10 @@ use Rattle.bz_tree.specs.declared.tree.Node.TheOpen.{Node-F, Group-F, Seg-F}
 use Rattle.bz_tree.specs.Tree.{Item, leaf, group, Segment, Statement, segs_of}
 
 -- the text of a leaf or a comment
-abbrev pub text_of : Bor (List ℕ) → List ℕ
-text_of text = text.now
+abbrev pub text_of : CowStr Global → List ℕ
+text_of = cow_str_bytes
 
-abbrev pub texts : List (Bor (List ℕ)) → List (List ℕ)
+abbrev pub texts : List (CowStr Global) → List (List ℕ)
 texts ss = map text_of ss
 
 -- One level, with each part inside already seen as its item or segment.

@@ -1,4 +1,5 @@
 pub mod BlockSteps
+pub mod BorrowedSteps
 pub mod Machine
 pub mod PartSteps
 pub mod RowSteps

@@ -31,7 +31,7 @@ fn role_of(node: &Node<'_>) -> Role
     ensures { result ≡ role_of (node_view node.now) }
 {
     match node {
-        Node::Token(leaf) => token_role(leaf.kind, leaf.text),
+        Node::Token(leaf) => token_role(leaf.kind, leaf.text.as_str()),
         Node::Group(group)
             if is_whole(group.kind, &group.segs) && each(begin(group.kind), &group.segs) => {
             group_role(group.kind)

@@ -32,7 +32,7 @@ pub enum Part<'a> {
 /// A list of parts in an arena.
 pub type Parts<'a> = Vec<Part<'a>, &'a Bump>;
 
-/// A statement as the list of its parts. Each text is a slice of the chunk that it was read from.
+/// A statement as the list of its parts. Each text is a slice of the chunk that it was read from, or of an arena.
 #[derive(Drop)]
 pub struct Row<'a> {
     pub parts: Parts<'a>,

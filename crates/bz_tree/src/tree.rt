@@ -1,16 +1,18 @@
 //! Statements as trees, and how chunks are read as them. Every text is a slice of the chunk that it was read from, or
-//! of the arena where a command made it.
+//! owned where a command or a copy made it.
 
 pub mod block;
 mod build;
 pub mod chunk;
 pub mod classes;
+mod copy;
 mod kept;
 pub mod kinds;
 pub mod owners;
 pub mod span;
 
 use bz_token::Kind;
+use std::borrow::CowStr;
 
 /// The kind of a bracket group.
 #[derive(Clone, Copy, PartialEq, Eq)]
@@ -33,11 +35,18 @@ pub enum GroupKind {
     DictComp,
 }
 
-/// A token of a statement: its kind and its text.
+/// A token of a statement, with its line and column in the input. In a statement that a command has changed they may be
+/// any.
 #[derive(Drop)]
 pub struct Leaf<'a> {
     pub kind: Kind,
-    pub text: &'a str,
+    pub text: CowStr<'a>,
+    /// The line of its first byte.
+    pub line: u64,
+    /// The column of its first byte, in bytes from 1.
+    pub col: u64,
+    /// Whether it is the first token on its line.
+    pub fresh: bool,
 }
 
 /// A node of a statement: a token, or a bracket with what stands in it.
@@ -57,7 +66,7 @@ pub struct Group<'a> {
     /// It is a tuple of one element, `(x,)`.
     pub one_comma: bool,
     /// The comments after the last segment, each on a line of its own.
-    pub end: Vec<&'a str>,
+    pub end: Vec<CowStr<'a>>,
 }
 
 /// A segment: what stands between two commas of a bracket.
@@ -65,10 +74,10 @@ pub struct Group<'a> {
 #[derive(Drop)]
 pub struct Seg<'a> {
     /// The comments above it.
-    pub before: Vec<&'a str>,
+    pub before: Vec<CowStr<'a>>,
     pub nodes: Vec<Node<'a>>,
     /// The comment after it, on its last line.
-    pub suffix: Option<&'a str>,
+    pub suffix: Option<CowStr<'a>>,
 }
 
 /// The class of a statement: the layout and the commands treat each class in its own way.
@@ -91,10 +100,10 @@ pub enum Class {
 #[derive(Drop)]
 pub struct Stmt<'a> {
     /// The comments above it.
-    pub before: Vec<&'a str>,
+    pub before: Vec<CowStr<'a>>,
     pub nodes: Vec<Node<'a>>,
     /// The comment after it, on its last line.
-    pub suffix: Option<&'a str>,
+    pub suffix: Option<CowStr<'a>>,
     pub class: Class,
     /// The line of its first token, comments not counted unless the class is Comment.
     pub start: u64,

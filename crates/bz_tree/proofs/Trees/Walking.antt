@@ -12,7 +12,7 @@ use Rattle.bz_tree.specs.View.{text_of, texts, node_view, nodes_view, group_view
 use Rattle.bz_tree.specs.private.Steps.{Walked, Level}
 use Rattle.bz_tree.proofs.Trees.Views.{view-group, view-seg}
 
-pub view-Token : (t : Leaf) → node_view (Token t) ≡ leaf t.kind t.text.now
+pub view-Token : (t : Leaf) → node_view (Token t) ≡ leaf t.kind (text_of t.text)
 view-Token t = search (rules, the_lemmas)
 
 pub made-group : (g : Group-F Node Group Seg) → group_view (roll-Group g) ≡ group g.kind (segs_of (segs_view g.segs.items)) g.one_comma (texts g.end.items)

@@ -2,17 +2,18 @@
 //! makes a tree of a row by it, and bz_attribute_commands (`print.rt`) the nodes of a value.
 
 ghost use Rattle.std.specs.Prelude.{◌≡◌, map, IfOk, OnOk, option_map};
-ghost use Rattle.bz_tree.specs.Tree.{Statement};
+ghost use Rattle.bz_tree.specs.Tree.{Statement, leaf};
 ghost use Rattle.bz_tree.specs.View.{node_view, nodes_view, text_of, view};
 ghost use Rattle.bz_tree.specs.Rows.{part_view, parts_of};
 ghost use Rattle.bz_tree.specs.FromParts.{nothing, with_node, with_segment, with_beside, opened, closed, step, nodes_of_parts};
 ghost use Rattle.bz_tree.specs.private.PartSteps.{beside_text, content, content_of, last_beside, outers, nest};
 
 use crate::row::Part;
-use crate::row::tree_parts::push_parts;
 use crate::tree::{Class, Group, GroupKind, Leaf, Node, Seg, Stmt};
 use bz_memory::{NoMemory, push};
+use bz_token::Kind;
 use std::alloc::Global;
+use std::borrow::CowStr;
 use std::mem;
 
 // What stands in a bracket, or at the top, so far.
@@ -21,7 +22,7 @@ pub(crate) struct Content<'a> {
     // The segments that have ended.
     pub(crate) segs: Vec<Seg<'a>>,
     // The comments after those.
-    pub(crate) comments: Vec<&'a str>,
+    pub(crate) comments: Vec<CowStr<'a>>,
     // The nodes of the segment here.
     pub(crate) nodes: Vec<Node<'a>>,
 }
@@ -31,6 +32,20 @@ pub(crate) struct Nesting<'a> {
     pub(crate) here: Content<'a>,
     // Of each open bracket, the innermost last, its kind and what stands before it in the one around it.
     pub(crate) outer: Vec<(GroupKind, Content<'a>)>,
+}
+
+// A part has no place.
+#[inline(always)]
+fn leaf_of<'a>(kind: Kind, text: &'a str) -> Node<'a>
+    ensures { node_view result ≡ leaf kind text.now }
+{
+    Node::Token(Leaf {
+        kind,
+        text: CowStr::Borrowed(text),
+        line: 0,
+        col: 0,
+        fresh: false,
+    })
 }
 
 impl<'a> Content<'a> {
@@ -69,7 +84,7 @@ impl<'a> Content<'a> {
         ensures { content self.new ≡ with_beside text.now (content self.old) }
     {
         if let Some(seg) = self.segs.last_mut() {
-            seg.suffix = Some(text);
+            seg.suffix = Some(CowStr::Borrowed(text));
         }
     }
 }
@@ -104,11 +119,11 @@ impl<'a> Nesting<'a> {
         ensures { OnOk result (nest self.new ≡ step (part_view part.entry) (nest self.old)) }
     {
         match part {
-            Part::Token(kind, text) => self.here.add_node(Node::Token(Leaf { kind, text })),
+            Part::Token(kind, text) => self.here.add_node(leaf_of(kind, text)),
             Part::Open(kind) => self.open(alloc, kind),
             Part::Close(one_comma) => self.close(one_comma),
             Part::End => self.here.end_segment(alloc),
-            Part::Above(text) => push(&mut self.here.comments, text),
+            Part::Above(text) => push(&mut self.here.comments, CowStr::Borrowed(text)),
             Part::Beside(text) => {
                 self.here.put_beside(text);
                 Ok(())
@@ -131,24 +146,24 @@ fn read_parts<'a>(alloc: Global, parts: &[Part<'a>]) -> Result<Content<'a>, NoMe
     Ok(nesting.here)
 }
 
-/// Builds the nodes whose parts these are. Each text is a slice of the same chunk. `Err`: memory was refused.
+/// Builds the nodes whose parts these are. Each text is borrowed from its part. `Err`: memory was refused.
 pub fn nodes_of_parts<'a>(alloc: Global, parts: &[Part<'a>]) -> Result<Vec<Node<'a>>, NoMemory>
     ensures { IfOk result (λ nodes. nodes_view nodes.items ≡ nodes_of_parts (map part_view parts.now)) }
 {
     Ok(read_parts(alloc, parts)?.nodes)
 }
 
-fn beside_text<'a>(part: &Part<'a>) -> Option<&'a str>
+fn beside_text<'a>(part: &Part<'a>) -> Option<CowStr<'a>>
     ensures { option_map text_of result ≡ beside_text (part_view part.now) }
 {
     match part {
-        Part::Beside(text) => Some(text),
+        Part::Beside(text) => Some(CowStr::Borrowed(*text)),
         _ => None,
     }
 }
 
 // The comment with which the parts end, beside what stands before it.
-fn last_beside<'a>(parts: &[Part<'a>]) -> Option<&'a str>
+fn last_beside<'a>(parts: &[Part<'a>]) -> Option<CowStr<'a>>
     ensures { option_map text_of result ≡ last_beside (map part_view parts.now) }
 {
     let [.., last] = parts else {
@@ -157,7 +172,8 @@ fn last_beside<'a>(parts: &[Part<'a>]) -> Option<&'a str>
     beside_text(last)
 }
 
-/// Builds the statement whose parts these are, of this class and on these lines. `Err`: memory was refused.
+/// Builds the statement whose parts these are, of this class and on these lines. Each text is borrowed from its part,
+/// and its leaves may have any place. `Err`: memory was refused.
 pub fn stmt_of_parts<'a>(
     alloc: Global,
     parts: &[Part<'a>],
@@ -177,17 +193,4 @@ pub fn stmt_of_parts<'a>(
         start,
         end,
     })
-}
-
-impl<'a> Stmt<'a> {
-    ghost use Rattle.bz_tree.specs.View.{view};
-
-    /// An equal statement, line numbers included, whose texts are slices of those of this one. `Err`: memory was refused.
-    pub fn copy(&self, alloc: Global) -> Result<Stmt<'_>, NoMemory>
-        ensures equal { IfOk result (λ s. view s ≡ view self.now) }
-    {
-        let mut parts = Vec::new(alloc);
-        push_parts(self, &mut parts)?;
-        stmt_of_parts(alloc, &parts, self.class, self.start, self.end)
-    }
 }

@@ -22,11 +22,11 @@ use bz_token::Token;
 use std::alloc::Global;
 
 // The row of a statement that has a tree.
-fn row_of_tree<'a>(bump: &'a Bump, stmt: Stmt<'a>) -> Result<Row<'a>, NoMemory>
+fn row_of_tree<'a>(bump: &'a Bump, stmt: Stmt<'_>) -> Result<Row<'a>, NoMemory>
     ensures { IfOk result (IsRowOf (view stmt.entry)) }
 {
     let mut parts = Vec::new(bump);
-    push_parts(&stmt, &mut parts)?;
+    push_parts(bump, &stmt, &mut parts)?;
     Ok(Row {
         parts,
         class: stmt.class,

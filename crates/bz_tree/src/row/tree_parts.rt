@@ -7,66 +7,72 @@ ghost use Rattle.bz_tree.specs.Rows.{above, beside_part, item_parts, items_parts
 
 use crate::row::Part;
 use crate::tree::{Group, Node, Seg, Stmt};
-use bz_memory::{NoMemory, push};
+use bumpalo::Bump;
+use bz_memory::{NoMemory, alloc_str, push};
 use std::alloc::Allocator;
+use std::borrow::CowStr;
 
-/// Appends the parts of a statement. `Err`: memory was refused, and some of them may have been appended.
+/// Appends the parts of a statement. Their texts are copied into the arena. `Err`: memory was refused, and some of the
+/// parts may have been appended.
 pub fn push_parts<'a, A: Allocator>(
-    stmt: &Stmt<'a>,
+    bump: &'a Bump,
+    stmt: &Stmt<'_>,
     parts: &mut Vec<Part<'a>, A>,
 ) -> Result<(), NoMemory>
     ensures { OnOk result (map part_view parts.new.items ≡ map part_view parts.old.items ++ parts_of (view stmt.now)) }
 {
-    push_above(&stmt.before, parts)?;
-    push_nodes(&stmt.nodes, parts)?;
-    push_beside(stmt.suffix, parts)
+    push_above(bump, &stmt.before, parts)?;
+    push_nodes(bump, &stmt.nodes, parts)?;
+    push_beside(bump, &stmt.suffix, parts)
 }
 
-/// Appends a part `Above` for each comment. `Err`: memory was refused, and some of them may have been appended.
-pub fn push_above<'a, A: Allocator>(
-    comments: &[&'a str],
+fn push_above<'a, A: Allocator>(
+    bump: &'a Bump,
+    comments: &[CowStr<'_>],
     parts: &mut Vec<Part<'a>, A>,
 ) -> Result<(), NoMemory>
     ensures { OnOk result (map part_view parts.new.items
         ≡ map part_view parts.old.items ++ map above (texts comments.now)) }
 {
     for comment in comments {
-        push(parts, Part::Above(*comment))?;
+        push(parts, Part::Above(alloc_str(bump, comment.as_str())?))?;
     }
     Ok(())
 }
 
-/// Appends a part `Beside` for the comment, if there is one. `Err`: memory was refused.
-pub fn push_beside<'a, A: Allocator>(
-    comment: Option<&'a str>,
+fn push_beside<'a, A: Allocator>(
+    bump: &'a Bump,
+    comment: &Option<CowStr<'_>>,
     parts: &mut Vec<Part<'a>, A>,
 ) -> Result<(), NoMemory>
     ensures { OnOk result
-        (map part_view parts.new.items ≡ map part_view parts.old.items ++ beside_part (option_map text_of comment.entry)) }
+        (map part_view parts.new.items ≡ map part_view parts.old.items ++ beside_part (option_map text_of comment.now)) }
 {
     match comment {
         None => Ok(()),
-        Some(text) => push(parts, Part::Beside(text)),
+        Some(text) => push(parts, Part::Beside(alloc_str(bump, text.as_str())?)),
     }
 }
 
 #[cycle(parts)]
 fn push_segment<'a, A: Allocator>(
-    seg: &Seg<'a>,
+    bump: &'a Bump,
+    seg: &Seg<'_>,
     parts: &mut Vec<Part<'a>, A>,
 ) -> Result<(), NoMemory>
     ensures { OnOk result (map part_view parts.new.items
         ≡ map part_view parts.old.items ++ segs_parts (segs_of (segs_view (seg.now ∷ [])))) }
 {
-    push_above(&seg.before, parts)?;
-    push_nodes(&seg.nodes, parts)?;
+    push_above(bump, &seg.before, parts)?;
+    push_nodes(bump, &seg.nodes, parts)?;
     push(parts, Part::End)?;
-    push_beside(seg.suffix, parts)
+    push_beside(bump, &seg.suffix, parts)
 }
 
 #[cycle(parts)]
 fn push_group<'a, A: Allocator>(
-    group: &Group<'a>,
+    bump: &'a Bump,
+    group: &Group<'_>,
     parts: &mut Vec<Part<'a>, A>,
 ) -> Result<(), NoMemory>
     ensures { OnOk result
@@ -74,16 +80,18 @@ fn push_group<'a, A: Allocator>(
 {
     push(parts, Part::Open(group.kind))?;
     for seg in &group.segs {
-        push_segment(seg, parts)?;
+        push_segment(bump, seg, parts)?;
     }
-    push_above(&group.end, parts)?;
+    push_above(bump, &group.end, parts)?;
     push(parts, Part::Close(group.one_comma))
 }
 
-/// Appends the parts of these nodes. `Err`: memory was refused, and some of them may have been appended.
+/// Appends the parts of these nodes. Their texts are copied into the arena. `Err`: memory was refused, and some of the
+/// parts may have been appended.
 #[cycle(parts)]
 pub fn push_nodes<'a, A: Allocator>(
-    nodes: &[Node<'a>],
+    bump: &'a Bump,
+    nodes: &[Node<'_>],
     parts: &mut Vec<Part<'a>, A>,
 ) -> Result<(), NoMemory>
     ensures { OnOk result
@@ -92,8 +100,11 @@ pub fn push_nodes<'a, A: Allocator>(
 {
     for node in nodes {
         match node {
-            Node::Token(leaf) => push(parts, Part::Token(leaf.kind, leaf.text))?,
-            Node::Group(group) => push_group(group, parts)?,
+            Node::Token(leaf) => push(
+                parts,
+                Part::Token(leaf.kind, alloc_str(bump, leaf.text.as_str())?),
+            )?,
+            Node::Group(group) => push_group(bump, group, parts)?,
         }
     }
     Ok(())

@@ -4,6 +4,7 @@ ghost use Rattle.std.specs.Prelude.{◌≡◌, ◌<◌, IfOk, map, reverse};
 ghost use Rattle.std.specs.Bool.{then_some};
 ghost use Rattle.bz_token.specs.Places.{placed};
 ghost use Rattle.bz_tree.specs.View.{texts};
+ghost use Rattle.bz_tree.specs.Borrowed.{owned_in};
 ghost use Rattle.bz_tree.specs.Kinds.{mark_of};
 ghost use Rattle.bz_tree.specs.Blocks.{is_block_word, is_colon, indented, block_indent, has_colon, header_line, logical_lines, is_block, above};
 ghost use Rattle.bz_tree.specs.Statement.{last_token};
@@ -13,6 +14,7 @@ use crate::tree::span::last_token;
 use bz_memory::{NoMemory, push};
 use bz_token::{Kind, Token};
 use std::alloc::Global;
+use std::borrow::CowStr;
 
 /// Whether the token begins a block.
 pub(crate) fn is_block_word(token: &Token<'_>) -> bool
@@ -117,13 +119,14 @@ pub(crate) fn is_block(tokens: &[Token<'_>]) -> bool
 pub(crate) fn comments_above<'a>(
     alloc: Global,
     tokens: &[Token<'a>],
-) -> Result<Vec<&'a str>, NoMemory>
+) -> Result<Vec<CowStr<'a>>, NoMemory>
     ensures value { IfOk result (λ v. texts v.items ≡ above (map placed tokens.now)) }
+    ensures borrowed { IfOk result (λ v. owned_in v.items ≡ 0) }
 {
     let mut comments = Vec::new(alloc);
     for token in tokens {
         match mark_of(token) {
-            Mark::Comment => push(&mut comments, token.text)?,
+            Mark::Comment => push(&mut comments, CowStr::Borrowed(token.text))?,
             Mark::Newline => {}
             _ => return Ok(comments),
         }

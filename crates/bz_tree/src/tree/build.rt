@@ -1,14 +1,16 @@
 //! The walk over the tokens of a statement, with a stack of open brackets. `chunk.rt` runs it to make a tree.
 
-ghost use Rattle.std.specs.Prelude.{◌≡◌, true, false, map, IfOk, IsTrue, OnOk, Some, None, [], option_map};
+ghost use Rattle.std.specs.Prelude.{◌≡◌, ◌≤◌, ◌+◌, true, false, map, IfOk, IfSome, IsTrue, OnOk, Some, None, [], ◌∷◌, option_map};
 ghost use Rattle.std.specs.Bool.{then_some};
 ghost use Rattle.bz_token.specs.Places.{placed};
 ghost use Rattle.bz_tree.specs.View.{node_view, group_view, seg_view};
-ghost use Rattle.bz_tree.specs.Kinds.{group_kind, is_for_at};
+ghost use Rattle.bz_tree.specs.Kinds as spec;
 ghost use Rattle.bz_tree.specs.Owners.{node};
 ghost use Rattle.bz_tree.specs.Brackets.{leaf_of, own_of};
 ghost use Rattle.bz_tree.specs.declared.tree.kinds.Mark.TheVariants.{Close, Comma, Comment, Plain};
 ghost use Rattle.bz_tree.specs.Statement.{one_segment, segment_with};
+ghost use Rattle.bz_tree.specs.Borrowed.{node_owned, group_owned, seg_owned};
+ghost use Rattle.bz_tree.specs.private.BorrowedSteps.{frame_owned, state_owned, inside_owned, walk_owned};
 ghost use Rattle.bz_tree.specs.private.Steps.{done, inside_view, level, levels, with_own, new_level, next, next_at, run, so_far, state};
 
 use crate::tree::classes::with_rule_call;
@@ -21,6 +23,7 @@ use crate::tree::{Group, GroupKind, Leaf, Node, Seg};
 use bz_memory::{NoMemory, append, push};
 use bz_token::Token;
 use std::alloc::Global;
+use std::borrow::CowStr;
 use std::mem;
 
 // A bracket that is still open, or the top.
@@ -41,10 +44,14 @@ pub(crate) struct State<'a> {
 #[inline(always)]
 fn leaf_of<'a>(token: &Token<'a>) -> Node<'a>
     ensures value { node_view result ≡ leaf_of (placed token.now) }
+    ensures borrowed { node_owned result ≡ 0 }
 {
     Node::Token(Leaf {
         kind: token.kind,
-        text: token.text,
+        text: CowStr::Borrowed(token.text),
+        line: token.line,
+        col: token.col,
+        fresh: token.fresh,
     })
 }
 
@@ -52,6 +59,7 @@ impl<'a> Frame<'a> {
     #[inline(always)]
     fn new(alloc: Global, kind: Option<GroupKind>) -> Frame<'a>
         ensures value { level result ≡ new_level kind }
+        ensures borrowed { frame_owned result ≡ 0 }
     {
         Frame {
             kind,
@@ -63,6 +71,7 @@ impl<'a> Frame<'a> {
     #[inline(always)]
     fn add_leaf(&mut self, token: &Token<'a>) -> Result<(), NoMemory>
         ensures value { OnOk result (level self.new ≡ with_own (level self.old) (own_of Plain (placed token.now))) }
+        ensures borrowed { OnOk result (frame_owned self.new ≤ frame_owned self.old) }
     {
         if is_for_at(token.kind, token.text) && self.walk.is_in_first() {
             self.kind = as_comprehension(self.kind);
@@ -74,6 +83,7 @@ impl<'a> Frame<'a> {
     #[inline(always)]
     fn add_comma(&mut self, alloc: Global, token: &Token<'a>) -> Result<(), NoMemory>
         ensures value { OnOk result (level self.new ≡ with_own (level self.old) (own_of Comma (placed token.now))) }
+        ensures borrowed { OnOk result (frame_owned self.new ≤ frame_owned self.old) }
     {
         self.at = Preceding::Other;
         match self.kind {
@@ -86,6 +96,7 @@ impl<'a> Frame<'a> {
     #[inline(always)]
     fn add_group(&mut self, group: Group<'a>, line: u64) -> Result<(), NoMemory>
         ensures value { OnOk result (level self.new ≡ with_own (level self.old) (node line (group_view group.entry))) }
+        ensures borrowed { OnOk result (frame_owned self.new ≤ frame_owned self.old + group_owned group.entry) }
     {
         self.at = Preceding::Operand;
         self.walk.add_node(Node::Group(group), line, "")
@@ -93,10 +104,23 @@ impl<'a> Frame<'a> {
 }
 
 impl<'a> State<'a> {
+    #[inline(always)]
+    fn open(&mut self, alloc: Global, shape: Shape) -> Result<(), NoMemory>
+        ensures value { OnOk result (state self.new ≡ (
+          new_level (Some (spec.group_kind shape self.old.top.at false)),
+          level self.old.top ∷ levels self.old.outer.items,
+        )) }
+        ensures borrowed { OnOk result (state_owned self.new ≤ state_owned self.old) }
+    {
+        let frame = Frame::new(alloc, Some(group_kind(shape, self.top.at)));
+        push(&mut self.outer, mem::replace(&mut self.top, frame))
+    }
+
     // False: no bracket of this shape is open, or a segment is empty.
     fn close(&mut self, shape: Shape, token: &Token<'a>) -> Result<bool, NoMemory>
         ensures value { IfOk result (λ some. then_some some (state self.new)
             ≡ next_at (Close shape) (placed token.now) (level self.old.top) (levels self.old.outer.items)) }
+        ensures borrowed { OnOk result (state_owned self.new ≤ state_owned self.old) }
     {
         let Some(kind) = self.top.kind else {
             return Ok(false);
@@ -127,16 +151,14 @@ impl<'a> State<'a> {
     fn step(&mut self, alloc: Global, token: &Token<'a>) -> Result<bool, NoMemory>
         ensures value { IfOk result (λ some. then_some some (state self.new)
             ≡ next (placed token.now) (state self.old)) }
+        ensures borrowed { OnOk result (state_owned self.new ≤ state_owned self.old) }
     {
         let added = match mark_of(token) {
             Mark::Newline => Ok(()),
             Mark::Plain => self.top.add_leaf(token),
             Mark::Comma => self.top.add_comma(alloc, token),
             Mark::Comment => self.top.walk.add_comment(token.line, token.text),
-            Mark::Open(shape) => {
-                let frame = Frame::new(alloc, Some(group_kind(shape, self.top.at)));
-                push(&mut self.outer, mem::replace(&mut self.top, frame))
-            }
+            Mark::Open(shape) => self.open(alloc, shape),
             Mark::Close(shape) => return self.close(shape, token),
         };
         added?;
@@ -150,6 +172,7 @@ impl<'a> State<'a> {
             ≡ run (state self.old).0 (state self.old).1 (map placed tokens.now)) }
         ensures none { IfOk result (λ some. some ≡ false
             → run (state self.old).0 (state self.old).1 (map placed tokens.now) ≡ None) }
+        ensures borrowed { OnOk result (state_owned self.new ≤ state_owned self.old) }
     {
         for token in tokens {
             if !self.step(alloc, token)? {
@@ -164,6 +187,7 @@ impl<'a> State<'a> {
 fn one_segment<'a>(alloc: Global, inside: Inside<'a>) -> Result<Seg<'a>, NoMemory>
     ensures value { IfOk result
         (λ s. seg_view s ≡ one_segment (inside_view inside.entry).segs (inside_view inside.entry).end) }
+    ensures borrowed { IfOk result (λ s. seg_owned s ≤ inside_owned inside.entry) }
 {
     let mut inside = inside;
     let mut seg = if inside.segs.is_empty() {
@@ -179,6 +203,7 @@ fn one_segment<'a>(alloc: Global, inside: Inside<'a>) -> Result<Seg<'a>, NoMemor
 fn whole_segment<'a>(alloc: Global, walk: Walk<'a>) -> Result<Option<Seg<'a>>, NoMemory>
     ensures value { IfOk result (λ o. option_map seg_view o
         ≡ option_map segment_with (option_map done (so_far walk.entry))) }
+    ensures borrowed { IfOk result (λ o. IfSome o (λ s. seg_owned s ≤ walk_owned walk.entry)) }
 {
     let Some(inside) = walk.finish()? else {
         return Ok(None);
@@ -190,6 +215,7 @@ fn whole_segment<'a>(alloc: Global, walk: Walk<'a>) -> Result<Option<Seg<'a>>, N
 /// The statement's segment. None: there is no tree: brackets do not match, or a segment is empty.
 pub(crate) fn run<'a>(alloc: Global, tokens: &[Token<'a>]) -> Result<Option<Seg<'a>>, NoMemory>
     ensures value { IfOk result (λ o. option_map seg_view o ≡ run (new_level None) [] (map placed tokens.now)) }
+    ensures borrowed { IfOk result (λ o. IfSome o (λ s. seg_owned s ≡ 0)) }
 {
     let mut state = State {
         outer: Vec::new(alloc),

@@ -5,6 +5,7 @@ ghost use Rattle.bz_token.specs.Places.{placed};
 ghost use Rattle.bz_token.specs.Reading.{AreTokensOf};
 ghost use Rattle.bz_tree.specs.Tree.{Statement};
 ghost use Rattle.bz_tree.specs.View.{view};
+ghost use Rattle.bz_tree.specs.Borrowed.{owned_texts};
 ghost use Rattle.bz_tree.specs.Statement.{EndsFit, first_seen, last_seen};
 ghost use Rattle.bz_tree.specs.Chunk.{IsPlain, indent_fault, IsChunkOf, IsStatementIn, IsBlank, IsFaultIn};
 ghost use Rattle.bz_tree.specs.private.BlockSteps.{AreStanding};
@@ -22,11 +23,13 @@ use bumpalo::Bump;
 use bz_memory::{NoMemory, with_capacity};
 use bz_token::{Kind, LexFault, Token, tokens_in};
 use std::alloc::Global;
+use std::borrow::CowStr;
 
 // The statement of the tokens, which are no block. None: they have none.
 fn plain_statement<'a>(alloc: Global, tokens: &[Token<'a>]) -> Result<Option<Stmt<'a>>, NoMemory>
     requires { EndsFit (map placed tokens.now) }
     ensures statement { IfOk result (λ o. IfSome o (λ s. IsPlain (map placed tokens.now) (view s))) }
+    ensures borrowed { IfOk result (λ o. IfSome o (λ s. owned_texts s ≡ 0)) }
     ensures none { IfOk result (λ o. IfNone o ((t : Statement) → IsPlain (map placed tokens.now) t → ⊥)) }
 {
     let Some(end) = counted_end_of(tokens) else {
@@ -62,6 +65,7 @@ fn chunk_statement<'a>(
     requires standing { AreStanding first_line text.now (map placed tokens.now) }
     ensures statement { IfOk result
         (λ o. IfSome o (λ s. IsChunkOf first_line text.now (map placed tokens.now) (view s))) }
+    ensures borrowed { IfOk result (λ o. IfSome o (λ s. owned_texts s ≡ 0)) }
     ensures none { IfOk result (λ o. IfNone o ((t : Statement)
         → IsChunkOf first_line text.now (map placed tokens.now) t → ⊥)) }
 {
@@ -78,7 +82,10 @@ fn chunk_statement<'a>(
     let before = comments_above(alloc, tokens)?;
     let kept = Leaf {
         kind: Kind::Kept,
-        text: kept_text(text, first_line, &header, &last),
+        text: CowStr::Borrowed(kept_text(text, first_line, &header, &last)),
+        line: header.line,
+        col: header.col,
+        fresh: header.fresh,
     };
     let mut nodes = with_capacity(alloc, 1)?;
     nodes.push_reserved(Node::Token(kept));
@@ -116,6 +123,7 @@ pub(crate) fn parse_tokens<'a>(
     ensures statement { IfOk result (λ o. IfSome o (λ s. (depth : ℕ)
         → AreTokensOf first_line depth text.now (map placed tokens.now)
         → IsStatementIn first_line depth text.now (view s))) }
+    ensures borrowed { IfOk result (λ o. IfSome o (λ s. owned_texts s ≡ 0)) }
     ensures blank { IfOk result (λ o. IfNone o ((depth : ℕ)
         → AreTokensOf first_line depth text.now (map placed tokens.now) → IsBlank first_line depth text.now)) }
     ensures fault { IfErr result (λ fault. (depth : ℕ)
@@ -146,6 +154,7 @@ pub fn parse<'a>(
 ) -> Result<Option<Stmt<'a>>, ParseFault>
     requires { first_line + count_by (λ b. b == 10) text.now < 2 ^ 64 }
     ensures statement { IfOk result (λ o. IfSome o (λ s. IsStatementIn first_line max_depth text.now (view s))) }
+    ensures borrowed { IfOk result (λ o. IfSome o (λ s. owned_texts s ≡ 0)) }
     ensures blank { IfOk result (λ o. IfNone o (IsBlank first_line max_depth text.now)) }
     ensures fault { IfErr result (IsFaultIn first_line max_depth text.now) }
 {

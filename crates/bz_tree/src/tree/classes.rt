@@ -1,6 +1,8 @@
 //! What a statement is to the layout and to the commands.
 
-ghost use Rattle.std.specs.Prelude.{◌≡◌};
+ghost use Rattle.std.specs.Prelude.{◌≡◌, ◌≤◌};
+ghost use Rattle.bz_tree.specs.Borrowed.{seg_owned};
+ghost use Rattle.bz_tree.specs.private.BorrowedSteps.{nodes_owned};
 ghost use Rattle.bz_tree.specs.View.{node_view, nodes_view, seg_view};
 ghost use Rattle.bz_tree.specs.Statement.{is_rule, is_call, rule_call, with_rule_call, is_assign, class_of};
 ghost use Rattle.std.specs.List.{list_any};
@@ -55,7 +57,7 @@ fn is_rule(nodes: &[Node<'_>]) -> bool
     let mut naming = Naming::Name;
     for node in nodes {
         naming = match node {
-            Node::Token(leaf) => named(naming, leaf.kind, leaf.text),
+            Node::Token(leaf) => named(naming, leaf.kind, leaf.text.as_str()),
             Node::Group(group) => called(naming, group.kind),
         };
     }
@@ -71,6 +73,7 @@ pub(crate) fn is_call(kind: GroupKind) -> bool
 // If the last of them is a bracket, it is the call of a rule.
 fn rule_call(nodes: Vec<Node<'_>>) -> Vec<Node<'_>>
     ensures value { nodes_view result.items ≡ rule_call (nodes_view nodes.entry.items) }
+    ensures borrowed { nodes_owned result.items ≤ nodes_owned nodes.entry.items }
 {
     let mut nodes = nodes;
     match nodes.pop() {
@@ -89,6 +92,7 @@ fn rule_call(nodes: Vec<Node<'_>>) -> Vec<Node<'_>>
 /// The segment, its call marked where it is a rule.
 pub(crate) fn with_rule_call(seg: Seg<'_>) -> Seg<'_>
     ensures value { seg_view result ≡ with_rule_call (seg_view seg.entry) }
+    ensures borrowed { seg_owned result ≤ seg_owned seg.entry }
 {
     if !is_rule(&seg.nodes) {
         return seg;
@@ -104,7 +108,7 @@ fn is_assign(node: &Node<'_>) -> bool
     ensures { result ≡ is_assign (node_view node.now) }
 {
     match node {
-        Node::Token(leaf) => is_assignment(token_role(leaf.kind, leaf.text)),
+        Node::Token(leaf) => is_assignment(token_role(leaf.kind, leaf.text.as_str())),
         Node::Group(_) => false,
     }
 }
@@ -127,7 +131,8 @@ pub(crate) fn class_of(nodes: &[Node<'_>]) -> Class
     match nodes.first() {
         None => Class::Comment,
         Some(Node::Token(leaf)) if leaf.kind == Kind::Kept => Class::Block,
-        Some(Node::Token(leaf)) if leaf.kind == Kind::Keyword && leaf.text == "load" => Class::Load,
+        Some(Node::Token(leaf)) if leaf.kind == Kind::Keyword && leaf.text.as_str() == "load" =>
+            Class::Load,
         Some(_) if has_assign(nodes) => Class::Assign,
         Some(_) if is_rule(nodes) => Class::Rule,
         Some(_) => Class::Other,

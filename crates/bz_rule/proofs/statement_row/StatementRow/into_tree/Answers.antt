@@ -8,4 +8,5 @@ pub returns : goal.returns
 returns c =
     let i = c.self.inside in
     let s = row_statement (row_value i.row.parts.items i.row.class i.row.start i.row.end) in
-    IfOk-weaker c.stmt_of_parts.result _ _ (λ stmt h. h s (ap (map part_view) c.as_slice.ensures.value ∙ c.self.invariant.are) ∙ c.self.view_is) c.stmt_of_parts.ensures
+    let made = c.in_ok-stmt.ensures s (ap (map part_view) c.as_slice.ensures.value ∙ c.self.invariant.are) ∙ c.self.view_is in
+    IfOk-weaker c.copy.result _ _ (λ copy equal. equal ∙ made) c.copy.ensures.equal

@@ -1,4 +1,4 @@
-use Rattle.std.proofs.Common.{arith, ◌≡◌, ℕ, List, ◌++◌, get_or, map, Option, option_map, refl, ap, sym, ◌∙◌}
+use Rattle.std.proofs.Common.{arith, ◌≡◌, ℕ, List, ◌++◌, get_or, length, map, Option, option_map, refl, ap, sym, ◌∙◌}
 use Rattle.std.proofs.lemmas.List.{map-append}
 use Rattle.std.proofs.lemmas.Result.{IfOk-from_err}
 use Rattle.bz_tree.specs.declared.tree.Seg.{Seg, roll-Seg}
@@ -7,6 +7,9 @@ use Rattle.bz_tree.specs.Tree.{Item, Segment}
 use Rattle.bz_tree.specs.View.{seg_view, text_of, texts, nodes_view}
 use Rattle.bz_tree.proofs.Trees.Views.{view-seg}
 use Rattle.bz_tree.proofs.Trees.Walking.{made-seg, none_in, some_in}
+use Rattle.bz_tree.specs.Borrowed.{owned, owned_in, owned_of, seg_owned}
+use Rattle.bz_tree.specs.private.BorrowedSteps.{nodes_owned}
+use Rattle.bz_tree.proofs.Trees.Borrowed.{owned_more, owned_seg, owned_first, seg_at_most}
 use Rattle.bz_tree.proofs.tree.build.one_segment.Goals.{then-is_empty, else-is_empty}
 use Rattle.bz_tree.proofs.tree.build.one_segment.Goals as goal
 
@@ -16,11 +19,11 @@ segment before nodes suffix = record { before = before; nodes = nodes; suffix = 
 segment_is : (b b2 : List (List ℕ)) (n n2 : List Item) (s s2 : Option (List ℕ)) → b ≡ b2 → n ≡ n2 → s ≡ s2 → segment b n s ≡ segment b2 n2 s2
 segment_is b b2 n n2 s s2 e f g = rw (e, f, g) refl
 
-pub returns-in_err-append : goal.returns-in_err-append
-returns-in_err-append c = record { value = IfOk-from_err _ _ c.from_residual.ensures.0 }
+pub returns-in_err-append-clause-value : goal.returns-in_err-append-clause-value
+returns-in_err-append-clause-value c = IfOk-from_err _ _ c.from_residual.ensures.0
 
-pub returns : goal.returns
-returns c =
+pub returns-clause-value : goal.returns-clause-value
+returns-clause-value c =
     let seg = c.if-is_empty.seg in
     let segs = c.args.inside.segs.items in
     let end = c.args.inside.end.items in
@@ -40,4 +43,22 @@ returns c =
           ∙ (ap (λ (s : Seg). segment (texts s.before.items ++ texts end) (nodes_view s.nodes.items) (option_map text_of s.suffix)) first
           ∙ (sym (ap (λ (s : Segment). segment (s.before ++ texts end) s.nodes s.suffix) (view-seg some.0)) ∙ ap (λ ss. one_segment (map seg_view ss) (texts end)) (sym some.2))))
     ] in
-    record { value = here }
+    here
+
+pub returns-clause-borrowed : goal.returns-clause-borrowed
+returns-clause-borrowed c =
+    let seg = c.if-is_empty.seg in
+    let segs = c.args.inside.segs.items in
+    let before = ap owned_in c.in_ok-append.ensures.items ∙ owned_more owned seg.before.items c.if-is_empty.inside.end.items in
+    elim c.if-is_empty.branch [
+      | then-is_empty w ↦
+          let new = w.empty_segment-seg.ensures in
+          let no_before = ap (λ s. owned_in s.before.items) w.seg-is ∙ ap owned_in new.before in
+          let no_nodes = ap (λ s. nodes_owned s.nodes.items) w.seg-is ∙ ap nodes_owned new.nodes in
+          let no_suffix = ap (λ s. owned_of s.suffix) w.seg-is ∙ ap owned_of new.suffix in
+          seg_at_most _ _ (omega (arith, before, no_before, no_nodes, no_suffix, ap (λ i. owned_in i.end.items) w.inside-is))
+      | else-is_empty w ↦
+          let some = some_in segs _ c.is_empty.result (omega (arith, c.args.inside.segs.ok.0)) c.is_empty.ensures w.if-is_empty.false in
+          let first = owned_first seg_owned segs w.remove-seg.result (omega (arith, ap length some.2)) w.remove-seg.ensures.value in
+          seg_at_most _ _ (omega (arith, before, ap seg_owned w.seg-is, owned_seg seg, first, ap (λ i. owned_in i.end.items) w.inside-is))
+    ]

@@ -1,4 +1,4 @@
-use Rattle.std.proofs.Common.{arith, ◌≡◌, ◌==◌, List, [], ◌∷◌, length, Bool, true, false, ◌&&◌, cond, Option, Some, None, option_map, refl, ap, sym, ◌∙◌}
+use Rattle.std.proofs.Common.{arith, ◌≡◌, ◌==◌, List, [], ◌∷◌, length, map, Bool, true, false, ◌&&◌, cond, Option, Some, None, option_map, refl, ap, sym, ◌∙◌}
 use Rattle.std.proofs.lemmas.Grind.{common_steps}
 use Rattle.std.proofs.lemmas.Result.{IfOk-from_err}
 use Rattle.bz_token.specs.Places.{Placed, placed}
@@ -13,6 +13,9 @@ use Rattle.bz_tree.specs.Owners.{node}
 use Rattle.bz_tree.specs.Brackets.{is_paren, group_with}
 use Rattle.bz_tree.specs.private.Steps.{Level, Levels, Walked, closed, done, inside_view, level, levels, next_at, shape_of, so_far, with_own}
 use Rattle.bz_tree.proofs.Trees.Walking.{last_first, made-group, none_left}
+use Rattle.bz_tree.specs.Borrowed.{total}
+use Rattle.bz_tree.specs.private.BorrowedSteps.{frame_owned}
+use Rattle.bz_tree.proofs.Trees.Borrowed.{made_group, owned_pop}
 use Rattle.bz_tree.proofs.tree.build.State.close.Goals as goal
 
 module _ (shape : Shape) (t : Placed) (top : Level) where
@@ -40,37 +43,37 @@ no_inside kind (Some w) (Some i) e h = absurd (cc)
 some_inside : (kind : GroupKind) (w : Option Walked) (o : Option Inside) (i : Inside) → o ≡ Some i → option_map inside_view o ≡ option_map done w → closed (Some kind) w ≡ Some (group_with kind (inside_view i))
 some_inside kind w o i e h = ap (option_map (group_with kind)) (sym h ∙ ap (option_map inside_view) e)
 
-pub returns-in_default : goal.returns-in_default
-returns-in_default c =
+pub returns-in_default-clause-value : goal.returns-in_default-clause-value
+returns-in_default-clause-value c =
     let top = level c.args.self.now.top in
-    record { value = sym (other_shape c.args.shape (placed c.args.token.now) top (levels c.args.self.now.outer.items) (ap (λ k. same_shape (option_map shape_of k) c.args.shape) c.in_default.is)) }
+    sym (other_shape c.args.shape (placed c.args.token.now) top (levels c.args.self.now.outer.items) (ap (λ k. same_shape (option_map shape_of k) c.args.shape) c.in_default.is))
 
-pub returns-then-not-same_shape : goal.returns-then-not-same_shape
-returns-then-not-same_shape c =
+pub returns-then-not-same_shape-clause-value : goal.returns-then-not-same_shape-clause-value
+returns-then-not-same_shape-clause-value c =
     let top = level c.args.self.now.top in
     let other = ap (λ k. same_shape (option_map shape_of k) c.args.shape) c.in-Some.is ∙ (ap (λ s. same_shape (Some s) c.args.shape) (sym c.shape_of.ensures) ∙ (sym c.same_shape.ensures ∙ c.if-not-same_shape.true)) in
-    record { value = sym (other_shape c.args.shape (placed c.args.token.now) top (levels c.args.self.now.outer.items) other) }
+    sym (other_shape c.args.shape (placed c.args.token.now) top (levels c.args.self.now.outer.items) other)
 
-pub returns-in_default-pop : goal.returns-in_default-pop
-returns-in_default-pop c =
+pub returns-in_default-pop-clause-value : goal.returns-in_default-pop-clause-value
+returns-in_default-pop-clause-value c =
     let top = level c.args.self.now.top in
     let none = none_left c.args.self.now.outer.items (omega (arith, c.in_default-pop.ensures.cases.0, c.args.self.now.outer.ok.0)) in
-    record { value = sym (ap (λ fs. next_at (Close c.args.shape) (placed c.args.token.now) top (levels fs)) none) }
+    sym (ap (λ fs. next_at (Close c.args.shape) (placed c.args.token.now) top (levels fs)) none)
 
-pub returns-in_err-inside : goal.returns-in_err-inside
-returns-in_err-inside c = record { value = IfOk-from_err _ _ c.from_residual.ensures.0 }
+pub returns-in_err-inside-clause-value : goal.returns-in_err-inside-clause-value
+returns-in_err-inside-clause-value c = IfOk-from_err _ _ c.from_residual.ensures.0
 
-pub returns-in_default-2 : goal.returns-in_default-2
-returns-in_default-2 c =
+pub returns-in_default-2-clause-value : goal.returns-in_default-2-clause-value
+returns-in_default-2-clause-value c =
     let top = level c.args.self.now.top in
     let none = no_inside c.in-Some.kind (so_far c.args.self.now.top.walk) c.in_ok-inside.field-0 c.in_default-2.is (c.in_ok-inside.ensures.value ∙ ap (λ f. option_map done (so_far f.walk)) c.replace-walk.ensures.value) in
-    record { value = sym (no_group c.args.shape (placed c.args.token.now) top (levels c.args.self.now.outer.items) (ap (λ k. closed k top.walked) c.in-Some.is ∙ none)) }
+    sym (no_group c.args.shape (placed c.args.token.now) top (levels c.args.self.now.outer.items) (ap (λ k. closed k top.walked) c.in-Some.is ∙ none))
 
-pub returns-in_err-add_group : goal.returns-in_err-add_group
-returns-in_err-add_group c = record { value = IfOk-from_err _ _ c.from_residual-in_err-add_group.ensures.0 }
+pub returns-in_err-add_group-clause-value : goal.returns-in_err-add_group-clause-value
+returns-in_err-add_group-clause-value c = IfOk-from_err _ _ c.from_residual-in_err-add_group.ensures.0
 
-pub returns : goal.returns
-returns c =
+pub returns-clause-value : goal.returns-clause-value
+returns-clause-value c =
     let top = level c.args.self.now.top in
     let kind = c.in-Some.kind in
     let inside = c.in-Some-2.inside in
@@ -80,7 +83,21 @@ returns c =
     let one : c.if-len-eq1.one_comma ≡ (is_paren kind && (length (inside_view inside).segs == 1) && inside.trailing) = grind (arith, common_steps) in
     let grouped = made-group (record { kind = kind; segs = inside.segs; one_comma = c.if-len-eq1.one_comma; end = inside.end }) ∙ ap (λ b. group kind (segs_of (segs_view inside.segs.items)) b (texts inside.end.items)) one in
     let added = c.in_ok-add_group.ensures.value ∙ (ap (λ g. with_own (level c.replace-walk.new.dest) (node c.args.token.now.line g)) grouped ∙ ap (λ f. with_own (level f) (node c.args.token.now.line (group_with kind (inside_view inside)))) c.replace-walk.ensures.after) in
-    record {
-      value = closes c.args.shape (placed c.args.token.now) top (levels c.args.self.now.outer.items) (level below) (level c.add_group.new.self) (levels c.pop.new.self.items) (group_with kind (inside_view inside)) same
-          (ap (λ k. closed k top.walked) c.in-Some.is ∙ some) (last_first level c.args.self.now.outer.items c.pop.new.self.items below c.in-Some-pop.ensures.items) added;
-    }
+    closes c.args.shape (placed c.args.token.now) top (levels c.args.self.now.outer.items) (level below) (level c.add_group.new.self) (levels c.pop.new.self.items) (group_with kind (inside_view inside)) same
+    (ap (λ k. closed k top.walked) c.in-Some.is ∙ some) (last_first level c.args.self.now.outer.items c.pop.new.self.items below c.in-Some-pop.ensures.items) added
+
+pub returns-in_default-2-clause-borrowed : goal.returns-in_default-2-clause-borrowed
+returns-in_default-2-clause-borrowed c =
+    let outer = ap (λ fs. total (map frame_owned fs)) c.pop.ensures.items ∙ owned_pop frame_owned _ _ _ c.in-Some-pop.is in
+    let top = ap frame_owned c.replace-walk.ensures.after in
+    omega (arith, outer, top)
+
+pub returns-clause-borrowed : goal.returns-clause-borrowed
+returns-clause-borrowed c =
+    let outer = ap (λ fs. total (map frame_owned fs)) c.pop.ensures.items ∙ owned_pop frame_owned _ _ _ c.in-Some-pop.is in
+    let top = ap frame_owned c.replace-walk.ensures.after in
+    let inner = ap frame_owned c.replace-walk.ensures.value in
+    let i = c.in-Some-2.inside in
+    let fits = rw c.in-Some-2.is at c.in_ok-inside.ensures.borrowed in
+    let group = made_group (record { kind = c.in-Some.kind; segs = i.segs; one_comma = c.if-len-eq1.one_comma; end = i.end }) in
+    omega (arith, outer, top, inner, fits, group, c.in_ok-add_group.ensures.borrowed)

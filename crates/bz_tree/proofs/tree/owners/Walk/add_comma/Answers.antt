@@ -8,6 +8,10 @@ use Rattle.bz_tree.specs.View.{text_of, texts, nodes_view, seg_view}
 use Rattle.bz_tree.specs.Owners.{end_of_comma}
 use Rattle.bz_tree.specs.private.Steps.{Walked, walked, after_comma}
 use Rattle.bz_tree.proofs.Trees.Walking.{made-seg, none_in, some_in}
+use Rattle.bz_tree.specs.declared.tree.Seg.{Seg}
+use Rattle.bz_tree.specs.Borrowed.{owned, owned_in, owned_of}
+use Rattle.bz_tree.specs.private.BorrowedSteps.{nodes_owned, segs_owned}
+use Rattle.bz_tree.proofs.Trees.Borrowed.{owned_more, seg_push}
 use Rattle.bz_tree.proofs.tree.owners.Walk.add_comma.Goals as goal
 
 abbrev after : ℕ → List Segment → List (List ℕ) → List Item → Option (List ℕ) → List (List ℕ) → Walked
@@ -32,20 +36,20 @@ stepped : (whole : Bool) (w v : Walked) (f : Walked → Option Walked) → Some 
 stepped true w v f e = e
 stepped false w v f e = refl
 
-pub returns-then-is_empty : goal.returns-then-is_empty
-returns-then-is_empty c =
+pub returns-then-is_empty-clause-value : goal.returns-then-is_empty-clause-value
+returns-then-is_empty-clause-value c =
     let self = c.args.self.now in
     let none = none_in self.here.nodes.items _ c.is_empty.result (omega (arith, self.here.nodes.ok.0)) c.is_empty.ensures c.if-is_empty.true in
-    record { value = refused self.whole (walked self) (after_comma c.args.line) (empty c.args.line self none) }
+    refused self.whole (walked self) (after_comma c.args.line) (empty c.args.line self none)
 
-pub returns-in_err-append : goal.returns-in_err-append
-returns-in_err-append c = record { value = IfOk-from_err _ _ c.from_residual.ensures.0 }
+pub returns-in_err-append-clause-value : goal.returns-in_err-append-clause-value
+returns-in_err-append-clause-value c = IfOk-from_err _ _ c.from_residual.ensures.0
 
-pub returns-in_err-push : goal.returns-in_err-push
-returns-in_err-push c = record { value = IfOk-from_err _ _ c.from_residual-in_err-push.ensures.0 }
+pub returns-in_err-push-clause-value : goal.returns-in_err-push-clause-value
+returns-in_err-push-clause-value c = IfOk-from_err _ _ c.from_residual-in_err-push.ensures.0
 
-pub returns : goal.returns
-returns c =
+pub returns-clause-value : goal.returns-clause-value
+returns-clause-value c =
     let self = c.args.self.now in
     let new = c.empty_segment.ensures in
     let here = c.replace-seg.ensures.after in
@@ -56,4 +60,18 @@ returns c =
     ∙ ap (λ ts. record (done self) { before = ts }) (ap texts c.in_ok-append.ensures.items ∙ map-append text_of self.here.before.items self.after.items)) in
     let next = full c.args.line self some.0 some.1 _ _ _ _ _ _ some.2 segs seg (ap (λ s. texts s.before.items) here ∙ ap texts new.before) (ap (λ s. nodes_view s.nodes.items) here ∙ ap nodes_view new.nodes)
     (ap (λ s. option_map text_of s.suffix) here ∙ ap (option_map text_of) new.suffix) (ap texts c.in_ok-append.ensures.other_items) in
-    record { value = stepped self.whole (walked self) _ (after_comma c.args.line) next }
+    stepped self.whole (walked self) _ (after_comma c.args.line) next
+
+pub returns-clause-borrowed : goal.returns-clause-borrowed
+returns-clause-borrowed c =
+    let w = c.args.self.now in
+    let before = ap owned_in c.in_ok-append.ensures.items ∙ owned_more owned w.here.before.items w.after.items in
+    let after = ap owned_in c.in_ok-append.ensures.other_items in
+    let before_moved = ap (λ (s : Seg). owned_in s.before.items) c.replace-seg.ensures.value in
+    let nodes_moved = ap (λ (s : Seg). nodes_owned s.nodes.items) c.replace-seg.ensures.value in
+    let suffix_moved = ap (λ (s : Seg). owned_of s.suffix) c.replace-seg.ensures.value in
+    let before_left = ap (λ (s : Seg). owned_in s.before.items) c.replace-seg.ensures.after ∙ ap owned_in c.empty_segment.ensures.before in
+    let nodes_left = ap (λ (s : Seg). nodes_owned s.nodes.items) c.replace-seg.ensures.after ∙ ap nodes_owned c.empty_segment.ensures.nodes in
+    let suffix_left = ap (λ (s : Seg). owned_of s.suffix) c.replace-seg.ensures.after ∙ ap owned_of c.empty_segment.ensures.suffix in
+    let segs = ap segs_owned c.in_ok-push.ensures.items ∙ seg_push w.segs.items c.replace-seg.result in
+    omega (arith, before, after, before_moved, before_left, nodes_moved, nodes_left, suffix_moved, suffix_left, segs)

@@ -10,6 +10,8 @@ use Rattle.bz_tree.specs.private.Steps.{done, walked}
 use Rattle.bz_tree.proofs.Trees.Views.{view-seg}
 use Rattle.bz_tree.proofs.Trees.Walking.{none_in, some_in}
 use Rattle.bz_tree.proofs.tree.owners.Walk.finish.Goals.{then-not-is_empty+in_ok-push, else-not-is_empty}
+use Rattle.bz_tree.specs.private.BorrowedSteps.{segs_owned}
+use Rattle.bz_tree.proofs.Trees.Borrowed.{seg_push}
 use Rattle.bz_tree.proofs.tree.owners.Walk.finish.Goals as goal
 
 abbrev ended : Walk → List Segment → Inside
@@ -21,14 +23,14 @@ no_nodes w e = rw e refl
 nodes : (w : Walk) (x : Node) (xs : List Node) → w.here.nodes.items ≡ x ∷ xs → done (walked w) ≡ ended w (map seg_view w.segs.items ++ seg_view w.here ∷ [])
 nodes w x xs e = rw (view-seg w.here, e) refl
 
-pub returns-then-not-self : goal.returns-then-not-self
-returns-then-not-self c = record { value = ap (λ b. option_map done (cond b (Some (walked c.args.self)) None)) (sym c.if-not-self.true) }
+pub returns-then-not-self-clause-value : goal.returns-then-not-self-clause-value
+returns-then-not-self-clause-value c = ap (λ b. option_map done (cond b (Some (walked c.args.self)) None)) (sym c.if-not-self.true)
 
-pub returns-in_err-push : goal.returns-in_err-push
-returns-in_err-push c = record { value = IfOk-from_err _ _ c.from_residual.ensures.0 }
+pub returns-in_err-push-clause-value : goal.returns-in_err-push-clause-value
+returns-in_err-push-clause-value c = IfOk-from_err _ _ c.from_residual.ensures.0
 
-pub returns : goal.returns
-returns c =
+pub returns-clause-value : goal.returns-clause-value
+returns-clause-value c =
     let self = c.args.self in
     let inside : ended self (map seg_view c.if-not-is_empty.segs.items) ≡ done (walked self) = elim c.if-not-is_empty.branch [
       | then-not-is_empty+in_ok-push w ↦
@@ -38,4 +40,11 @@ returns c =
       | else-not-is_empty w ↦
           ap (λ v. ended self (map seg_view v.items)) w.segs-is ∙ sym (no_nodes self (none_in _ _ c.is_empty.result (omega (arith, self.here.nodes.ok.0)) c.is_empty.ensures w.if-not-is_empty.false))
     ] in
-    record { value = ap Some inside ∙ ap (λ b. option_map done (cond b (Some (walked self)) None)) (sym c.if-not-self.false) }
+    ap Some inside ∙ ap (λ b. option_map done (cond b (Some (walked self)) None)) (sym c.if-not-self.false)
+
+pub returns-clause-borrowed : goal.returns-clause-borrowed
+returns-clause-borrowed c = elim c.if-not-is_empty.branch [
+  | then-not-is_empty+in_ok-push w ↦
+      omega (arith, ap (λ s. segs_owned s.items) w.segs-is, ap segs_owned w.in_ok-push.ensures.items, seg_push c.args.self.segs.items c.args.self.here)
+  | else-not-is_empty w ↦ omega (arith, ap (λ s. segs_owned s.items) w.segs-is)
+]
