@@ -7,6 +7,7 @@ mod row_edit;
 mod row_parts;
 mod slot;
 mod statement_row;
+mod texts;
 
 pub use bz_attribute::{Done, Note, label, matches};
 pub use bz_command::{LabelFault, Package, Target, Text, quote, read_label, same, value_is};
@@ -14,3 +15,4 @@ pub use command::{Action, Command, CommandFault, LEFT_OUT, USAGE, one_attribute}
 pub use reader::read_command;
 pub use slot::apply;
 pub use statement_row::{StatementRow, execute};
+pub use texts::shown;

@@ -3,7 +3,7 @@
 use crate::checks::{check, check_table, check_value, statement};
 use crate::table::{cut_rows, plain};
 use bumpalo::Bump;
-use bz_rule::{Package, StatementRow, Target, label, quote, read_label, same, value_is};
+use bz_rule::{Package, StatementRow, Target, label, quote, read_label, same, shown, value_is};
 use bz_token::{Kind, Token};
 use std::alloc::Global;
 use std::collections::HashMap;
@@ -264,10 +264,8 @@ f(name = b'a') ! //p:%f
 f(name = '') ! //p:"##;
 
 fn shown_rule(alloc: Global, home: &Package, text: &str) -> Result<String, Fail> {
-    let bump = Bump::new(alloc);
     let stmt = statement(alloc, text)?;
-    let stmt = StatementRow::of_stmt(alloc, &bump, &stmt)?;
-    let shown = stmt.shown(alloc, home)?;
+    let shown = shown(alloc, home, &stmt)?;
     Ok(shown)
 }
 
