@@ -167,14 +167,20 @@ move a a * ! SameAttribute
 print ! prints
 delete ! edits"##;
 
+fn word_of(command: &Option<Command>) -> &'static str {
+    match command {
+        None => "no command",
+        Some(command) if command.is_print() => "prints",
+        Some(_) => "edits",
+    }
+}
+
 fn shown_words(alloc: Global, words: &str) -> Result<String, Fail> {
-    let word = match read_command(alloc, words) {
-        Err(fault) => return Ok(format!(in alloc; "{fault:?}")?),
-        Ok(None) => "no command",
-        Ok(Some(command)) if command.is_print() => "prints",
-        Ok(Some(_)) => "edits",
+    let shown = match read_command(alloc, words) {
+        Ok(command) => String::from_str(alloc, word_of(&command))?,
+        Err(fault) => format!(in alloc; "{fault:?}")?,
     };
-    Ok(String::from_str(alloc, word)?)
+    Ok(shown)
 }
 
 #[test]
