@@ -153,3 +153,91 @@ fn edited(alloc: Global, asked: &str) -> Result<String, Fail> {
 fn commands_on_statements(rt: HostRuntime) -> Result<(), Fail> {
     check_table(&rt, rt.alloc(), EDITS, edited)
 }
+
+/// Words, and what they are read as.
+const WORDS: &str = r##"
+add deps ! WrongCount
+set a-b c ! BadAttribute
+set kind 1x ! BadKind
+comment a␊b ! CommentLine
+move a a * ! SameAttribute
+//p:a ! no command
+print ! prints
+delete ! edits"##;
+
+fn word_of(command: &Option<Command>) -> &'static str {
+    match command {
+        None => "no command",
+        Some(command) if command.is_print() => "prints",
+        Some(_) => "edits",
+    }
+}
+
+fn shown_words(alloc: Global, words: &str) -> Result<String, Fail> {
+    let shown = match read_command(alloc, words) {
+        Ok(command) => String::from_str(alloc, word_of(&command))?,
+        Err(fault) => format!(in alloc; "{fault:?}")?,
+    };
+    Ok(shown)
+}
+
+#[test]
+fn words_of_commands(rt: HostRuntime) -> Result<(), Fail> {
+    check_table(&rt, rt.alloc(), WORDS, shown_words)
+}
+
+/// Commands and statements, and why nothing is done to them.
+const NOTES: &str = r##"
+rename x y␊f(x = 1, y = 2) ! AttributeExists y
+rename x y␊f(y = 2) ! NoAttribute x
+move x y *␊f(y = ["a"]) ! NoAttribute x
+comment x why␊f(y = 2) ! NoAttribute x
+add x a␊f(x = 1) ! NotAList x
+move x y *␊f(x = ["a"], y = 1) ! NotAList y
+comment x a why␊f(x = 1) ! NotAList x
+comment x a why␊f(x = ["b"]) ! NoValue x a
+print q r␊f(x = 1) ! Missing q
+print x␊f(x = 1) ! none
+remove y␊f(x = 1) ! none
+delete␊x = 1 ! none"##;
+
+fn shown_note(alloc: Global, note: &Option<Note>) -> Result<String, Fail> {
+    let shown = match note {
+        None => String::from_str(alloc, "none")?,
+        Some(Note::Missing(attr)) => format!(in alloc; "Missing {}", attr.as_str())?,
+        Some(Note::NoAttribute(attr)) => format!(in alloc; "NoAttribute {}", attr.as_str())?,
+        Some(Note::AttributeExists(attr)) => format!(in alloc;
+            "AttributeExists {}",
+            attr.as_str()
+        )?,
+        Some(Note::NotAList(attr)) => format!(in alloc; "NotAList {}", attr.as_str())?,
+        Some(Note::NoValue { attr, value }) => {
+            format!(in alloc; "NoValue {} {}", attr.as_str(), value.as_str())?
+        }
+    };
+    Ok(shown)
+}
+
+/// What a command that changes nothing notes of a statement.
+fn note_of(alloc: Global, command: &Command, home: &Package, text: &str) -> Result<String, Fail> {
+    let mut slot = read(alloc, text)?;
+    let before = text_of(alloc, &slot)?;
+    let done = apply(alloc, command, home, &mut slot)?;
+    let after = text_of(alloc, &slot)?;
+    if done.changed || after != before {
+        return Err(Fail::from("the statement is changed"));
+    }
+    shown_note(alloc, &done.note)
+}
+
+fn noted(alloc: Global, asked: &str) -> Result<String, Fail> {
+    let (words, text) = asked.split_once('\n').ok_or("a row without a statement")?;
+    let command = read_command(alloc, words)?.ok_or("no command")?;
+    let home = package(alloc, "//p:a")?;
+    note_of(alloc, &command, &home, text)
+}
+
+#[test]
+fn notes_of_commands(rt: HostRuntime) -> Result<(), Fail> {
+    check_table(&rt, rt.alloc(), NOTES, noted)
+}
