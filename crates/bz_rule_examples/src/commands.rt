@@ -4,7 +4,7 @@
 use crate::checks::{check_table, read};
 use crate::labels::package;
 use bz_layout::put_stmt;
-use bz_rule::{Command, Done, Package, apply, read_command};
+use bz_rule::{Command, Done, Note, Package, apply, read_command};
 use bz_tree::Stmt;
 use std::alloc::Global;
 use std::test::Fail;

@@ -3,7 +3,9 @@
 use crate::checks::{check, check_table, check_value, statement};
 use crate::table::{cut_rows, plain};
 use bumpalo::Bump;
-use bz_rule::{Package, StatementRow, Target, label, quote, read_label, same, shown, value_is};
+use bz_rule::{
+    Package, StatementRow, Target, label, matches, quote, read_label, same, shown, value_is,
+};
 use bz_token::{Kind, Token};
 use std::alloc::Global;
 use std::collections::HashMap;
@@ -100,6 +102,7 @@ a/b:c ! //a/b:c, has to mark
 -x:a ! //-x:a, has to mark
 //p:__pkg__ ! //p:__pkg__, has to mark
 //p:%a.b ! //p:%a.b, may mark nothing
+//p:%7 ! //p:%7, has to mark
 p:%007 ! //p:%7, has to mark
 //a/* ! //a/*:*, has to mark
 //a//b:c ! BadPackage
@@ -230,22 +233,31 @@ const MARKS: &str = r##"
 //p:%g f(name = 'a') ! not
 //p:__pkg__ f(name = 'a') ! not
 //p:__pkg__ package() ! marked
+//p:b f(x = [name], name = 'a', name = 'b') ! not
+//p:%a.b a . b() ! marked
+//p:%a.b a.b() + f() ! not
+//p:%a a.b() ! not
 //p:%3 # c␊# d␊f(name = 'a') ! marked
 //p:%1 # c␊# d␊f(name = 'a') ! not
 //p:%3 # c␊# d␊x = 1 ! not"##;
 
-fn is_marked(alloc: Global, target: &Target, text: &str) -> Result<bool, Fail> {
+/// Whether the statement is marked: as a tree, and as a row.
+fn are_marked(alloc: Global, target: &Target, text: &str) -> Result<(bool, bool), Fail> {
     let bump = Bump::new(alloc);
     let stmt = statement(alloc, text)?;
-    let stmt = StatementRow::of_stmt(alloc, &bump, &stmt)?;
-    Ok(stmt.is_marked_by(target))
+    let row = StatementRow::of_stmt(alloc, &bump, &stmt)?;
+    Ok((matches(target, &stmt), row.is_marked_by(target)))
 }
 
 fn shown_mark(alloc: Global, asked: &str) -> Result<String, Fail> {
     let (label, text) = asked.split_once(' ').ok_or("a row without a statement")?;
     let (_, target) = read_label(alloc, label)?;
-    let is_marked = is_marked(alloc, &target, text)?;
-    Ok(String::from_str(alloc, if is_marked { "marked" } else { "not" })?)
+    let word = match are_marked(alloc, &target, text)? {
+        (true, true) => "marked",
+        (false, false) => "not",
+        _ => "both",
+    };
+    Ok(String::from_str(alloc, word)?)
 }
 
 #[test]

@@ -4,7 +4,7 @@ use crate::checks::{check, check_table, check_value, read, statement};
 use crate::table::{BLOCK, cut_rows, plain};
 use crate::texts::TEXTS;
 use crate::trees;
-use bz_layout::{flat, put_gap, put_stmt};
+use bz_layout::{blank_between, flat, put_gap, put_stmt};
 use bz_tree::{Class, Group, Node, Stmt};
 use std::alloc::Global;
 use std::process::Abort;
@@ -268,6 +268,8 @@ fn check_gap(
     put_gap(before, after, &mut text)?;
     let found = (before, after, text.as_slice());
     check_value(rt, "gap", &found, &(before, after, wanted.as_bytes()));
+    let found = (before, after, blank_between(before, after));
+    check_value(rt, "blank", &found, &(before, after, wanted == "\n"));
     Ok(())
 }
 

@@ -5,7 +5,7 @@ ghost use Rattle.bz_token.specs.Cuts.{is_physical_line};
 
 use crate::checks::{check_table, check_value};
 use bumpalo::Bump;
-use bz_token::{Cut, Cutter, Front, LexFault, Next, Token, check_utf8, first_chunk, tokens_in};
+use bz_token::{Cut, Cutter, Front, LexFault, Next, Token, check_utf8, first_chunk, tokens};
 use std::alloc::Global;
 use std::process::Abort;
 use std::test::Fail;
@@ -130,9 +130,8 @@ fn shown(alloc: Global, text: &str) -> Result<String, Fail> {
     if text.len() > 1000 {
         return Err("a long text".into());
     }
-    let bump = Bump::new(alloc);
-    let shown = match tokens_in(&bump, text, 1, 100) {
-        Ok(found) => shown_tokens(alloc, found)?,
+    let shown = match tokens(alloc, text, 1, 100) {
+        Ok(found) => shown_tokens(alloc, &found)?,
         Err(fault) => format!(in alloc; "{fault:?}\n")?,
     };
     Ok(shown)
@@ -145,8 +144,7 @@ fn tokens_of_texts(rt: HostRuntime) -> Result<(), Fail> {
 
 /// A text whose brackets may be so deep in one another has this first fault.
 fn check_fault(rt: &impl Abort, alloc: Global, text: &str, max_depth: u8, fault: LexFault) {
-    let bump = Bump::new(alloc);
-    let found = tokens_in(&bump, text, 1, max_depth).err();
+    let found = tokens(alloc, text, 1, max_depth).err();
     check_value(rt, text, &found, &Some(fault));
 }
 
@@ -162,6 +160,30 @@ fn faults_of_brackets(rt: HostRuntime) {
 fn utf8(rt: HostRuntime) {
     check_value(&rt, "[97, 255]", &check_utf8(&[97, 255]), &Err(1));
     check_value(&rt, "é", &check_utf8(b"\xc3\xa9"), &Ok("é"));
+}
+
+#[test]
+fn lines_end_chunks(rt: HostRuntime) -> Result<(), Fail> {
+    let mut cutter = Cutter::new();
+    let Cut::More = cutter.line(b"# a\n") else {
+        return Err(Fail::from("a comment ends its chunk"));
+    };
+    let Cut::More = cutter.line(b"x = [\n") else {
+        return Err(Fail::from("an open bracket ends its chunk"));
+    };
+    let Cut::Whole = cutter.line(b"]\n") else {
+        return Err(Fail::from("a statement ends no chunk"));
+    };
+    let Cut::Whole = cutter.line(b"\n") else {
+        return Err(Fail::from("an empty line ends no chunk"));
+    };
+    Ok(())
+}
+
+#[test]
+fn newline_in_a_string_ends_a_chunk(rt: HostRuntime) {
+    let cut = Cutter::new().line(b"x = \"a\n");
+    check_value(&rt, "x = \"a", &matches!(cut, Cut::Whole), &true);
 }
 
 /// What ends a block that begins with this line.
