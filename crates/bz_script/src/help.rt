@@ -26,6 +26,9 @@ flags:
   -f FILE   reads commands from a file (- for standard input), a line each: COMMAND|..|TARGET|..
 
 status: 0 something changed, 1 usage, 2 a failure, 3 nothing changed
+
+The current directory is the root of the workspace. A quote round a value is part of the value.
+More, and the commit and the day of the build: man buildozer
 ";
 
 /// Whether the page is what the words are after: there are none, or one of them asks for help.
