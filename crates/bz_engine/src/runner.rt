@@ -15,13 +15,14 @@ use crate::session::{Session, Step};
 use bz_command::Pass;
 use bz_devices::device::{Sink, Source};
 use bz_rule::{Command, Package, Target};
+use std::alloc::Global;
 
 /// Makes the passes, one after another, over the whole list of the statements of the input, and writes what they leave.
 ///
 /// One statement is held at a time. With `keep_going` every execution takes place; without, the run ends at the first
-/// statement on which one fails. A fault of the file ends its statements, and is then the only message. Memory is from
-/// the allocator of `passes`.
+/// statement on which one fails. A fault of the file ends its statements, and is then the only message.
 pub fn run<S: Source, W: Sink>(
+    alloc: Global,
     home: Package,
     passes: Vec<Pass<Target, Command>>,
     options: Options,
@@ -57,7 +58,6 @@ pub fn run<S: Source, W: Sink>(
         × ForEveryFile pieces (HasTooLong options.max_statement line (concat pieces)) }
     ensures going { result ≢ Err RunFault.Stopped }
 {
-    let alloc = *passes.allocator();
     let mut session = Session::new(alloc, home, passes, options)?;
     loop {
         match session.step(source, sink)? {
