@@ -70,19 +70,19 @@ module _ {S W : Type 0} (gave : S → List (List ℕ) → S → Type 0) (took : 
 pub stop_at : {S W : Type 0} (gave : S → List (List ℕ) → S → Type 0) (took : W → List ℕ → W → Type 0)
     → ((a b c : S) (xs ys : List (List ℕ)) → gave a xs b → gave b ys c → gave a (xs ++ ys) c)
     → ((a b c : W) (xs ys : List ℕ) → took a xs b → took b ys c → took a (xs ++ ys) c)
-    → (s s1 s2 : S) (w w1 w2 : W) (count : ℕ) (v v1 v2 : SessionValue) (fault : RunFault) (read pieces cs : List (List ℕ)) (more text : List ℕ)
+    → (s s1 s2 : S) (w w1 w2 : W) (count : ℕ) (v v1 v2 : SessionValue) (why : RunFault) (read pieces cs : List (List ℕ)) (more text : List ℕ)
     → HasManyMore count (λ read. gave s read s1) (λ shown. took w shown w1) v1 pieces cs text
-    → gave s1 read s2 → took w1 more w2 → IsSameRun v v1 → IsSameRun v1 v2 → IsLeftByFault v1 v2 read more fault → (fault ≢ fault.WriteFailed → more ≡ [])
-    → HasStopped (run_in v) v.options fault (λ read. gave s read s2) (λ shown. took w shown w2) pieces text
-stop_at gave took gave_more took_more s s1 s2 w w1 w2 count v v1 v2 fault read pieces cs more text before given wrote same then left unwritten = record {
+    → gave s1 read s2 → took w1 more w2 → IsSameRun v v1 → IsSameRun v1 v2 → IsLeftByFault v1 v2 read more why → (why ≢ fault.WriteFailed → more ≡ [])
+    → HasStopped (run_in v) v.options why (λ read. gave s read s2) (λ shown. took w shown w2) pieces text
+stop_at gave took gave_more took_more s s1 s2 w w1 w2 count v v1 v2 why read pieces cs more text before given wrote same then left unwritten = record {
   read = before.read ++ read;
   shown = before.shown ++ more;
   gave = gave_more s s1 s2 before.read read before.gave given;
   took = took_more w w1 w2 before.shown more before.took wrote;
   stopped =
-      subst (λ ps. IsStopped (run_in v) v.options ps (text ++ (before.shown ++ more)) fault) (append_assoc pieces before.read read)
-      (subst (λ t. IsStopped (run_in v) v.options ((pieces ++ before.read) ++ read) t fault) (append_assoc text before.shown more)
-      (stops_by_fault v1 v2 fault v.home v.passes v.options (pieces ++ before.read) (cs ++ before.chunks) read (text ++ before.shown) more
+      subst (λ ps. IsStopped (run_in v) v.options ps (text ++ (before.shown ++ more)) why) (append_assoc pieces before.read read)
+      (subst (λ t. IsStopped (run_in v) v.options ((pieces ++ before.read) ++ read) t why) (append_assoc text before.shown more)
+      (stops_by_fault v1 v2 why v.home v.passes v.options (pieces ++ before.read) (cs ++ before.chunks) read (text ++ before.shown) more
       same.home same.passes same.options before.done then left unwritten));
 }
 
