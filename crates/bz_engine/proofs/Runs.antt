@@ -103,12 +103,12 @@ where_done (Ok x) f h = f h
 where_done (Err e) f h = h
 
 -- a fault is this one
-pub where_is : {T E : Type 0} {P : E → Type 0} (r : Result T E) (e : E) → r ≡ Err e → P e → IfErr r P
-where_is {P = P} r e is h = subst (λ s. IfErr s P) (sym is) h
+pub where_is : {T E : Type 0} (P : E → Type 0) (r : Result T E) (e : E) → r ≡ Err e → P e → IfErr r P
+where_is P r e is h = subst (λ s. IfErr s P) (sym is) h
 
-pub where_memory : {T E : Type 0} {P : E → Type 0} (r : Result T E) (e : E) → OnErr r (r ≡ Err e) → P e → IfErr r P
-where_memory (Ok x) e is h = tt
-where_memory {P = P} (Err f) e is h = where_is {P = P} (Err f) e is h
+pub where_memory : {T E : Type 0} (P : E → Type 0) (r : Result T E) (e : E) → OnErr r (r ≡ Err e) → P e → IfErr r P
+where_memory P (Ok x) e is h = tt
+where_memory P (Err f) e is h = where_is P (Err f) e is h
 
 pub ok_is_no_err : {T E : Type 0} (r : Result T E) (t : T) (e : E) → r ≡ Ok t → r ≡ Err e → ⊥
 ok_is_no_err r t e is err = false≢true (sym (ap is_ok_answer err) ∙ ap is_ok_answer is)

@@ -1,5 +1,5 @@
 -- What a step did: it took a chunk, came to the end, or left a fault.
-use Rattle.std.proofs.Common.{◌≡◌, ◌≢◌, ℕ, ◌+◌, ◌<◌, ◌≤◌, List, [], ◌∷◌, ◌++◌, length, take, drop, refl, sym, ◌∙◌, ap, subst, arith, inl}
+use Rattle.std.proofs.Common.{◌≡◌, ◌≢◌, ℕ, ◌+◌, ◌<◌, ◌≤◌, List, [], ◌∷◌, ◌++◌, length, take, drop, append-nil, refl, sym, ◌∙◌, ap, subst, arith, inl}
 use Rattle.std.specs.Prelude.{IsTrue, Option, Result, Ok, Err}
 use Rattle.std.proofs.Math.Seq.{take-length}
 use Rattle.bz_devices.specs.Device.{Rises}
@@ -275,7 +275,8 @@ step_at_empty_line gave reads_failed took writes_failed v new source sink rest u
     newline_edited _ _ v.ahead v.progress passed [] rest v.ahead.bytes (λ n more. absurd (omega (arith, ready.few, more))) (length v.ahead.bytes, omega arith, sym (take-length v.ahead.bytes)) begins some refl in
     step_on {T = ℕ} gave reads_failed took writes_failed v stopped done new 0 step.More source source sink sink [] unwritten refl (λ other. absurd (other refl)) refl
     (finds_nothing gave reads_failed v.options v.progress.line 0 source v.ahead unread made (omega (arith, ready.few)))
-    (adds_one v stopped done taken new [] [] _ [] refl (read_nothing v.options.max_reads v.ahead made) tt next refl refl refl refl (is ∙ ap goes going))
+    (adds_one v stopped done taken new [] [] _ [] refl (read_nothing v.options.max_reads v.ahead made)
+    (record { needed = tt; few = subst (λ l. length l ≤ v.options.max_statement + 8192) (sym (append-nil v.ahead.bytes)) (omega (arith, ready.few)) }) next refl refl refl refl (is ∙ ap goes going))
 
 -- what a step did, where its answer is known
 pub did_as : {source : Reader} {sink : Writer} {old new : SessionValue} {result : Result Step RunFault} (s : Steps source sink old new result) (answer : Result Step RunFault)

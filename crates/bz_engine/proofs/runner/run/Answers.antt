@@ -123,13 +123,15 @@ returns-in-End-clause-ended g c =
 pub returns-in_err-session-clause-stopped : goal.returns-in_err-session-clause-stopped
 returns-in_err-session-clause-stopped g c =
     let start = at_start c.args.home c.args.passes.items c.args.options in
+    let none : 0 ≤ c.args.options.max_reads = omega arith in
     let p = err_from_is_err_and c.from_residual.result c.from_residual.ensures.1 in
-    where_is c.from_residual.result (OutOfMemory no_memory) (p.1 ∙ ap Err p.2) (
+    where_is _ c.from_residual.result (OutOfMemory no_memory) (p.1 ∙ ap Err p.2) (
       [],
       [],
       g.met.S.Source.gave_nothing _,
       g.met.W.Sink.took_nothing _,
-      stops_unread start start.ahead (OutOfMemory no_memory) _ _ _ [] [] [] [] refl refl refl (started _ _ _) (read_nothing c.args.options.max_reads start.ahead (omega arith)) tt,
+      stops_unread start start.ahead (OutOfMemory no_memory) c.args.home c.args.passes.items c.args.options [] [] [] [] refl refl refl
+          (started c.args.home c.args.passes.items c.args.options) (read_nothing c.args.options.max_reads start.ahead none) tt,
     )
 
 pub returns-in_err-step-clause-stopped : goal.returns-in_err-step-clause-stopped
@@ -140,7 +142,7 @@ returns-in_err-step-clause-stopped g c =
     let was = c.in_err-step.was in
     let left = did_as step (Err fault) was in
     let p = err_from_is_err_and c.from_residual-in_err-step.result c.from_residual-in_err-step.ensures.1 in
-    where_is c.from_residual-in_err-step.result fault (p.1 ∙ ap Err p.2) (
+    where_is _ c.from_residual-in_err-step.result fault (p.1 ∙ ap Err p.2) (
       inv.pieces ++ step.read,
       inv.text ++ step.shown,
       g.met.S.Source.gave_more _ _ _ _ _ inv.gave step.gave,
@@ -157,7 +159,7 @@ returns-in-End-clause-stopped g c =
     let answer = c.in_ok-step.was ∙ ap Ok c.in-End.is in
     let end = did_as step (Ok End) answer in
     let wrote = subst (λ w. g.W.Sink.took c.args.sink.now inv.text w) (sym (step.unwritten (λ h. more_is_no_end c.step.result h answer) (λ h. ok_is_no_err _ _ WriteFailed answer h)).1) inv.took in
-    where_memory c.finish.result (OutOfMemory no_memory) (c.finish.ensures.memory end.end end.ended) (
+    where_memory _ c.finish.result (OutOfMemory no_memory) (c.finish.ensures.memory end.end end.ended) (
       inv.pieces ++ step.read,
       inv.text ++ [],
       g.met.S.Source.gave_more _ _ _ _ _ inv.gave step.gave,
@@ -226,7 +228,7 @@ returns-in_err-step-clause-statement_too_long g c line told =
       inv.pieces ++ step.read,
       g.met.S.Source.gave_more _ _ _ _ _ inv.gave step.gave,
       too_long_in c.loop-session.session c.step.new.self _ c.args.options.max_statement line inv.pieces inv.cs step.read inv.text inv.done left.read_ahead
-          (ap (λ o. o.max_statement) (c.step.ensures.same.options ∙ inv.options)) left.tells.0 left.tells.1,
+          (ap (λ o. o.max_statement) inv.options) left.tells.0 left.tells.1,
     )
 
 pub returns-in_err-session-clause-steady : goal.returns-in_err-session-clause-steady
