@@ -44,7 +44,11 @@ fn held(session: &Session) -> Option<usize> {
         written,
     } = progress;
     let buffers = [text.len(), small.len(), laid.len(), written.len()];
-    Some(buffers.iter().fold(ahead.held(), |sum, len| sum.saturating_add(*len)))
+    Some(
+        buffers
+            .iter()
+            .fold(ahead.held(), |sum, len| sum.saturating_add(*len)),
+    )
 }
 
 /// A session that sets an attribute of each rule.

@@ -399,7 +399,14 @@ fn ran_without(alloc: Global, input: &str) -> Result<String, Fail> {
     let mut feed = Feed::new(Input::Bytes(input.as_bytes()), Piece::Line, None);
     let mut drip = Drip::new(alloc, 9000, None);
     let (home, _) = read_script(alloc, "print name ! -:*")?;
-    let report = run(alloc, home, Vec::new(alloc), program(true), &mut feed, &mut drip)?;
+    let report = run(
+        alloc,
+        home,
+        Vec::new(alloc),
+        program(true),
+        &mut feed,
+        &mut drip,
+    )?;
     let outcome = Outcome {
         text: drip.taken,
         report,
