@@ -38,9 +38,8 @@ pub struct Ahead {
     ended: bool,
 }
 
-// Half of what a read gives: so what was taken of an input of short chunks, and what is ahead, are fewer bytes than two
-// reads give.
-const MANY_TAKEN: usize = PIECE / 2;
+// As many bytes as eight reads give.
+const MANY_TAKEN: usize = 1 << 16;
 
 impl Model for Ahead {
     ghost use Rattle.std.specs.Prelude.{◌≤◌, ◌+◌, length, take, drop, IsUtf8};
@@ -110,13 +109,6 @@ impl Ahead {
     {
         // The invariant says that this is UTF-8.
         unsafe { from_utf8_unchecked(&self.bytes()[..self.text_len]) }
-    }
-
-    /// How many bytes it holds, with those that were taken and stand there still.
-    pub fn held(&self) -> usize
-        ensures { length self.now.bytes ≤ result }
-    {
-        self.buffer.len()
     }
 
     /// A read met the end of the input.

@@ -42,9 +42,6 @@ use std::alloc::Global;
 use std::marker::Model;
 use std::mem;
 
-#[cfg(test)]
-mod session_tests;
-
 /// Whether a session goes on.
 #[derive(Clone, Copy)]
 pub(crate) enum SessionState {

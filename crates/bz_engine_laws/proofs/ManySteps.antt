@@ -1,9 +1,7 @@
 -- Steps one after another: what is done after each, together.
-use Rattle.std.proofs.Common.{◌≡◌, ◌≢◌, ℕ, ◌+◌, List, [], ◌∷◌, ◌++◌, refl, sym, ap, ◌∙◌, subst, append-nil, append_assoc, length-append}
-use Rattle.bz_engine.specs.SessionValue.{SessionValue, run_in, IsSameRun, HasDone, HasEnded}
-use Rattle.bz_engine.specs.SessionSteps.{AddsOne, EndsRun, IsLeftByFault}
-use Rattle.bz_engine.specs.Stops.{IsStopped}
-use Rattle.bz_engine.proofs.Cut.{stops_by_fault}
+use Rattle.std.proofs.Common.{◌≡◌, ℕ, ◌+◌, List, [], ◌∷◌, ◌++◌, refl, sym, ap, ◌∙◌, subst, append-nil, append_assoc, length-append}
+use Rattle.bz_engine.specs.SessionValue.{SessionValue, HasDone, HasEnded}
+use Rattle.bz_engine.specs.SessionSteps.{AddsOne, EndsRun}
 use Rattle.std.specs.Prelude.{Result, Ok, Err}
 use Rattle.bz_engine.specs.declared.report.End.{End}
 use Rattle.bz_engine.specs.declared.run_fault.RunFault.{RunFault}
@@ -14,7 +12,7 @@ use Rattle.bz_engine.specs.declared.session.Step.{Step}
 use Rattle.bz_engine.specs.declared.session.Step.TheVariants as step
 use Rattle.bz_engine.proofs.Advances.{more_is_no_end}
 use Rattle.bz_engine.proofs.Runs.{ok_is_no_err}
-use Rattle.bz_engine_laws.specs.Steps.{HasManyMore, HasComeTo, HasStopped}
+use Rattle.bz_engine_laws.specs.Steps.{HasManyMore, HasComeTo}
 
 -- the same lists, said otherwise
 done_at : (v : SessionValue) (pieces pieces2 cs cs2 : List (List ℕ)) (text text2 : List ℕ) → pieces ≡ pieces2 → cs ≡ cs2 → text ≡ text2 → HasDone v pieces cs text → HasDone v pieces2 cs2 text2
@@ -65,26 +63,6 @@ module _ {S W : Type 0} (gave : S → List (List ℕ) → S → Type 0) (took : 
       ended = subst (λ ps. HasEnded v2 over.end ps (cs ++ before.chunks) (text ++ before.shown)) (append_assoc pieces before.read read)
           (over.outcome (pieces ++ before.read) (cs ++ before.chunks) (text ++ before.shown) before.done).1;
     }
-
--- or then a fault
-pub stop_at : {S W : Type 0} (gave : S → List (List ℕ) → S → Type 0) (took : W → List ℕ → W → Type 0)
-    → ((a b c : S) (xs ys : List (List ℕ)) → gave a xs b → gave b ys c → gave a (xs ++ ys) c)
-    → ((a b c : W) (xs ys : List ℕ) → took a xs b → took b ys c → took a (xs ++ ys) c)
-    → (s s1 s2 : S) (w w1 w2 : W) (count : ℕ) (v v1 v2 : SessionValue) (why : RunFault) (read pieces cs : List (List ℕ)) (more text : List ℕ)
-    → HasManyMore count (λ read. gave s read s1) (λ shown. took w shown w1) v1 pieces cs text
-    → gave s1 read s2 → took w1 more w2 → IsSameRun v v1 → IsSameRun v1 v2 → IsLeftByFault v1 v2 read more why → (why ≢ fault.WriteFailed → more ≡ [])
-    → HasStopped (run_in v) v.options why (λ read. gave s read s2) (λ shown. took w shown w2) pieces text
-stop_at gave took gave_more took_more s s1 s2 w w1 w2 count v v1 v2 why read pieces cs more text before given wrote same then left unwritten = record {
-  read = before.read ++ read;
-  shown = before.shown ++ more;
-  gave = gave_more s s1 s2 before.read read before.gave given;
-  took = took_more w w1 w2 before.shown more before.took wrote;
-  stopped =
-      subst (λ ps. IsStopped (run_in v) v.options ps (text ++ (before.shown ++ more)) why) (append_assoc pieces before.read read)
-      (subst (λ t. IsStopped (run_in v) v.options ((pieces ++ before.read) ++ read) t why) (append_assoc text before.shown more)
-      (stops_by_fault v1 v2 why v.home v.passes v.options (pieces ++ before.read) (cs ++ before.chunks) read (text ++ before.shown) more
-      same.home same.passes same.options before.done then left unwritten));
-}
 
 -- a step that took a chunk was made of a session that went on
 pub was_going : (s : SessionState) (result : Result Step RunFault) → (s ≡ Stopped → result ≡ Err fault.Stopped) → ((end : End) → s ≡ Ended end → result ≡ Ok step.End) → result ≡ Ok step.More → s ≡ Going

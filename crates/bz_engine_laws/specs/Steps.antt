@@ -1,11 +1,7 @@
 -- What any number of steps of a session does.
 use Rattle.std.specs.Prelude.{◌≡◌, ℕ, List, ◌++◌, length}
 use Rattle.bz_engine.specs.SessionValue.{SessionValue, HasDone, HasEnded}
-use Rattle.bz_engine.specs.Outcome.{Run}
-use Rattle.bz_engine.specs.Stops.{IsStopped}
-use Rattle.bz_engine.specs.declared.options.Options.{Options}
 use Rattle.bz_engine.specs.declared.report.End.{End}
-use Rattle.bz_engine.specs.declared.run_fault.RunFault.{RunFault}
 
 -- Steps took so many chunks after those that were done, and wrote their text.
 pub record HasManyMore (count : ℕ) (Gave : List (List ℕ) → Type 0) (Took : List ℕ → Type 0) (v : SessionValue) (pieces cs : List (List ℕ)) (text : List ℕ) : Type 0 where
@@ -25,12 +21,3 @@ pub record HasComeTo (end : End) (Gave : List (List ℕ) → Type 0) (Took : Lis
   pub gave : Gave read
   pub took : Took shown
   pub ended : HasEnded v end (pieces ++ read) (cs ++ chunks) (text ++ shown)
-
--- Steps took some chunks after those that were done, and then this fault stopped the run: what was written is the text of those
--- chunks, and, where a write failed, a front of what the next one adds.
-pub record HasStopped (run : Run) (options : Options) (fault : RunFault) (Gave : List (List ℕ) → Type 0) (Took : List ℕ → Type 0) (pieces : List (List ℕ)) (text : List ℕ) : Type 0 where
-  pub read : List (List ℕ)
-  pub shown : List ℕ
-  pub gave : Gave read
-  pub took : Took shown
-  pub stopped : IsStopped run options (pieces ++ read) (text ++ shown) fault

@@ -1,9 +1,9 @@
 //! Law on the steps of a session: so many of them take so many chunks.
 
 ghost use Rattle.std.specs.Prelude.{◌≡◌, ℕ, List};
-ghost use Rattle.bz_engine.specs.SessionValue.{run_in, IsSameRun, HasDone};
+ghost use Rattle.bz_engine.specs.SessionValue.{IsSameRun, HasDone};
 ghost use Rattle.bz_engine.specs.declared.session.SessionState.TheVariants.{Going, Ended};
-ghost use Rattle.bz_engine_laws.specs.Steps.{HasManyMore, HasComeTo, HasStopped};
+ghost use Rattle.bz_engine_laws.specs.Steps.{HasManyMore, HasComeTo};
 
 use bz_engine::{RunFault, Session, Sink, Source, Step};
 
@@ -24,11 +24,6 @@ pub fn take_steps<S: Source, W: Sink>(
         × ((pieces cs : List (List ℕ)) (text : List ℕ) → HasDone session.old pieces cs text
         → HasComeTo end (λ read. S.gave source.old read source.new) (λ shown. W.took sink.old shown sink.new)
         session.new pieces cs text) }
-    // A fault leaves the text of the chunks that are done, and, where a write failed, a front of what the next one adds.
-    ensures fault { (fault : _) → result ≡ Err fault → session.old.state ≡ Going
-        → (pieces cs : List (List ℕ)) (text : List ℕ) → HasDone session.old pieces cs text
-        → HasStopped (run_in session.old) session.old.options fault (λ read. S.gave source.old read source.new)
-        (λ shown. W.took sink.old shown sink.new) pieces text }
 {
     let mut taken = 0;
     while taken < count {

@@ -1,9 +1,7 @@
-use Rattle.std.proofs.Common.{◌≡◌, refl, sym, ◌∙◌, ap, subst, arith}
-use Rattle.std.specs.Prelude.{Ok, Err}
-use Rattle.std.proofs.lemmas.Result.{err_from_is_err_and}
-use Rattle.bz_devices.proofs.PassedOn.{err_is}
+use Rattle.std.proofs.Common.{◌≡◌, refl, ◌∙◌, ap, subst, arith}
+use Rattle.std.specs.Prelude.{Ok}
 use Rattle.bz_engine_laws.specs.Steps.{HasManyMore}
-use Rattle.bz_engine_laws.proofs.ManySteps.{many_none, many_more, come_to, stop_at, was_going}
+use Rattle.bz_engine_laws.proofs.ManySteps.{many_none, many_more, come_to, was_going}
 use Rattle.bz_engine.specs.declared.run_fault.RunFault.TheVariants.{WriteFailed}
 use Rattle.bz_engine.specs.declared.session.Step.TheVariants.{More, End}
 use Rattle.bz_engine.proofs.Advances.{more_is_no_end}
@@ -47,17 +45,6 @@ returns-in-End-clause-end g c was going =
           come_to g.S.Source.gave g.W.Sink.took g.met.S.Source.gave_more g.met.W.Sink.took_more _ _ _ _ _ _ _ _ _ step.read pieces cs text (inv.done pieces cs text done) step.gave
           (step.unwritten (λ h. more_is_no_end c.step.result h answer) (λ h. ok_is_no_err _ _ WriteFailed answer h)).1 over,
     )
-
-pub returns-in_err-step-clause-fault : goal.returns-in_err-step-clause-fault
-returns-in_err-step-clause-fault g c fault told going pieces cs text done =
-    let inv = c.loop-taken.invariant in
-    let p = err_from_is_err_and c.from_residual.result c.from_residual.ensures.1 in
-    let was = c.in_err-step.was ∙ ap Err (sym p.2 ∙ err_is p.0 fault (sym p.1 ∙ told)) in
-    let step = c.step.ensures.steps (inv.goes going) in
-    let left = did_as step (Err fault) was in
-    stop_at g.S.Source.gave g.W.Sink.took g.met.S.Source.gave_more g.met.W.Sink.took_more _ _ _ _ _ _ _ _ _ _ fault step.read pieces cs step.shown text (inv.done pieces cs text done)
-    step.gave step.took inv.same c.step.ensures.same left
-    (λ other. (step.unwritten (λ h. ok_is_no_err _ _ fault h was) (λ h. other (err_is fault WriteFailed (sym was ∙ h)))).0)
 
 pub returns-clause-more : goal.returns-clause-more
 returns-clause-more g c was pieces cs text done =
