@@ -54,7 +54,8 @@ impl Asked {
             max_depth: MAX_DEPTH,
             max_reads: MAX_READS,
         };
-        run(self.home, self.passes, options, source, sink)
+        let alloc = *self.passes.allocator();
+        run(alloc, self.home, self.passes, options, source, sink)
     }
 }
 

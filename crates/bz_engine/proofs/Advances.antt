@@ -12,9 +12,10 @@ use Rattle.bz_engine.specs.declared.report.SyntaxFault.{SyntaxFault}
 use Rattle.bz_engine.specs.declared.report.End.TheVariants.{Syntax, FirstFailure}
 use Rattle.bz_engine.specs.declared.edit.Edited.{Edited}
 use Rattle.bz_engine.specs.declared.edit.Edited.TheVariants.{Done, Faulty, Failed}
-use Rattle.bz_devices.specs.Ahead.{Ahead, IsReadOn, AreNeeded, IsNextChunk}
+use Rattle.bz_devices.specs.Ahead.{Ahead, IsReadOn, IsNextChunk}
 use Rattle.bz_engine.specs.Progress.{Progress}
 use Rattle.bz_engine.specs.private.Edits.{EditsChunk}
+use Rattle.bz_engine.specs.private.Finds.{AreFew}
 use Rattle.bz_engine.specs.SessionSteps.{IsCutShort}
 use Rattle.bz_engine.specs.SessionValue.{SessionValue, run_in, HasDone, HasEnded}
 use Rattle.bz_engine.proofs.Sessions.{went_on, ended_fault, ended_failure}
@@ -29,7 +30,7 @@ edits_as v mid n after before following edited kind edits none is =
     subst (EditsNext v mid n after [] following) is (subst (λ b. EditsNext v mid n after b following edited) none edits)
 
 pub chunk_done : (v e f : SessionValue) (mid : Ahead) (before following : List ℕ) (edited : Edited) (max_reads most n : ℕ) (pieces cs read : List (List ℕ)) (text : List ℕ)
-    → HasDone v pieces cs text → IsReadOn max_reads v.ahead mid read → AreNeeded v.options.max_statement v.ahead.bytes read → IsNextChunk most mid n → before ≡ []
+    → HasDone v pieces cs text → IsReadOn max_reads v.ahead mid read → AreFew v.options.max_statement v.ahead.bytes read → IsNextChunk most mid n → before ≡ []
     → (let after : SessionValue = record v { ahead = mid; progress = e.progress } in e ≡ after)
     → EditsNext v mid n e.progress before following edited → edited ≡ Done
     → (let taken : SessionValue = record e { ahead = record e.ahead { bytes = drop n e.ahead.bytes } } in f ≡ taken)
@@ -40,32 +41,32 @@ chunk_done v e f mid before following edited max_reads most n pieces cs read tex
     (went_on v mid e.progress max_reads most n pieces cs read text following done on needed next
     (edits_as v mid n e.progress before following edited Done edits none is cs done.statements done.kept))
 
-pub chunk_faulty : (v e : SessionValue) (mid : Ahead) (before following : List ℕ) (edited : Edited) (fault : SyntaxFault) (max_reads most n : ℕ) (pieces cs read : List (List ℕ)) (text : List ℕ)
-    → HasDone v pieces cs text → IsReadOn max_reads v.ahead mid read → IsNextChunk most mid n → before ≡ []
+pub chunk_faulty : (v e : SessionValue) (mid : Ahead) (before following : List ℕ) (edited : Edited) (fault : SyntaxFault) (max_reads n : ℕ) (pieces cs read : List (List ℕ)) (text : List ℕ)
+    → HasDone v pieces cs text → IsReadOn max_reads v.ahead mid read → IsNextChunk v.options.max_statement mid n → before ≡ []
     → (let after : SessionValue = record v { ahead = mid; progress = e.progress } in e ≡ after)
     → EditsNext v mid n e.progress before following edited → edited ≡ Faulty fault
     → HasEnded e (Syntax fault) (pieces ++ read) cs text
-chunk_faulty v e mid before following edited fault max_reads most n pieces cs read text done on next none at edits is =
+chunk_faulty v e mid before following edited fault max_reads n pieces cs read text done on next none at edits is =
     let faulty = edits_as v mid n e.progress before following edited (Faulty fault) edits none is cs done.statements done.kept in
     let with_progress : Progress → SessionValue = λ p. record v { ahead = mid; progress = p } in
     subst (λ x. HasEnded x (Syntax fault) (pieces ++ read) cs text) (sym (at ∙ ap with_progress faulty.same))
-    (ended_fault v mid fault max_reads most n pieces cs read text done on next faulty.fault_is)
+    (ended_fault v mid fault max_reads n pieces cs read text done on next faulty.fault_is)
 
-pub chunk_failed : (v e f : SessionValue) (mid : Ahead) (before following : List ℕ) (edited : Edited) (message : Option (List ℕ)) (max_reads most n : ℕ) (pieces cs read : List (List ℕ)) (text : List ℕ)
-    → HasDone v pieces cs text → IsReadOn max_reads v.ahead mid read → IsNextChunk most mid n → before ≡ []
+pub chunk_failed : (v e f : SessionValue) (mid : Ahead) (before following : List ℕ) (edited : Edited) (message : Option (List ℕ)) (max_reads n : ℕ) (pieces cs read : List (List ℕ)) (text : List ℕ)
+    → HasDone v pieces cs text → IsReadOn max_reads v.ahead mid read → IsNextChunk v.options.max_statement mid n → before ≡ []
     → (let after : SessionValue = record v { ahead = mid; progress = e.progress } in e ≡ after)
     → EditsNext v mid n e.progress before following edited → edited ≡ Failed message
     → (let told : SessionValue = record e { failure = message } in f ≡ told)
     → HasEnded f FirstFailure (pieces ++ read) cs text
-chunk_failed v e f mid before following edited message max_reads most n pieces cs read text done on next none at edits is told =
+chunk_failed v e f mid before following edited message max_reads n pieces cs read text done on next none at edits is told =
     let tells : SessionValue → SessionValue = λ x. record x { failure = message } in
     subst (λ x. HasEnded x FirstFailure (pieces ++ read) cs text) (sym (told ∙ ap tells at))
-    (ended_failure v mid e.progress message following max_reads most n pieces cs read text done on next
+    (ended_failure v mid e.progress message following max_reads n pieces cs read text done on next
     (edits_as v mid n e.progress before following edited (Failed message) edits none is cs done.statements done.kept))
 
 -- a chunk was done, and its text was not written to its end
 pub write_cut : (v e : SessionValue) (mid : Ahead) (before following : List ℕ) (edited : Edited) (max_reads most n k : ℕ) (pieces cs read : List (List ℕ)) (text : List ℕ)
-    → HasDone v pieces cs text → IsReadOn max_reads v.ahead mid read → AreNeeded v.options.max_statement v.ahead.bytes read → IsNextChunk most mid n → before ≡ []
+    → HasDone v pieces cs text → IsReadOn max_reads v.ahead mid read → AreFew v.options.max_statement v.ahead.bytes read → IsNextChunk most mid n → before ≡ []
     → (let after : SessionValue = record v { ahead = mid; progress = e.progress } in e ≡ after)
     → EditsNext v mid n e.progress before following edited → edited ≡ Done
     → IsCutShort e (pieces ++ read) cs text (take k following)

@@ -1,22 +1,28 @@
 -- What a run has written where a fault stops it.
-use Rattle.std.proofs.Common.{◌≡◌, ℕ, ◌<◌, List, [], ◌∷◌, ◌++◌, length, take, drop, take-append-drop, refl, sym, ◌∙◌, ap, subst, append_assoc, append-nil, inl, inr}
+use Rattle.std.proofs.Common.{◌≡◌, ◌≢◌, ◌⊎◌, ℕ, ◌<◌, Bool, List, [], ◌∷◌, ◌++◌, length, take, drop, take-append-drop, refl, sym, ◌∙◌, ap, subst, append_assoc, append-nil, inl, inr}
 use Rattle.std.specs.Prelude.{IsTrue}
 use Rattle.std.specs.List.{concat}
 use Rattle.std.proofs.lemmas.List.{length-take-le}
 use Rattle.bz_token.specs.Chunks.{chunks}
 use Rattle.bz_command.specs.Labels.{Package}
 use Rattle.bz_engine.specs.declared.options.Options.{Options}
-use Rattle.bz_devices.specs.Ahead.{Ahead, IsReadOn, AreNeeded, IsTooLong, HasTooLong}
+use Rattle.bz_devices.specs.Ahead.{Ahead, IsReadOn, IsTooLong, HasTooLong}
 use Rattle.bz_engine.specs.EveryFile.{ForEveryFile}
-use Rattle.bz_engine.specs.Outcome.{Script, Run, run_with, Told, IsOutcome, IsFrontOf}
+use Rattle.bz_engine.specs.Outcome.{Script, Run, run_with, Told, IsOutcome, IsFrontOf, text_after}
 use Rattle.bz_engine.specs.declared.run_fault.RunFault.{RunFault}
+use Rattle.bz_engine.specs.declared.run_fault.RunFault.TheVariants.{WriteFailed}
 use Rattle.bz_engine.specs.SessionValue.{SessionValue, run_in, IsSameRun, HasDone}
 use Rattle.bz_engine.specs.SessionSteps.{IsCutShort, IsLeftByFault}
-use Rattle.bz_devices.proofs.MoreReads.{joined_more}
+use Rattle.bz_devices.proofs.MoreReads.{joined_more, open_more}
 use Rattle.bz_engine.proofs.OneOutcome.{front_of_outcome, one_outcome}
 use Rattle.bz_engine.proofs.Runs.{run_is, reads_for}
-use Rattle.bz_engine.specs.NeededReads.{AreReads}
-use Rattle.bz_engine.proofs.Sessions.{read_on, ended_on, reads_are}
+use Rattle.bz_tree.specs.Tree.{Statement}
+use Rattle.bz_devices.specs.Device.{ends}
+use Rattle.bz_engine.specs.NeededReads.{AreDone, IsOneNeeded, AreReads}
+use Rattle.bz_engine.specs.Stops.{NeedsRead, Tells, BeginsNext, IsStopped}
+use Rattle.bz_engine.specs.private.Finds.{AreFew}
+use Rattle.bz_engine.proofs.NeededReads.{done_more}
+use Rattle.bz_engine.proofs.Sessions.{read_on, ended_on, reads_on, reads_are}
 
 -- the text begins each outcome of each file that begins with the pieces
 abbrev pub BeginsAll : Run → List (List ℕ) → List ℕ → Type 0
@@ -77,10 +83,108 @@ fault_begins v w fault home passes options pieces cs read text shown h p o done 
 
 -- the reads that were made
 pub fault_reads : (v w : SessionValue) (fault : RunFault) (home : Package) (passes : Script) (options : Options) (pieces cs read : List (List ℕ)) (text shown : List ℕ)
-    → v.home ≡ home → v.passes ≡ passes → v.options ≡ options → HasDone v pieces cs text → AreNeeded v.options.max_statement v.ahead.bytes read
+    → v.home ≡ home → v.passes ≡ passes → v.options ≡ options → HasDone v pieces cs text → AreFew v.options.max_statement v.ahead.bytes read
     → IsLeftByFault v w read shown fault → AreReads home passes options (pieces ++ read)
 fault_reads v w fault home passes options pieces cs read text shown h p o done needed left =
     reads_for v home passes options (pieces ++ read) h p o (reads_are v w.ahead pieces cs read text done left.read_ahead needed)
+
+-- what a fault has left, by the session that it stopped
+are_done : (v : SessionValue) (mid : Ahead) (max_reads : ℕ) (pieces cs read : List (List ℕ)) (text : List ℕ) → (done : HasDone v pieces cs text) → IsReadOn max_reads v.ahead mid read
+    → AreDone (run_in v) (pieces ++ read) cs done.statements mid.bytes
+are_done v mid max_reads pieces cs read text done on =
+    subst (AreDone (run_in v) (pieces ++ read) cs done.statements) (sym on.bytes) (done_more v pieces cs read text done on.stays)
+
+stops_at : (v : SessionValue) (mid : Ahead) (fault : RunFault) (pieces cs read : List (List ℕ)) (text shown : List ℕ) → (done : HasDone v pieces cs text)
+    → IsReadOn v.options.max_reads v.ahead mid read → (shown ≡ []) ⊎ BeginsNext (run_in v) (pieces ++ read) cs done.statements shown
+    → (fault ≢ WriteFailed → shown ≡ []) → Tells v.options v.progress.line mid fault
+    → IsStopped (run_in v) v.options (pieces ++ read) (text ++ shown) fault
+stops_at v mid fault pieces cs read text shown done on begins unwritten tells =
+    let reads : ℕ → Ahead = λ n. record { bytes = mid.bytes; reads = n; ended = mid.ended } in
+    let ends_in : Bool → Ahead = λ b. record { bytes = mid.bytes; reads = length (pieces ++ read); ended = b } in
+    let ahead = ap reads (reads_on v mid v.options.max_reads pieces cs read text done on) ∙ ap ends_in (ended_on v mid v.options.max_reads pieces cs read text done on) in
+    record {
+      front = cs;
+      statements = done.statements;
+      left = mid.bytes;
+      done = are_done v mid v.options.max_reads pieces cs read text done on;
+      cut = shown;
+      text_is = ap (λ l. l ++ shown) done.text_is;
+      begins = begins;
+      unwritten = unwritten;
+      tells = subst (λ line. Tells v.options line (ends_in (ends (pieces ++ read))) fault) done.kept.line
+          (subst (λ a. Tells v.options v.progress.line a fault) ahead tells);
+    }
+
+stopped_for : (v : SessionValue) (fault : RunFault) (home : Package) (passes : Script) (options : Options) (pieces : List (List ℕ)) (text : List ℕ)
+    → v.home ≡ home → v.passes ≡ passes → v.options ≡ options → IsStopped (run_in v) v.options pieces text fault
+    → IsStopped (run_with home passes options) options pieces text fault
+stopped_for v fault home passes options pieces text h p o stopped =
+    subst (λ run. IsStopped run options pieces text fault) (run_is v home passes options h p o)
+    (subst (λ x. IsStopped (run_in v) x pieces text fault) o stopped)
+
+-- it was stopped before it did more
+pub stops_unread : (v : SessionValue) (mid : Ahead) (fault : RunFault) (home : Package) (passes : Script) (options : Options) (pieces cs read : List (List ℕ)) (text : List ℕ)
+    → v.home ≡ home → v.passes ≡ passes → v.options ≡ options → HasDone v pieces cs text
+    → IsReadOn v.options.max_reads v.ahead mid read → Tells v.options v.progress.line mid fault
+    → IsStopped (run_with home passes options) options (pieces ++ read) (text ++ []) fault
+stops_unread v mid fault home passes options pieces cs read text h p o done on tells =
+    stopped_for v fault home passes options (pieces ++ read) (text ++ []) h p o
+    (stops_at v mid fault pieces cs read text [] done on (inl refl) (λ _. refl) tells)
+
+all_done : (v : SessionValue) (pieces cs : List (List ℕ)) (text : List ℕ) → (done : HasDone v pieces cs text)
+    → AreDone (run_in v) pieces cs done.statements v.ahead.bytes
+all_done v pieces cs text done = record {
+  bytes_are = done.bytes;
+  chunks_are = λ rest last. done.first rest (λ h. last (subst IsTrue done.ended h));
+  read = done.kept.read;
+  calm = λ h. sym done.kept.left.failed ∙ done.calm h;
+}
+
+-- what a step that answered a fault has left of what the next chunk adds
+begins_next : (v w : SessionValue) (pieces cs : List (List ℕ)) (statements : List Statement) (text shown : List ℕ) → IsSameRun v w
+    → text ≡ text_after v.home v.passes statements → IsCutShort w pieces cs text shown
+    → (shown ≡ []) ⊎ BeginsNext (run_in v) pieces cs statements shown
+begins_next v w pieces cs statements text shown same is (inl none) = inl none
+begins_next v w pieces cs statements text shown same is (inr cut) =
+    let taken : SessionValue = record w { ahead = record w.ahead { bytes = cut.1.left } } in
+    let done = cut.1.done in
+    let run = run_is w v.home v.passes v.options same.home same.passes same.options in
+    inr (record {
+      chunk = cut.1.chunk;
+      left = cut.1.left;
+      following = done.statements;
+      done = subst (λ r. AreDone r pieces (cs ++ cut.1.chunk ∷ []) done.statements cut.1.left) run
+          (all_done taken pieces (cs ++ cut.1.chunk ∷ []) (text ++ cut.0) done);
+      added = cut.0;
+      adds = ap (λ r. text_after r.home r.passes done.statements) (sym run) ∙ sym done.text_is ∙ ap (λ l. l ++ cut.0) is;
+      begins = cut.2;
+    })
+
+pub stops_by_fault : (v w : SessionValue) (fault : RunFault) (home : Package) (passes : Script) (options : Options) (pieces cs read : List (List ℕ)) (text shown : List ℕ)
+    → v.home ≡ home → v.passes ≡ passes → v.options ≡ options → HasDone v pieces cs text → IsSameRun v w → IsLeftByFault v w read shown fault
+    → (fault ≢ WriteFailed → shown ≡ []) → IsStopped (run_with home passes options) options (pieces ++ read) (text ++ shown) fault
+stops_by_fault v w fault home passes options pieces cs read text shown h p o done same left unwritten =
+    stopped_for v fault home passes options (pieces ++ read) (text ++ shown) h p o
+    (stops_at v w.ahead fault pieces cs read text shown done left.read_ahead
+    (begins_next v w (pieces ++ read) cs done.statements text shown same done.text_is (left.front pieces cs text done)) unwritten left.tells)
+
+-- the input is too long
+pub one_needed_there : (v : SessionValue) (mid : Ahead) (home : Package) (passes : Script) (options : Options) (pieces cs read : List (List ℕ)) (text : List ℕ)
+    → v.home ≡ home → v.passes ≡ passes → v.options ≡ options → HasDone v pieces cs text → IsReadOn v.options.max_reads v.ahead mid read
+    → mid.reads ≡ v.options.max_reads → NeedsRead v.options.max_statement mid
+    → (length (pieces ++ read) ≡ options.max_reads) × IsOneNeeded (run_with home passes options) options.max_statement (pieces ++ read) mid.bytes
+one_needed_there v mid home passes options pieces cs read text h p o done on all needs = (
+  sym (reads_on v mid v.options.max_reads pieces cs read text done on) ∙ all ∙ ap (λ x. x.max_reads) o,
+  subst (λ run. IsOneNeeded run options.max_statement (pieces ++ read) mid.bytes) (run_is v home passes options h p o)
+      (subst (λ x. IsOneNeeded (run_in v) x.max_statement (pieces ++ read) mid.bytes) o
+      (record {
+        going = open_more v.ahead.ended mid.ended pieces read on.ended done.none_ends on.none_ends needs.going;
+        front = cs;
+        statements = done.statements;
+        done = are_done v mid v.options.max_reads pieces cs read text done on;
+        undecided = needs.undecided;
+      })),
+)
 
 -- where the run had ended, all was written
 pub ended_begins : (run : Run) (pieces : List (List ℕ)) (text : List ℕ) (told : Told)

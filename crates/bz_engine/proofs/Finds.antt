@@ -1,18 +1,18 @@
 -- What searches for the next chunk answer in a run, one after another.
 use Rattle.bz_memory.specs.NoMemory.{no_memory}
-use Rattle.std.proofs.Common.{◌≡◌, ◌≢◌, ℕ, ◌≤◌, ◌+◌, List, [], ◌++◌, length, refl, sym, ap, ◌∙◌, Result, Ok, Err, inl, inr}
+use Rattle.std.proofs.Common.{◌≡◌, ◌≢◌, ℕ, ◌≤◌, ◌+◌, List, [], ◌++◌, length, append-nil, refl, sym, ap, ◌∙◌, subst, Result, Ok, Err, inl, inr}
+use Rattle.std.specs.List.{concat}
 use Rattle.bz_devices.specs.declared.limits.Limits.{Limits}
 use Rattle.bz_devices.specs.declared.ahead.ChunkFault.{ChunkFault}
 use Rattle.bz_devices.specs.declared.ahead.ChunkFault.TheVariants as chunk
-use Rattle.bz_devices.specs.Ahead.{Ahead, IsReadOn, AreNeeded}
+use Rattle.bz_devices.specs.Ahead.{Ahead, IsReadOn}
 use Rattle.bz_devices.specs.Search.{Searches}
-use Rattle.bz_devices.proofs.ChunkAhead.{fitting_ahead}
 use Rattle.bz_devices.proofs.ReadOn.{read_nothing, read_then, needed_then, rises_from}
 use Rattle.bz_engine.specs.declared.options.Options.{Options}
 use Rattle.bz_engine.specs.declared.run_fault.RunFault.{RunFault}
 use Rattle.bz_engine.specs.declared.run_fault.RunFault.TheVariants.{OutOfMemory, ReadFailed, WriteFailed, InputTooLong, StatementTooLong, Stopped}
 use Rattle.bz_engine.specs.private.ChunkFaults.{fault_at}
-use Rattle.bz_engine.specs.private.Finds.{Finds}
+use Rattle.bz_engine.specs.private.Finds.{AreFew, Finds}
 
 pub no_err : {T E : Type 0} (x : T) (e : E) → (let r : Result T E = Ok x in r) ≢ Err e
 no_err x e h = cc
@@ -28,18 +28,22 @@ module _ {S : Type 0} (gave : S → List (List ℕ) → S → Type 0) (failures 
   abbrev pub Found : S → S → Ahead → Ahead → Type 0
   Found source after old new = Finds gave failures options line source after old new (let r : Result (Unit {0}) RunFault = Ok tt in r)
 
+  -- what stood ahead and what was read then
+  few : {old new : Ahead} {pieces : List (List ℕ)} → IsReadOn options.max_reads old new pieces → length new.bytes ≤ options.max_statement + 8192
+      → length (old.bytes ++ concat pieces) ≤ options.max_statement + 8192
+  few on bound = subst (λ l. length l ≤ options.max_statement + 8192) on.bytes bound
+
   -- a chunk, or that there is none, is no fault
   unfoldable pub finds_ok : {T : Type 0} (x : T) (source after : S) (old new : Ahead)
-      → ((pieces : List (List ℕ)) × gave source pieces after × IsReadOn options.max_reads old new pieces × AreNeeded options.max_statement old.bytes pieces)
+      → ((pieces : List (List ℕ)) × gave source pieces after × IsReadOn options.max_reads old new pieces × AreFew options.max_statement old.bytes pieces)
       → length new.bytes ≤ options.max_statement + 8192 → failures after ≡ failures source
       → Finds gave failures options line source after old new (let r : Result T RunFault = Ok x in r)
   finds_ok x source after old new read bound steady = record {
     read = read;
     bound = bound;
     too_long = λ h. absurd (no_err x InputTooLong h);
-    uncertain = λ h. absurd (no_err x InputTooLong h);
     statement_too_long = λ at h. absurd (no_err x (StatementTooLong at) h);
-    fitting = λ h. absurd (no_err x ReadFailed h);
+    unread = λ h. absurd (no_err x ReadFailed h);
     failed = λ h. absurd (no_err x ReadFailed h);
     steady = λ _. steady;
     runs = (no_err x Stopped, no_err x WriteFailed);
@@ -48,7 +52,8 @@ module _ {S : Type 0} (gave : S → List (List ℕ) → S → Type 0) (failures 
   unfoldable pub finds_nothing : {T : Type 0} (x : T) (source : S) (ahead : Ahead) → gave source [] source → ahead.reads ≤ options.max_reads
       → length ahead.bytes ≤ options.max_statement + 8192
       → Finds gave failures options line source source ahead ahead (let r : Result T RunFault = Ok x in r)
-  finds_nothing x source ahead none made bound = finds_ok x source source ahead ahead ([], none, read_nothing options.max_reads ahead made, tt) bound refl
+  finds_nothing x source ahead none made bound = finds_ok x source source ahead ahead
+      ([], none, read_nothing options.max_reads ahead made, record { needed = tt; few = subst (λ l. length l ≤ options.max_statement + 8192) (sym (append-nil ahead.bytes)) bound }) bound refl
 
   pub finds_found : {A T : Type 0} (x : A) (y : T) (source after : S) (old new : Ahead)
       → Finds gave failures options line source after old new (let r : Result A RunFault = Ok x in r)
@@ -67,13 +72,15 @@ module _ {S : Type 0} (gave : S → List (List ℕ) → S → Type 0) (failures 
           before.read.0 ++ next.read.0,
           more a b c before.read.0 next.read.0 before.read.1 next.read.1,
           read_then options.max_reads first second third before.read.0 next.read.0 before.read.2 next.read.2,
-          needed_then options.max_reads options.max_statement first second before.read.0 next.read.0 before.read.2 before.read.3 next.read.3,
+          record {
+            needed = needed_then options.max_reads options.max_statement first second before.read.0 next.read.0 before.read.2 before.read.3.needed next.read.3.needed;
+            few = few (read_then options.max_reads first second third before.read.0 next.read.0 before.read.2 next.read.2) next.bound;
+          },
         );
         bound = next.bound;
         too_long = next.too_long;
-        uncertain = next.uncertain;
         statement_too_long = next.statement_too_long;
-        fitting = next.fitting;
+        unread = next.unread;
         failed = λ h. rises_from _ _ _ steady (next.failed h);
         steady = λ h. next.steady h ∙ steady;
         runs = next.runs;
@@ -91,9 +98,8 @@ module _ {S : Type 0} (gave : S → List (List ℕ) → S → Type 0) (failures 
         read = before.read;
         bound = before.bound;
         too_long = λ h. before.too_long (told InputTooLong h);
-        uncertain = λ h. before.uncertain (told InputTooLong h);
         statement_too_long = λ at h. before.statement_too_long at (told (StatementTooLong at) h);
-        fitting = λ h. before.fitting (told ReadFailed h);
+        unread = λ h. before.unread (told ReadFailed h);
         failed = λ h. before.failed (told ReadFailed h);
         steady = λ h. before.steady (λ k. h (back ReadFailed k));
         runs = (λ h. before.runs.0 (told Stopped h), λ h. before.runs.1 (told WriteFailed h));
@@ -108,9 +114,8 @@ module _ {S : Type 0} (gave : S → List (List ℕ) → S → Type 0) (failures 
         read = before.read;
         bound = before.bound;
         too_long = λ h. absurd cc;
-        uncertain = λ h. absurd cc;
         statement_too_long = λ at h. absurd cc;
-        fitting = λ h. absurd cc;
+        unread = λ h. absurd cc;
         failed = λ h. absurd cc;
         steady = λ _. before.steady (no_err x ReadFailed);
         runs = (λ h. cc, λ h. cc);
@@ -124,31 +129,29 @@ module _ {S : Type 0} (gave : S → List (List ℕ) → S → Type 0) (failures 
   pub finds_as : {A T : Type 0} (x : A) (y : T) (source after : S) (old new : Ahead)
       → Searches gave failures limits source after old new (let r : Result A ChunkFault = Ok x in r)
       → Finds gave failures options line source after old new (let r : Result T RunFault = Ok y in r)
-  finds_as x y source after old new s = finds_ok y source after old new (s.pieces, s.given, s.read, s.needed) s.bound (s.counted.1 (no_err x chunk.ReadFailed))
+  finds_as x y source after old new s = finds_ok y source after old new (s.pieces, s.given, s.read, record { needed = s.needed; few = few s.read s.bound }) s.bound (s.counted.1 (no_err x chunk.ReadFailed))
 
   pub finds_no : {A T : Type 0} (fault : ChunkFault) (source after : S) (old new : Ahead)
       → Searches gave failures limits source after old new (let r : Result A ChunkFault = Err fault in r)
       → Finds gave failures options line source after old new (let r : Result T RunFault = Err (fault_at line fault) in r)
   finds_no (chunk.OutOfMemory _) source after old new s = record {
-    read = (s.pieces, s.given, s.read, s.needed);
+    read = (s.pieces, s.given, s.read, record { needed = s.needed; few = few s.read s.bound });
     bound = s.bound;
     too_long = λ h. absurd cc;
-    uncertain = λ h. absurd cc;
     statement_too_long = λ at h. absurd cc;
-    fitting = λ h. absurd cc;
+    unread = λ h. absurd cc;
     failed = λ h. absurd cc;
     steady = λ _. s.counted.1 (λ h. cc);
     runs = (λ h. cc, λ h. cc);
   }
   finds_no chunk.ReadFailed source after old new s = record {
-    read = (s.pieces, s.given, s.read, s.needed);
+    read = (s.pieces, s.given, s.read, record { needed = s.needed; few = few s.read s.bound });
     bound = s.bound;
     too_long = λ h. absurd cc;
-    uncertain = λ h. absurd cc;
     statement_too_long = λ at h. absurd cc;
-    fitting = λ _.
+    unread = λ _.
         let there = s.open_ahead (inr refl) in
-        fitting_ahead options.max_statement new there.going there.undecided;
+        record { going = there.going; undecided = there.undecided };
     failed = λ _. s.counted.0 refl;
     steady = λ h. absurd (h refl);
     runs = (λ h. cc, λ h. cc);
@@ -156,23 +159,21 @@ module _ {S : Type 0} (gave : S → List (List ℕ) → S → Type 0) (failures 
   finds_no chunk.InputTooLong source after old new s =
       let there = s.open_ahead (inl refl) in
       record {
-        read = (s.pieces, s.given, s.read, s.needed);
+        read = (s.pieces, s.given, s.read, record { needed = s.needed; few = few s.read s.bound });
         bound = s.bound;
-        too_long = λ _. (s.made refl, there.going);
-        uncertain = λ _. (there.undecided.uncertain, fitting_ahead options.max_statement new there.going there.undecided);
+        too_long = λ _. (s.made refl, record { going = there.going; undecided = there.undecided });
         statement_too_long = λ at h. absurd cc;
-        fitting = λ h. absurd cc;
+        unread = λ h. absurd cc;
         failed = λ h. absurd cc;
         steady = λ _. s.counted.1 (λ h. cc);
         runs = (λ h. cc, λ h. cc);
       }
   finds_no chunk.StatementTooLong source after old new s = record {
-    read = (s.pieces, s.given, s.read, s.needed);
+    read = (s.pieces, s.given, s.read, record { needed = s.needed; few = few s.read s.bound });
     bound = s.bound;
     too_long = λ h. absurd cc;
-    uncertain = λ h. absurd cc;
     statement_too_long = λ at h. (same_line line at h, s.too_long refl);
-    fitting = λ h. absurd cc;
+    unread = λ h. absurd cc;
     failed = λ h. absurd cc;
     steady = λ _. s.counted.1 (λ h. cc);
     runs = (λ h. cc, λ h. cc);

@@ -1,6 +1,6 @@
 -- A whole run: its start, and why it ends.
 use Rattle.std.proofs.Common.{◌≡◌, ℕ, ◌+◌, ◌-◌, ◌*◌, ◌<◌, ◌≤◌, Bool, true, false, List, [], ◌∷◌, ◌++◌, length, length-append, refl, sym, ◌∙◌, ap, subst, append-nil, arith}
-use Rattle.std.specs.Prelude.{None, if◌then◌else◌, Result, Ok, Err, IfOk, OnOk}
+use Rattle.std.specs.Prelude.{None, if◌then◌else◌, Result, Ok, Err, IfOk, IfErr, OnOk, OnErr}
 use Rattle.std.proofs.lemmas.Bool.{false≢true}
 use Rattle.std.specs.List.{concat}
 use Rattle.std.proofs.lemmas.List.Folds.{concat-append}
@@ -8,10 +8,12 @@ use Rattle.bz_command.specs.Labels.{Package}
 use Rattle.bz_engine.specs.declared.options.Options.{Options}
 use Rattle.bz_engine.specs.Language.{meaning, changes, fails_on}
 use Rattle.bz_engine.specs.declared.report.End.{End}
+use Rattle.bz_engine.specs.declared.report.End.TheVariants.{Whole, Syntax, FirstFailure}
 use Rattle.bz_engine.specs.EveryFile.{ForEveryFile}
 use Rattle.bz_engine.specs.Outcome.{Script, run_with, Told, is_query, IsOutcome, left_in, text_of}
 use Rattle.bz_engine.specs.Progress.{last_class}
 use Rattle.bz_engine.specs.NeededReads.{AreReads}
+use Rattle.bz_engine.specs.Stops.{EndsAfter}
 use Rattle.bz_engine.specs.SessionValue.{SessionValue, run_in, HasDone, HasEnded, at_start, told_at}
 use Rattle.bz_passes.proofs.ExchangeLaw.{slots_alone, nothing_left}
 use Rattle.bz_devices.proofs.MoreReads.{joined_more}
@@ -74,11 +76,23 @@ reads_for v home passes options pieces h p o reads =
 pub outcome_is : (v : SessionValue) (home : Package) (passes : Script) (options : Options) (end : End) (told : Told) (pieces cs : List (List ℕ)) (text : List ℕ)
     → v.home ≡ home → v.passes ≡ passes → v.options ≡ options → told ≡ told_at v end → HasEnded v end pieces cs text
     → ForEveryFile pieces (λ file. IsOutcome (run_with home passes options) file text told)
-outcome_is v home passes options end told pieces cs text h p o is ended = record {
-  each = λ rest last.
-      subst (λ run. IsOutcome run (concat pieces ++ rest) text told) (run_is v home passes options h p o)
-      (subst (λ x. IsOutcome (run_in v) (concat pieces ++ rest) text x) (sym is) (ended.each rest last).0);
-}
+outcome_is v home passes options end told pieces cs text h p o is ended =
+    subst (λ run. ForEveryFile pieces (λ file. IsOutcome run file text told)) (run_is v home passes options h p o)
+    (subst (λ x. ForEveryFile pieces (λ file. IsOutcome (run_in v) file text x)) (sym is) ended.outcome)
+
+-- what an ended session tells names this end
+end_told : (v : SessionValue) (end : End) → (told_at v end).end ≡ end
+end_told v Whole = refl
+end_told v (Syntax fault) = refl
+end_told v FirstFailure = refl
+
+pub ends_after : (v : SessionValue) (home : Package) (passes : Script) (options : Options) (end : End) (told : Told) (pieces cs : List (List ℕ)) (text : List ℕ)
+    → v.home ≡ home → v.passes ≡ passes → v.options ≡ options → told ≡ told_at v end → HasEnded v end pieces cs text
+    → EndsAfter (run_with home passes options) options.max_statement pieces cs told.end
+ends_after v home passes options end told pieces cs text h p o is ended =
+    subst (EndsAfter (run_with home passes options) options.max_statement pieces cs) (sym (ap (λ t. t.end) is ∙ end_told v end))
+    (subst (λ run. EndsAfter run options.max_statement pieces cs end) (run_is v home passes options h p o)
+    (subst (λ x. EndsAfter (run_in v) x.max_statement pieces cs end) o ended.last))
 
 pub where_ok : {T E : Type 0} {P Q : T → Type 0} (r : Result T E) → ((x : T) → P x → Q x) → IfOk r P → IfOk r Q
 where_ok (Ok x) f h = f x h
@@ -87,6 +101,14 @@ where_ok (Err e) f h = h
 pub where_done : {T E : Type 0} {P Q : Type 0} (r : Result T E) → (P → Q) → OnOk r P → OnOk r Q
 where_done (Ok x) f h = f h
 where_done (Err e) f h = h
+
+-- a fault is this one
+pub where_is : {T E : Type 0} (P : E → Type 0) (r : Result T E) (e : E) → r ≡ Err e → P e → IfErr r P
+where_is P r e is h = subst (λ s. IfErr s P) (sym is) h
+
+pub where_memory : {T E : Type 0} (P : E → Type 0) (r : Result T E) (e : E) → OnErr r (r ≡ Err e) → P e → IfErr r P
+where_memory P (Ok x) e is h = tt
+where_memory P (Err f) e is h = where_is P (Err f) e is h
 
 pub ok_is_no_err : {T E : Type 0} (r : Result T E) (t : T) (e : E) → r ≡ Ok t → r ≡ Err e → ⊥
 ok_is_no_err r t e is err = false≢true (sym (ap is_ok_answer err) ∙ ap is_ok_answer is)

@@ -1,9 +1,9 @@
 -- What a step did: it took a chunk, came to the end, or left a fault.
-use Rattle.std.proofs.Common.{◌≡◌, ◌≢◌, ℕ, ◌+◌, ◌<◌, ◌≤◌, List, [], ◌∷◌, ◌++◌, length, take, drop, refl, sym, ◌∙◌, ap, subst, arith, inl}
+use Rattle.std.proofs.Common.{◌≡◌, ◌≢◌, ℕ, ◌+◌, ◌<◌, ◌≤◌, List, [], ◌∷◌, ◌++◌, length, take, drop, append-nil, refl, sym, ◌∙◌, ap, subst, arith, inl}
 use Rattle.std.specs.Prelude.{IsTrue, Option, Result, Ok, Err}
 use Rattle.std.proofs.Math.Seq.{take-length}
 use Rattle.bz_devices.specs.Device.{Rises}
-use Rattle.bz_devices.specs.Ahead.{IsReadOn, AreNeeded, IsTooLong}
+use Rattle.bz_devices.specs.Ahead.{IsReadOn, IsNextChunk, AreNeeded, IsTooLong}
 use Rattle.bz_devices.proofs.ChunkAhead.{next_fits, nothing_fits}
 use Rattle.bz_devices.proofs.ReadOn.{read_nothing}
 use Rattle.bz_devices.proofs.PassedOn.{err_is}
@@ -21,8 +21,9 @@ use Rattle.bz_engine.specs.declared.session.Step.{Step}
 use Rattle.bz_engine.specs.declared.session.Step.TheVariants as step
 use Rattle.bz_engine.specs.Progress.{Progress}
 use Rattle.bz_engine.specs.SessionValue.{SessionValue, IsSameRun, IsReady, HasDone, HasEnded}
-use Rattle.bz_engine.specs.SessionSteps.{Reader, Writer, reader, writer, AddsOne, EndsRun, IsCutShort, Tells, IsLeftByFault, Did, Steps}
-use Rattle.bz_engine.specs.private.Finds.{Finds}
+use Rattle.bz_engine.specs.SessionSteps.{Reader, Writer, reader, writer, AddsOne, EndsRun, IsCutShort, IsLeftByFault, Did, Steps}
+use Rattle.bz_engine.specs.Stops.{NeedsRead, Tells}
+use Rattle.bz_engine.specs.private.Finds.{AreFew, Finds}
 use Rattle.bz_engine.specs.private.NextChunks.{IsNextEdited}
 use Rattle.bz_engine.proofs.Advances.{chunk_done, chunk_faulty, chunk_failed, write_cut, done_at_state, take_some, take_few}
 use Rattle.bz_engine.proofs.BlankLines.{newline_edited}
@@ -38,13 +39,13 @@ done_at : (old v : SessionValue) (pieces cs : List (List ℕ)) (text : List ℕ)
 done_at old v pieces cs text at done = subst (λ x. HasDone x pieces cs text) (sym at) (done_at_state old Stopped pieces cs text done)
 
 ended_in : (v : SessionValue) (state : SessionState) (end : End) (pieces cs : List (List ℕ)) (text : List ℕ) → HasEnded v end pieces cs text → HasEnded (record v { state = state }) end pieces cs text
-ended_in v state Whole pieces cs text h = h
-ended_in v state (Syntax fault) pieces cs text h = h
-ended_in v state FirstFailure pieces cs text h = h
+ended_in v state Whole pieces cs text h = record { outcome = h.outcome; last = h.last }
+ended_in v state (Syntax fault) pieces cs text h = record { outcome = h.outcome; last = h.last }
+ended_in v state FirstFailure pieces cs text h = record { outcome = h.outcome; last = h.last }
 
 -- a chunk was done, written and taken
 pub adds_one : (old v e f new : SessionValue) (before following : List ℕ) (next : NextChunk) (read : List (List ℕ)) → IsAtChunk old v
-    → IsReadOn v.options.max_reads v.ahead e.ahead read → AreNeeded v.options.max_statement v.ahead.bytes read
+    → IsReadOn v.options.max_reads v.ahead e.ahead read → AreFew v.options.max_statement v.ahead.bytes read
     → IsNextEdited v e before following next → before ≡ [] → next.edited ≡ Done
     → (let after : SessionValue = record v { ahead = e.ahead; progress = e.progress } in e ≡ after)
     → (let taken : SessionValue = record e { ahead = record e.ahead { bytes = drop next.len e.ahead.bytes } } in f ≡ taken)
@@ -68,7 +69,7 @@ adds_one old v e f new before following next read at on needed is none done afte
 
 -- the run has ended
 ends_run : (old v f new : SessionValue) (end : End) (read : List (List ℕ)) → IsAtChunk old v
-    → IsReadOn v.options.max_reads v.ahead f.ahead read → AreNeeded v.options.max_statement v.ahead.bytes read → IsSameRun v f
+    → IsReadOn v.options.max_reads v.ahead f.ahead read → AreFew v.options.max_statement v.ahead.bytes read → IsSameRun v f
     → (IsTooLong v.options.max_statement f.ahead → ⊥)
     → (let there : SessionValue = record f { state = Ended end } in new ≡ there)
     → ((pieces cs : List (List ℕ)) (text : List ℕ) → HasDone v pieces cs text → HasEnded f end (pieces ++ read) cs text)
@@ -76,6 +77,7 @@ ends_run : (old v f new : SessionValue) (end : End) (read : List (List ℕ)) →
 ends_run old v f new end read at on needed same fits there ended = record {
   end = end;
   ended = ap (λ x. x.state) there;
+  read_ahead = subst (λ x. IsReadOn old.options.max_reads old.ahead x.ahead read) (sym there) (subst (λ x. IsReadOn x.options.max_reads x.ahead f.ahead read) at on);
   fits = λ long. fits (subst (λ o. IsTooLong o.max_statement f.ahead) same.options (subst (λ x. IsTooLong x.options.max_statement x.ahead) there long));
   outcome = λ pieces cs text before.
       let done = done_at old v pieces cs text at before in (
@@ -90,7 +92,7 @@ same_after v e after = record { home = ap (λ x. x.home) after; passes = ap (λ 
 
 -- at the end of the input
 pub ends_whole : (old v e new : SessionValue) (read : List (List ℕ)) → IsAtChunk old v
-    → IsReadOn v.options.max_reads v.ahead e.ahead read → AreNeeded v.options.max_statement v.ahead.bytes read
+    → IsReadOn v.options.max_reads v.ahead e.ahead read → AreFew v.options.max_statement v.ahead.bytes read
     → (e.progress ≡ v.progress) × (e.ahead.bytes ≡ []) × IsTrue e.ahead.ended
     → (let after : SessionValue = record v { ahead = e.ahead; progress = e.progress } in e ≡ after)
     → (let there : SessionValue = record e { state = Ended Whole } in new ≡ there)
@@ -103,19 +105,19 @@ ends_whole old v e new read at on needed none after there =
 
 -- at a chunk with a fault
 pub ends_at_fault : (old v e new : SessionValue) (before following : List ℕ) (next : NextChunk) (fault : SyntaxFault) (read : List (List ℕ)) → IsAtChunk old v
-    → IsReadOn v.options.max_reads v.ahead e.ahead read → AreNeeded v.options.max_statement v.ahead.bytes read
+    → IsReadOn v.options.max_reads v.ahead e.ahead read → AreFew v.options.max_statement v.ahead.bytes read
     → IsNextEdited v e before following next → before ≡ [] → next.edited ≡ Faulty fault
     → (let after : SessionValue = record v { ahead = e.ahead; progress = e.progress } in e ≡ after)
     → (let there : SessionValue = record e { state = Ended (Syntax fault) } in new ≡ there)
     → EndsRun old new read
 ends_at_fault old v e new before following next fault read at on needed is none faulty after there =
     ends_run old v e new (Syntax fault) read at on needed (same_after v e after) (next_fits v.options.max_statement next.len e.ahead is.chunk) there
-    (λ pieces cs text done. chunk_faulty v e e.ahead before following next.edited fault v.options.max_reads v.options.max_statement next.len pieces cs read text
+    (λ pieces cs text done. chunk_faulty v e e.ahead before following next.edited fault v.options.max_reads next.len pieces cs read text
     done on is.chunk none after is.edited faulty)
 
 -- at the first failure
 pub ends_at_failure : (old v e f new : SessionValue) (before following : List ℕ) (next : NextChunk) (message : Option (List ℕ)) (read : List (List ℕ)) → IsAtChunk old v
-    → IsReadOn v.options.max_reads v.ahead e.ahead read → AreNeeded v.options.max_statement v.ahead.bytes read
+    → IsReadOn v.options.max_reads v.ahead e.ahead read → AreFew v.options.max_statement v.ahead.bytes read
     → IsNextEdited v e before following next → before ≡ [] → next.edited ≡ Failed message
     → (let after : SessionValue = record v { ahead = e.ahead; progress = e.progress } in e ≡ after)
     → (let failed : SessionValue = record e { failure = message } in f ≡ failed)
@@ -127,12 +129,12 @@ ends_at_failure old v e f new before following next message read at on needed is
     ends_run old v f new FirstFailure read at (subst (λ a. IsReadOn v.options.max_reads v.ahead a read) (sym ahead) on) needed
     (record { home = ap (λ x. x.home) failed ∙ same.home; passes = ap (λ x. x.passes) failed ∙ same.passes; options = ap (λ x. x.options) failed ∙ same.options })
     (λ long. next_fits v.options.max_statement next.len e.ahead is.chunk (subst (λ a. IsTooLong v.options.max_statement a) ahead long)) there
-    (λ pieces cs text done. chunk_failed v e f e.ahead before following next.edited message v.options.max_reads v.options.max_statement next.len pieces cs read text
+    (λ pieces cs text done. chunk_failed v e f e.ahead before following next.edited message v.options.max_reads next.len pieces cs read text
     done on is.chunk none after is.edited fails failed)
 
 -- the next chunk's text was not written to its end
 pub left_by_write : (old v e new : SessionValue) (before following : List ℕ) (next : NextChunk) (k : ℕ) (read : List (List ℕ)) → IsAtChunk old v
-    → IsReadOn v.options.max_reads v.ahead e.ahead read → AreNeeded v.options.max_statement v.ahead.bytes read
+    → IsReadOn v.options.max_reads v.ahead e.ahead read → AreFew v.options.max_statement v.ahead.bytes read
     → IsNextEdited v e before following next → before ≡ [] → next.edited ≡ Done
     → (let after : SessionValue = record v { ahead = e.ahead; progress = e.progress } in e ≡ after) → new ≡ e
     → IsLeftByFault old new read (take k following) WriteFailed
@@ -142,8 +144,10 @@ left_by_write old v e new before following next k read at on needed is none done
   front = λ pieces cs text before_it. subst (λ x. IsCutShort x (pieces ++ read) cs text (take k following)) (sym same)
       (write_cut v e e.ahead before following next.edited v.options.max_reads v.options.max_statement next.len k pieces cs read text
       (done_at old v pieces cs text at before_it) on needed is.chunk none after is.edited done);
-  tells = λ long. next_fits v.options.max_statement next.len e.ahead is.chunk
-      (subst (λ x. IsTooLong x.options.max_statement e.ahead) after (subst (λ x. IsTooLong x.options.max_statement x.ahead) same long));
+  tells = (
+    next.len,
+    subst (λ x. IsNextChunk old.options.max_statement x.ahead next.len) (sym same) (subst (λ x. IsNextChunk x.options.max_statement e.ahead next.len) at is.chunk),
+  );
 }
 
 -- what a fault passed on is
@@ -162,22 +166,16 @@ module _ {S W T : Type 0} (gave : S → List (List ℕ) → S → Type 0) (reads
   FindsAs v e source after result = Finds gave reads_failed v.options v.progress.line source after v.ahead e.ahead result
 
   -- what the next chunk's search read
-  tells_read : (old v e : SessionValue) (source after : S) (fault : RunFault) → IsAtChunk old v
-      → (let there : SessionValue = record v { ahead = e.ahead; progress = e.progress } in e ≡ there)
-      → FindsAs v e source after (Err fault) → Tells old e fault
-  tells_read old v e source after (OutOfMemory _) at there finds = tt
-  tells_read old v e source after ReadFailed at there finds = λ long. finds.fitting refl (subst (λ x. IsTooLong x.options.max_statement e.ahead) there long)
-  tells_read old v e source after WriteFailed at there finds = absurd (finds.runs.1 refl)
-  tells_read old v e source after InputTooLong at there finds = (
-    (finds.too_long refl).0 ∙ ap (λ x. x.options.max_reads) (sym there),
-    (finds.too_long refl).1,
-    (finds.uncertain refl).0,
-    λ long. (finds.uncertain refl).1 (subst (λ x. IsTooLong x.options.max_statement e.ahead) there long),
-  )
-  tells_read old v e source after (StatementTooLong line) at there finds =
-      let long = finds.statement_too_long line refl in
-      (long.0 ∙ ap (λ x. x.progress.line) at, subst (λ x. IsTooLong x.options.max_statement e.ahead) (sym there) long.1)
-  tells_read old v e source after fault.Stopped at there finds = absurd (finds.runs.0 refl)
+  tells_read : (old v e : SessionValue) (source after : S) (fault : RunFault) → IsAtChunk old v → FindsAs v e source after (Err fault)
+      → Tells old.options old.progress.line e.ahead fault
+  tells_read old v e source after (OutOfMemory _) at finds = tt
+  tells_read old v e source after ReadFailed at finds = subst (λ x. NeedsRead x.options.max_statement e.ahead) at (finds.unread refl)
+  tells_read old v e source after WriteFailed at finds = absurd (finds.runs.1 refl)
+  tells_read old v e source after InputTooLong at finds =
+      subst (λ x. (e.ahead.reads ≡ x.options.max_reads) × NeedsRead x.options.max_statement e.ahead) at (finds.too_long refl)
+  tells_read old v e source after (StatementTooLong line) at finds =
+      subst (λ x. (line ≡ x.progress.line) × IsTooLong x.options.max_statement e.ahead) at (finds.statement_too_long line refl)
+  tells_read old v e source after fault.Stopped at finds = absurd (finds.runs.0 refl)
 
   pub step_unread : (old v e : SessionValue) (source after : S) (sink : W) (fault : RunFault) → took sink [] sink → IsAtChunk old v
       → (let there : SessionValue = record v { ahead = e.ahead; progress = e.progress } in e ≡ there)
@@ -194,12 +192,12 @@ module _ {S W T : Type 0} (gave : S → List (List ℕ) → S → Type 0) (reads
           stopped = ap (λ x. x.state) there ∙ ap (λ x. x.state) at;
           read_ahead = subst (λ x. IsReadOn x.options.max_reads x.ahead e.ahead read.0) at read.2;
           front = λ pieces cs text done. inl refl;
-          tells = tells_read old v e source after fault at there finds;
+          tells = tells_read old v e source after fault at finds;
         };
-        needed = subst (λ x. AreNeeded x.options.max_statement x.ahead.bytes read.0) at read.3;
+        needed = subst (λ x. AreNeeded x.options.max_statement x.ahead.bytes read.0) at read.3.needed;
         few = read.2.few;
         bound = read_within v _ e.ahead v.options.max_reads read.0 at read.2 finds.bound;
-        unwritten = λ _ _. refl;
+        unwritten = λ _ _. (refl, refl);
         reads_counted = (λ h. finds.failed (ap Err (err_is fault ReadFailed h)), λ h. finds.steady (λ k. h (ap Err (err_is fault ReadFailed k))));
         writes_counted = (λ h. absurd (finds.runs.1 (ap Err (err_is fault WriteFailed h))), λ _. refl);
       }
@@ -217,7 +215,7 @@ module _ {S W T : Type 0} (gave : S → List (List ℕ) → S → Type 0) (reads
         gave = read.1;
         took = wrote;
         did = left;
-        needed = subst (λ y. AreNeeded y.options.max_statement y.ahead.bytes read.0) at read.3;
+        needed = subst (λ y. AreNeeded y.options.max_statement y.ahead.bytes read.0) at read.3.needed;
         few = read.2.few;
         bound = read_within v _ e.ahead v.options.max_reads read.0 at read.2 finds.bound;
         unwritten = λ _ other. absurd (other refl);
@@ -230,7 +228,7 @@ module _ {S W T : Type 0} (gave : S → List (List ℕ) → S → Type 0) (reads
 
   -- it was written, or the run has ended
   pub step_on : (old v e new : SessionValue) (x : T) (answer : Step) (source after : S) (sink sink_after : W) (shown : List ℕ) → took sink shown sink_after
-      → writes_failed sink_after ≡ writes_failed sink → (answer ≢ step.More → sink_after ≡ sink) → IsAtChunk old v → (finds : FindsAs v e source after (Ok x))
+      → writes_failed sink_after ≡ writes_failed sink → (answer ≢ step.More → (shown ≡ []) × (sink_after ≡ sink)) → IsAtChunk old v → (finds : FindsAs v e source after (Ok x))
       → Did old new finds.read.0 shown (Ok answer)
       → Steps (reader gave reads_failed source after) (writer took writes_failed sink sink_after) old new (Ok answer)
   step_on old v e new x answer source after sink sink_after shown wrote steady stays at finds did =
@@ -241,7 +239,7 @@ module _ {S W T : Type 0} (gave : S → List (List ℕ) → S → Type 0) (reads
         gave = read.1;
         took = wrote;
         did = did;
-        needed = subst (λ y. AreNeeded y.options.max_statement y.ahead.bytes read.0) at read.3;
+        needed = subst (λ y. AreNeeded y.options.max_statement y.ahead.bytes read.0) at read.3.needed;
         few = read.2.few;
         bound = read_within v _ e.ahead v.options.max_reads read.0 at read.2 finds.bound;
         unwritten = λ other _. stays (λ same. other (ap Ok same));
@@ -258,7 +256,7 @@ module _ {S W T : Type 0} (gave : S → List (List ℕ) → S → Type 0) (reads
       → Steps (reader gave reads_failed source after) (writer took writes_failed sink sink) old new (Ok answer)
   step_ended old v e new x answer source after sink nothing is at finds over =
       subst (λ s. Steps (reader gave reads_failed source after) (writer took writes_failed sink sink) old new (Ok s)) (sym is)
-      (step_on old v e new x step.End source after sink sink [] nothing refl (λ _. refl) at finds over)
+      (step_on old v e new x step.End source after sink sink [] nothing refl (λ _. (refl, refl)) at finds over)
 
 -- an empty line was taken, of which nothing is written
 pub step_at_empty_line : {S W : Type 0} (gave : S → List (List ℕ) → S → Type 0) (reads_failed : S → ℕ) (took : W → List ℕ → W → Type 0) (writes_failed : W → ℕ)
@@ -277,7 +275,8 @@ step_at_empty_line gave reads_failed took writes_failed v new source sink rest u
     newline_edited _ _ v.ahead v.progress passed [] rest v.ahead.bytes (λ n more. absurd (omega (arith, ready.few, more))) (length v.ahead.bytes, omega arith, sym (take-length v.ahead.bytes)) begins some refl in
     step_on {T = ℕ} gave reads_failed took writes_failed v stopped done new 0 step.More source source sink sink [] unwritten refl (λ other. absurd (other refl)) refl
     (finds_nothing gave reads_failed v.options v.progress.line 0 source v.ahead unread made (omega (arith, ready.few)))
-    (adds_one v stopped done taken new [] [] _ [] refl (read_nothing v.options.max_reads v.ahead made) tt next refl refl refl refl (is ∙ ap goes going))
+    (adds_one v stopped done taken new [] [] _ [] refl (read_nothing v.options.max_reads v.ahead made)
+    (record { needed = tt; few = subst (λ l. length l ≤ v.options.max_statement + 8192) (sym (append-nil v.ahead.bytes)) (omega (arith, ready.few)) }) next refl refl refl refl (is ∙ ap goes going))
 
 -- what a step did, where its answer is known
 pub did_as : {source : Reader} {sink : Writer} {old new : SessionValue} {result : Result Step RunFault} (s : Steps source sink old new result) (answer : Result Step RunFault)

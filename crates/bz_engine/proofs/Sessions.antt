@@ -1,6 +1,6 @@
 -- What a session has done, with one chunk more, and where it ends.
 use Rattle.std.proofs.Common.{◌≡◌, ℕ, ◌+◌, ◌≤◌, ◌^◌, Bool, true, false, List, [], ◌∷◌, ◌++◌, length, take, drop, length-append, take-append-drop, refl, sym, ◌∙◌, ap, subst, append-nil, inl, inr, flat_map}
-use Rattle.std.specs.Prelude.{IsTrue, Option, None, Some, Err}
+use Rattle.std.specs.Prelude.{IsTrue, Option, None, Some, Ok, Err}
 use Rattle.bz_token.specs.Chunks.{chunks}
 use Rattle.bz_tree.specs.Tree.{Statement}
 use Rattle.bz_engine.specs.declared.report.SyntaxFault.{SyntaxFault}
@@ -9,8 +9,8 @@ use Rattle.bz_engine.specs.declared.session.SessionState.{SessionState}
 use Rattle.bz_engine.specs.declared.session.SessionState.TheVariants.{Going, Ended, Stopped}
 use Rattle.bz_engine.specs.declared.report.End.{End}
 use Rattle.bz_engine.specs.declared.report.End.TheVariants.{Whole, Syntax, FirstFailure}
-use Rattle.bz_devices.specs.Device.{ends, NoneEnds}
-use Rattle.bz_devices.specs.Ahead.{Ahead, IsReadOn, AreNeeded, IsNextChunk}
+use Rattle.bz_devices.specs.Device.{ends}
+use Rattle.bz_devices.specs.Ahead.{Ahead, IsReadOn, IsNextChunk}
 use Rattle.bz_engine.specs.Language.{meaning}
 use Rattle.bz_engine.specs.File.{AreStatementsOf, IsAnswerOf}
 use Rattle.bz_engine.specs.Messages.{fault_text}
@@ -23,6 +23,9 @@ use Rattle.bz_devices.proofs.MoreReads.{ends_more, open_more, bytes_more, chunks
 use Rattle.bz_engine.proofs.Given.{give_fault, give_statement}
 use Rattle.bz_engine.proofs.NeededReads.{needed_on, reads_of}
 use Rattle.bz_engine.specs.NeededReads.{AreReads}
+use Rattle.bz_engine.specs.Stops.{ComesNext}
+use Rattle.bz_engine.specs.private.Finds.{AreFew}
+use Rattle.std.proofs.lemmas.List.{length-take-le}
 use Rattle.bz_passes.specs.Entries.{failure_text}
 use Rattle.std.specs.List.{concat}
 
@@ -48,7 +51,7 @@ reads_within v mid max_reads pieces cs read text done on = subst (λ n. n ≤ ma
 
 -- the reads that were made
 pub reads_are : (v : SessionValue) (mid : Ahead) (pieces cs read : List (List ℕ)) (text : List ℕ)
-    → HasDone v pieces cs text → IsReadOn v.options.max_reads v.ahead mid read → AreNeeded v.options.max_statement v.ahead.bytes read
+    → HasDone v pieces cs text → IsReadOn v.options.max_reads v.ahead mid read → AreFew v.options.max_statement v.ahead.bytes read
     → AreReads v.home v.passes v.options (pieces ++ read)
 reads_are v mid pieces cs read text done on needed =
     reads_of v (pieces ++ read) (reads_within v mid v.options.max_reads pieces cs read text done on) (needed_on v mid v.options.max_reads pieces cs read text done on needed)
@@ -62,7 +65,7 @@ read_within v w mid max_reads read same on bound =
 
 -- a chunk was done
 pub went_on : (v : SessionValue) (mid : Ahead) (progress : Progress) (max_reads most n : ℕ) (pieces cs read : List (List ℕ)) (text after : List ℕ)
-    → (done : HasDone v pieces cs text) → IsReadOn max_reads v.ahead mid read → AreNeeded v.options.max_statement v.ahead.bytes read → IsNextChunk most mid n
+    → (done : HasDone v pieces cs text) → IsReadOn max_reads v.ahead mid read → AreFew v.options.max_statement v.ahead.bytes read → IsNextChunk most mid n
     → (edited : IsDone (run_in v) cs done.statements (take n mid.bytes) v.progress progress [] after)
     → HasDone (record v { ahead = record mid { bytes = drop n mid.bytes }; progress = progress }) (pieces ++ read) (cs ++ take n mid.bytes ∷ []) (text ++ after)
 went_on v mid progress max_reads most n pieces cs read text after done on needed next edited = record {
@@ -91,76 +94,103 @@ told_whole run cs ss p kept =
 pub ended_whole : (v : SessionValue) (mid : Ahead) (max_reads : ℕ) (pieces cs read : List (List ℕ)) (text : List ℕ)
     → HasDone v pieces cs text → IsReadOn max_reads v.ahead mid read → mid.bytes ≡ [] → IsTrue mid.ended
     → HasEnded (record v { ahead = mid }) Whole (pieces ++ read) cs text
-ended_whole v mid max_reads pieces cs read text done on nothing over = record {
-  each = λ rest last.
-      let none : rest ≡ [] = last (subst IsTrue (ended_on v mid max_reads pieces cs read text done on) over) in
-      let all : chunks (concat (pieces ++ read) ++ rest) ≡ cs =
-      read_on v mid max_reads pieces cs read text done on rest (λ h. none) ∙ ap (λ l. cs ++ chunks (l ++ rest)) nothing ∙ ap (λ l. cs ++ chunks l) none ∙ append-nil cs in (
-        inl (record {
-          statements = done.statements;
-          fault = None;
-          read = subst (λ l. AreStatementsOf v.options.max_depth 1 l done.statements None) (sym all) done.kept.read;
-          calm = λ h. sym done.kept.left.failed ∙ done.calm h;
-          text_is = done.text_is;
-          told_is = told_whole (run_in v) cs done.statements v.progress done.kept;
-        }),
-        all,
-      );
+ended_whole v mid max_reads pieces cs read text done on nothing over =
+    let all : (rest : List ℕ) → (IsTrue (ends (pieces ++ read)) → rest ≡ []) → chunks (concat (pieces ++ read) ++ rest) ≡ cs = λ rest last.
+    let none : rest ≡ [] = last (subst IsTrue (ended_on v mid max_reads pieces cs read text done on) over) in
+    read_on v mid max_reads pieces cs read text done on rest (λ h. none) ∙ ap (λ l. cs ++ chunks (l ++ rest)) nothing ∙ ap (λ l. cs ++ chunks l) none ∙ append-nil cs in
+    record {
+      outcome = record {
+        each = λ rest last.
+            inl (record {
+              statements = done.statements;
+              fault = None;
+              read = subst (λ l. AreStatementsOf v.options.max_depth 1 l done.statements None) (sym (all rest last)) done.kept.read;
+              calm = λ h. sym done.kept.left.failed ∙ done.calm h;
+              text_is = done.text_is;
+              told_is = told_whole (run_in v) cs done.statements v.progress done.kept;
+            });
+      };
+      last = record { each = all };
+    }
+
+-- the next chunk of every file
+next_after : (v : SessionValue) (mid : Ahead) (max_reads n : ℕ) (pieces cs read : List (List ℕ)) (text : List ℕ)
+    → HasDone v pieces cs text → IsReadOn max_reads v.ahead mid read → IsNextChunk v.options.max_statement mid n
+    → (rest : List ℕ) → (IsTrue (ends (pieces ++ read)) → rest ≡ [])
+    → chunks (concat (pieces ++ read) ++ rest) ≡ cs ++ take n mid.bytes ∷ chunks (drop n mid.bytes ++ rest)
+next_after v mid max_reads n pieces cs read text done on next rest last =
+    let over : IsTrue mid.ended → rest ≡ [] = λ h. last (subst IsTrue (ended_on v mid max_reads pieces cs read text done on) h) in
+    chunk_taken cs mid.bytes rest (concat (pieces ++ read) ++ rest) n (read_on v mid max_reads pieces cs read text done on rest over) (next.ends rest over)
+
+comes_next : (v : SessionValue) (mid : Ahead) (max_reads n : ℕ) (pieces cs read : List (List ℕ)) (text : List ℕ)
+    → HasDone v pieces cs text → IsReadOn max_reads v.ahead mid read → IsNextChunk v.options.max_statement mid n
+    → ComesNext v.options.max_statement (pieces ++ read) cs (take n mid.bytes)
+comes_next v mid max_reads n pieces cs read text done on next = record {
+  size = subst (λ l. l ≤ v.options.max_statement) (sym (length-take-le n mid.bytes next.within)) next.size;
+  after = record { each = λ rest last. (chunks (drop n mid.bytes ++ rest), next_after v mid max_reads n pieces cs read text done on next rest last) };
 }
 
 -- a chunk has a fault
-pub ended_fault : (v : SessionValue) (mid : Ahead) (fault : SyntaxFault) (max_reads most n : ℕ) (pieces cs read : List (List ℕ)) (text : List ℕ)
-    → HasDone v pieces cs text → IsReadOn max_reads v.ahead mid read → IsNextChunk most mid n
+pub ended_fault : (v : SessionValue) (mid : Ahead) (fault : SyntaxFault) (max_reads n : ℕ) (pieces cs read : List (List ℕ)) (text : List ℕ)
+    → HasDone v pieces cs text → IsReadOn max_reads v.ahead mid read → IsNextChunk v.options.max_statement mid n
     → IsAnswerOf v.options.max_depth v.progress.line (take n mid.bytes) (Err fault)
     → HasEnded (record v { ahead = mid }) (Syntax fault) (pieces ++ read) cs text
-ended_fault v mid fault max_reads most n pieces cs read text done on next gives = record {
-  each = λ rest last.
-      let over : IsTrue mid.ended → rest ≡ [] = λ h. last (subst IsTrue (ended_on v mid max_reads pieces cs read text done on) h) in
-      let all : chunks (concat (pieces ++ read) ++ rest) ≡ cs ++ take n mid.bytes ∷ chunks (drop n mid.bytes ++ rest) =
-      chunk_taken cs mid.bytes rest (concat (pieces ++ read) ++ rest) n (read_on v mid max_reads pieces cs read text done on rest over) (next.ends rest over) in (
-        inl (record {
-          statements = done.statements;
-          fault = Some fault;
-          read = subst (λ l. AreStatementsOf v.options.max_depth 1 l done.statements (Some fault)) (sym all)
-              (give_fault v.options.max_depth v.progress.line cs done.statements (take n mid.bytes) (chunks (drop n mid.bytes ++ rest)) fault done.kept.read done.kept.line gives);
-          calm = λ h. sym done.kept.left.failed ∙ done.calm h;
-          text_is = done.text_is;
-          told_is = ap (λ b. told_alone (fault_text fault ∷ []) b (Syntax fault)) done.kept.left.changed;
-        }),
-        (take n mid.bytes, chunks (drop n mid.bytes ++ rest), all),
-      );
+ended_fault v mid fault max_reads n pieces cs read text done on next gives = record {
+  outcome = record {
+    each = λ rest last. inl (record {
+      statements = done.statements;
+      fault = Some fault;
+      read = subst (λ l. AreStatementsOf v.options.max_depth 1 l done.statements (Some fault))
+          (sym (next_after v mid max_reads n pieces cs read text done on next rest last))
+          (give_fault v.options.max_depth v.progress.line cs done.statements (take n mid.bytes) (chunks (drop n mid.bytes ++ rest)) fault done.kept.read done.kept.line gives);
+      calm = λ h. sym done.kept.left.failed ∙ done.calm h;
+      text_is = done.text_is;
+      told_is = ap (λ b. told_alone (fault_text fault ∷ []) b (Syntax fault)) done.kept.left.changed;
+    });
+  };
+  last = (
+    take n mid.bytes,
+    comes_next v mid max_reads n pieces cs read text done on next,
+    subst (λ line. IsAnswerOf v.options.max_depth line (take n mid.bytes) (Err fault)) done.kept.line gives,
+  );
 }
 
 -- an execution fails on a chunk's statement, and failures end the run
-pub ended_failure : (v : SessionValue) (mid : Ahead) (progress : Progress) (message : Option (List ℕ)) (after : List ℕ) (max_reads most n : ℕ) (pieces cs read : List (List ℕ)) (text : List ℕ)
-    → HasDone v pieces cs text → IsReadOn max_reads v.ahead mid read → IsNextChunk most mid n
+pub ended_failure : (v : SessionValue) (mid : Ahead) (progress : Progress) (message : Option (List ℕ)) (after : List ℕ) (max_reads n : ℕ) (pieces cs read : List (List ℕ)) (text : List ℕ)
+    → HasDone v pieces cs text → IsReadOn max_reads v.ahead mid read → IsNextChunk v.options.max_statement mid n
     → IsFailed (run_in v) (take n mid.bytes) message v.progress progress [] after
     → HasEnded (record v { ahead = mid; progress = progress; failure = message }) FirstFailure (pieces ++ read) cs text
-ended_failure v mid progress message after max_reads most n pieces cs read text done on next failed = record {
-  each = λ rest last.
-      let over : IsTrue mid.ended → rest ≡ [] = λ h. last (subst IsTrue (ended_on v mid max_reads pieces cs read text done on) h) in
-      let all : chunks (concat (pieces ++ read) ++ rest) ≡ cs ++ take n mid.bytes ∷ chunks (drop n mid.bytes ++ rest) =
-      chunk_taken cs mid.bytes rest (concat (pieces ++ read) ++ rest) n (read_on v mid max_reads pieces cs read text done on rest over) (next.ends rest over) in
-      let calm : v.progress.failed ≡ false = done.calm failed.ends in (
-        inr (record {
-          ends = failed.ends;
-          before = done.statements;
-          statement = failed.statement;
-          read = record {
-            front = cs ++ take n mid.bytes ∷ [];
-            after = chunks (drop n mid.bytes ++ rest);
-            chunks_are = all ∙ one_more cs (chunks (drop n mid.bytes ++ rest)) (take n mid.bytes);
-            read = give_statement v.options.max_depth v.progress.line cs done.statements (take n mid.bytes) failed.statement done.kept.read done.kept.line failed.read;
-          };
-          calm = sym done.kept.left.failed ∙ calm;
-          fails = failed.fails calm;
-          text_is = done.text_is;
-          told_is = ap (λ l. told_alone l progress.changed FirstFailure) (failed.message_is calm)
-              ∙ ap (λ b. told_alone (take 1 (flat_map failure_text (said (meaning v.home) v.passes (slots_of (failed.statement ∷ []))))) b FirstFailure) (failed.changed ∙ done.kept.left.changed);
-        }),
-        (take n mid.bytes, chunks (drop n mid.bytes ++ rest), all),
+ended_failure v mid progress message after max_reads n pieces cs read text done on next failed =
+    let calm : v.progress.failed ≡ false = done.calm failed.ends in
+    record {
+      outcome = record {
+        each = λ rest last.
+            let all = next_after v mid max_reads n pieces cs read text done on next rest last in
+            inr (record {
+              ends = failed.ends;
+              before = done.statements;
+              statement = failed.statement;
+              read = record {
+                front = cs ++ take n mid.bytes ∷ [];
+                after = chunks (drop n mid.bytes ++ rest);
+                chunks_are = all ∙ one_more cs (chunks (drop n mid.bytes ++ rest)) (take n mid.bytes);
+                read = give_statement v.options.max_depth v.progress.line cs done.statements (take n mid.bytes) failed.statement done.kept.read done.kept.line failed.read;
+              };
+              calm = sym done.kept.left.failed ∙ calm;
+              fails = failed.fails calm;
+              text_is = done.text_is;
+              told_is = ap (λ l. told_alone l progress.changed FirstFailure) (failed.message_is calm)
+                  ∙ ap (λ b. told_alone (take 1 (flat_map failure_text (said (meaning v.home) v.passes (slots_of (failed.statement ∷ []))))) b FirstFailure) (failed.changed ∙ done.kept.left.changed);
+            });
+      };
+      last = (
+        take n mid.bytes,
+        comes_next v mid max_reads n pieces cs read text done on next,
+        failed.statement,
+        subst (λ line. IsAnswerOf v.options.max_depth line (take n mid.bytes) (Ok (Some failed.statement))) done.kept.line failed.read,
+        failed.fails calm,
       );
-}
+    }
 
 -- a stopped session keeps to little
 going_not_stopped : (s : SessionState) → s ≡ Stopped → s ≡ Going → ⊥
@@ -192,12 +222,3 @@ stopped_session v stopped limit made = record {
   ready = λ h. absurd (going_not_stopped v.state stopped h);
   fits = λ end h. absurd (ended_not_stopped v.state end stopped h);
 }
-
--- the input is too long
-pub too_long_there : (v : SessionValue) (mid : Ahead) (max_reads : ℕ) (pieces cs read : List (List ℕ)) (text : List ℕ)
-    → HasDone v pieces cs text → IsReadOn max_reads v.ahead mid read → mid.reads ≡ max_reads → mid.ended ≡ false
-    → (length (pieces ++ read) ≡ max_reads) × NoneEnds (pieces ++ read)
-too_long_there v mid max_reads pieces cs read text done on all going = (
-  sym (reads_on v mid max_reads pieces cs read text done on) ∙ all,
-  open_more v.ahead.ended mid.ended pieces read on.ended done.none_ends on.none_ends going,
-)

@@ -8,4 +8,5 @@ pub mod Language
 pub mod Messages
 pub mod Outcome
 pub mod NeededReads
+pub mod Stops
 pub mod private

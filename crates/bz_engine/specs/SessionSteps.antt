@@ -1,15 +1,16 @@
 -- What a step of a session does to the file's run, and what its faults tell.
 use Rattle.std.specs.Prelude.{◌≡◌, ◌≢◌, ◌⊎◌, ℕ, ◌+◌, ◌*◌, ◌<◌, ◌≤◌, false, List, [], ◌∷◌, ◌++◌, length, Result, Ok, Err, ⊤}
 use Rattle.bz_devices.specs.Device.{IsCounted}
-use Rattle.bz_devices.specs.Ahead.{IsReadOn, AreNeeded, IsTooLong, IsUncertain}
+use Rattle.bz_devices.specs.Ahead.{IsReadOn, AreNeeded, IsTooLong}
 use Rattle.bz_engine.specs.declared.report.End.{End}
 use Rattle.bz_engine.specs.declared.run_fault.RunFault.{RunFault}
-use Rattle.bz_engine.specs.declared.run_fault.RunFault.TheVariants.{OutOfMemory, ReadFailed, WriteFailed, InputTooLong, StatementTooLong, Stopped}
+use Rattle.bz_engine.specs.declared.run_fault.RunFault.TheVariants.{ReadFailed, WriteFailed}
 use Rattle.bz_engine.specs.declared.session.SessionState.TheVariants as state
 use Rattle.bz_engine.specs.declared.session.Step.{Step}
 use Rattle.bz_engine.specs.declared.session.Step.TheVariants as step
 use Rattle.bz_engine.specs.Outcome.{IsFrontOf}
 use Rattle.bz_engine.specs.NeededReads.{AreReads}
+use Rattle.bz_engine.specs.Stops.{Tells}
 use Rattle.bz_engine.specs.SessionValue.{SessionValue, HasDone, HasEnded}
 use Rattle.std.specs.List.{concat}
 
@@ -43,10 +44,11 @@ pub record AddsOne (old new : SessionValue) (read : List (List ℕ)) (shown : Li
   pub done : (pieces cs : List (List ℕ)) (text : List ℕ) → HasDone old pieces cs text
       → HasDone new (pieces ++ read) (cs ++ chunk ∷ []) (text ++ shown)
 
--- The run came to this end, and the next chunk is not too long: what the session tells is the outcome.
+-- The run came to this end: what was read stands ahead, and the next chunk is not too long. What the session tells is the outcome.
 pub record EndsRun (old new : SessionValue) (read : List (List ℕ)) : Type 0 where
   pub end : End
   pub ended : new.state ≡ state.Ended end
+  pub read_ahead : IsReadOn old.options.max_reads old.ahead new.ahead read
   pub fits : IsTooLong new.options.max_statement new.ahead → ⊥
   pub outcome : (pieces cs : List (List ℕ)) (text : List ℕ) → HasDone old pieces cs text
       → AreReads new.home new.passes new.options (pieces ++ read) × HasEnded new end (pieces ++ read) cs text
@@ -62,24 +64,12 @@ pub record IsNextText (v : SessionValue) (pieces cs : List (List ℕ)) (text nex
 abbrev pub IsCutShort : SessionValue → List (List ℕ) → List (List ℕ) → List ℕ → List ℕ → Type 0
 IsCutShort v pieces cs text shown = (shown ≡ []) ⊎ ((next : List ℕ) × IsNextText v pieces cs text next × IsFrontOf shown next)
 
--- What a fault tells: where the next chunk is sure to be too long, this is told, or memory failed.
-abbrev pub Tells : SessionValue → SessionValue → RunFault → Type 0
-Tells old new (OutOfMemory _) = ⊤
-Tells old new ReadFailed = IsTooLong new.options.max_statement new.ahead → ⊥
-Tells old new WriteFailed = IsTooLong new.options.max_statement new.ahead → ⊥
--- So many reads were made, none of them the end, and no next chunk is certain.
-Tells old new InputTooLong = (new.ahead.reads ≡ new.options.max_reads) × (new.ahead.ended ≡ false) × IsUncertain new.ahead
-    × (IsTooLong new.options.max_statement new.ahead → ⊥)
--- The next chunk, which begins on this line, has more bytes than it may.
-Tells old new (StatementTooLong line) = (line ≡ old.progress.line) × IsTooLong new.options.max_statement new.ahead
-Tells old new Stopped = ⊥
-
 -- What a fault leaves: what was read stands ahead, and what was written is a front of what the next chunk adds.
 pub record IsLeftByFault (old new : SessionValue) (read : List (List ℕ)) (shown : List ℕ) (fault : RunFault) : Type 0 where
   pub stopped : new.state ≡ state.Stopped
   pub read_ahead : IsReadOn old.options.max_reads old.ahead new.ahead read
   pub front : (pieces cs : List (List ℕ)) (text : List ℕ) → HasDone old pieces cs text → IsCutShort new (pieces ++ read) cs text shown
-  pub tells : Tells old new fault
+  pub tells : Tells old.options old.progress.line new.ahead fault
 
 -- What was done, by the answer, where this was read and written.
 abbrev pub Did : SessionValue → SessionValue → List (List ℕ) → List ℕ → Result Step RunFault → Type 0
@@ -99,6 +89,6 @@ pub record Steps (source : Reader) (sink : Writer) (old new : SessionValue) (res
   pub few : length (concat read) ≤ 8192 * length read
   pub bound : length (old.ahead.bytes ++ concat read) ≤ old.options.max_statement + 8192
   -- Only a chunk that is done, or whose write failed, was written.
-  pub unwritten : result ≢ Ok step.More → result ≢ Err WriteFailed → sink.Stays
+  pub unwritten : result ≢ Ok step.More → result ≢ Err WriteFailed → (shown ≡ []) × sink.Stays
   pub reads_counted : IsCounted (result ≡ Err ReadFailed) source.failed source.failed_after
   pub writes_counted : IsCounted (result ≡ Err WriteFailed) sink.failed sink.failed_after

@@ -18,6 +18,7 @@ use Rattle.bz_engine.specs.Language.{meaning}
 use Rattle.bz_engine.specs.Messages.{fault_text}
 use Rattle.bz_engine.specs.Outcome.{Script, Run, run_with, Told, IsOutcome, text_after}
 use Rattle.bz_engine.specs.NeededReads.{AreNeededAfter}
+use Rattle.bz_engine.specs.Stops.{EndsAfter}
 use Rattle.bz_passes.specs.Entries.{line_text, message_text}
 
 -- The package, the passes and the options; what is kept of the chunks that are done; the bytes ahead, with the reads made and whether the end
@@ -86,16 +87,11 @@ told_at v Whole = told_of_progress v.home v.passes v.progress
 told_at v (Syntax fault) = told_alone (fault_text fault ∷ []) v.progress.changed (Syntax fault)
 told_at v FirstFailure = told_alone (option_to_list v.failure) v.progress.changed FirstFailure
 
--- These are all chunks of the file; or where it did not end the run, those before the one that did.
-abbrev pub AreBefore : End → List (List ℕ) → List ℕ → Type 0
-AreBefore Whole cs file = chunks file ≡ cs
-AreBefore (Syntax fault) cs file = (chunk : List ℕ) × (others : List (List ℕ)) × (chunks file ≡ cs ++ chunk ∷ others)
-AreBefore FirstFailure cs file = (chunk : List ℕ) × (others : List (List ℕ)) × (chunks file ≡ cs ++ chunk ∷ others)
-
 -- Reads gave these pieces, these chunks were done and this text was written: with what the session tells at this end it is the outcome for every file
--- that begins with the pieces, where the end was met for that file alone. No chunk was looked at but those and the one after them.
-abbrev pub HasEnded : SessionValue → End → List (List ℕ) → List (List ℕ) → List ℕ → Type 0
-HasEnded v end pieces cs text = ForEveryFile pieces (λ file. IsOutcome (run_in v) file text (told_at v end) × AreBefore end cs file)
+-- that begins with the pieces, where the end was met for that file alone. No chunk was looked at but those and the one that ended the run.
+pub record HasEnded (v : SessionValue) (end : End) (pieces cs : List (List ℕ)) (text : List ℕ) : Type 0 where
+  pub outcome : ForEveryFile pieces (λ file. IsOutcome (run_in v) file text (told_at v end))
+  pub last : EndsAfter (run_in v) v.options.max_statement pieces cs end
 
 -- it can take a chunk
 pub record IsReady (v : SessionValue) : Type 0 where

@@ -1,10 +1,11 @@
 //! A run from a source to a sink.
 
-ghost use Rattle.std.specs.Prelude.{◌≡◌, ◌≢◌, ℕ, ◌≤◌, ◌^◌, List, length, IfOk, OnErr, IsTrue, IsErrOf};
+ghost use Rattle.std.specs.Prelude.{◌≡◌, ◌≢◌, ℕ, ◌≤◌, ◌^◌, List, length, IfOk, IfErr, OnErr, IsErrOf};
 ghost use Rattle.bz_devices.specs.Ahead.{HasTooLong};
-ghost use Rattle.bz_devices.specs.Device.{ends, NoneEnds, Rises};
+ghost use Rattle.bz_devices.specs.Device.{Rises};
 ghost use Rattle.bz_engine.specs.EveryFile.{ForEveryFile};
-ghost use Rattle.bz_engine.specs.NeededReads.{AreReads};
+ghost use Rattle.bz_engine.specs.NeededReads.{AreReads, IsOneNeeded};
+ghost use Rattle.bz_engine.specs.Stops.{EndsAfter, IsStopped};
 ghost use Rattle.bz_engine.specs.Outcome.{Told, run_with, IsOutcome, IsFrontOf, told_by};
 ghost use Rattle.std.specs.List.{concat};
 
@@ -15,13 +16,14 @@ use crate::session::{Session, Step};
 use bz_command::Pass;
 use bz_devices::device::{Sink, Source};
 use bz_rule::{Command, Package, Target};
+use std::alloc::Global;
 
 /// Makes the passes, one after another, over the whole list of the statements of the input, and writes what they leave.
 ///
 /// One statement is held at a time. With `keep_going` every execution takes place; without, the run ends at the first
-/// statement on which one fails. A fault of the file ends its statements, and is then the only message. Memory is from
-/// the allocator of `passes`.
+/// statement on which one fails. A fault of the file ends its statements, and is then the only message.
 pub fn run<S: Source, W: Sink>(
+    alloc: Global,
     home: Package,
     passes: Vec<Pass<Target, Command>>,
     options: Options,
@@ -35,11 +37,19 @@ pub fn run<S: Source, W: Sink>(
         × S.gave source.old pieces source.new × W.took sink.old text sink.new × AreReads home passes.items options pieces
         × ForEveryFile pieces
         (λ file. IsOutcome (run_with home passes.items options) file text (told_by report))) }
+    // No chunk was looked at but those that are done and the one that ended the run.
+    ensures ended { IfOk result (λ report. (pieces : List (List ℕ)) × (cs : List (List ℕ)) × S.gave source.old pieces source.new
+        × EndsAfter (run_with home passes.items options) options.max_statement pieces cs report.end) }
     // Before a fault a front of the text was written that is written for each such file.
     ensures front { OnErr result ((pieces : List (List ℕ)) × (text : List ℕ)
         × S.gave source.old pieces source.new × W.took sink.old text sink.new × AreReads home passes.items options pieces
         × ForEveryFile pieces (λ file. (whole : List ℕ) (told : Told)
         → IsOutcome (run_with home passes.items options) file whole told → IsFrontOf text whole)) }
+    // That is the text of the chunks that are done, and, where a write failed, a front of what the next one adds. The fault
+    // tells what it does of a step.
+    ensures stopped { IfErr result (λ fault. (pieces : List (List ℕ)) × (text : List ℕ)
+        × S.gave source.old pieces source.new × W.took sink.old text sink.new
+        × IsStopped (run_with home passes.items options) options pieces text fault) }
     // Whatever is answered, the devices gave and took what reads and writes gave and took.
     ensures devices { (pieces : List (List ℕ)) × (text : List ℕ)
         × S.gave source.old pieces source.new × W.took sink.old text sink.new }
@@ -47,17 +57,17 @@ pub fn run<S: Source, W: Sink>(
         × (result ≢ Err RunFault.WriteFailed → W.failures sink.new ≡ W.failures sink.old) }
     ensures read_failed { IsErrOf result RunFault.ReadFailed → Rises (S.failures source.old) (S.failures source.new) }
     ensures write_failed { IsErrOf result RunFault.WriteFailed → Rises (W.failures sink.old) (W.failures sink.new) }
-    // That many reads were made, none of them the end.
-    ensures too_long { IsErrOf result RunFault.InputTooLong → (pieces : List (List ℕ))
-        × S.gave source.old pieces source.new
-        × (length pieces ≡ options.max_reads) × NoneEnds pieces }
-    // The chunk that begins on this line has more bytes than it may, among those that were given.
+    // That many reads were made, none of them the end, and another was needed after these bytes.
+    ensures too_long { IsErrOf result RunFault.InputTooLong → (pieces : List (List ℕ)) × (left : List ℕ)
+        × S.gave source.old pieces source.new × (length pieces ≡ options.max_reads)
+        × IsOneNeeded (run_with home passes.items options) options.max_statement pieces left }
+    // The chunk that begins on this line has more bytes than it may, among those that were given. (All before it were done:
+    // `stopped`.)
     ensures statement_too_long { (line : ℕ) → result ≡ Err (RunFault.StatementTooLong line)
         → (pieces : List (List ℕ)) × S.gave source.old pieces source.new
         × ForEveryFile pieces (HasTooLong options.max_statement line (concat pieces)) }
     ensures going { result ≢ Err RunFault.Stopped }
 {
-    let alloc = *passes.allocator();
     let mut session = Session::new(alloc, home, passes, options)?;
     loop {
         match session.step(source, sink)? {

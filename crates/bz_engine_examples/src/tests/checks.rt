@@ -20,7 +20,7 @@ pub fn ran<S: Source, W: Sink>(
     sink: &mut W,
 ) -> Result<Result<u8, RunFault>, Fail> {
     let (home, passes) = read_script(alloc, "set n 7 ! -:*")?;
-    match run(home, passes, program(true), source, sink) {
+    match run(alloc, home, passes, program(true), source, sink) {
         Ok(report) => Ok(Ok(report.status())),
         Err(fault) => Ok(Err(fault)),
     }

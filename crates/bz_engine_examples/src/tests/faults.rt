@@ -71,7 +71,7 @@ fn fault_of_run(alloc: Global, text: &str) -> Result<Option<ParseFault>, Fail> {
     let mut drip = Drip::new(alloc, 1, None);
     let (home, passes) = read_script(alloc, "set a 1 ! -:*")?;
     let options = limited(999, DEPTH, 999);
-    let report = run(home, passes, options, &mut feed, &mut drip)?;
+    let report = run(alloc, home, passes, options, &mut feed, &mut drip)?;
     match report.end {
         End::Syntax(SyntaxFault::Parse(fault)) => Ok(Some(fault)),
         _ => Ok(None),

@@ -132,7 +132,7 @@ fn messages(alloc: Global, input: &[u8], max_depth: u8) -> Result<usize, Fail> {
     let mut drip = Drip::new(alloc, 1, None);
     let (home, passes) = read_script(alloc, "set a 1 ! -:*")?;
     let options = limited(999, max_depth, 999);
-    let report = run(home, passes, options, &mut feed, &mut drip)?;
+    let report = run(alloc, home, passes, options, &mut feed, &mut drip)?;
     Ok(report.messages.len())
 }
 

@@ -232,7 +232,7 @@ fn run_all(alloc: Global, script: &str, input: &[u8], most: usize) -> Result<Out
     let mut feed = Feed::new(Input::Bytes(input), Piece::AtMost(most), None);
     let mut drip = Drip::new(alloc, most, None);
     let (home, passes) = read_script(alloc, script)?;
-    let report = run(home, passes, program(true), &mut feed, &mut drip)?;
+    let report = run(alloc, home, passes, program(true), &mut feed, &mut drip)?;
     Ok(Outcome {
         text: drip.taken,
         report,
@@ -399,7 +399,14 @@ fn ran_without(alloc: Global, input: &str) -> Result<String, Fail> {
     let mut feed = Feed::new(Input::Bytes(input.as_bytes()), Piece::Line, None);
     let mut drip = Drip::new(alloc, 9000, None);
     let (home, _) = read_script(alloc, "print name ! -:*")?;
-    let report = run(home, Vec::new(alloc), program(true), &mut feed, &mut drip)?;
+    let report = run(
+        alloc,
+        home,
+        Vec::new(alloc),
+        program(true),
+        &mut feed,
+        &mut drip,
+    )?;
     let outcome = Outcome {
         text: drip.taken,
         report,

@@ -37,7 +37,7 @@ fn check(
     let mut feed = Feed::new(Input::Bytes(input.as_bytes()), Piece::AtMost(9000), None);
     let mut drip = Drip::new(alloc, 9000, None);
     let (home, passes) = read_script(alloc, script)?;
-    let report = run(home, passes, program(true), &mut feed, &mut drip)?;
+    let report = run(alloc, home, passes, program(true), &mut feed, &mut drip)?;
     let status = if input == wanted { 3 } else { 0 };
     let found = (report.status(), drip.taken.as_slice() == wanted.as_bytes());
     checks::check(rt, "status and text", &found, &(status, true));

@@ -1,19 +1,19 @@
-use Rattle.std.proofs.Common.{◌≡◌, ◌+◌, ◌-◌, ◌*◌, ◌<◌, ◌≤◌, [], ◌∷◌, ◌++◌, refl, ◌∙◌, ap, sym, subst, length}
+use Rattle.std.proofs.Common.{◌≡◌, ◌+◌, ◌-◌, ◌*◌, ◌<◌, ◌≤◌, [], ◌∷◌, ◌++◌, refl, ◌∙◌, ap, sym, subst, length, arith, append-nil}
 use Rattle.std.specs.Prelude.{IsErrAnd, Ok, Err}
 use Rattle.std.proofs.lemmas.Result.{err_from_is_err_and}
 use Rattle.bz_engine.specs.declared.run_fault.RunFault.{RunFault}
-use Rattle.bz_engine.specs.declared.run_fault.RunFault.TheVariants.{InputTooLong, StatementTooLong, Stopped, ReadFailed, WriteFailed}
+use Rattle.bz_engine.specs.declared.run_fault.RunFault.TheVariants.{OutOfMemory, InputTooLong, StatementTooLong, Stopped, ReadFailed, WriteFailed}
 use Rattle.bz_engine.specs.declared.session.Step.TheVariants.{More, End}
 use Rattle.bz_engine.specs.Outcome.{run_with, told_by}
-use Rattle.bz_engine.specs.SessionValue.{HasDone, told_at}
+use Rattle.bz_engine.specs.SessionValue.{HasDone, at_start, told_at}
 use Rattle.bz_engine.proofs.Advances.{on_err, more_is_no_end}
-use Rattle.bz_devices.proofs.PassedOn.{passed_on, not_passed_on}
-use Rattle.bz_devices.proofs.ReadOn.{rises_from}
+use Rattle.bz_devices.proofs.PassedOn.{err_is, passed_on, not_passed_on}
+use Rattle.bz_memory.specs.NoMemory.{no_memory}
+use Rattle.bz_devices.proofs.ReadOn.{rises_from, read_nothing}
 use Rattle.bz_engine.proofs.Faults.{memory_alone}
-use Rattle.bz_engine.proofs.Cut.{cut_is, fault_begins, fault_reads, ended_begins, nothing_begins, too_long_in}
+use Rattle.bz_engine.proofs.Cut.{cut_is, fault_begins, fault_reads, ended_begins, nothing_begins, too_long_in, one_needed_there, stops_unread, stops_by_fault}
 use Rattle.bz_engine.proofs.NeededReads.{no_reads}
-use Rattle.bz_engine.proofs.Runs.{started, shorter, outcome_is, reads_for, where_ok, ok_is_no_err}
-use Rattle.bz_engine.proofs.Sessions.{too_long_there}
+use Rattle.bz_engine.proofs.Runs.{started, shorter, outcome_is, ends_after, reads_for, where_ok, where_is, where_memory, ok_is_no_err}
 use Rattle.bz_engine.proofs.SessionSteps.{did_as}
 use Rattle.bz_engine.proofs.runner.run.Goals as goal
 
@@ -75,9 +75,9 @@ returns-in_err-step-clause-too_long g c told =
     let same : (let fault : RunFault = InputTooLong in fault) ≡ c.in_err-step.field-0.0 = subst (λ r. IsErrAnd r (λ e. e ≡ c.in_err-step.field-0.0)) told c.from_residual-in_err-step.ensures.1 in
     let step = c.step.ensures.steps inv.goes in
     let left = did_as step (Err InputTooLong) (c.in_err-step.was ∙ ap Err (sym same)) in
-    let all = too_long_there c.loop-session.session c.step.new.self.ahead _ inv.pieces inv.cs step.read inv.text inv.done left.read_ahead
-    (left.tells.0 ∙ ap (λ o. o.max_reads) c.step.ensures.same.options) left.tells.1 in
-    (inv.pieces ++ step.read, g.met.S.Source.gave_more _ _ _ _ _ inv.gave step.gave, all.0 ∙ ap (λ o. o.max_reads) inv.options, all.1)
+    let all = one_needed_there c.loop-session.session c.step.new.self.ahead _ _ _ inv.pieces inv.cs step.read inv.text inv.home inv.passes inv.options inv.done left.read_ahead
+    left.tells.0 left.tells.1 in
+    (inv.pieces ++ step.read, _, g.met.S.Source.gave_more _ _ _ _ _ inv.gave step.gave, all.0, all.1)
 
 pub returns-in_err-step-clause-going : goal.returns-in_err-step-clause-going
 returns-in_err-step-clause-going g c told =
@@ -92,7 +92,7 @@ returns-in-End-clause-outcome g c =
     let answer = c.in_ok-step.was ∙ ap Ok c.in-End.is in
     let end = did_as step (Ok End) answer in
     let over = end.outcome inv.pieces inv.cs inv.text inv.done in
-    let wrote = subst (λ w. g.W.Sink.took c.args.sink.now inv.text w) (sym (step.unwritten (λ h. more_is_no_end c.step.result h answer) (λ h. ok_is_no_err _ _ WriteFailed answer h))) inv.took in
+    let wrote = subst (λ w. g.W.Sink.took c.args.sink.now inv.text w) (sym (step.unwritten (λ h. more_is_no_end c.step.result h answer) (λ h. ok_is_no_err _ _ WriteFailed answer h)).1) inv.took in
     where_ok c.finish.result (λ report told. (
       inv.pieces ++ step.read,
       inv.text,
@@ -103,6 +103,70 @@ returns-in-End-clause-outcome g c =
           (same.home ∙ inv.home) (same.passes ∙ inv.passes) (same.options ∙ inv.options) told over.1,
     ))
     (c.finish.ensures.report end.end end.ended)
+
+pub returns-in-End-clause-ended : goal.returns-in-End-clause-ended
+returns-in-End-clause-ended g c =
+    let inv = c.loop-session.invariant in
+    let same = c.step.ensures.same in
+    let step = c.step.ensures.steps inv.goes in
+    let end = did_as step (Ok End) (c.in_ok-step.was ∙ ap Ok c.in-End.is) in
+    let over = end.outcome inv.pieces inv.cs inv.text inv.done in
+    where_ok c.finish.result (λ report told. (
+      inv.pieces ++ step.read,
+      inv.cs,
+      g.met.S.Source.gave_more _ _ _ _ _ inv.gave step.gave,
+      ends_after c.step.new.self c.args.home c.args.passes.items c.args.options end.end (told_by report) (inv.pieces ++ step.read) inv.cs inv.text
+          (same.home ∙ inv.home) (same.passes ∙ inv.passes) (same.options ∙ inv.options) told over.1,
+    ))
+    (c.finish.ensures.report end.end end.ended)
+
+pub returns-in_err-session-clause-stopped : goal.returns-in_err-session-clause-stopped
+returns-in_err-session-clause-stopped g c =
+    let start = at_start c.args.home c.args.passes.items c.args.options in
+    let none : 0 ≤ c.args.options.max_reads = omega arith in
+    let p = err_from_is_err_and c.from_residual.result c.from_residual.ensures.1 in
+    where_is _ c.from_residual.result (OutOfMemory no_memory) (p.1 ∙ ap Err p.2) (
+      [],
+      [],
+      g.met.S.Source.gave_nothing _,
+      g.met.W.Sink.took_nothing _,
+      stops_unread start start.ahead (OutOfMemory no_memory) c.args.home c.args.passes.items c.args.options [] [] [] [] refl refl refl
+          (started c.args.home c.args.passes.items c.args.options) (read_nothing c.args.options.max_reads start.ahead none) tt,
+    )
+
+pub returns-in_err-step-clause-stopped : goal.returns-in_err-step-clause-stopped
+returns-in_err-step-clause-stopped g c =
+    let inv = c.loop-session.invariant in
+    let step = c.step.ensures.steps inv.goes in
+    let fault = c.in_err-step.field-0.0 in
+    let was = c.in_err-step.was in
+    let left = did_as step (Err fault) was in
+    let p = err_from_is_err_and c.from_residual-in_err-step.result c.from_residual-in_err-step.ensures.1 in
+    where_is _ c.from_residual-in_err-step.result fault (p.1 ∙ ap Err p.2) (
+      inv.pieces ++ step.read,
+      inv.text ++ step.shown,
+      g.met.S.Source.gave_more _ _ _ _ _ inv.gave step.gave,
+      g.met.W.Sink.took_more _ _ _ _ _ inv.took step.took,
+      stops_by_fault c.loop-session.session c.step.new.self fault c.args.home c.args.passes.items c.args.options inv.pieces inv.cs step.read inv.text step.shown
+          inv.home inv.passes inv.options inv.done c.step.ensures.same left
+          (λ other. (step.unwritten (λ h. ok_is_no_err _ _ fault h was) (λ h. other (err_is fault WriteFailed (sym was ∙ h)))).0),
+    )
+
+pub returns-in-End-clause-stopped : goal.returns-in-End-clause-stopped
+returns-in-End-clause-stopped g c =
+    let inv = c.loop-session.invariant in
+    let step = c.step.ensures.steps inv.goes in
+    let answer = c.in_ok-step.was ∙ ap Ok c.in-End.is in
+    let end = did_as step (Ok End) answer in
+    let wrote = subst (λ w. g.W.Sink.took c.args.sink.now inv.text w) (sym (step.unwritten (λ h. more_is_no_end c.step.result h answer) (λ h. ok_is_no_err _ _ WriteFailed answer h)).1) inv.took in
+    where_memory _ c.finish.result (OutOfMemory no_memory) (c.finish.ensures.memory end.end end.ended) (
+      inv.pieces ++ step.read,
+      inv.text ++ [],
+      g.met.S.Source.gave_more _ _ _ _ _ inv.gave step.gave,
+      subst (λ t. g.W.Sink.took c.args.sink.now t c.step.new.sink) (sym (append-nil inv.text)) wrote,
+      stops_unread c.loop-session.session c.step.new.self.ahead (OutOfMemory no_memory) _ _ _ inv.pieces inv.cs step.read inv.text
+          inv.home inv.passes inv.options inv.done end.read_ahead tt,
+    )
 
 pub returns-in_err-session-clause-devices : goal.returns-in_err-session-clause-devices
 returns-in_err-session-clause-devices g c = ([], [], g.met.S.Source.gave_nothing _, g.met.W.Sink.took_nothing _)
@@ -133,7 +197,7 @@ returns-in_err-step-clause-front g c =
     on_err _ (cut_is (λ pieces. g.S.Source.gave c.args.source.now pieces c.step.new.source) (λ text. g.W.Sink.took c.args.sink.now text c.step.new.sink)
     c.args.home c.args.passes.items c.args.options (inv.pieces ++ step.read) (inv.text ++ step.shown)
     (g.met.S.Source.gave_more _ _ _ _ _ inv.gave step.gave) (g.met.W.Sink.took_more _ _ _ _ _ inv.took step.took)
-    (fault_reads c.loop-session.session c.step.new.self _ c.args.home c.args.passes.items c.args.options inv.pieces inv.cs step.read inv.text step.shown inv.home inv.passes inv.options inv.done step.needed left)
+    (fault_reads c.loop-session.session c.step.new.self _ c.args.home c.args.passes.items c.args.options inv.pieces inv.cs step.read inv.text step.shown inv.home inv.passes inv.options inv.done (record { needed = step.needed; few = step.bound }) left)
     (fault_begins c.loop-session.session c.step.new.self _ c.args.home c.args.passes.items c.args.options inv.pieces inv.cs step.read inv.text step.shown
     inv.home inv.passes inv.options inv.done c.step.ensures.same left))
 
@@ -145,7 +209,7 @@ returns-in-End-clause-front g c =
     let answer = c.in_ok-step.was ∙ ap Ok c.in-End.is in
     let end = did_as step (Ok End) answer in
     let over = end.outcome inv.pieces inv.cs inv.text inv.done in
-    let wrote = subst (λ w. g.W.Sink.took c.args.sink.now inv.text w) (sym (step.unwritten (λ h. more_is_no_end c.step.result h answer) (λ h. ok_is_no_err _ _ WriteFailed answer h))) inv.took in
+    let wrote = subst (λ w. g.W.Sink.took c.args.sink.now inv.text w) (sym (step.unwritten (λ h. more_is_no_end c.step.result h answer) (λ h. ok_is_no_err _ _ WriteFailed answer h)).1) inv.took in
     on_err _ (cut_is (λ pieces. g.S.Source.gave c.args.source.now pieces c.step.new.source) (λ text. g.W.Sink.took c.args.sink.now text c.step.new.sink)
     c.args.home c.args.passes.items c.args.options (inv.pieces ++ step.read) inv.text
     (g.met.S.Source.gave_more _ _ _ _ _ inv.gave step.gave)
@@ -164,7 +228,7 @@ returns-in_err-step-clause-statement_too_long g c line told =
       inv.pieces ++ step.read,
       g.met.S.Source.gave_more _ _ _ _ _ inv.gave step.gave,
       too_long_in c.loop-session.session c.step.new.self _ c.args.options.max_statement line inv.pieces inv.cs step.read inv.text inv.done left.read_ahead
-          (ap (λ o. o.max_statement) (c.step.ensures.same.options ∙ inv.options)) left.tells.0 left.tells.1,
+          (ap (λ o. o.max_statement) inv.options) left.tells.0 left.tells.1,
     )
 
 pub returns-in_err-session-clause-steady : goal.returns-in_err-session-clause-steady

@@ -43,7 +43,7 @@ returns-in-End-clause-end g c was going =
       over.ended,
       λ pieces cs text done.
           come_to g.S.Source.gave g.W.Sink.took g.met.S.Source.gave_more g.met.W.Sink.took_more _ _ _ _ _ _ _ _ _ step.read pieces cs text (inv.done pieces cs text done) step.gave
-          (step.unwritten (λ h. more_is_no_end c.step.result h answer) (λ h. ok_is_no_err _ _ WriteFailed answer h)) over,
+          (step.unwritten (λ h. more_is_no_end c.step.result h answer) (λ h. ok_is_no_err _ _ WriteFailed answer h)).1 over,
     )
 
 pub returns-clause-more : goal.returns-clause-more

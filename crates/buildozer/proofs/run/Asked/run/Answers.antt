@@ -22,4 +22,5 @@ returns-clause-front g c =
 pub returns-clause-fault : goal.returns-clause-fault
 returns-clause-fault g c =
     let e = c.run.ensures in
-    fault_over g.S.Source.gave g.S.Source.failures c.args.source.now c.run.new.source c.run.result e.read_failed e.too_long e.statement_too_long e.going
+    fault_over g.S.Source.gave g.S.Source.failures c.args.source.now c.run.new.source c.run.result e.read_failed
+    (λ told. let there = e.too_long told in (there.0, there.2, there.3, there.4.going)) e.statement_too_long e.going

@@ -1,0 +1,73 @@
+-- Where a run stops, and what it has done then (this project's own rule).
+-- Begin with `EndsAfter` and `IsStopped`.
+-- Of later stops: 4 `Statement`; 7 `IsAnswerOf`; 8 `chunks`, `line_at`.
+use Rattle.std.specs.Prelude.{◌≡◌, ◌≢◌, ◌⊎◌, ℕ, ◌≤◌, true, false, List, [], ◌∷◌, ◌++◌, length, Option, Some, Ok, Err, ⊤}
+use Rattle.std.specs.List.{concat}
+use Rattle.bz_token.specs.Chunks.{chunks}
+use Rattle.bz_token.specs.Places.{line_at}
+use Rattle.bz_tree.specs.Tree.{Statement}
+use Rattle.bz_devices.specs.Device.{ends}
+use Rattle.bz_devices.specs.Ahead.{Ahead, IsNextChunk, IsTooLong, IsUndecided}
+use Rattle.bz_engine.specs.declared.options.Options.{Options}
+use Rattle.bz_engine.specs.declared.report.End.{End}
+use Rattle.bz_engine.specs.declared.report.End.TheVariants.{Whole, Syntax, FirstFailure}
+use Rattle.bz_engine.specs.declared.run_fault.RunFault.{RunFault}
+use Rattle.bz_engine.specs.declared.run_fault.RunFault.TheVariants.{OutOfMemory, ReadFailed, WriteFailed, InputTooLong, StatementTooLong, Stopped}
+use Rattle.bz_engine.specs.EveryFile.{ForEveryFile}
+use Rattle.bz_engine.specs.File.{IsAnswerOf}
+use Rattle.bz_engine.specs.NeededReads.{AreDone}
+use Rattle.bz_engine.specs.Outcome.{Run, IsFrontOf, some_failure, text_after}
+
+-- In every file that begins with the pieces this chunk comes next after those: so its end is certain. It may have so many bytes.
+pub record ComesNext (max_statement : ℕ) (pieces cs : List (List ℕ)) (chunk : List ℕ) : Type 0 where
+  pub size : length chunk ≤ max_statement
+  pub after : ForEveryFile pieces (λ file. (others : List (List ℕ)) × (chunks file ≡ cs ++ chunk ∷ others))
+
+-- Where the run ends, these chunks are done, and no other was looked at but the one that ends it: the file has no other; or the
+-- next one has this fault, or an execution fails on its statement.
+abbrev pub EndsAfter : Run → ℕ → List (List ℕ) → List (List ℕ) → End → Type 0
+EndsAfter run max_statement pieces cs Whole = ForEveryFile pieces (λ file. chunks file ≡ cs)
+EndsAfter run max_statement pieces cs (Syntax fault) = (chunk : List ℕ) × ComesNext max_statement pieces cs chunk
+    × IsAnswerOf run.max_depth (line_at 1 (concat cs)) chunk (Err fault)
+EndsAfter run max_statement pieces cs FirstFailure = (chunk : List ℕ) × ComesNext max_statement pieces cs chunk
+    × (s : Statement) × IsAnswerOf run.max_depth (line_at 1 (concat cs)) chunk (Ok (Some s))
+    × (some_failure run.home run.passes (s ∷ []) ≡ true)
+
+-- The bytes ahead leave the next chunk open, and the end of the input was not met.
+pub record NeedsRead (max_statement : ℕ) (ahead : Ahead) : Type 0 where
+  pub going : ahead.ended ≡ false
+  pub undecided : IsUndecided max_statement ahead.bytes
+
+-- Why a fault stops a run, where the next chunk begins on this line and this is ahead. Memory may fail at any time.
+abbrev pub Tells : Options → ℕ → Ahead → RunFault → Type 0
+Tells options line ahead (OutOfMemory _) = ⊤
+Tells options line ahead ReadFailed = NeedsRead options.max_statement ahead
+Tells options line ahead WriteFailed = (n : ℕ) × IsNextChunk options.max_statement ahead n
+-- All the reads that may be made were made, and another is needed.
+Tells options line ahead InputTooLong = (ahead.reads ≡ options.max_reads) × NeedsRead options.max_statement ahead
+-- The next chunk has more bytes than it may.
+Tells options line ahead (StatementTooLong at) = (at ≡ line) × IsTooLong options.max_statement ahead
+Tells options line ahead Stopped = ⊥
+
+-- This text begins what the next chunk adds to the text of these statements.
+pub record BeginsNext (run : Run) (pieces front : List (List ℕ)) (statements : List Statement) (text : List ℕ) : Type 0 where
+  pub chunk : List ℕ
+  pub left : List ℕ
+  pub following : List Statement
+  pub done : AreDone run pieces (front ++ chunk ∷ []) following left
+  pub added : List ℕ
+  pub adds : text_after run.home run.passes following ≡ text_after run.home run.passes statements ++ added
+  pub begins : IsFrontOf text added
+
+-- A fault stopped the run after reads that gave these pieces, when it had written this text: that of the chunks that are done,
+-- and, where a write failed, a front of what the next one adds.
+pub record IsStopped (run : Run) (options : Options) (pieces : List (List ℕ)) (text : List ℕ) (fault : RunFault) : Type 0 where
+  pub front : List (List ℕ)
+  pub statements : List Statement
+  pub left : List ℕ
+  pub done : AreDone run pieces front statements left
+  pub cut : List ℕ
+  pub text_is : text ≡ text_after run.home run.passes statements ++ cut
+  pub begins : (cut ≡ []) ⊎ BeginsNext run pieces front statements cut
+  pub unwritten : fault ≢ WriteFailed → cut ≡ []
+  pub tells : Tells options (line_at 1 (concat front)) (record { bytes = left; reads = length pieces; ended = ends pieces }) fault
