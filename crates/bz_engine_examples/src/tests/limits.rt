@@ -8,6 +8,7 @@ use crate::script::{limited, read_script};
 use crate::tests::checks::check;
 use bz_engine::{Options, RunFault, Session, Step, run};
 use bz_rule_examples::table::plain;
+use bz_token::check_utf8;
 use std::alloc::Global;
 use std::process::Abort;
 use std::test::Fail;
@@ -126,33 +127,75 @@ fn nested(alloc: Global, depth: usize) -> Result<String, Fail> {
     Ok(text)
 }
 
-/// How many messages a run tells, byte by byte.
-fn messages(alloc: Global, input: &[u8], max_depth: u8) -> Result<usize, Fail> {
+/// What a run tells of its first fault, byte by byte, and the text that it writes.
+fn told(alloc: Global, input: &[u8], max_depth: u8) -> Result<(String, Vec<u8>), Fail> {
     let mut feed = Feed::new(Input::Bytes(input), Piece::AtMost(1), None);
     let mut drip = Drip::new(alloc, 1, None);
     let (home, passes) = read_script(alloc, "set a 1 ! -:*")?;
     let options = limited(999, max_depth, 999);
     let report = run(alloc, home, passes, options, &mut feed, &mut drip)?;
-    Ok(report.messages.len())
+    let status = report.status();
+    let message = report.messages.iter().next().unwrap_or("nothing");
+    Ok((format!(in alloc; "{message}, status {status}")?, drip.taken))
 }
 
-/// A run over so many brackets in one another tells so many messages.
-fn check_depth(rt: &impl Abort, alloc: Global, depth: usize, told: usize) -> Result<(), Fail> {
-    let text = nested(alloc, depth)?;
-    let found = messages(alloc, text.as_bytes(), 100)?;
-    check(rt, text.as_str(), &found, &told);
+/// A run over this input tells this, and writes this text.
+fn check_told(
+    rt: &impl Abort,
+    alloc: Global,
+    input: &str,
+    max_depth: u8,
+    (wanted, text): (&str, &str),
+) -> Result<(), Fail> {
+    let (found, written) = told(alloc, input.as_bytes(), max_depth)?;
+    check(rt, input, &found.as_str(), &wanted);
+    check(rt, input, &check_utf8(written.as_slice()), &Ok(text));
     Ok(())
 }
 
 #[test]
 fn keeps_to_the_depth(rt: HostRuntime) -> Result<(), Fail> {
-    check_depth(&rt, rt.alloc(), 100, 0)?;
-    check_depth(&rt, rt.alloc(), 101, 1)
+    let most = nested(rt.alloc(), 100)?;
+    let same = ("nothing, status 3", most.as_str());
+    check_told(&rt, rt.alloc(), most.as_str(), 100, same)?;
+    let more = nested(rt.alloc(), 101)?;
+    let refused = ("1:105: brackets too deep, status 2", "");
+    check_told(&rt, rt.alloc(), more.as_str(), 100, refused)
 }
 
 #[test]
 fn keeps_to_no_depth(rt: HostRuntime) -> Result<(), Fail> {
-    let found = messages(rt.alloc(), b"f()\n", 0)?;
-    check(&rt, "f()", &found, &1);
+    let refused = ("1:2: brackets too deep, status 2", "");
+    check_told(&rt, rt.alloc(), "f()\n", 0, refused)
+}
+
+/// What a run under limits answers: the status of its report, or its fault; and the text that it wrote.
+fn limited_run(
+    alloc: Global,
+    input: &[u8],
+    options: Options,
+) -> Result<(Result<u8, RunFault>, Vec<u8>), Fail>
+    requires { options.max_reads ≤ 2 ^ 50 }
+{
+    let mut feed = Feed::new(Input::Bytes(input), Piece::AtMost(9000), None);
+    let mut drip = Drip::new(alloc, 99, None);
+    let (home, passes) = read_script(alloc, "set a 1 ! -:*")?;
+    let answer = run(home, passes, options, &mut feed, &mut drip);
+    Ok((answer.map(|report| report.status()), drip.taken))
+}
+
+#[test]
+fn runs_keep_to_their_limits(rt: HostRuntime) -> Result<(), Fail> {
+    let too_long = Err(RunFault::StatementTooLong { line: 1 });
+    for (input, max_reads, wanted, text) in [
+        ("x = 123\n", 99, Ok(3), "x = 123\n"),
+        ("x = 1234\n", 99, too_long, ""),
+        ("", 0, Err(RunFault::InputTooLong), ""),
+    ] {
+        let options = limited(8, 100, max_reads);
+        let (found, written) = limited_run(rt.alloc(), input.as_bytes(), options)?;
+        check(&rt, input, &found, &wanted);
+        check(&rt, input, &check_utf8(written.as_slice()), &Ok(text));
+    }
     Ok(())
 }

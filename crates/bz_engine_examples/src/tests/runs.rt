@@ -5,15 +5,23 @@ use crate::drip::Drip;
 use crate::feed::{Feed, Input, Piece};
 use crate::script::{program, read_script};
 use crate::tests::checks::check;
-use bz_engine::{End, Report, Texts, run};
+use bz_engine::{End, Report, Session, Step, Texts, run};
 use bz_rule_examples::table::{BLOCK, cut_rows, plain};
 use bz_rule_examples::texts::TEXTS;
 use std::alloc::Global;
 use std::process::Abort;
 use std::test::Fail;
 
-/// A script and an input; the text that is written; and what is told.
+/// A script and an input; the text that is written; and what is told. A run goes on after failures, unless `-k=false` is
+/// the first word.
 const RUNS: &str = r#"
+---
+add deps x ! //p:a
+␄
+->
+=>
+message: //p:a: no such rule
+status 2
 ---
 add deps //b:c ! -:a
 cc_library(name="a",srcs=["a.cc"])
@@ -74,6 +82,31 @@ g(name = "b")
 g(name = "b")
 =>
 line: g
+status 0
+---
+add deps w ! -:a
+f(
+    name = "a",
+    deps = [ # c1
+        "x", # c2
+        "y" # c3
+        , "z"
+        # c4
+    ],
+)
+->
+f(
+    name = "a",
+    deps = [
+        # c1
+        "x",  # c2
+        "y",  # c3
+        "z",
+        "w",
+        # c4
+    ],
+)
+=>
 status 0
 ---
 add deps w ! -:a
@@ -145,6 +178,111 @@ f(
 )
 =>
 status 0
+---
+rename x y ! set z 3 ! //p:b
+f(name = "a")
+f(name = "b", x = 1, y = 2)
+->
+f(name = "a")
+
+f(
+    name = "b",
+    x = 1,
+    y = 2,
+    z = 3,
+)
+=>
+message: //p:b: attribute 'y' is already there
+status 2
+---
+-k=false rename x y ! set z 3 ! //p:b
+f(name = "a")
+f(name = "b", x = 1, y = 2)
+->
+f(name = "a")
+=>
+message: //p:b: attribute 'y' is already there
+status 2
+---
+set z 1 ! -:*
+x = 1
+y = """open
+->
+x = 1
+=>
+message: 2:5: string is not closed
+status 2
+---
+set a 1 ! -:*
+x = 1
+  y = 2
+->
+x = 1
+=>
+message: 2: indented statement
+status 2
+---
+comment hello\ world ! //p:a
+f(name = "a")
+->
+# hello world
+f(name = "a")
+=>
+status 0
+---
+comment name note ! //p:a
+f(name = "a")
+->
+f(
+    # note
+    name = "a",
+)
+=>
+status 0
+---
+set size small ! set deps x ! set n 7 ! set ok True ! set l a b ! //p:a
+f(name = "a")
+->
+f(
+    name = "a",
+    size = "small",
+    deps = ["x"],
+    n = 7,
+    ok = True,
+    l = [
+        "a",
+        "b",
+    ],
+)
+=>
+status 0
+---
+set size small ! set deps x ! set n 7 ! set ok True ! set l a b ! //p:a
+f(
+    name = "a",
+    size = "small",
+    deps = ["x"],
+    n = 7,
+    ok = True,
+    l = [
+        "a",
+        "b",
+    ],
+)
+->
+f(
+    name = "a",
+    size = "small",
+    deps = ["x"],
+    n = 7,
+    ok = True,
+    l = [
+        "a",
+        "b",
+    ],
+)
+=>
+status 3
 ---
 set a 1 ! -:*
 x = [k+v for k,v in d.items()]
@@ -227,15 +365,53 @@ struct Outcome {
     report: Report,
 }
 
-/// A run that goes on after failures, so many bytes at a time.
+/// The commands and labels of a script, and whether its run goes on after failures.
+fn cut_flag(script: &str) -> (&str, bool) {
+    match script.strip_prefix("-k=false ") {
+        Some(words) => (words, false),
+        None => (script, true),
+    }
+}
+
+/// A run, so many bytes at a time.
 fn run_all(alloc: Global, script: &str, input: &[u8], most: usize) -> Result<Outcome, Fail> {
     let mut feed = Feed::new(Input::Bytes(input), Piece::AtMost(most), None);
     let mut drip = Drip::new(alloc, most, None);
-    let (home, passes) = read_script(alloc, script)?;
-    let report = run(alloc, home, passes, program(true), &mut feed, &mut drip)?;
+    let (words, keep_going) = cut_flag(script);
+    let (home, passes) = read_script(alloc, words)?;
+    let report = run(alloc, home, passes, program(keep_going), &mut feed, &mut drip)?;
     Ok(Outcome {
         text: drip.taken,
         report,
+    })
+}
+
+/// Steps to the end of an input of so many bytes: each step but the last takes a byte at least.
+fn step_to_end(
+    session: &mut Session,
+    feed: &mut Feed<'_>,
+    drip: &mut Drip,
+    bytes: usize,
+) -> Result<(), Fail> {
+    for _ in 0..bytes.saturating_add(1) {
+        if session.step(feed, drip)? == Step::End {
+            return Ok(());
+        }
+    }
+    Err(Fail::from("no end"))
+}
+
+/// The same run by the steps of a session.
+fn step_all(alloc: Global, script: &str, input: &[u8], most: usize) -> Result<Outcome, Fail> {
+    let mut feed = Feed::new(Input::Bytes(input), Piece::AtMost(most), None);
+    let mut drip = Drip::new(alloc, most, None);
+    let (words, keep_going) = cut_flag(script);
+    let (home, passes) = read_script(alloc, words)?;
+    let mut session = Session::new(alloc, home, passes, program(keep_going))?;
+    step_to_end(&mut session, &mut feed, &mut drip, input.len())?;
+    Ok(Outcome {
+        text: drip.taken,
+        report: session.finish()?,
     })
 }
 
@@ -263,12 +439,7 @@ fn shown(alloc: Global, outcome: &Outcome) -> Result<String, Fail> {
     Ok(out)
 }
 
-/// What a run wrote and told.
-fn ran(alloc: Global, script: &str, input: &[u8], most: usize) -> Result<String, Fail> {
-    shown(alloc, &run_all(alloc, script, input, most)?)
-}
-
-/// A run writes and tells this, and so it does all at once and byte by byte.
+/// A run writes and tells this, by `run` and by steps, and so it does all at once and byte by byte.
 fn check_run(
     rt: &impl Abort,
     alloc: Global,
@@ -277,8 +448,10 @@ fn check_run(
     answer: &str,
 ) -> Result<(), Fail> {
     for most in [1, 9000] {
-        let found = ran(alloc, script, input, most)?;
+        let found = shown(alloc, &run_all(alloc, script, input, most)?)?;
         check(rt, script, &found.as_str(), &answer);
+        let stepped = shown(alloc, &step_all(alloc, script, input, most)?)?;
+        check(rt, script, &stepped.as_str(), &answer);
     }
     Ok(())
 }
