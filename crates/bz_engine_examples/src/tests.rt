@@ -6,5 +6,6 @@ mod devices;
 mod faults;
 mod limits;
 mod runs;
+mod scripts;
 mod sessions;
 mod sizes;
