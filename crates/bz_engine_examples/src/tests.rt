@@ -7,5 +7,6 @@ mod faults;
 mod limits;
 mod reports;
 mod runs;
+mod scripts;
 mod sessions;
 mod sizes;
