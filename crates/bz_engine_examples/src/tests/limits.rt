@@ -180,7 +180,7 @@ fn limited_run(
     let mut feed = Feed::new(Input::Bytes(input), Piece::AtMost(9000), None);
     let mut drip = Drip::new(alloc, 99, None);
     let (home, passes) = read_script(alloc, "set a 1 ! -:*")?;
-    let answer = run(home, passes, options, &mut feed, &mut drip);
+    let answer = run(alloc, home, passes, options, &mut feed, &mut drip);
     Ok((answer.map(|report| report.status()), drip.taken))
 }
 

@@ -379,7 +379,14 @@ fn run_all(alloc: Global, script: &str, input: &[u8], most: usize) -> Result<Out
     let mut drip = Drip::new(alloc, most, None);
     let (words, keep_going) = cut_flag(script);
     let (home, passes) = read_script(alloc, words)?;
-    let report = run(alloc, home, passes, program(keep_going), &mut feed, &mut drip)?;
+    let report = run(
+        alloc,
+        home,
+        passes,
+        program(keep_going),
+        &mut feed,
+        &mut drip,
+    )?;
     Ok(Outcome {
         text: drip.taken,
         report,
