@@ -1,4 +1,4 @@
-use Rattle.std.proofs.Common.{refl, rules}
+use Rattle.std.proofs.Common.{rules, ap, sym, ◌∙◌}
 use Rattle.bz_tree.specs.View.{slot_view}
 use Rattle.bz_rule.proofs.Commands.{failure_stays, told_of_slot, unchanged_stays}
 use Rattle.bz_rule.proofs.slot.apply.Goals as goal
@@ -8,10 +8,10 @@ returns-then-not-done-clause-done c = search rules
 
 pub returns-then-not-done-clause-slot : goal.returns-then-not-done-clause-slot
 returns-then-not-done-clause-slot c =
-    unchanged_stays c.args.command.now c.args.home.now (slot_view c.args.slot.now) _ (returns-then-not-done-clause-done c) c.if-not-done.true
+    sym (ap slot_view c.in-Some.is) ∙ unchanged_stays c.args.command.now c.args.home.now (slot_view c.args.slot.now) _ (returns-then-not-done-clause-done c) c.if-not-done.true
 
 pub returns-then-not-done-clause-failed : goal.returns-then-not-done-clause-failed
-returns-then-not-done-clause-failed c fails = refl
+returns-then-not-done-clause-failed c fails = sym (ap slot_view c.in-Some.is)
 
 pub returns-then-not-done-clause-changed : goal.returns-then-not-done-clause-changed
 returns-then-not-done-clause-changed c =
