@@ -1,8 +1,6 @@
 //! Where the leaves of a statement stand in the input.
 
-use crate::checks::{check, check_value, statement};
-use bz_rule::value_is;
-use bz_token::{Kind, Token};
+use crate::checks::{check, statement};
 use bz_tree::{Group, Leaf, Node, Stmt};
 use std::alloc::Global;
 use std::process::Abort;
@@ -115,27 +113,4 @@ fn places_of_leaves(rt: HostRuntime) -> Result<(), Fail> {
     check_places(&rt, alloc, COMMAS, COMMAS_PLACES)?;
     check_places(&rt, alloc, COMPREHENSION, COMPREHENSION_PLACES)?;
     check_places(&rt, alloc, BLOCK, BLOCK_PLACES)
-}
-
-/// A leaf as a token, of which `value_is` can be asked.
-fn token_of<'l>(leaf: &'l Leaf<'_>) -> Token<'l> {
-    Token {
-        text: leaf.text.as_str(),
-        line: leaf.line,
-        col: leaf.col,
-        kind: leaf.kind,
-        fresh: leaf.fresh,
-    }
-}
-
-#[test]
-fn value_of_a_leaf(rt: HostRuntime) -> Result<(), Fail> {
-    let alloc = rt.alloc();
-    let stmt = statement(alloc, "x = 'a'\n")?;
-    let [_, _, Node::Token(leaf)] = stmt.nodes.as_slice() else {
-        return Ok(());
-    };
-    check_value(&rt, "kind", &leaf.kind, &Kind::String);
-    check_value(&rt, "value", &value_is(&token_of(leaf), "a"), &true);
-    Ok(())
 }
