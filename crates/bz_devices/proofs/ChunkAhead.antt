@@ -7,11 +7,12 @@ use Rattle.std.proofs.lemmas.Grind.{common_steps}
 use Rattle.bz_token.specs.Blocks.{goes_on}
 use Rattle.bz_token.specs.Chunks.{chunks}
 use Rattle.bz_token.specs.Cuts.{EndsBefore, IsLonger, IsPart, IsBlock, IsNext, first_line, is_physical_line, ends_in_newline}
-use Rattle.bz_token.specs.CutterState.{IsAfter, Takes}
+use Rattle.bz_token.specs.CutterState.{IsAfter}
 use Rattle.bz_token.specs.declared.cutter.Cutter.{Cutter}
 use Rattle.bz_token.specs.declared.cutter.Cut.{Cut}
 use Rattle.bz_token.specs.declared.cutter.Cut.TheVariants.{More, Block}
 use Rattle.bz_token.specs.declared.cutter.Next.TheVariants.{Goes, Ends, Short}
+use Rattle.bz_token.proofs.CutAnswers.{line_goes}
 use Rattle.bz_devices.specs.Ahead.{Ahead, IsReadOn, IsNextChunk, MayFollow, BeginsTooLong, IsTooLong, IsUncertain, IsUndecided, IsFewAfter}
 use Rattle.bz_devices.specs.private.AheadSteps.{IsOpen, IsLineAt, GoesAfter, IsBegun, GoesOn, EndsAt, IsEnd}
 use Rattle.bz_devices.proofs.ChunkLines.{line_is_physical, tail_is}
@@ -167,8 +168,8 @@ block_ends n ahead slice at_end same ended next rest may =
     subst (λ l. EndsBefore (take n ahead.bytes) (l ++ rest)) same (next rest (λ h. may (sym ended ∙ h)))
 
 pub block_goes : (n : ℕ) (cutter : Cutter) (ahead : Ahead) (slice : List ℕ) (at_end : Bool) → slice ≡ drop n ahead.bytes → at_end ≡ ahead.ended → IsBlock (take n ahead.bytes)
-    → IsNext Goes at_end (take n ahead.bytes) slice → IsAfter cutter (take n ahead.bytes) → ((rest : List ℕ) → (at_end ≡ true → rest ≡ []) → Takes cutter (first_line (slice ++ rest))) → GoesOn cutter ahead n
-block_goes n cutter ahead slice at_end same ended block next after takes =
+    → IsNext Goes at_end (take n ahead.bytes) slice → IsAfter cutter (take n ahead.bytes) → GoesOn cutter ahead n
+block_goes n cutter ahead slice at_end same ended block next after =
     let front = take n ahead.bytes in
     record {
       begun = record {
@@ -176,7 +177,6 @@ block_goes n cutter ahead slice at_end same ended block next after takes =
         longer = λ rest may _. subst (λ l. IsLonger front (l ++ rest)) same (next rest (λ h. may (sym ended ∙ h)));
       };
       after = λ _. after;
-      takes = λ _ rest may. subst (λ l. Takes cutter (first_line (l ++ rest))) same (takes rest (λ h. may (sym ended ∙ h)));
     }
 
 -- the next line, whatever follows what is ahead
@@ -202,21 +202,24 @@ line_physical ahead e n line is at =
 pub some_after : (ahead : Ahead) (e n : ℕ) → e < n → IsLineAt ahead e n → GoesAfter ahead e
 some_after ahead e n some at _ = omega (arith, at.within, length-drop e ahead.bytes)
 
-pub takes_line : (cutter : Cutter) (ahead : Ahead) (e n : ℕ) (line : List ℕ) → line ≡ take (n - e) (drop e ahead.bytes) → e < n → IsLineAt ahead e n → GoesOn cutter ahead e → Takes cutter line
-takes_line cutter ahead e n line is some at goes =
-    subst (λ l. Takes cutter l) (next_line ahead e n at [] (λ _. refl) ∙ sym is) (goes.takes (some_after ahead e n some at) [] (λ _. refl))
+-- the next line goes on with the bytes before it, where they are a block
+pub goes_with_line : (ahead : Ahead) (e n : ℕ) (line : List ℕ) → line ≡ take (n - e) (drop e ahead.bytes) → e < n → IsLineAt ahead e n → IsBegun ahead e → IsBlock (take e ahead.bytes) → IsLonger (take e ahead.bytes) line
+goes_with_line ahead e n line is some at begun block =
+    let front = take e ahead.bytes in
+    let after = drop e ahead.bytes ++ [] in
+    let more : 0 < length after = omega (arith, some, at.within, length-drop e ahead.bytes, length-append (drop e ahead.bytes) []) in
+    subst (λ l. IsLonger front l) (next_line ahead e n at [] (λ _. refl) ∙ sym is) (line_goes front after block (begun.longer [] (λ _. refl) more))
 
 -- the chunk goes on after a line that is no block's end
 pub more_goes : (new : Cutter) (ahead : Ahead) (e n : ℕ) (t : Bool) → ends_in_newline (take (n - e) (drop e ahead.bytes)) ≡ t → e < n → IsLineAt ahead e n
-    → (t ≡ true → IsPart (take n ahead.bytes)) → (t ≡ true → IsAfter new (take n ahead.bytes)) → ((next : List ℕ) → Takes new next)
+    → (t ≡ true → IsPart (take n ahead.bytes)) → (t ≡ true → IsAfter new (take n ahead.bytes))
     → (t ≡ false → 0 < length (take n ahead.bytes) → chunks (take n ahead.bytes) ≡ take n ahead.bytes ∷ []) → GoesOn new ahead n
-more_goes new ahead e n true newline some at part after takes last =
+more_goes new ahead e n true newline some at part after last =
     record {
       begun = record { last = λ _. (part refl).last (omega (arith, at.within, length-take n ahead.bytes)); longer = λ rest _ more. (part refl).longer (drop n ahead.bytes ++ rest) more };
       after = λ _. after refl;
-      takes = λ _ rest _. takes (first_line (drop n ahead.bytes ++ rest));
     }
-more_goes new ahead e n false newline some at part after takes last =
+more_goes new ahead e n false newline some at part after last =
     elim at.line [
       | inl line ↦ absurd (false≢true (sym newline ∙ line.newline))
       | inr (all, end) ↦
@@ -226,7 +229,6 @@ more_goes new ahead e n false newline some at part after takes last =
               longer = λ rest may more. absurd (omega (arith, more, all, length-append (drop n ahead.bytes) rest, ap length (may end.ended), length-drop n ahead.bytes));
             };
             after = λ more. absurd (omega (arith, more end.ended, all, length-drop n ahead.bytes));
-            takes = λ more _ _. absurd (omega (arith, more end.ended, all, length-drop n ahead.bytes));
           }
     ]
 
@@ -239,12 +241,11 @@ block_line false h = absurd (no_more (h refl))
     no_more h = cc
 
 -- nothing is known of the chunk yet
-pub goes_first : (cutter : Cutter) (ahead : Ahead) → IsPart [] → IsAfter cutter [] → ((line : List ℕ) → Takes cutter line) → GoesOn cutter ahead 0
-goes_first cutter ahead part after takes =
+pub goes_first : (cutter : Cutter) (ahead : Ahead) → IsPart [] → IsAfter cutter [] → GoesOn cutter ahead 0
+goes_first cutter ahead part after =
     record {
       begun = record { last = λ h. absurd (omega (arith, h)); longer = λ rest _ more. part.longer (ahead.bytes ++ rest) more };
       after = λ _. after;
-      takes = λ _ rest _. takes (first_line (ahead.bytes ++ rest));
     }
 
 -- the bytes that were read stand before those that may follow
@@ -270,14 +271,12 @@ pub goes_read : (max : ℕ) (cutter : Cutter) (old new : Ahead) (pieces : List (
 goes_read max cutter old new pieces e read within goes =
     let front : take e new.bytes ≡ take e old.bytes = front_stays max old new pieces e read within in
     let back : drop e new.bytes ≡ drop e old.bytes ++ concat pieces = back_grows max old new pieces e read within in
-    let there = read_before max old new pieces e read within in
     let after : GoesAfter new e → GoesAfter old e = λ some ended.
     let none : drop e new.bytes ≡ drop e old.bytes = back ∙ ap (λ ps. drop e old.bytes ++ concat ps) (read.stays ended) ∙ append-nil (drop e old.bytes) in
     subst (λ l. 0 < length l) none (some (ended_on max old new pieces read ended)) in
     record {
       begun = begun_read max old new pieces e read within goes.begun;
       after = λ some. subst (λ l. IsAfter cutter l) (sym front) (goes.after (after some));
-      takes = λ some rest may. subst (λ l. Takes cutter (first_line l)) (there rest) (goes.takes (after some) (concat pieces ++ rest) (follows_read max old new pieces rest read may));
     }
 
 -- no line follows the last one

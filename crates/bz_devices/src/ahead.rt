@@ -6,7 +6,7 @@ ghost use Rattle.std.specs.Prelude.{◌≡◌, ◌≢◌, ℕ, ◌+◌, ◌<◌,
 ghost use Rattle.std.specs.Str.{IsCharBoundary, IsValidUpTo};
 ghost use Rattle.bz_devices.specs.Device.{Rises};
 ghost use Rattle.bz_token.specs.Cuts.{IsBlock};
-ghost use Rattle.bz_token.specs.CutterState.{IsAfter, IsAtBlock};
+ghost use Rattle.bz_token.specs.CutterState.{IsAfter};
 ghost use Rattle.bz_devices.specs.Ahead.{IsReadOn, IsNextChunk, IsFewAfter};
 ghost use Rattle.bz_devices.specs.Search.{Searches};
 ghost use Rattle.bz_devices.specs.private.AheadSteps.{IsOpen, IsLine, IsLineAt, IsBegun, GoesOn, EndsAt, IsEnd};
@@ -291,8 +291,8 @@ fn read_line<S: Source>(
 }
 
 /// Whether the chunk ends with its block, after the first `end` bytes. `ends_chunk` asks where the cutter, which read
-/// these bytes (`after`), said of their last line that it stands in a block (`at_block`), so that what follows decides
-/// (`block`). `made`, `few` and `bound` are what `chunk_end` keeps of the bytes ahead.
+/// these bytes (`after`), said that they are a block (`block`), so that what follows decides. `made`, `few` and `bound`
+/// are what `chunk_end` keeps of the bytes ahead.
 fn ends_block<S: Source>(
     cutter: &mut Cutter,
     ahead: &mut Ahead,
@@ -300,7 +300,6 @@ fn ends_block<S: Source>(
     end: usize,
     limits: Limits,
 ) -> Result<bool, ChunkFault>
-    requires at_block { IsAtBlock cutter.old }
     requires after { IsAfter cutter.old (take end ahead.old.bytes) }
     requires block { IsBlock (take end ahead.old.bytes) }
     requires made { ahead.old.reads ≤ limits.reads }

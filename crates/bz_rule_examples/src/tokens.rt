@@ -1,7 +1,8 @@
 //! Tokens and their places, first faults, what is UTF-8, first chunks, and what goes on with a block.
 
-ghost use Rattle.std.specs.Prelude.{IsTrue};
-ghost use Rattle.bz_token.specs.Cuts.{is_physical_line};
+ghost use Rattle.std.specs.Prelude.{◌+◌, ◌<◌, ◌≤◌, ◌^◌, ℕ, List, length, IfOk, IsTrue};
+ghost use Rattle.bz_token.specs.Cuts.{IsBlock, is_physical_line, ends_in_newline};
+ghost use Rattle.bz_token.specs.CutterState.{IsAfter};
 
 use crate::checks::{check_table, check_value};
 use bumpalo::Bump;
@@ -162,27 +163,52 @@ fn utf8(rt: HostRuntime) {
     check_value(&rt, "é", &check_utf8(b"\xc3\xa9"), &Ok("é"));
 }
 
-#[test]
-fn lines_end_chunks(rt: HostRuntime) {
-    let comment = Cutter::new().line(b"# a\n");
-    check_value(&rt, "# a", &matches!(comment, Cut::More), &true);
-    let bracket = Cutter::new().line(b"x = [\n");
-    check_value(&rt, "x = [", &matches!(bracket, Cut::More), &true);
-    let closed = Cutter::new().line(b"]\n");
-    check_value(&rt, "]", &matches!(closed, Cut::Whole), &true);
-    let empty = Cutter::new().line(b"\n");
-    check_value(&rt, "an empty line", &matches!(empty, Cut::Whole), &true);
+/// Whether the first line of a file is a chunk.
+fn is_first_chunk(line: &[u8]) -> bool
+    requires { IsTrue (is_physical_line line.now) }
+{
+    matches!(Cutter::new().line(line), Cut::Whole)
 }
 
 #[test]
-fn newline_in_a_string_ends_a_chunk(rt: HostRuntime) {
-    let cut = Cutter::new().line(b"x = \"a\n");
-    check_value(&rt, "x = \"a", &matches!(cut, Cut::Whole), &true);
+fn first_lines_end_chunks(rt: HostRuntime) {
+    check_value(&rt, "# a", &is_first_chunk(b"# a\n"), &false);
+    check_value(&rt, "x = [", &is_first_chunk(b"x = [\n"), &false);
+    check_value(&rt, "]", &is_first_chunk(b"]\n"), &true);
+    check_value(&rt, "an empty line", &is_first_chunk(b"\n"), &true);
+    check_value(&rt, "x = \"a", &is_first_chunk(b"x = \"a\n"), &true);
+}
+
+/// Whether a chunk ends with the next line, where none before it is a block's, and it is none.
+fn is_end(cutter: &mut Cutter, line: &[u8]) -> Result<bool, Fail>
+    requires one_line { IsTrue (is_physical_line line.now) }
+    requires newline { IsTrue (ends_in_newline line.now) }
+    requires after { (seen : List ℕ) × IsAfter cutter.old seen × (length seen + length line.now < 2 ^ 64)
+        × (IsBlock seen → ⊥) }
+    ensures after { (seen : List ℕ) → IsAfter cutter.old seen → IfOk result (λ _. (left : List ℕ)
+        × IsAfter cutter.new left × (length left ≤ length seen + length line.now) × (IsBlock left → ⊥)) }
+{
+    match cutter.line(line) {
+        Cut::More => Ok(false),
+        Cut::Whole => Ok(true),
+        Cut::Block => Err("a block".into()),
+    }
+}
+
+#[test]
+fn lines_on_one_cutter(rt: HostRuntime) -> Result<(), Fail> {
+    let mut cutter = Cutter::new();
+    check_value(&rt, "# a", &is_end(&mut cutter, b"# a\n")?, &false);
+    check_value(&rt, "x = [", &is_end(&mut cutter, b"x = [\n")?, &false);
+    check_value(&rt, "]", &is_end(&mut cutter, b"]\n")?, &true);
+    check_value(&rt, "an empty line", &is_end(&mut cutter, b"\n")?, &true);
+    Ok(())
 }
 
 /// What ends a block that begins with this line.
 fn after(header: &[u8], ahead: &str, at_end: bool) -> Option<Next>
-    requires { IsTrue (is_physical_line header.now) }
+    requires one_line { IsTrue (is_physical_line header.now) }
+    requires newline { IsTrue (ends_in_newline header.now) }
 {
     let mut cutter = Cutter::new();
     match cutter.line(header) {
@@ -220,7 +246,8 @@ fn if_blocks_go_on(rt: HostRuntime) -> Result<(), Fail> {
 
 /// This ends a block that begins with this line, or none begins with it.
 fn check_after(rt: &impl Abort, header: &[u8], ahead: &str, at_end: bool, wanted: Option<Next>)
-    requires { IsTrue (is_physical_line header.now) }
+    requires one_line { IsTrue (is_physical_line header.now) }
+    requires newline { IsTrue (ends_in_newline header.now) }
 {
     check_value(rt, ahead, &after(header, ahead, at_end), &wanted);
 }

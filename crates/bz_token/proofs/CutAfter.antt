@@ -12,8 +12,8 @@ use Rattle.bz_token.specs.Blocks.{word_at, opener, opener_of, goes_on}
 use Rattle.bz_token.specs.Chunks.{chunks}
 use Rattle.bz_token.specs.private.Phases.{phase_after, phase_step, takes}
 use Rattle.bz_token.specs.Cuts.{is_physical_line, ends_in_newline, EndsBefore}
-use Rattle.bz_token.specs.private.CutSteps.{is_ended, is_broken, is_blank_kind, line_here, seen_chunks, outside, next, start, run, head_after, moved, fresh, between}
-use Rattle.bz_token.specs.CutterState.{Takes, IsAfter}
+use Rattle.bz_token.specs.private.CutSteps.{is_ended, is_broken, is_blank_kind, line_here, seen_chunks, outside, next, start, run, head_after, moved, fresh, between, Takes}
+use Rattle.bz_token.specs.CutterState.{IsAfter}
 use Rattle.bz_token.proofs.CutMachine.{ended_restarts, run_depth, quiet_before, line_quiet, run_kind}
 use Rattle.bz_token.proofs.CutLaws.{chunk_step, chunk_goes, chunk_cut, chunks_are, same_takes}
 use Rattle.bz_token.proofs.CutHeads.{word_of_line, header}
@@ -170,17 +170,13 @@ comments_after c seen x xs b n h t ended is = record {
   ends = λ e. absurd (false≢true e);
 }
 
-some_goes : (word : Opener) (rest : List ℕ) → goes_on word rest ≡ true → 0 < length rest
-some_goes word [] h = absurd (false≢true h)
-some_goes word (y ∷ rest) h = omega arith
-
 pub block_after : (c : Cutter) (seen : List ℕ) (x : ℕ) (xs : List ℕ) (word : Opener) → (b : IsAfter c seen) → ends_in_newline (x ∷ xs) ≡ true → is_physical_line (x ∷ xs) ≡ true → Takes c (x ∷ xs) → is_ended (run c.scan (x ∷ xs)).inside ≡ true → phase_after c.phase (line_here (run c.scan (x ∷ xs)) (b.part ++ x ∷ xs)) ≡ InBlock word → IsAfter (between word) (seen ++ x ∷ xs)
 block_after c seen x xs word b n h t ended is = record {
   before = seen ++ x ∷ xs;
   part = [];
   seen_is = sym (append-nil (seen ++ x ∷ xs));
   depth = omega arith;
-  waits = λ e. (refl, some_goes word);
+  waits = λ e. (refl, (word, refl));
   blank = λ e. (λ y. refl, λ more. refl);
   head = λ e. absurd (true≢false e);
   last = λ some. last_line c seen x xs b h t;

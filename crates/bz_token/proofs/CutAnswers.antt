@@ -15,11 +15,11 @@ use Rattle.bz_token.specs.Blocks.{word_at, goes_on}
 use Rattle.bz_token.specs.Chunks.{chunks}
 use Rattle.bz_token.specs.private.Phases.{phase_after, takes}
 use Rattle.bz_token.specs.Cuts.{is_physical_line, ends_in_newline, first_line, EndsBefore, IsLonger, IsChunk, IsPart, IsBlock, IsCut, IsLast, IsNext, left, left_next}
-use Rattle.bz_token.specs.private.CutSteps.{is_ended, line_here, next, run, moved, phase_now, fresh, between, cut_at, cutter_at}
+use Rattle.bz_token.specs.private.CutSteps.{is_ended, line_here, next, run, moved, phase_now, fresh, between, cut_at, cutter_at, Takes}
 use Rattle.bz_token.specs.declared.cutter.Next.{Next}
 use Rattle.bz_token.specs.declared.cutter.Next.TheVariants.{Goes, Ends, Short}
 use Rattle.bz_token.specs.private.Decided.{DecidesAhead}
-use Rattle.bz_token.specs.CutterState.{is_block as is_block_phase, Takes, IsAfter, IsAtBlock, Awaits, AwaitsNext}
+use Rattle.bz_token.specs.CutterState.{IsAfter}
 use Rattle.bz_token.proofs.CutMachine.{next_inside}
 use Rattle.bz_token.proofs.CutLaws.{chunk_step, same_takes}
 use Rattle.bz_token.proofs.CutAfter.{begins, whole, follows_line, last_line, open_after_token, phase_is, ends_here, comments_after, block_after, fresh_after}
@@ -135,6 +135,42 @@ exactly_block Block bytes a = (λ e. a, λ h. refl)
 exactly_block More bytes a = (λ e. absurd (false≢true (ap is_block e)), λ h. absurd (apart bytes (58 ∷ []) a (h.ends (58 ∷ []) (colon_stops h.word))))
 exactly_block Whole bytes a = (λ e. absurd (false≢true (ap is_block e)), λ h. absurd (apart bytes (32 ∷ []) (h.goes (32 ∷ []) refl) (a (32 ∷ []))))
 
+some_goes : (word : Opener) (rest : List ℕ) → goes_on word rest ≡ true → 0 < length rest
+some_goes word [] h = absurd (false≢true h)
+some_goes word (y ∷ rest) h = omega arith
+
+-- the cutter waits exactly where the bytes are a block
+pub block_ended : (c : Cutter) (seen : List ℕ) → IsAfter c seen → IsBlock seen → is_ended c.scan.inside ≡ true
+block_ended c seen b block = elim (cases_Bool (is_ended c.scan.inside)) [
+  | inl ended ↦ ended
+  | inr inside ↦
+      let goes : IsLonger seen (58 ∷ []) = is_longer c seen (58 ∷ []) b (omega arith) (λ e. absurd (both_ways _ inside e)) in
+      absurd (apart seen (58 ∷ []) goes (block.ends (58 ∷ []) (colon_stops block.word)))
+]
+
+pub ended_block : (c : Cutter) (seen : List ℕ) → IsAfter c seen → is_ended c.scan.inside ≡ true → IsBlock seen
+ended_block c seen b ended =
+    let at = (b.waits ended).1 in
+    record {
+      word = at.0;
+      ends = λ rest stops. b.ends ended rest (ap (λ s. takes s rest) at.1 ∙ stops);
+      goes = λ rest goes. is_longer c seen rest b (some_goes at.0 rest goes) (λ e. ap (λ s. takes s rest) at.1 ∙ goes);
+    }
+
+-- so it goes on with each line with which the bytes do
+pub takes_longer : (c : Cutter) (seen line : List ℕ) → IsAfter c seen → (IsBlock seen → IsLonger seen line) → Takes c line
+takes_longer c seen line b goes ended = elim (cases_Bool (takes c.phase line)) [
+  | inl taken ↦ taken
+  | inr left_out ↦ absurd (apart seen line (goes (ended_block c seen b ended)) (b.ends ended line left_out))
+]
+
+-- the first line of what follows goes on with a block if all that follows does
+pub line_goes : (bytes rest : List ℕ) → IsBlock bytes → IsLonger bytes rest → IsLonger bytes (first_line rest)
+line_goes bytes rest block longer = elim (cases_Bool (goes_on block.word rest)) [
+  | inl goes ↦ block.goes (first_line rest) (takes_first (InBlock block.word) rest ∙ goes)
+  | inr stops ↦ absurd (apart bytes rest longer (block.ends rest stops))
+]
+
 -- a line that has ended is not empty, and has its newline
 newline_ends : (x : ℕ) (xs : List ℕ) (s : Scan) → is_ended (run s (x ∷ xs)).inside ≡ true → ends_in_newline (x ∷ xs) ≡ true
 newline_ends x [] s e = elim (cases_Bool (x == 10)) [ inl is ↦ is | inr differs ↦ absurd (both_ways _ (next_inside s.inside s.depth s.kind x differs) e) ]
@@ -142,7 +178,7 @@ newline_ends x (y ∷ ys) s e = newline_ends y ys (next s x) e
 
 empty_open : (c : Cutter) (seen : List ℕ) → IsAfter c seen → Takes c [] → is_ended c.scan.inside ≡ false
 empty_open c seen b t = elim (cases_Bool (is_ended c.scan.inside)) [
-  | inl ended ↦ absurd (omega (arith, (b.waits ended).1 [] (t ended)))
+  | inl ended ↦ absurd (false≢true (sym (ap (λ s. takes s []) (b.waits ended).1.1) ∙ t ended))
   | inr open_ ↦ open_
 ]
 
@@ -184,10 +220,6 @@ pub ended_newline : (c : Cutter) (line : List ℕ) → Takes c line → is_ended
 ended_newline c [] t ended seen b = absurd (both_ways _ (empty_open c seen b t) ended)
 ended_newline c (x ∷ xs) t ended seen b = newline_ends x xs c.scan ended
 
-some_goes : (word : Opener) (rest : List ℕ) → goes_on word rest ≡ true → 0 < length rest
-some_goes word [] h = absurd (false≢true h)
-some_goes word (y ∷ rest) h = omega arith
-
 block_of : (word : Opener) (seen : List ℕ) → IsAfter (between word) seen → IsBlock seen
 block_of word seen b = record { word = word; ends = b.ends refl; goes = λ rest g. is_longer (between word) seen rest b (some_goes word rest g) (λ e. g) }
 
@@ -228,11 +260,6 @@ next_is c word Short at_end ahead is ended d seen b = (
   (d.3.0, b.ends ended (ahead ++ d.3.0) (ap (λ s. takes s (ahead ++ d.3.0)) is ∙ d.3.1)),
 )
 
-pub awaits_line : (c : Cutter) (word : Opener) (next : Next) (at_end : Bool) (ahead : List ℕ) → c.phase ≡ InBlock word → IsAtBlock c → DecidesAhead (goes_on word) next at_end ahead → (next ≡ Ends → ⊥) → AwaitsNext next at_end ahead c
-awaits_line c word Goes at_end ahead is here d other = λ rest last e. takes_first c.phase (ahead ++ rest) ∙ ap (λ s. takes s (ahead ++ rest)) is ∙ d rest last
-awaits_line c word Ends at_end ahead is here d other = absurd (other refl)
-awaits_line c word Short at_end ahead is here d other = here
-
 pub after_next : (c : Cutter) (next : Next) → (next ≡ Ends → ⊥) → (seen : List ℕ) → IsAfter c seen → IsAfter c (left_next next seen)
 after_next c Goes other seen b = b
 after_next c Ends other seen b = absurd (other refl)
@@ -241,14 +268,6 @@ after_next c Short other seen b = b
 pub nothing_yet : IsPart []
 nothing_yet = part_of fresh [] fresh_after (λ text e. absurd (false≢true e))
 
--- a chunk that is a block has its word
-pub no_word : (s : ChunkPhase) → is_block_phase s ≡ true → ((word : Opener) → s ≡ InBlock word → ⊥) → ⊥
-no_word Comments h none = false≢true h
-no_word (InBlock word) h none = none word refl
-no_word Done h none = false≢true h
-
--- what the cutter waits for after a logical line that has ended
-pub awaits_after : (s : ChunkPhase) → Awaits (cut_at s) (cutter_at s)
-awaits_after Comments = λ line ended. absurd (false≢true ended)
-awaits_after (InBlock word) = record { in_block = refl; ended = refl }
-awaits_after Done = λ line ended. absurd (false≢true ended)
+-- what may go on in any way is no block
+pub part_no_block : (bytes : List ℕ) → IsPart bytes → IsBlock bytes → ⊥
+part_no_block bytes part block = apart bytes (58 ∷ []) (part.longer (58 ∷ []) (omega arith)) (block.ends (58 ∷ []) (colon_stops block.word))

@@ -6,9 +6,9 @@ mod scan;
 
 ghost use Rattle.std.specs.Prelude.{◌≡◌, ◌+◌, ◌<◌, ◌^◌, ◌++◌, ◌↔◌, [], List, ℕ, false, length, IsTrue};
 ghost use Rattle.bz_token.specs.private.CutSteps.{start, fresh, moved, phase_now, cut_at, cutter_at};
-ghost use Rattle.bz_token.specs.CutterState.{IsAfter, IsAtBlock, Takes, Awaits, AwaitsNext};
+ghost use Rattle.bz_token.specs.CutterState.{IsAfter};
 ghost use Rattle.bz_token.specs.Chunks.{chunks};
-ghost use Rattle.bz_token.specs.Cuts.{IsChunk, IsPart, IsBlock, IsCut, IsNext, left, left_next, IsLast, is_physical_line, ends_in_newline};
+ghost use Rattle.bz_token.specs.Cuts.{IsChunk, IsPart, IsBlock, IsLonger, IsCut, IsNext, left, left_next, IsLast, is_physical_line, ends_in_newline};
 
 use block::{ChunkPhase, Opener, block_goes_on, opener_at, phase_step};
 use scan::{CutState, LineKind, Scan, is_ended, read};
@@ -53,17 +53,17 @@ impl Cutter {
     pub fn new() -> Self
         ensures part { IsPart [] }
         ensures after { IsAfter result [] }
-        ensures awaits { (line : List ℕ) → Takes result line }
     {
         Cutter::fresh()
     }
 
     /// Reads the next physical line with its newline, and says what it is for its chunk. The last line of a file may have
-    /// no newline, and answers `More`. After `Block`, `goes_on` is asked first. A chunk has less than 2^64 bytes.
+    /// no newline, and answers `More`. A chunk has less than 2^64 bytes. After `Block` only a line may come that goes on
+    /// with the block: the one that is ahead where `goes_on` answered `Goes`.
     pub fn line(&mut self, line: &[u8]) -> Cut
         requires one_line { IsTrue (is_physical_line line.now) }
-        requires room { (seen : List ℕ) × IsAfter self.old seen × (length seen + length line.now < 2 ^ 64) }
-        requires takes { Takes self.old line.now }
+        requires after { (seen : List ℕ) × IsAfter self.old seen × (length seen + length line.now < 2 ^ 64)
+            × (IsBlock seen → IsLonger seen line.now) }
         ensures cut { IsTrue (ends_in_newline line.now) → (seen : List ℕ) → IsAfter self.old seen
             → IsCut result (seen ++ line.now) }
         ensures whole { (seen : List ℕ) → IsAfter self.old seen → (result ≡ Cut.Whole) ↔ IsChunk (seen ++ line.now) }
@@ -72,7 +72,6 @@ impl Cutter {
             → IsLast result (seen ++ line.now) }
         ensures after { IsTrue (ends_in_newline line.now) → (seen : List ℕ) → IsAfter self.old seen
             → IsAfter self.new (left result (seen ++ line.now)) }
-        ensures awaits { Awaits result self.new }
     {
         self.read_line(line);
         if !is_ended(self.scan.inside) {
@@ -86,10 +85,9 @@ impl Cutter {
     /// Whether the block goes on, after `line` answered `Block`. `ahead` is what follows, and `at_end` says that nothing
     /// comes after that. After `Short` it is asked again with more bytes.
     pub fn goes_on(&mut self, ahead: &[u8], at_end: bool) -> Next
-        requires at_block { IsAtBlock self.old }
+        requires at_block { (seen : List ℕ) × IsAfter self.old seen × IsBlock seen }
         ensures next { (seen : List ℕ) → IsAfter self.old seen → IsNext result at_end seen ahead.now }
         ensures after { (seen : List ℕ) → IsAfter self.old seen → IsAfter self.new (left_next result seen) }
-        ensures awaits { AwaitsNext result at_end ahead.now self.new }
     {
         let ChunkPhase::InBlock(word) = self.phase else {
             // No chunk is a block here; the condition rules it out.

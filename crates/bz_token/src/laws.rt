@@ -10,7 +10,7 @@ ghost use Rattle.bz_token.specs.declared.token.Kind.TheVariants.{Operator};
 ghost use Rattle.bz_token.specs.Places.{Placed, line_at};
 ghost use Rattle.bz_token.specs.FreshStart.{AreLinesOf, AreTokensOfChunks, tokens_on_lines, fault_on_lines};
 ghost use Rattle.bz_token.specs.Chunks.{chunks};
-ghost use Rattle.bz_token.specs.Cuts.{EndsBefore};
+ghost use Rattle.bz_token.specs.Cuts.{EndsBefore, IsPart, IsBlock, IsLonger, first_line};
 ghost use Rattle.bz_token.specs.Reading.{AreTokensOf};
 ghost use Rattle.bz_token.specs.Faults.{IsFault};
 ghost use Rattle.bz_token.specs.UpToFault.{IsReadAs};
@@ -120,4 +120,12 @@ pub fn fresh_start()
         (g : Option LexFault) → chunks bytes ≡ cs ++ d ∷ ds → AreTokensOfChunks first depth cs ts
         → IsReadAs (line_at first (concat cs)) depth d us None → IsReadAs first depth bytes vs g
         → (ws : List Placed) × (vs ≡ ts ++ (us ++ ws)) }
+{}
+
+/// Which lines a `Cutter` can read: what is a part of a chunk whatever follows is no block, so any line may come; and with
+/// a block its next line goes on if what follows does. At the beginning of a chunk no byte was seen, which is such a part.
+pub fn lines_that_may_come()
+    ensures nothing { IsPart [] }
+    ensures part { (bytes : List ℕ) → IsPart bytes → IsBlock bytes → ⊥ }
+    ensures block { (bytes rest : List ℕ) → IsBlock bytes → IsLonger bytes rest → IsLonger bytes (first_line rest) }
 {}

@@ -2,7 +2,7 @@
 use Rattle.std.specs.Prelude.{◌≡◌, ℕ, ◌-◌, ◌<◌, ◌≤◌, ◌⊎◌, IsTrue, List, [], ◌∷◌, ◌++◌, length, take, drop}
 use Rattle.bz_token.specs.Chunks.{chunks}
 use Rattle.bz_token.specs.Cuts.{EndsBefore, IsLonger, first_line, ends_in_newline}
-use Rattle.bz_token.specs.CutterState.{IsAfter, Takes}
+use Rattle.bz_token.specs.CutterState.{IsAfter}
 use Rattle.bz_token.specs.declared.cutter.Cutter.{Cutter}
 use Rattle.bz_devices.specs.Ahead.{Ahead, MayFollow}
 use Rattle.bz_devices.specs.declared.input.ReadFault.{ReadFault}
@@ -44,11 +44,10 @@ pub record IsBegun (ahead : Ahead) (n : ℕ) : Type 0 where
   pub last : 0 < n → chunks (take n ahead.bytes) ≡ take n ahead.bytes ∷ []
   pub longer : (rest : List ℕ) → MayFollow ahead rest → 0 < length (drop n ahead.bytes ++ rest) → IsLonger (take n ahead.bytes) (drop n ahead.bytes ++ rest)
 
--- The chunk goes on after the first n bytes: the cutter is after them and takes the next line.
+-- The chunk goes on after the first n bytes, which the cutter has read.
 pub record GoesOn (cutter : Cutter) (ahead : Ahead) (n : ℕ) : Type 0 where
   pub begun : IsBegun ahead n
   pub after : GoesAfter ahead n → IsAfter cutter (take n ahead.bytes)
-  pub takes : GoesAfter ahead n → (rest : List ℕ) → MayFollow ahead rest → Takes cutter (first_line (drop n ahead.bytes ++ rest))
 
 -- The first n bytes are the chunk, whatever follows.
 abbrev pub EndsAt : Ahead → ℕ → Type 0

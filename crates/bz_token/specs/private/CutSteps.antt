@@ -146,3 +146,7 @@ abbrev pub cutter_at : ChunkPhase → Cutter
 cutter_at Comments = fresh
 cutter_at (InBlock word) = between word
 cutter_at Done = fresh
+
+-- The cutter goes on with this line: where it waits after a line of a block, the line belongs to the block.
+abbrev pub Takes : Cutter → List ℕ → Type 0
+Takes cutter line = is_ended cutter.scan.inside ≡ true → takes cutter.phase line ≡ true

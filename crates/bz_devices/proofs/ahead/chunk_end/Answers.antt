@@ -10,7 +10,7 @@ use Rattle.bz_devices.proofs.ahead.chunk_end.Goals as goal
 pub loop-next-init : goal.loop-next-init
 loop-next-init g c = record {
   searched = searches_nothing _ _ _ _ _ _ (g.met.S.Source.gave_nothing _) c.requires.made c.requires.few c.requires.bound;
-  goes_on = goes_first c.new-cutter.result c.args.ahead.now c.new-cutter.ensures.part c.new-cutter.ensures.after c.new-cutter.ensures.awaits;
+  goes_on = goes_first c.new-cutter.result c.args.ahead.now c.new-cutter.ensures.part c.new-cutter.ensures.after;
   within = omega arith;
 }
 

@@ -11,11 +11,13 @@ use Rattle.bz_devices.proofs.ahead.ends_block.Goals as goal
 pub loop-ahead-init : goal.loop-ahead-init
 loop-ahead-init g c = record {
   searched = searches_nothing _ _ _ _ _ _ (g.met.S.Source.gave_nothing _) c.requires.made c.requires.few c.requires.bound;
-  at_block = c.requires.at_block;
   after = c.requires.after;
   block = c.requires.block;
   within = c.requires.within;
 }
+
+pub goes_on-requires-clause-at_block : goal.goes_on-requires-clause-at_block
+goes_on-requires-clause-at_block g c = (take c.args.end c.loop-ahead.ahead.bytes, c.loop-ahead.invariant.after, c.loop-ahead.invariant.block)
 
 pub returns-in-Ends-clause-ends : goal.returns-in-Ends-clause-ends
 returns-in-Ends-clause-ends g c _ =
@@ -32,7 +34,7 @@ returns-in-Goes-clause-goes g c _ =
     let e = c.args.end in
     let seen = c.bytes.result.now in
     block_goes e c.goes_on.new.self ahead (take (length seen - e) (drop e seen)) c.is_ended.result (slice_is seen ahead.bytes e c.bytes.ensures) c.is_ended.ensures inv.block
-    (c.in-Goes.ensures.next (take e ahead.bytes) inv.after) (c.in-Goes.ensures.after (take e ahead.bytes) inv.after) c.in-Goes.ensures.awaits
+    (c.in-Goes.ensures.next (take e ahead.bytes) inv.after) (c.in-Goes.ensures.after (take e ahead.bytes) inv.after)
 
 pub returns-in-Ends-clause-searches : goal.returns-in-Ends-clause-searches
 returns-in-Ends-clause-searches g c = searches_found _ _ _ _ true _ _ _ _ c.loop-ahead.invariant.searched
@@ -80,7 +82,6 @@ loop-ahead-preserved g c =
           (few_block max e old new read.0 read.2 (omega (arith, inv.within, read.3, here, ap length c.bytes-in-Short.ensures)) inv.within inv.block)
           (omega (arith, inv.within, read.3, here, grows max old new read.0 read.2, ap length c.bytes-in-Short.ensures, c.if-end-limits.false))
           (done.steady (λ e. cc)));
-      at_block = c.in-Short.ensures.awaits;
       after = subst (λ l. IsAfter c.goes_on.new.self l) (sym front) (c.in-Short.ensures.after (take e old.bytes) inv.after);
       block = subst (λ l. IsBlock l) (sym front) inv.block;
       within = omega (arith, inv.within, grows max old new read.0 read.2);
