@@ -89,11 +89,11 @@ impl<'a> StatementRow<'a> {
         }
     }
 
-    /// The statement of a tree, whose texts are copied into the arena.
+    /// The statement of a tree. What the tree owns of its texts is copied into the arena.
     pub fn of_stmt(
         alloc: Global,
         bump: &'a Bump,
-        stmt: &Stmt<'_>,
+        stmt: &Stmt<'a>,
     ) -> Result<StatementRow<'a>, NoMemory>
         ensures { IfOk result (λ row. row ≡ view stmt.now) }
     {

@@ -22,7 +22,7 @@ use bz_token::Token;
 use std::alloc::Global;
 
 // The row of a statement that has a tree.
-fn row_of_tree<'a>(bump: &'a Bump, stmt: Stmt<'_>) -> Result<Row<'a>, NoMemory>
+fn row_of_tree<'a>(bump: &'a Bump, stmt: Stmt<'a>) -> Result<Row<'a>, NoMemory>
     ensures { IfOk result (IsRowOf (view stmt.entry)) }
 {
     let mut parts = Vec::new(bump);

@@ -1,6 +1,6 @@
 //! The parts of a statement that has a tree, in the order in which they are written.
 
-ghost use Rattle.std.specs.Prelude.{◌≡◌, [], ◌∷◌, ◌++◌, OnOk, map, option_map};
+ghost use Rattle.std.specs.Prelude.{◌≡◌, [], ◌∷◌, ◌++◌, IfOk, OnOk, map, option_map};
 ghost use Rattle.bz_tree.specs.Tree.{items_of, segs_of};
 ghost use Rattle.bz_tree.specs.View.{text_of, texts, view, nodes_view, group_view, segs_view};
 ghost use Rattle.bz_tree.specs.Rows.{above, beside_part, item_parts, items_parts, segs_parts, parts_of, part_view};
@@ -12,11 +12,21 @@ use bz_memory::{NoMemory, alloc_str, push};
 use std::alloc::Allocator;
 use std::borrow::CowStr;
 
-/// Appends the parts of a statement. Their texts are copied into the arena. `Err`: memory was refused, and some of the
-/// parts may have been appended.
+// A text that lasts as long as the arena: the slice where it is borrowed, a copy in the arena where it is owned.
+fn text_in<'a>(bump: &'a Bump, text: &CowStr<'a>) -> Result<&'a str, NoMemory>
+    ensures { IfOk result (λ slice. slice.now ≡ text_of text.now) }
+{
+    match text {
+        CowStr::Borrowed(slice) => Ok(*slice),
+        CowStr::Owned(string) => alloc_str(bump, string.as_str()),
+    }
+}
+
+/// Appends the parts of a statement; texts that it owns are copied into the arena. `Err`: memory was refused, and some
+/// of the parts may have been appended.
 pub fn push_parts<'a, A: Allocator>(
     bump: &'a Bump,
-    stmt: &Stmt<'_>,
+    stmt: &Stmt<'a>,
     parts: &mut Vec<Part<'a>, A>,
 ) -> Result<(), NoMemory>
     ensures { OnOk result (map part_view parts.new.items ≡ map part_view parts.old.items ++ parts_of (view stmt.now)) }
@@ -28,21 +38,21 @@ pub fn push_parts<'a, A: Allocator>(
 
 fn push_above<'a, A: Allocator>(
     bump: &'a Bump,
-    comments: &[CowStr<'_>],
+    comments: &[CowStr<'a>],
     parts: &mut Vec<Part<'a>, A>,
 ) -> Result<(), NoMemory>
     ensures { OnOk result (map part_view parts.new.items
         ≡ map part_view parts.old.items ++ map above (texts comments.now)) }
 {
     for comment in comments {
-        push(parts, Part::Above(alloc_str(bump, comment.as_str())?))?;
+        push(parts, Part::Above(text_in(bump, comment)?))?;
     }
     Ok(())
 }
 
 fn push_beside<'a, A: Allocator>(
     bump: &'a Bump,
-    comment: &Option<CowStr<'_>>,
+    comment: &Option<CowStr<'a>>,
     parts: &mut Vec<Part<'a>, A>,
 ) -> Result<(), NoMemory>
     ensures { OnOk result
@@ -50,14 +60,14 @@ fn push_beside<'a, A: Allocator>(
 {
     match comment {
         None => Ok(()),
-        Some(text) => push(parts, Part::Beside(alloc_str(bump, text.as_str())?)),
+        Some(text) => push(parts, Part::Beside(text_in(bump, text)?)),
     }
 }
 
 #[cycle(parts)]
 fn push_segment<'a, A: Allocator>(
     bump: &'a Bump,
-    seg: &Seg<'_>,
+    seg: &Seg<'a>,
     parts: &mut Vec<Part<'a>, A>,
 ) -> Result<(), NoMemory>
     ensures { OnOk result (map part_view parts.new.items
@@ -72,7 +82,7 @@ fn push_segment<'a, A: Allocator>(
 #[cycle(parts)]
 fn push_group<'a, A: Allocator>(
     bump: &'a Bump,
-    group: &Group<'_>,
+    group: &Group<'a>,
     parts: &mut Vec<Part<'a>, A>,
 ) -> Result<(), NoMemory>
     ensures { OnOk result
@@ -86,12 +96,12 @@ fn push_group<'a, A: Allocator>(
     push(parts, Part::Close(group.one_comma))
 }
 
-/// Appends the parts of these nodes. Their texts are copied into the arena. `Err`: memory was refused, and some of the
-/// parts may have been appended.
+/// Appends the parts of these nodes; texts that they own are copied into the arena. `Err`: memory was refused, and some
+/// of the parts may have been appended.
 #[cycle(parts)]
 pub fn push_nodes<'a, A: Allocator>(
     bump: &'a Bump,
-    nodes: &[Node<'_>],
+    nodes: &[Node<'a>],
     parts: &mut Vec<Part<'a>, A>,
 ) -> Result<(), NoMemory>
     ensures { OnOk result
@@ -100,10 +110,7 @@ pub fn push_nodes<'a, A: Allocator>(
 {
     for node in nodes {
         match node {
-            Node::Token(leaf) => push(
-                parts,
-                Part::Token(leaf.kind, alloc_str(bump, leaf.text.as_str())?),
-            )?,
+            Node::Token(leaf) => push(parts, Part::Token(leaf.kind, text_in(bump, &leaf.text)?))?,
             Node::Group(group) => push_group(bump, group, parts)?,
         }
     }
