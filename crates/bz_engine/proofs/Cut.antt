@@ -1,5 +1,5 @@
 -- What a run has written where a fault stops it.
-use Rattle.std.proofs.Common.{◌≡◌, ◌≢◌, ◌⊎◌, ℕ, ◌<◌, Bool, List, [], ◌∷◌, ◌++◌, length, take, drop, take-append-drop, refl, sym, ◌∙◌, ap, subst, append_assoc, append-nil, inl, inr}
+use Rattle.std.proofs.Common.{◌≡◌, ◌≢◌, ◌⊎◌, ℕ, ◌<◌, ◌≤◌, Bool, List, [], ◌∷◌, ◌++◌, length, take, drop, take-append-drop, refl, sym, ◌∙◌, ap, subst, append_assoc, append-nil, inl, inr}
 use Rattle.std.specs.Prelude.{IsTrue}
 use Rattle.std.specs.List.{concat}
 use Rattle.std.proofs.lemmas.List.{length-take-le}
@@ -9,6 +9,7 @@ use Rattle.bz_engine.specs.declared.options.Options.{Options}
 use Rattle.bz_devices.specs.Ahead.{Ahead, IsReadOn, IsTooLong, HasTooLong}
 use Rattle.bz_engine.specs.EveryFile.{ForEveryFile}
 use Rattle.bz_engine.specs.Outcome.{Script, Run, run_with, Told, IsOutcome, IsFrontOf, text_after}
+use Rattle.bz_engine.specs.declared.report.End.{End}
 use Rattle.bz_engine.specs.declared.run_fault.RunFault.{RunFault}
 use Rattle.bz_engine.specs.declared.run_fault.RunFault.TheVariants.{WriteFailed}
 use Rattle.bz_engine.specs.SessionValue.{SessionValue, run_in, IsSameRun, HasDone}
@@ -19,7 +20,7 @@ use Rattle.bz_engine.proofs.Runs.{run_is, reads_for}
 use Rattle.bz_tree.specs.Tree.{Statement}
 use Rattle.bz_devices.specs.Device.{ends}
 use Rattle.bz_engine.specs.NeededReads.{AreDone, IsOneNeeded, AreReads}
-use Rattle.bz_engine.specs.Stops.{NeedsRead, Tells, BeginsNext, IsStopped}
+use Rattle.bz_engine.specs.Stops.{NeedsRead, Tells, BeginsNext, AllFit, EndsAfter, HasEndedAt, IsStopped}
 use Rattle.bz_engine.specs.private.Finds.{AreFew}
 use Rattle.bz_engine.proofs.NeededReads.{done_more}
 use Rattle.bz_engine.proofs.Sessions.{read_on, ended_on, reads_on, reads_are}
@@ -95,10 +96,10 @@ are_done v mid max_reads pieces cs read text done on =
     subst (AreDone (run_in v) (pieces ++ read) cs done.statements) (sym on.bytes) (done_more v pieces cs read text done on.stays)
 
 stops_at : (v : SessionValue) (mid : Ahead) (fault : RunFault) (pieces cs read : List (List ℕ)) (text shown : List ℕ) → (done : HasDone v pieces cs text)
-    → IsReadOn v.options.max_reads v.ahead mid read → (shown ≡ []) ⊎ BeginsNext (run_in v) (pieces ++ read) cs done.statements shown
+    → AllFit v.options.max_statement cs → IsReadOn v.options.max_reads v.ahead mid read → (shown ≡ []) ⊎ BeginsNext (run_in v) (pieces ++ read) cs done.statements shown
     → (fault ≢ WriteFailed → shown ≡ []) → Tells v.options v.progress.line mid fault
     → IsStopped (run_in v) v.options (pieces ++ read) (text ++ shown) fault
-stops_at v mid fault pieces cs read text shown done on begins unwritten tells =
+stops_at v mid fault pieces cs read text shown done fit on begins unwritten tells =
     let reads : ℕ → Ahead = λ n. record { bytes = mid.bytes; reads = n; ended = mid.ended } in
     let ends_in : Bool → Ahead = λ b. record { bytes = mid.bytes; reads = length (pieces ++ read); ended = b } in
     let ahead = ap reads (reads_on v mid v.options.max_reads pieces cs read text done on) ∙ ap ends_in (ended_on v mid v.options.max_reads pieces cs read text done on) in
@@ -107,6 +108,7 @@ stops_at v mid fault pieces cs read text shown done on begins unwritten tells =
       statements = done.statements;
       left = mid.bytes;
       done = are_done v mid v.options.max_reads pieces cs read text done on;
+      fit = fit;
       cut = shown;
       text_is = ap (λ l. l ++ shown) done.text_is;
       begins = begins;
@@ -122,14 +124,38 @@ stopped_for v fault home passes options pieces text h p o stopped =
     subst (λ run. IsStopped run options pieces text fault) (run_is v home passes options h p o)
     (subst (λ x. IsStopped (run_in v) x pieces text fault) o stopped)
 
+-- the chunks fit by the session's options
+fit_by : (v : SessionValue) (options : Options) (cs : List (List ℕ)) → v.options ≡ options → AllFit options.max_statement cs → AllFit v.options.max_statement cs
+fit_by v options cs o fit = subst (λ x. AllFit x.max_statement cs) (sym o) fit
+
+pub one_more_fits : (max_statement : ℕ) (cs : List (List ℕ)) (chunk : List ℕ) → AllFit max_statement cs → length chunk ≤ max_statement
+    → AllFit max_statement (cs ++ chunk ∷ [])
+one_more_fits max_statement [] chunk fit one = (one, tt)
+one_more_fits max_statement (c ∷ cs) chunk fit one = (fit.0, one_more_fits max_statement cs chunk fit.1 one)
+
+-- what is done where the run ends
+pub ends_done : (v : SessionValue) (mid : Ahead) (home : Package) (passes : Script) (options : Options) (pieces cs read : List (List ℕ)) (text : List ℕ) (end : End)
+    → v.home ≡ home → v.passes ≡ passes → v.options ≡ options → HasDone v pieces cs text → IsReadOn v.options.max_reads v.ahead mid read
+    → AllFit options.max_statement cs → EndsAfter (run_with home passes options) options.max_statement (pieces ++ read) cs end
+    → HasEndedAt (run_with home passes options) options.max_statement (pieces ++ read) end
+ends_done v mid home passes options pieces cs read text end h p o done on fit last = record {
+  front = cs;
+  statements = done.statements;
+  left = mid.bytes;
+  done = subst (λ run. AreDone run (pieces ++ read) cs done.statements mid.bytes) (run_is v home passes options h p o)
+      (are_done v mid v.options.max_reads pieces cs read text done on);
+  fit = fit;
+  last = last;
+}
+
 -- it was stopped before it did more
 pub stops_unread : (v : SessionValue) (mid : Ahead) (fault : RunFault) (home : Package) (passes : Script) (options : Options) (pieces cs read : List (List ℕ)) (text : List ℕ)
     → v.home ≡ home → v.passes ≡ passes → v.options ≡ options → HasDone v pieces cs text
-    → IsReadOn v.options.max_reads v.ahead mid read → Tells v.options v.progress.line mid fault
+    → IsReadOn v.options.max_reads v.ahead mid read → AllFit options.max_statement cs → Tells v.options v.progress.line mid fault
     → IsStopped (run_with home passes options) options (pieces ++ read) (text ++ []) fault
-stops_unread v mid fault home passes options pieces cs read text h p o done on tells =
+stops_unread v mid fault home passes options pieces cs read text h p o done on fit tells =
     stopped_for v fault home passes options (pieces ++ read) (text ++ []) h p o
-    (stops_at v mid fault pieces cs read text [] done on (inl refl) (λ _. refl) tells)
+    (stops_at v mid fault pieces cs read text [] done (fit_by v options cs o fit) on (inl refl) (λ _. refl) tells)
 
 all_done : (v : SessionValue) (pieces cs : List (List ℕ)) (text : List ℕ) → (done : HasDone v pieces cs text)
     → AreDone (run_in v) pieces cs done.statements v.ahead.bytes
@@ -161,11 +187,11 @@ begins_next v w pieces cs statements text shown same is (inr cut) =
     })
 
 pub stops_by_fault : (v w : SessionValue) (fault : RunFault) (home : Package) (passes : Script) (options : Options) (pieces cs read : List (List ℕ)) (text shown : List ℕ)
-    → v.home ≡ home → v.passes ≡ passes → v.options ≡ options → HasDone v pieces cs text → IsSameRun v w → IsLeftByFault v w read shown fault
-    → (fault ≢ WriteFailed → shown ≡ []) → IsStopped (run_with home passes options) options (pieces ++ read) (text ++ shown) fault
-stops_by_fault v w fault home passes options pieces cs read text shown h p o done same left unwritten =
+    → v.home ≡ home → v.passes ≡ passes → v.options ≡ options → HasDone v pieces cs text → IsSameRun v w → AllFit options.max_statement cs
+    → IsLeftByFault v w read shown fault → (fault ≢ WriteFailed → shown ≡ []) → IsStopped (run_with home passes options) options (pieces ++ read) (text ++ shown) fault
+stops_by_fault v w fault home passes options pieces cs read text shown h p o done same fit left unwritten =
     stopped_for v fault home passes options (pieces ++ read) (text ++ shown) h p o
-    (stops_at v w.ahead fault pieces cs read text shown done left.read_ahead
+    (stops_at v w.ahead fault pieces cs read text shown done (fit_by v options cs o fit) left.read_ahead
     (begins_next v w (pieces ++ read) cs done.statements text shown same done.text_is (left.front pieces cs text done)) unwritten left.tells)
 
 -- the input is too long
@@ -219,9 +245,3 @@ too_long_in v w max_statement most line pieces cs read text done on same at long
         line_is = at ∙ done.kept.line;
       };
 }
-
--- all that is told where a fault stops a run
-pub cut_is : (Gave : List (List ℕ) → Type 0) (Took : List ℕ → Type 0) (home : Package) (passes : Script) (options : Options) (pieces : List (List ℕ)) (text : List ℕ)
-    → Gave pieces → Took text → AreReads home passes options pieces → BeginsAll (run_with home passes options) pieces text
-    → (ps : List (List ℕ)) × (t : List ℕ) × Gave ps × Took t × AreReads home passes options ps × BeginsAll (run_with home passes options) ps t
-cut_is Gave Took home passes options pieces text gave took reads begins = (pieces, text, gave, took, reads, begins)

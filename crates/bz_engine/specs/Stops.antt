@@ -1,8 +1,8 @@
 -- Where a run stops, and what it has done then (this project's own rule).
--- Begin with `EndsAfter` and `IsStopped`.
+-- Begin with `HasEndedAt` and `IsStopped`.
 -- Of later stops: 4 `Statement`; 7 `IsAnswerOf`; 8 `chunks`, `line_at`.
 use Rattle.std.specs.Prelude.{◌≡◌, ◌≢◌, ◌⊎◌, ℕ, ◌≤◌, true, false, List, [], ◌∷◌, ◌++◌, length, Option, Some, Ok, Err, ⊤}
-use Rattle.std.specs.List.{concat}
+use Rattle.std.specs.List.{concat, AllByRecursion}
 use Rattle.bz_token.specs.Chunks.{chunks}
 use Rattle.bz_token.specs.Places.{line_at}
 use Rattle.bz_tree.specs.Tree.{Statement}
@@ -33,6 +33,20 @@ EndsAfter run max_statement pieces cs FirstFailure = (chunk : List ℕ) × Comes
     × (s : Statement) × IsAnswerOf run.max_depth (line_at 1 (concat cs)) chunk (Ok (Some s))
     × (some_failure run.home run.passes (s ∷ []) ≡ true)
 
+-- none of these chunks has more bytes than it may
+abbrev pub AllFit : ℕ → List (List ℕ) → Type 0
+AllFit max_statement cs = AllByRecursion (λ chunk. length chunk ≤ max_statement) cs
+
+-- A run came to this end after reads that gave these pieces: these chunks, none of them too long, are done and do not end the run,
+-- and no other was looked at but the one that ends it.
+pub record HasEndedAt (run : Run) (max_statement : ℕ) (pieces : List (List ℕ)) (end : End) : Type 0 where
+  pub front : List (List ℕ)
+  pub statements : List Statement
+  pub left : List ℕ
+  pub done : AreDone run pieces front statements left
+  pub fit : AllFit max_statement front
+  pub last : EndsAfter run max_statement pieces front end
+
 -- The bytes ahead leave the next chunk open, and the end of the input was not met.
 pub record NeedsRead (max_statement : ℕ) (ahead : Ahead) : Type 0 where
   pub going : ahead.ended ≡ false
@@ -59,13 +73,14 @@ pub record BeginsNext (run : Run) (pieces front : List (List ℕ)) (statements :
   pub adds : text_after run.home run.passes following ≡ text_after run.home run.passes statements ++ added
   pub begins : IsFrontOf text added
 
--- A fault stopped the run after reads that gave these pieces, when it had written this text: that of the chunks that are done,
--- and, where a write failed, a front of what the next one adds.
+-- A fault stopped the run after reads that gave these pieces, when it had written this text: that of the chunks that are done, none
+-- of them too long, and, where a write failed, a front of what the next one adds.
 pub record IsStopped (run : Run) (options : Options) (pieces : List (List ℕ)) (text : List ℕ) (fault : RunFault) : Type 0 where
   pub front : List (List ℕ)
   pub statements : List Statement
   pub left : List ℕ
   pub done : AreDone run pieces front statements left
+  pub fit : AllFit options.max_statement front
   pub cut : List ℕ
   pub text_is : text ≡ text_after run.home run.passes statements ++ cut
   pub begins : (cut ≡ []) ⊎ BeginsNext run pieces front statements cut

@@ -1,11 +1,11 @@
 //! A run from a source to a sink.
 
-ghost use Rattle.std.specs.Prelude.{◌≡◌, ◌≢◌, ℕ, ◌≤◌, ◌^◌, List, length, IfOk, IfErr, OnErr, IsErrOf};
+ghost use Rattle.std.specs.Prelude.{◌≡◌, ◌≢◌, ℕ, ◌≤◌, ◌^◌, List, length, IfOk, IfErr, IsErrOf};
 ghost use Rattle.bz_devices.specs.Ahead.{HasTooLong};
 ghost use Rattle.bz_devices.specs.Device.{Rises};
 ghost use Rattle.bz_engine.specs.EveryFile.{ForEveryFile};
 ghost use Rattle.bz_engine.specs.NeededReads.{AreReads, IsOneNeeded};
-ghost use Rattle.bz_engine.specs.Stops.{EndsAfter, IsStopped};
+ghost use Rattle.bz_engine.specs.Stops.{HasEndedAt, IsStopped};
 ghost use Rattle.bz_engine.specs.Outcome.{Told, run_with, IsOutcome, IsFrontOf, told_by};
 ghost use Rattle.std.specs.List.{concat};
 
@@ -32,23 +32,19 @@ pub fn run<S: Source, W: Sink>(
 ) -> Result<Report, RunFault>
     requires { options.max_reads ≤ 2 ^ 50 }
     // For every file that begins with what the source gave (once its end was met, for that file), the bytes that were
-    // appended and the report are the outcome of the passes over its statements. Each read was needed.
+    // appended and the report are the outcome of the passes over its statements. Each read was needed, and no chunk was
+    // looked at but those that are done and the one that ended the run.
     ensures outcome { IfOk result (λ report. (pieces : List (List ℕ)) × (text : List ℕ)
         × S.gave source.old pieces source.new × W.took sink.old text sink.new × AreReads home passes.items options pieces
         × ForEveryFile pieces
-        (λ file. IsOutcome (run_with home passes.items options) file text (told_by report))) }
-    // No chunk was looked at but those that are done and the one that ended the run.
-    ensures ended { IfOk result (λ report. (pieces : List (List ℕ)) × (cs : List (List ℕ)) × S.gave source.old pieces source.new
-        × EndsAfter (run_with home passes.items options) options.max_statement pieces cs report.end) }
-    // Before a fault a front of the text was written that is written for each such file.
-    ensures front { OnErr result ((pieces : List (List ℕ)) × (text : List ℕ)
+        (λ file. IsOutcome (run_with home passes.items options) file text (told_by report))
+        × HasEndedAt (run_with home passes.items options) options.max_statement pieces report.end) }
+    // Before a fault a front of the text was written that is written for each such file: that of the chunks that are done,
+    // and, where a write failed, a front of what the next one adds. The fault tells what it does of a step.
+    ensures stopped { IfErr result (λ fault. (pieces : List (List ℕ)) × (text : List ℕ)
         × S.gave source.old pieces source.new × W.took sink.old text sink.new × AreReads home passes.items options pieces
         × ForEveryFile pieces (λ file. (whole : List ℕ) (told : Told)
-        → IsOutcome (run_with home passes.items options) file whole told → IsFrontOf text whole)) }
-    // That is the text of the chunks that are done, and, where a write failed, a front of what the next one adds. The fault
-    // tells what it does of a step.
-    ensures stopped { IfErr result (λ fault. (pieces : List (List ℕ)) × (text : List ℕ)
-        × S.gave source.old pieces source.new × W.took sink.old text sink.new
+        → IsOutcome (run_with home passes.items options) file whole told → IsFrontOf text whole)
         × IsStopped (run_with home passes.items options) options pieces text fault) }
     // Whatever is answered, the devices gave and took what reads and writes gave and took.
     ensures devices { (pieces : List (List ℕ)) × (text : List ℕ)

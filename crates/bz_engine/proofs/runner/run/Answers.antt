@@ -6,12 +6,12 @@ use Rattle.bz_engine.specs.declared.run_fault.RunFault.TheVariants.{OutOfMemory,
 use Rattle.bz_engine.specs.declared.session.Step.TheVariants.{More, End}
 use Rattle.bz_engine.specs.Outcome.{run_with, told_by}
 use Rattle.bz_engine.specs.SessionValue.{HasDone, at_start, told_at}
-use Rattle.bz_engine.proofs.Advances.{on_err, more_is_no_end}
+use Rattle.bz_engine.proofs.Advances.{more_is_no_end}
 use Rattle.bz_devices.proofs.PassedOn.{err_is, passed_on, not_passed_on}
 use Rattle.bz_memory.specs.NoMemory.{no_memory}
-use Rattle.bz_devices.proofs.ReadOn.{rises_from, read_nothing}
+use Rattle.bz_devices.proofs.ReadOn.{rises_from, read_nothing, small_sum}
 use Rattle.bz_engine.proofs.Faults.{memory_alone}
-use Rattle.bz_engine.proofs.Cut.{cut_is, fault_begins, fault_reads, ended_begins, nothing_begins, too_long_in, one_needed_there, stops_unread, stops_by_fault}
+use Rattle.bz_engine.proofs.Cut.{BeginsAll, fault_begins, fault_reads, ended_begins, nothing_begins, too_long_in, one_needed_there, one_more_fits, ends_done, stops_unread, stops_by_fault}
 use Rattle.bz_engine.proofs.NeededReads.{no_reads}
 use Rattle.bz_engine.proofs.Runs.{started, shorter, outcome_is, ends_after, reads_for, where_ok, where_is, where_memory, ok_is_no_err}
 use Rattle.bz_engine.proofs.SessionSteps.{did_as}
@@ -31,6 +31,7 @@ loop-session-init g c =
       gave = g.met.S.Source.gave_nothing _;
       took = g.met.W.Sink.took_nothing _;
       done = subst (λ s. HasDone s [] [] []) (sym new) (started c.args.home c.args.passes.items c.args.options);
+      fit = tt;
       read_steady = refl;
       write_steady = refl;
     }
@@ -53,6 +54,7 @@ loop-session-preserved g c =
       gave = g.met.S.Source.gave_more _ _ _ _ _ inv.gave step.gave;
       took = g.met.W.Sink.took_more _ _ _ _ _ inv.took step.took;
       done = more.done inv.pieces inv.cs inv.text inv.done;
+      fit = one_more_fits _ inv.cs more.chunk inv.fit (subst (λ o. length more.chunk ≤ o.max_statement) (same.options ∙ inv.options) more.size);
       read_steady = step.reads_counted.1 (λ h. ok_is_no_err _ _ ReadFailed answer h) ∙ inv.read_steady;
       write_steady = step.writes_counted.1 (λ h. ok_is_no_err _ _ WriteFailed answer h) ∙ inv.write_steady;
     }
@@ -67,7 +69,7 @@ loop-session-smaller g c =
     let within : new.ahead.reads ≤ old.options.max_reads =
     subst (λ o. new.ahead.reads ≤ o.max_reads) c.step.ensures.same.options (subst (λ v. v.ahead.reads ≤ v.options.max_reads) c.session.view_is c.session.invariant.made) in
     subst (λ o. 8193 * (o.max_reads - new.ahead.reads) + length new.ahead.bytes < 8193 * (old.options.max_reads - old.ahead.reads) + length old.ahead.bytes) (sym c.step.ensures.same.options)
-    (shorter old new old.options.max_reads inv.pieces inv.cs step.read more.chunk inv.text (inv.text ++ step.shown) inv.done (more.done inv.pieces inv.cs inv.text inv.done) more.some step.few within)
+    (shorter old new old.options.max_reads inv.pieces inv.cs step.read more.chunk inv.text (inv.text ++ step.shown) inv.done (more.done inv.pieces inv.cs inv.text inv.done) more.some (small_sum step.read step.small) within)
 
 pub returns-in_err-step-clause-too_long : goal.returns-in_err-step-clause-too_long
 returns-in_err-step-clause-too_long g c told =
@@ -101,22 +103,10 @@ returns-in-End-clause-outcome g c =
       reads_for c.step.new.self _ _ _ (inv.pieces ++ step.read) (same.home ∙ inv.home) (same.passes ∙ inv.passes) (same.options ∙ inv.options) over.0,
       outcome_is c.step.new.self c.args.home c.args.passes.items c.args.options end.end (told_by report) (inv.pieces ++ step.read) inv.cs inv.text
           (same.home ∙ inv.home) (same.passes ∙ inv.passes) (same.options ∙ inv.options) told over.1,
-    ))
-    (c.finish.ensures.report end.end end.ended)
-
-pub returns-in-End-clause-ended : goal.returns-in-End-clause-ended
-returns-in-End-clause-ended g c =
-    let inv = c.loop-session.invariant in
-    let same = c.step.ensures.same in
-    let step = c.step.ensures.steps inv.goes in
-    let end = did_as step (Ok End) (c.in_ok-step.was ∙ ap Ok c.in-End.is) in
-    let over = end.outcome inv.pieces inv.cs inv.text inv.done in
-    where_ok c.finish.result (λ report told. (
-      inv.pieces ++ step.read,
-      inv.cs,
-      g.met.S.Source.gave_more _ _ _ _ _ inv.gave step.gave,
-      ends_after c.step.new.self c.args.home c.args.passes.items c.args.options end.end (told_by report) (inv.pieces ++ step.read) inv.cs inv.text
-          (same.home ∙ inv.home) (same.passes ∙ inv.passes) (same.options ∙ inv.options) told over.1,
+      ends_done c.loop-session.session c.step.new.self.ahead c.args.home c.args.passes.items c.args.options inv.pieces inv.cs step.read inv.text (told_by report).end
+          inv.home inv.passes inv.options inv.done end.read_ahead inv.fit
+          (ends_after c.step.new.self c.args.home c.args.passes.items c.args.options end.end (told_by report) (inv.pieces ++ step.read) inv.cs inv.text
+          (same.home ∙ inv.home) (same.passes ∙ inv.passes) (same.options ∙ inv.options) told over.1),
     ))
     (c.finish.ensures.report end.end end.ended)
 
@@ -130,8 +120,10 @@ returns-in_err-session-clause-stopped g c =
       [],
       g.met.S.Source.gave_nothing _,
       g.met.W.Sink.took_nothing _,
+      no_reads _ _ _,
+      nothing_begins (run_with c.args.home c.args.passes.items c.args.options),
       stops_unread start start.ahead (OutOfMemory no_memory) c.args.home c.args.passes.items c.args.options [] [] [] [] refl refl refl
-          (started c.args.home c.args.passes.items c.args.options) (read_nothing c.args.options.max_reads start.ahead none) tt,
+          (started c.args.home c.args.passes.items c.args.options) (read_nothing c.args.options.max_reads start.ahead none) tt tt,
     )
 
 pub returns-in_err-step-clause-stopped : goal.returns-in_err-step-clause-stopped
@@ -147,25 +139,35 @@ returns-in_err-step-clause-stopped g c =
       inv.text ++ step.shown,
       g.met.S.Source.gave_more _ _ _ _ _ inv.gave step.gave,
       g.met.W.Sink.took_more _ _ _ _ _ inv.took step.took,
+      fault_reads c.loop-session.session c.step.new.self _ c.args.home c.args.passes.items c.args.options inv.pieces inv.cs step.read inv.text step.shown inv.home inv.passes inv.options inv.done (record { needed = step.needed; few = step.bound }) left,
+      fault_begins c.loop-session.session c.step.new.self _ c.args.home c.args.passes.items c.args.options inv.pieces inv.cs step.read inv.text step.shown
+          inv.home inv.passes inv.options inv.done c.step.ensures.same left,
       stops_by_fault c.loop-session.session c.step.new.self fault c.args.home c.args.passes.items c.args.options inv.pieces inv.cs step.read inv.text step.shown
-          inv.home inv.passes inv.options inv.done c.step.ensures.same left
+          inv.home inv.passes inv.options inv.done c.step.ensures.same inv.fit left
           (λ other. (step.unwritten (λ h. ok_is_no_err _ _ fault h was) (λ h. other (err_is fault WriteFailed (sym was ∙ h)))).0),
     )
 
 pub returns-in-End-clause-stopped : goal.returns-in-End-clause-stopped
 returns-in-End-clause-stopped g c =
     let inv = c.loop-session.invariant in
+    let same = c.step.ensures.same in
     let step = c.step.ensures.steps inv.goes in
     let answer = c.in_ok-step.was ∙ ap Ok c.in-End.is in
     let end = did_as step (Ok End) answer in
+    let over = end.outcome inv.pieces inv.cs inv.text inv.done in
     let wrote = subst (λ w. g.W.Sink.took c.args.sink.now inv.text w) (sym (step.unwritten (λ h. more_is_no_end c.step.result h answer) (λ h. ok_is_no_err _ _ WriteFailed answer h)).1) inv.took in
+    let begins = ended_begins (run_with c.args.home c.args.passes.items c.args.options) (inv.pieces ++ step.read) inv.text (told_at c.step.new.self end.end)
+    (outcome_is c.step.new.self c.args.home c.args.passes.items c.args.options end.end (told_at c.step.new.self end.end) (inv.pieces ++ step.read) inv.cs inv.text
+    (same.home ∙ inv.home) (same.passes ∙ inv.passes) (same.options ∙ inv.options) refl over.1) in
     where_memory _ c.finish.result (OutOfMemory no_memory) (c.finish.ensures.memory end.end end.ended) (
       inv.pieces ++ step.read,
       inv.text ++ [],
       g.met.S.Source.gave_more _ _ _ _ _ inv.gave step.gave,
       subst (λ t. g.W.Sink.took c.args.sink.now t c.step.new.sink) (sym (append-nil inv.text)) wrote,
+      reads_for c.step.new.self _ _ _ (inv.pieces ++ step.read) (same.home ∙ inv.home) (same.passes ∙ inv.passes) (same.options ∙ inv.options) over.0,
+      subst (BeginsAll (run_with c.args.home c.args.passes.items c.args.options) (inv.pieces ++ step.read)) (sym (append-nil inv.text)) begins,
       stops_unread c.loop-session.session c.step.new.self.ahead (OutOfMemory no_memory) _ _ _ inv.pieces inv.cs step.read inv.text
-          inv.home inv.passes inv.options inv.done end.read_ahead tt,
+          inv.home inv.passes inv.options inv.done end.read_ahead inv.fit tt,
     )
 
 pub returns-in_err-session-clause-devices : goal.returns-in_err-session-clause-devices
@@ -182,42 +184,6 @@ returns-in-End-clause-devices g c =
     let inv = c.loop-session.invariant in
     let step = c.step.ensures.steps inv.goes in
     (inv.pieces ++ step.read, inv.text ++ step.shown, g.met.S.Source.gave_more _ _ _ _ _ inv.gave step.gave, g.met.W.Sink.took_more _ _ _ _ _ inv.took step.took)
-
-pub returns-in_err-session-clause-front : goal.returns-in_err-session-clause-front
-returns-in_err-session-clause-front g c =
-    on_err _ (cut_is (λ pieces. g.S.Source.gave c.args.source.now pieces c.args.source.now) (λ text. g.W.Sink.took c.args.sink.now text c.args.sink.now)
-    c.args.home c.args.passes.items c.args.options [] [] (g.met.S.Source.gave_nothing _) (g.met.W.Sink.took_nothing _) (no_reads _ _ _)
-    (nothing_begins (run_with c.args.home c.args.passes.items c.args.options)))
-
-pub returns-in_err-step-clause-front : goal.returns-in_err-step-clause-front
-returns-in_err-step-clause-front g c =
-    let inv = c.loop-session.invariant in
-    let step = c.step.ensures.steps inv.goes in
-    let left = did_as step (Err c.in_err-step.field-0.0) c.in_err-step.was in
-    on_err _ (cut_is (λ pieces. g.S.Source.gave c.args.source.now pieces c.step.new.source) (λ text. g.W.Sink.took c.args.sink.now text c.step.new.sink)
-    c.args.home c.args.passes.items c.args.options (inv.pieces ++ step.read) (inv.text ++ step.shown)
-    (g.met.S.Source.gave_more _ _ _ _ _ inv.gave step.gave) (g.met.W.Sink.took_more _ _ _ _ _ inv.took step.took)
-    (fault_reads c.loop-session.session c.step.new.self _ c.args.home c.args.passes.items c.args.options inv.pieces inv.cs step.read inv.text step.shown inv.home inv.passes inv.options inv.done (record { needed = step.needed; few = step.bound }) left)
-    (fault_begins c.loop-session.session c.step.new.self _ c.args.home c.args.passes.items c.args.options inv.pieces inv.cs step.read inv.text step.shown
-    inv.home inv.passes inv.options inv.done c.step.ensures.same left))
-
-pub returns-in-End-clause-front : goal.returns-in-End-clause-front
-returns-in-End-clause-front g c =
-    let inv = c.loop-session.invariant in
-    let same = c.step.ensures.same in
-    let step = c.step.ensures.steps inv.goes in
-    let answer = c.in_ok-step.was ∙ ap Ok c.in-End.is in
-    let end = did_as step (Ok End) answer in
-    let over = end.outcome inv.pieces inv.cs inv.text inv.done in
-    let wrote = subst (λ w. g.W.Sink.took c.args.sink.now inv.text w) (sym (step.unwritten (λ h. more_is_no_end c.step.result h answer) (λ h. ok_is_no_err _ _ WriteFailed answer h)).1) inv.took in
-    on_err _ (cut_is (λ pieces. g.S.Source.gave c.args.source.now pieces c.step.new.source) (λ text. g.W.Sink.took c.args.sink.now text c.step.new.sink)
-    c.args.home c.args.passes.items c.args.options (inv.pieces ++ step.read) inv.text
-    (g.met.S.Source.gave_more _ _ _ _ _ inv.gave step.gave)
-    wrote
-    (reads_for c.step.new.self _ _ _ (inv.pieces ++ step.read) (same.home ∙ inv.home) (same.passes ∙ inv.passes) (same.options ∙ inv.options) over.0)
-    (ended_begins (run_with c.args.home c.args.passes.items c.args.options) (inv.pieces ++ step.read) inv.text (told_at c.step.new.self end.end)
-    (outcome_is c.step.new.self c.args.home c.args.passes.items c.args.options end.end (told_at c.step.new.self end.end) (inv.pieces ++ step.read) inv.cs inv.text
-    (same.home ∙ inv.home) (same.passes ∙ inv.passes) (same.options ∙ inv.options) refl over.1)))
 
 pub returns-in_err-step-clause-statement_too_long : goal.returns-in_err-step-clause-statement_too_long
 returns-in_err-step-clause-statement_too_long g c line told =

@@ -1,6 +1,7 @@
 use Rattle.std.proofs.Common.{◌≡◌, ℕ, ◌+◌, ◌-◌, ◌*◌, List, length}
 use Rattle.bz_engine.specs.declared.session.SessionState.TheVariants.{Going}
 use Rattle.bz_engine.specs.SessionValue.{HasDone}
+use Rattle.bz_engine.specs.Stops.{AllFit}
 use Rattle.bz_engine.proofs.runner.run.Given as goal
 
 -- the session goes on with the run it was made for, and what it has done was read and written
@@ -16,6 +17,7 @@ invariant-loop-session g l = record {
   gave : g.S.Source.gave l.initial.source pieces l.source;
   took : g.W.Sink.took l.initial.sink text l.sink;
   done : HasDone l.session pieces cs text;
+  fit : AllFit l.fn.options.max_statement cs;
   read_steady : g.S.Source.failures l.source ≡ g.S.Source.failures l.initial.source;
   write_steady : g.W.Sink.failures l.sink ≡ g.W.Sink.failures l.initial.sink;
 }
