@@ -15,22 +15,22 @@ use Rattle.bz_folder.specs.declared.trouble.Trouble.{Trouble}
 use Rattle.bz_folder.specs.declared.trouble.Trouble.TheVariants.{OutOfMemory as NoMemoryFor, Clean, LeftBehind}
 use Rattle.bz_engine.specs.declared.run_fault.RunFault.{RunFault}
 use Rattle.bz_engine.specs.declared.run_fault.RunFault.TheVariants.{OutOfMemory, ReadFailed, WriteFailed, InputTooLong, StatementTooLong, Stopped}
-use Rattle.buildozer.specs.declared.edit_file.FileFault.{FileFault}
-use Rattle.buildozer.specs.declared.edit_file.FileFault.TheVariants.{Run, CannotWrite}
+use Rattle.bz_program.specs.declared.edit_file.FileFault.{FileFault}
+use Rattle.bz_program.specs.declared.edit_file.FileFault.TheVariants.{Run, CannotWrite}
 use Rattle.bz_engine.specs.declared.report.Report.{Report}
 use Rattle.bz_command.specs.Labels.{Package}
-use Rattle.buildozer.specs.declared.file_run.Ended.{Ended}
-use Rattle.buildozer.specs.declared.file_run.Ended.TheVariants.{Told, Failed as EndedByFault, NotYet}
-use Rattle.buildozer.specs.Runs.{Asked, IsRun, IsKeptText, is_kept, is_whole, IsFaultOver}
-use Rattle.buildozer.specs.FileRuns.{GaveText, GaveAnswer}
-use Rattle.buildozer.specs.Files.{IsFileOf, MayBe, MayHold, MayHoldNothing, IsEdited, Holds, AreLeft, Leaves, IsPlaced, file_fault, IsFileFault, IsOfFolder}
-use Rattle.buildozer.specs.Handled.{AreFilesOf, IsFirst, IsTried, IsOpened, LeavesFiles}
+use Rattle.bz_program.specs.declared.file_run.Ended.{Ended}
+use Rattle.bz_program.specs.declared.file_run.Ended.TheVariants.{Told, Failed as EndedByFault, NotYet}
+use Rattle.bz_program.specs.Runs.{Asked, IsRun, IsKeptText, is_kept, is_whole, IsFaultOver}
+use Rattle.bz_program.specs.FileRuns.{GaveText, GaveAnswer}
+use Rattle.bz_program.specs.Files.{IsFileOf, MayBe, MayHold, MayHoldNothing, IsEdited, Holds, AreLeft, Leaves, IsPlaced, file_fault, IsFileFault, IsOfFolder}
+use Rattle.bz_program.specs.Handled.{AreFilesOf, IsFirst, IsTried, IsOpened, LeavesFiles}
 use Rattle.bz_engine.specs.Outcome.{status_of}
 use Rattle.bz_script.specs.Groups.{Step}
 use Rattle.bz_script.specs.Names.{IsBuildPath}
 use Rattle.bz_script.specs.Packages.{by_package}
-use Rattle.buildozer.specs.Program.{MayHold as MayHoldAny, Task, asked_for}
-use Rattle.buildozer.specs.declared.file_run.FileRun.{FileRun}
+use Rattle.bz_program.specs.Program.{MayHold as MayHoldAny, Task, asked_for}
+use Rattle.bz_program.specs.declared.file_run.FileRun.{FileRun}
 
 abbrev or_else : {A : Type 0} → Option A → A → A
 or_else (Some x) y = x

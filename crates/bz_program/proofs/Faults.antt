@@ -6,7 +6,7 @@ use Rattle.bz_devices.specs.Device.{NoneEnds, Rises}
 use Rattle.bz_engine.specs.EveryFile.{ForEveryFile}
 use Rattle.bz_engine.specs.declared.run_fault.RunFault.{RunFault}
 use Rattle.bz_engine.specs.declared.run_fault.RunFault.TheVariants.{OutOfMemory, ReadFailed, WriteFailed, InputTooLong, StatementTooLong, Stopped}
-use Rattle.buildozer.specs.Runs.{max_statement, max_reads, IsFaultOver}
+use Rattle.bz_program.specs.Runs.{max_statement, max_reads, IsFaultOver}
 use Rattle.std.specs.List.{concat}
 
 module _ {S T : Type 0} (gave : S → List (List ℕ) → S → Type 0) (failures : S → ℕ) (source source_after : S) where

@@ -11,15 +11,15 @@ use Rattle.bz_engine.specs.declared.report.Report.{Report}
 use Rattle.bz_script.specs.Groups.{Step}
 use Rattle.bz_script.specs.declared.flags.Flags.{Flags}
 use Rattle.bz_folder.specs.Files.{Event}
-use Rattle.buildozer.specs.Console.{Shows, has_failed}
-use Rattle.buildozer.specs.Files.{Leaves}
-use Rattle.buildozer.specs.Handled.{Account, IsShownAs, IsAccountAt, IsHandled, is_last, Done, AreHandled, IsStatusOfAll}
-use Rattle.buildozer.specs.declared.package.Devices.{Devices}
-use Rattle.buildozer.proofs.Edited.{leaves_nothing, leaves_more}
-use Rattle.buildozer.proofs.Shown.{shows_nothing, shows_more}
-use Rattle.buildozer.specs.Runs.{Asked}
+use Rattle.bz_program.specs.Console.{Shows, has_failed}
+use Rattle.bz_program.specs.Files.{Leaves}
+use Rattle.bz_program.specs.Handled.{Account, IsShownAs, IsAccountAt, IsHandled, is_last, Done, AreHandled, IsStatusOfAll}
+use Rattle.bz_program.specs.declared.package.Devices.{Devices}
+use Rattle.bz_program.proofs.Edited.{leaves_nothing, leaves_more}
+use Rattle.bz_program.proofs.Shown.{shows_nothing, shows_more}
+use Rattle.bz_program.specs.Runs.{Asked}
 use Rattle.bz_script.specs.Packages.{by_package}
-use Rattle.buildozer.specs.Program.{Task, asked_for}
+use Rattle.bz_program.specs.Program.{Task, asked_for}
 use Rattle.bz_script.specs.Statuses.{some_is, whole_status}
 
 abbrev status_from : Bool → Bool → ℕ

@@ -1,8 +1,8 @@
 -- What both outputs were handed, one after another.
 use Rattle.std.proofs.Common.{ℕ, List, [], ◌++◌, subst, append-nil}
 use Rattle.bz_devices.specs.Buffer.{took_nothing_lem, took_more_lem}
-use Rattle.buildozer.specs.Console.{Shows}
-use Rattle.buildozer.specs.declared.console.Console.{Console}
+use Rattle.bz_program.specs.Console.{Shows}
+use Rattle.bz_program.specs.declared.console.Console.{Console}
 
 module _ {O E : Type 0} (out_took : O → List ℕ → O → Type 0) (err_took : E → List ℕ → E → Type 0) where
   pub shows_nothing : ((s : O) → out_took s [] s) → ((s : E) → err_took s [] s) → (console : Console O E) → Shows out_took err_took console [] [] console

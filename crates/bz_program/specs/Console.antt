@@ -1,7 +1,7 @@
 -- What standard output and standard error are handed.
 use Rattle.std.specs.Prelude.{ℕ, Bool, ◌||◌, List}
 use Rattle.bz_devices.specs.Buffer.{Took}
-use Rattle.buildozer.specs.declared.console.Console.{Console}
+use Rattle.bz_program.specs.declared.console.Console.{Console}
 
 -- standard output is handed the first bytes, and standard error the second ones
 pub record Shows {O E : Type 0} (out_took : O → List ℕ → O → Type 0) (err_took : E → List ℕ → E → Type 0)

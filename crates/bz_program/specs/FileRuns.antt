@@ -2,10 +2,10 @@
 use Rattle.std.specs.Prelude.{◌≡◌, ◌⊎◌, ℕ, Bool, List, Option, Some, None, Result, Ok, Err}
 use Rattle.bz_devices.specs.declared.device.Failed.{Failed}
 use Rattle.bz_engine.specs.declared.report.Report.{Report}
-use Rattle.buildozer.specs.declared.file_run.Ended.{Ended}
-use Rattle.buildozer.specs.declared.file_run.Ended.TheVariants.{Told, Failed as EndedByFault}
+use Rattle.bz_program.specs.declared.file_run.Ended.{Ended}
+use Rattle.bz_program.specs.declared.file_run.Ended.TheVariants.{Told, Failed as EndedByFault}
 use Rattle.bz_engine.specs.declared.run_fault.RunFault.{RunFault}
-use Rattle.buildozer.specs.Runs.{Asked, IsRun, is_kept, IsFaultOver}
+use Rattle.bz_program.specs.Runs.{Asked, IsRun, is_kept, IsFaultOver}
 
 -- the run that was asked for gave this text, told this report, and answered whether the text is kept
 pub record GaveText {S : Type 0} (gave : S → List (List ℕ) → S → Type 0) (asked : Option Asked) (source : S) (text : List ℕ) (kept : Bool)

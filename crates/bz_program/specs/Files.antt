@@ -7,11 +7,11 @@ use Rattle.bz_folder.specs.declared.folder.Opened.{Opened}
 use Rattle.bz_engine.specs.declared.report.Report.{Report}
 use Rattle.bz_engine.specs.declared.run_fault.RunFault.{RunFault}
 use Rattle.bz_engine.specs.declared.run_fault.RunFault.TheVariants.{OutOfMemory, ReadFailed, WriteFailed, InputTooLong, StatementTooLong, Stopped}
-use Rattle.buildozer.specs.declared.edit_file.FileFault.{FileFault}
-use Rattle.buildozer.specs.declared.edit_file.FileFault.TheVariants.{Run, CannotWrite}
+use Rattle.bz_program.specs.declared.edit_file.FileFault.{FileFault}
+use Rattle.bz_program.specs.declared.edit_file.FileFault.TheVariants.{Run, CannotWrite}
 use Rattle.bz_command.specs.Labels.{Package}
 use Rattle.bz_script.specs.Names.{IsBuildPath}
-use Rattle.buildozer.specs.Runs.{Asked, IsRun, is_kept, IsKeptText, IsFaultOver}
+use Rattle.bz_program.specs.Runs.{Asked, IsRun, is_kept, IsKeptText, IsFaultOver}
 
 -- what is opened at a path of a package's BUILD file may be this file, and it is read from this source
 pub record IsFileOf {F : Type 0} (leads : List ℕ → List ℕ → F → Type 0) (home : Package) (file : List ℕ) (source : F) : Type 0 where

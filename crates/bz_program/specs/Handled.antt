@@ -14,14 +14,14 @@ use Rattle.bz_script.specs.Names.{in_folder}
 use Rattle.bz_script.specs.Packages.{by_package}
 use Rattle.bz_script.specs.Statuses.{whole_status}
 use Rattle.bz_script.specs.declared.flags.Flags.{Flags}
-use Rattle.buildozer.specs.Console.{Shows, has_failed}
-use Rattle.buildozer.specs.Files.{Leaves, MayHold, MayHoldNothing, IsEdited, IsFileFault}
-use Rattle.buildozer.specs.Program.{Task, asked_for, is_shown}
-use Rattle.buildozer.specs.Runs.{Asked, IsRun, IsFront, IsFaultOver}
-use Rattle.buildozer.specs.Texts.{lines_text, message_of, messages_text, fixed_told, unopened_text, IsFaultText, IsFileFaultText}
-use Rattle.buildozer.specs.declared.console.Console.{Console}
-use Rattle.buildozer.specs.declared.edit_file.FileFault.{FileFault}
-use Rattle.buildozer.specs.declared.package.Devices.{Devices}
+use Rattle.bz_program.specs.Console.{Shows, has_failed}
+use Rattle.bz_program.specs.Files.{Leaves, MayHold, MayHoldNothing, IsEdited, IsFileFault}
+use Rattle.bz_program.specs.Program.{Task, asked_for, is_shown}
+use Rattle.bz_program.specs.Runs.{Asked, IsRun, IsFront, IsFaultOver}
+use Rattle.bz_program.specs.Texts.{lines_text, message_of, messages_text, fixed_told, unopened_text, IsFaultText, IsFileFaultText}
+use Rattle.bz_program.specs.declared.console.Console.{Console}
+use Rattle.bz_program.specs.declared.edit_file.FileFault.{FileFault}
+use Rattle.bz_program.specs.declared.package.Devices.{Devices}
 
 -- what a package handed to standard output and to standard error, what it put in the place of files, and its status
 pub record Account : Type 0 where

@@ -1,4 +1,5 @@
 pub mod Console
+pub mod Disk
 pub mod FileRuns
 pub mod Files
 pub mod Handled

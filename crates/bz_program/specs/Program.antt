@@ -4,10 +4,10 @@ use Rattle.std.specs.List.{list_all}
 use Rattle.bz_engine.specs.Outcome.{Script, is_query}
 use Rattle.bz_folder.specs.Files.{Content}
 use Rattle.bz_command.specs.Labels.{Package}
-use Rattle.buildozer.specs.Files as files
+use Rattle.bz_program.specs.Files as files
 use Rattle.bz_script.specs.Groups.{Step}
 use Rattle.bz_script.specs.Packages.{by_package}
-use Rattle.buildozer.specs.Runs.{Asked}
+use Rattle.bz_program.specs.Runs.{Asked}
 
 -- a package, and the passes that are for it
 abbrev pub Task : Type 0

@@ -3,10 +3,10 @@ use Rattle.std.specs.Prelude.{◌≡◌, ℕ, List, [], ◌++◌}
 use Rattle.bz_engine.specs.Outcome.{status_of}
 use Rattle.bz_engine.specs.declared.report.Report.{Report}
 use Rattle.bz_engine.specs.declared.run_fault.RunFault.{RunFault}
-use Rattle.buildozer.specs.Console.{Shows}
-use Rattle.buildozer.specs.Runs.{Asked, IsRun, IsFront, IsFaultOver}
-use Rattle.buildozer.specs.Texts.{lines_text, messages_text}
-use Rattle.buildozer.specs.declared.console.Console.{Console}
+use Rattle.bz_program.specs.Console.{Shows}
+use Rattle.bz_program.specs.Runs.{Asked, IsRun, IsFront, IsFaultOver}
+use Rattle.bz_program.specs.Texts.{lines_text, messages_text}
+use Rattle.bz_program.specs.declared.console.Console.{Console}
 
 -- the text and the printed lines of the run went to standard output, its messages to standard error, and the status is its own
 pub record IsStreamed {S O E : Type 0} (gave : S → List (List ℕ) → S → Type 0) (out_took : O → List ℕ → O → Type 0)

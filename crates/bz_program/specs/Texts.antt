@@ -4,8 +4,8 @@ use Rattle.std.specs.Fmt.{decimal}
 use Rattle.std.specs.List.{flat_map, starts_with}
 use Rattle.bz_engine.specs.declared.run_fault.RunFault.{RunFault}
 use Rattle.bz_engine.specs.declared.run_fault.RunFault.TheVariants.{OutOfMemory, ReadFailed, WriteFailed, InputTooLong, StatementTooLong, Stopped}
-use Rattle.buildozer.specs.declared.edit_file.FileFault.{FileFault}
-use Rattle.buildozer.specs.declared.edit_file.FileFault.TheVariants.{Run, CannotWrite}
+use Rattle.bz_program.specs.declared.edit_file.FileFault.{FileFault}
+use Rattle.bz_program.specs.declared.edit_file.FileFault.TheVariants.{Run, CannotWrite}
 
 abbrev pub is_dashed : List ℕ → Bool
 is_dashed path = starts_with nat_eq path (codes "-")

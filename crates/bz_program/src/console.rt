@@ -1,9 +1,10 @@
 //! Standard output and standard error.
 
-ghost use Rattle.std.specs.Prelude.{◌≡◌, ◌⊎◌, [], true, false, OnOk, OnErr};
+ghost use Rattle.std.specs.Prelude.{◌≡◌, ◌⊎◌, [], true, false, IfOk, OnOk, OnErr};
 ghost use Rattle.bz_devices.specs.Buffer.{Took};
-ghost use Rattle.buildozer.specs.Console.{Shows};
-ghost use Rattle.buildozer.specs.Texts.{line_of, message_of, lines_text, messages_text, fixed_text};
+ghost use Rattle.bz_program.specs.Console.{Shows};
+ghost use Rattle.bz_program.specs.Disk.{unused};
+ghost use Rattle.bz_program.specs.Texts.{line_of, message_of, lines_text, messages_text, fixed_text};
 
 use bz_devices::buffered::Buffered;
 use bz_engine::{Failed, Report, Sink, Texts};
@@ -25,6 +26,7 @@ impl<O: Sink, E: Sink> Console<O, E> {
     where
         O: Drop,
         E: Drop,
+        ensures { IfOk result (λ console. (console.out ≡ unused out) × (console.err ≡ unused err)) }
     {
         let out = Buffered::new(alloc, out)?;
         let err = Buffered::new(alloc, err)?;

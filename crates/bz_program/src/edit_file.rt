@@ -2,7 +2,7 @@
 
 ghost use Rattle.std.specs.Prelude.{◌≡◌, ◌≢◌, Ok, IfOk, IfErr, OnErr, true, false, string_bytes};
 ghost use Rattle.bz_folder.specs.Sequence.{SafeRun};
-ghost use Rattle.buildozer.specs.Files as spec;
+ghost use Rattle.bz_program.specs.Files as spec;
 
 use crate::file_run::{Ended, FileRun};
 use crate::run::Asked;

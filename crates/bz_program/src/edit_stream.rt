@@ -1,8 +1,8 @@
 //! A run that writes to standard output.
 
 ghost use Rattle.std.specs.Prelude.{◌≡◌, ℕ, List, IfOk, IfErr};
-ghost use Rattle.buildozer.specs.Console.{Shows};
-ghost use Rattle.buildozer.specs.Streams as spec;
+ghost use Rattle.bz_program.specs.Console.{Shows};
+ghost use Rattle.bz_program.specs.Streams as spec;
 
 use crate::console::Console;
 use crate::run::Asked;

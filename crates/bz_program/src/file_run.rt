@@ -1,7 +1,7 @@
 //! A run that writes the new text of a file.
 
 ghost use Rattle.std.specs.Prelude.{◌≡◌, Some};
-ghost use Rattle.buildozer.specs.FileRuns as spec;
+ghost use Rattle.bz_program.specs.FileRuns as spec;
 
 use crate::run::{Asked, is_kept};
 use bz_engine::{Failed, Report, RunFault, Sink, Source};
@@ -48,7 +48,7 @@ impl<S> FileRun<S> {
 }
 
 impl<S: Source> Author for FileRun<S> {
-    ghost use Rattle.buildozer.specs.FileRuns as spec;
+    ghost use Rattle.bz_program.specs.FileRuns as spec;
 
     ghost gives = { λ old text answer new. spec.GaveAnswer S.gave S.failures old.asked old.source text answer new.source new.ended };
 

@@ -3,7 +3,7 @@
 ghost use Rattle.std.specs.Prelude.{◌≡◌, ℕ, List};
 ghost use Rattle.bz_engine.specs.declared.report.Report.{Report};
 ghost use Rattle.bz_engine.specs.Outcome.{told_by};
-ghost use Rattle.buildozer.specs.Runs.{Asked, IsReadOf, IsRun};
+ghost use Rattle.bz_program.specs.Runs.{Asked, IsReadOf, IsRun};
 
 /// What `-stdout` shows of a file is what the run without it puts into the file, however its bytes were read: two runs
 /// of what is asked over one file write the same text and tell the same.

@@ -1,10 +1,10 @@
 //! What is done for one package.
 
 ghost use Rattle.std.specs.Prelude.{◌≡◌, ◌⊎◌, ℕ, List, [], IfOk, IfErr, if◌then◌else◌, string_bytes};
-ghost use Rattle.buildozer.specs.Console.{Shows};
-ghost use Rattle.buildozer.specs.Handled as spec;
-ghost use Rattle.buildozer.specs.Program.{is_shown};
-ghost use Rattle.buildozer.specs.Texts.{message_of, fixed_told, hint_told, unopened_text, IsFaultText, IsFileFaultText};
+ghost use Rattle.bz_program.specs.Console.{Shows};
+ghost use Rattle.bz_program.specs.Handled as spec;
+ghost use Rattle.bz_program.specs.Program.{is_shown};
+ghost use Rattle.bz_program.specs.Texts.{message_of, fixed_told, hint_told, unopened_text, IsFaultText, IsFileFaultText};
 ghost use Rattle.bz_script.specs.Names.{in_folder};
 
 use crate::console::Console;

@@ -2,7 +2,7 @@
 
 ghost use Rattle.std.specs.Prelude.{◌≡◌, ℕ, List, IfOk, IfErr, OnErr, IsErrOf};
 ghost use Rattle.bz_devices.specs.Device.{Rises};
-ghost use Rattle.buildozer.specs.Runs as spec;
+ghost use Rattle.bz_program.specs.Runs as spec;
 
 use bz_engine::{End, Options, Pass, Report, RunFault, Sink, Source, run};
 use bz_rule::{Command, Package, Target};
@@ -27,7 +27,7 @@ pub struct Asked {
 }
 
 impl Model for Asked {
-    ghost use Rattle.buildozer.specs.Runs as spec;
+    ghost use Rattle.bz_program.specs.Runs as spec;
 
     ghost Value = { spec.Asked };
 

@@ -1,6 +1,6 @@
 use Rattle.std.proofs.Common.{codes, subst}
 use Rattle.bz_devices.specs.Buffer.{Took, took_more_lem}
-use Rattle.buildozer.proofs.console.put_line.Goals as goal
+use Rattle.bz_program.proofs.console.put_line.Goals as goal
 
 pub returns : goal.returns
 returns g c =

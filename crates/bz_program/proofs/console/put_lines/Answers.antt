@@ -1,8 +1,8 @@
 use Rattle.std.proofs.Common.{rules, ◌≡◌, [], ◌++◌, ap}
 use Rattle.bz_devices.specs.Buffer.{took_nothing_lem, took_more_lem}
-use Rattle.buildozer.specs.Texts.{line_of, lines_text}
-use Rattle.buildozer.proofs.Written.{written_next}
-use Rattle.buildozer.proofs.console.put_lines.Goals as goal
+use Rattle.bz_program.specs.Texts.{line_of, lines_text}
+use Rattle.bz_program.proofs.Written.{written_next}
+use Rattle.bz_program.proofs.console.put_lines.Goals as goal
 
 pub loop-line-init : goal.loop-line-init
 loop-line-init g c =

@@ -1,7 +1,7 @@
 use Rattle.std.proofs.Common.{◌≡◌, ℕ, List, ◌++◌}
 use Rattle.bz_devices.specs.Buffer.{Took}
-use Rattle.buildozer.specs.Texts.{lines_text}
-use Rattle.buildozer.proofs.console.put_lines.Given as goal
+use Rattle.bz_program.specs.Texts.{lines_text}
+use Rattle.bz_program.proofs.console.put_lines.Given as goal
 
 abbrev pub invariant-loop-line : goal.invariant-loop-line
 invariant-loop-line g l = record {

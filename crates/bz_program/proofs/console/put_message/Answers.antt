@@ -1,7 +1,7 @@
 use Rattle.std.proofs.Common.{◌++◌, codes, subst}
 use Rattle.bz_devices.specs.Buffer.{Took, took_more_lem}
-use Rattle.buildozer.specs.Texts.{line_of}
-use Rattle.buildozer.proofs.console.put_message.Goals as goal
+use Rattle.bz_program.specs.Texts.{line_of}
+use Rattle.bz_program.proofs.console.put_message.Goals as goal
 
 pub returns : goal.returns
 returns g c =

@@ -1,7 +1,7 @@
 use Rattle.std.proofs.Common.{◌≡◌, ℕ, List, ◌++◌}
 use Rattle.bz_devices.specs.Buffer.{Took}
-use Rattle.buildozer.specs.Texts.{messages_text}
-use Rattle.buildozer.proofs.console.put_messages.Given as goal
+use Rattle.bz_program.specs.Texts.{messages_text}
+use Rattle.bz_program.proofs.console.put_messages.Given as goal
 
 abbrev pub invariant-loop-message : goal.invariant-loop-message
 invariant-loop-message g l = record {

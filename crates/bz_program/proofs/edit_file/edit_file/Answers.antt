@@ -1,10 +1,10 @@
 use Rattle.std.proofs.Common.{◌≡◌, Err, sym, ◌∙◌, ap, subst}
 use Rattle.bz_folder.specs.Sequence.{SafeRun}
-use Rattle.buildozer.specs.Files.{MayBe}
-use Rattle.buildozer.specs.declared.file_run.Ended.TheVariants.{Told, Failed, NotYet}
-use Rattle.buildozer.proofs.Edited.{safe_edit, safe_idle, edited_as, placed, faulted, of_folder, if_err}
+use Rattle.bz_program.specs.Files.{MayBe}
+use Rattle.bz_program.specs.declared.file_run.Ended.TheVariants.{Told, Failed, NotYet}
+use Rattle.bz_program.proofs.Edited.{safe_edit, safe_idle, edited_as, placed, faulted, of_folder, if_err}
 use Rattle.bz_script.proofs.Loops.{if_ok}
-use Rattle.buildozer.proofs.edit_file.edit_file.Goals as goal
+use Rattle.bz_program.proofs.edit_file.edit_file.Goals as goal
 
 pub returns-in-Told-clause-edited : goal.returns-in-Told-clause-edited
 returns-in-Told-clause-edited g c =

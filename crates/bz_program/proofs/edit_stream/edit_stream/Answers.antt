@@ -1,9 +1,9 @@
 use Rattle.std.proofs.Common.{[], ◌++◌, Result, Ok, Err, IsErrAnd, sym, subst}
 use Rattle.std.specs.Prelude.{IfErr}
 use Rattle.bz_devices.specs.Buffer.{took_nothing_lem, took_more_lem}
-use Rattle.buildozer.specs.Runs.{IsFaultOver}
-use Rattle.buildozer.specs.Texts.{lines_text, messages_text}
-use Rattle.buildozer.proofs.edit_stream.edit_stream.Goals as goal
+use Rattle.bz_program.specs.Runs.{IsFaultOver}
+use Rattle.bz_program.specs.Texts.{lines_text, messages_text}
+use Rattle.bz_program.proofs.edit_stream.edit_stream.Goals as goal
 
 if_fault : {T E : Type 0} {Q : E → Type 0} (r : Result T E) (P : E → Type 0) → IsErrAnd r P → ((e : E) → P e → Q e) → IfErr r Q
 if_fault (Ok x) P h f = tt

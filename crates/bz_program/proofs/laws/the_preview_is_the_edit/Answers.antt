@@ -2,8 +2,8 @@ use Rattle.std.proofs.Common.{ℕ, List, sym, subst}
 use Rattle.bz_engine.specs.Outcome.{IsOutcome, told_by}
 use Rattle.bz_engine.proofs.OneOutcome.{one_outcome}
 use Rattle.bz_engine.specs.declared.report.Report.{Report}
-use Rattle.buildozer.specs.Runs.{Asked, IsReadOf, IsRun, run_of}
-use Rattle.buildozer.proofs.laws.the_preview_is_the_edit.Goals as goal
+use Rattle.bz_program.specs.Runs.{Asked, IsReadOf, IsRun, run_of}
+use Rattle.bz_program.proofs.laws.the_preview_is_the_edit.Goals as goal
 
 outcome_of : (asked : Asked) (file : List ℕ) (read : List (List ℕ)) (text : List ℕ) (report : Report) → IsReadOf file read → IsRun asked read text report
     → IsOutcome (run_of asked) file text (told_by report)

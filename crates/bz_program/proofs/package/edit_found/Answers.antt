@@ -1,8 +1,8 @@
 use Rattle.std.proofs.Common.{inl, inr, refl, subst}
-use Rattle.buildozer.specs.Handled.{IsTried, failed_account}
-use Rattle.buildozer.specs.Texts.{unopened_text}
-use Rattle.buildozer.proofs.Edited.{left_alone, leaves_nothing, tried_as}
-use Rattle.buildozer.proofs.package.edit_found.Goals as goal
+use Rattle.bz_program.specs.Handled.{IsTried, failed_account}
+use Rattle.bz_program.specs.Texts.{unopened_text}
+use Rattle.bz_program.proofs.Edited.{left_alone, leaves_nothing, tried_as}
+use Rattle.bz_program.proofs.package.edit_found.Goals as goal
 
 pub edit_opened-requires : goal.edit_opened-requires
 edit_opened-requires g c = record { tried = subst (λ folder. IsTried g.D.Folder.absent folder c.args.asked.home c.in-Ok.name.now) c.folder.ensures (tried_as g.D.Folder.absent c.folder.result.now c.args.asked.home _ _ _ c.requires c.in-Ok.ensures.opened.0); leads_to = c.in-Ok.ensures.opened.1 }

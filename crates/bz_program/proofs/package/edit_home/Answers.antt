@@ -1,9 +1,9 @@
 use Rattle.std.proofs.Common.{inl, inr, refl, ◌∙◌, ap, subst, codes, string_bytes}
-use Rattle.buildozer.specs.Handled.{IsAccountAt, AreFilesOf, failed_account}
-use Rattle.buildozer.specs.Runs.{Asked}
-use Rattle.buildozer.specs.Texts.{message_of}
-use Rattle.buildozer.proofs.Edited.{left_alone, leaves_as, leaves_nothing}
-use Rattle.buildozer.proofs.package.edit_home.Goals as goal
+use Rattle.bz_program.specs.Handled.{IsAccountAt, AreFilesOf, failed_account}
+use Rattle.bz_program.specs.Runs.{Asked}
+use Rattle.bz_program.specs.Texts.{message_of}
+use Rattle.bz_program.proofs.Edited.{left_alone, leaves_as, leaves_nothing}
+use Rattle.bz_program.proofs.package.edit_home.Goals as goal
 
 pub edit_found-requires : goal.edit_found-requires
 edit_found-requires g c =

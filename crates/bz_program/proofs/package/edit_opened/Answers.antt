@@ -2,12 +2,12 @@ use Rattle.std.proofs.Common.{◌≡◌, ℕ, Bool, true, false, inl, inr, [], r
 use Rattle.std.proofs.lemmas.Bool.{false≢true}
 use Rattle.bz_folder.specs.declared.folder.Purpose.{Purpose}
 use Rattle.bz_folder.specs.declared.folder.Purpose.TheVariants.{Read, Replace}
-use Rattle.buildozer.specs.declared.edit_file.FileFault.{FileFault}
-use Rattle.buildozer.specs.Handled.{edited_account, kept_account}
-use Rattle.buildozer.specs.Texts.{lines_text, messages_text, fixed_told}
-use Rattle.buildozer.proofs.Edited.{left_alone, leaves_as, of_file, file_of, three_unkept, if_reads, put_as}
-use Rattle.buildozer.proofs.Shown.{shows_more}
-use Rattle.buildozer.proofs.package.edit_opened.Goals as goal
+use Rattle.bz_program.specs.declared.edit_file.FileFault.{FileFault}
+use Rattle.bz_program.specs.Handled.{edited_account, kept_account}
+use Rattle.bz_program.specs.Texts.{lines_text, messages_text, fixed_told}
+use Rattle.bz_program.proofs.Edited.{left_alone, leaves_as, of_file, file_of, three_unkept, if_reads, put_as}
+use Rattle.bz_program.proofs.Shown.{shows_more}
+use Rattle.bz_program.proofs.package.edit_opened.Goals as goal
 
 -- what is opened to be read is shown, and nothing else
 read_shown : (shown : Bool) (purpose : Purpose) → true ≡ denote.Enum.Bare.sameb Rattle.bz_folder.specs.contracts.folder.Purpose.the_type purpose Read → purpose ≡ if_reads Read Replace shown → shown ≡ true

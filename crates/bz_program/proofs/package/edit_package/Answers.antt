@@ -1,6 +1,6 @@
 use Rattle.std.proofs.Common.{◌≡◌, ◌⊎◌, ℕ, Bool, true, false, ◌||◌, if◌then◌else◌, inl, inr, refl, sym, ◌∙◌, ap}
-use Rattle.buildozer.proofs.Shown.{shows_all}
-use Rattle.buildozer.proofs.package.edit_package.Goals as goal
+use Rattle.bz_program.proofs.Shown.{shows_all}
+use Rattle.bz_program.proofs.package.edit_package.Goals as goal
 
 none_failed : (out err : Bool) (own : ℕ) → out ≡ false → err ≡ false → own ≡ (if out || err then 2 else own)
 none_failed out err own o e = sym (ap (λ b. if b || err then 2 else own) o ∙ ap (λ b. if b then 2 else own) e)

@@ -1,7 +1,7 @@
 use Rattle.std.proofs.Common.{[], inl, inr, refl}
-use Rattle.buildozer.specs.Handled.{streamed_account, cut_account}
-use Rattle.buildozer.proofs.Shown.{shows_told}
-use Rattle.buildozer.proofs.package.edit_shown.Goals as goal
+use Rattle.bz_program.specs.Handled.{streamed_account, cut_account}
+use Rattle.bz_program.proofs.Shown.{shows_told}
+use Rattle.bz_program.proofs.package.edit_shown.Goals as goal
 
 pub returns-in-Ok : goal.returns-in-Ok
 returns-in-Ok g c =

@@ -1,6 +1,6 @@
 use Rattle.std.proofs.Common.{codes, inl, inr, refl, sym, ◌∙◌, subst}
-use Rattle.buildozer.specs.Texts.{IsFaultText}
-use Rattle.buildozer.proofs.package.put_fault.Goals as goal
+use Rattle.bz_program.specs.Texts.{IsFaultText}
+use Rattle.bz_program.proofs.package.put_fault.Goals as goal
 
 pub returns-in-OutOfMemory-clause-told : goal.returns-in-OutOfMemory-clause-told
 returns-in-OutOfMemory-clause-told g c =

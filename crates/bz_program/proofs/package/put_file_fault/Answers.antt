@@ -1,6 +1,6 @@
 use Rattle.std.proofs.Common.{codes, refl, sym, subst}
-use Rattle.buildozer.specs.Texts.{IsFileFaultText}
-use Rattle.buildozer.proofs.package.put_file_fault.Goals as goal
+use Rattle.bz_program.specs.Texts.{IsFileFaultText}
+use Rattle.bz_program.proofs.package.put_file_fault.Goals as goal
 
 pub returns-in-Run-clause-told : goal.returns-in-Run-clause-told
 returns-in-Run-clause-told g c =

@@ -1,7 +1,7 @@
 use Rattle.std.proofs.Common.{[], codes}
-use Rattle.buildozer.specs.Texts.{message_of, hint_told}
-use Rattle.buildozer.proofs.Shown.{shows_told}
-use Rattle.buildozer.proofs.package.put_unopened.Goals as goal
+use Rattle.bz_program.specs.Texts.{message_of, hint_told}
+use Rattle.bz_program.proofs.Shown.{shows_told}
+use Rattle.bz_program.proofs.package.put_unopened.Goals as goal
 
 pub returns-clause-told : goal.returns-clause-told
 returns-clause-told g c =

@@ -1,7 +1,7 @@
 use Rattle.std.proofs.Common.{codes}
 use Rattle.bz_devices.specs.Buffer.{took_nothing_lem, took_more_lem}
-use Rattle.buildozer.specs.Texts.{line_of}
-use Rattle.buildozer.proofs.console.Console.put_fixed.Goals as goal
+use Rattle.bz_program.specs.Texts.{line_of}
+use Rattle.bz_program.proofs.console.Console.put_fixed.Goals as goal
 
 pub returns : goal.returns
 returns g c = record {

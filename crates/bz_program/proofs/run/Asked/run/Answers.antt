@@ -1,10 +1,10 @@
 use Rattle.std.proofs.Common.{ℕ, List, subst}
 use Rattle.std.specs.Prelude.{OnErr}
-use Rattle.buildozer.specs.Runs.{Asked, IsFront, Ran}
+use Rattle.bz_program.specs.Runs.{Asked, IsFront, Ran}
 use Rattle.bz_script.proofs.Loops.{if_ok}
-use Rattle.buildozer.proofs.Faults.{fault_over}
-use Rattle.buildozer.proofs.Fronts.{where_err}
-use Rattle.buildozer.proofs.run.Asked.run.Goals as goal
+use Rattle.bz_program.proofs.Faults.{fault_over}
+use Rattle.bz_program.proofs.Fronts.{where_err}
+use Rattle.bz_program.proofs.run.Asked.run.Goals as goal
 
 pub returns-clause-ran : goal.returns-clause-ran
 returns-clause-ran g c =

@@ -2,9 +2,9 @@
 
 ghost use Rattle.std.specs.Prelude.{◌≡◌, [], Ok, IfOk, OnErr, true};
 ghost use Rattle.bz_folder.specs.Sequence.{SafeRun};
-ghost use Rattle.buildozer.specs.Files.{MayHoldNothing};
-ghost use Rattle.buildozer.specs.Handled.{IsStatusOfAll};
-ghost use Rattle.buildozer.specs.Program as spec;
+ghost use Rattle.bz_program.specs.Files.{MayHoldNothing};
+ghost use Rattle.bz_program.specs.Handled.{IsStatusOfAll};
+ghost use Rattle.bz_program.specs.Program as spec;
 
 use crate::package::{Devices, FAILED, edit_package};
 use crate::run::Asked;
@@ -23,7 +23,7 @@ use std::alloc::Global;
 /// At each moment each file has the bytes that it had, or, where it is the BUILD file of a package of the script, the
 /// whole text of a run for that package, with all its passes, that is kept: of a run over what was read of that very
 /// file. An `Err` has touched no package.
-pub fn edit_all<D: Folder, S: Source, O: Sink, E: Sink>(
+pub fn edit_packages<D: Folder, S: Source, O: Sink, E: Sink>(
     alloc: Global,
     flags: &Flags,
     script: Script,

@@ -1,9 +1,9 @@
 use Rattle.std.proofs.Common.{◌≡◌, true, [], map}
 use Rattle.bz_folder.specs.Sequence.{SafeRun}
-use Rattle.buildozer.specs.Files.{MayHoldNothing}
-use Rattle.buildozer.specs.Program.{MayHold, are_shown}
-use Rattle.buildozer.proofs.Handling.{HandledTo}
-use Rattle.buildozer.proofs.edit_all.edit_all.Given as goal
+use Rattle.bz_program.specs.Files.{MayHoldNothing}
+use Rattle.bz_program.specs.Program.{MayHold, are_shown}
+use Rattle.bz_program.proofs.Handling.{HandledTo}
+use Rattle.bz_program.proofs.packages.edit_packages.Given as goal
 
 abbrev pub invariant-loop-home : goal.invariant-loop-home
 invariant-loop-home g l =

@@ -1,14 +1,14 @@
 use Rattle.std.proofs.Common.{◌≡◌, false, [], sym, ◌∙◌, ap, subst}
 use Rattle.bz_folder.specs.Sequence.{SafeRun}
 use Rattle.bz_folder.specs.SequenceLaws.{run_more}
-use Rattle.buildozer.specs.Files.{MayHoldNothing}
-use Rattle.buildozer.specs.Handled.{is_last, IsStatusOfAll}
-use Rattle.buildozer.specs.Program.{MayHold, is_shown}
-use Rattle.buildozer.proofs.Edited.{untouched, of_package}
-use Rattle.buildozer.proofs.Handling.{goes_on_after, handled_none, handled_more, handled_all, handled_last, three_both}
-use Rattle.buildozer.proofs.Turns.{turn, end, contains_next, test_next, ok_is, at_end}
-use Rattle.buildozer.proofs.edit_all.edit_all.Goals as goal
-use Rattle.buildozer.proofs.edit_all.edit_all.Goals.{in-None, else-status-eq-FAILED-via-then-status-eq-FAILED+else-not-flags, else-status-eq-FAILED-via-else-status-eq-FAILED, in-Some+then-status-eq-FAILED+then-not-flags}
+use Rattle.bz_program.specs.Files.{MayHoldNothing}
+use Rattle.bz_program.specs.Handled.{is_last, IsStatusOfAll}
+use Rattle.bz_program.specs.Program.{MayHold, is_shown}
+use Rattle.bz_program.proofs.Edited.{untouched, of_package}
+use Rattle.bz_program.proofs.Handling.{goes_on_after, handled_none, handled_more, handled_all, handled_last, three_both}
+use Rattle.bz_program.proofs.Turns.{turn, end, contains_next, test_next, ok_is, at_end}
+use Rattle.bz_program.proofs.packages.edit_packages.Goals as goal
+use Rattle.bz_program.proofs.packages.edit_packages.Goals.{in-None, else-status-eq-FAILED-via-then-status-eq-FAILED+else-not-flags, else-status-eq-FAILED-via-else-status-eq-FAILED, in-Some+then-status-eq-FAILED+then-not-flags}
 
 pub returns-in_err-packages-clause-safe : goal.returns-in_err-packages-clause-safe
 returns-in_err-packages-clause-safe g c = untouched g.D.Folder.did _ g.met.D.Folder.did_nothing c.args.devices.now.draft.folder
