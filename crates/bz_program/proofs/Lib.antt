@@ -1,3 +1,4 @@
+pub mod Disk
 pub mod Edited
 pub mod Fronts
 pub mod Handling
