@@ -1,26 +1,13 @@
 //! The command-line editor for BUILD files.
 #![tactic(auto)]
 
-mod console;
-mod edit_all;
-mod edit_file;
-mod edit_stream;
-mod file_run;
-mod laws;
-mod package;
-mod run;
-
-use bz_engine::{FromRead, ToWrite};
-use bz_folder::{Draft, OnDisk};
 use bz_memory::{NoMemory, WordsFault, push, words};
+use bz_program::{FromRead, ToWrite, edit_all};
 use bz_script::flags::Flags;
 use bz_script::group::Script;
 use bz_script::help;
 use bz_script::start::{Request, read_request};
 use bz_script::usage::{StartFault, UsageFault};
-use console::Console;
-use edit_all::edit_all;
-use package::Devices;
 use std::alloc::Global;
 use std::process::ExitCode;
 
@@ -43,14 +30,12 @@ fn start_fault(fault: WordsFault) -> StartFault {
     }
 }
 
-/// Edits what the script asks for, and gives the exit status.
+/// Edits what the script asks for, over the standard streams, and gives the exit status.
 fn edit(rt: &HostRuntime, alloc: Global, flags: &Flags, script: Script) -> Result<u8, NoMemory> {
-    let mut devices = Devices {
-        draft: Draft::new(alloc, OnDisk::new(alloc, rt))?,
-        input: FromRead::new(rt.stdin()),
-        console: Console::new(alloc, ToWrite::new(rt.stdout()), ToWrite::new(rt.stderr()))?,
-    };
-    edit_all(alloc, flags, script, &mut devices)
+    let input = FromRead::new(rt.stdin());
+    let out = ToWrite::new(rt.stdout());
+    let err = ToWrite::new(rt.stderr());
+    edit_all(rt, alloc, flags, script, input, out, err)
 }
 
 /// Tells why the words ask for nothing.
@@ -93,3 +78,6 @@ fn main(rt: HostRuntime) -> ExitCode {
         }
     }
 }
+
+#[cfg(test)]
+mod tests;

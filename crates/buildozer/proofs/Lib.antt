@@ -1,7 +1,0 @@
-pub mod Edited
-pub mod Fronts
-pub mod Handling
-pub mod Shown
-pub mod Turns
-pub mod Written
-mod Faults

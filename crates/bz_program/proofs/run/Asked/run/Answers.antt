@@ -1,0 +1,26 @@
+use Rattle.std.proofs.Common.{ℕ, List, subst}
+use Rattle.std.specs.Prelude.{OnErr}
+use Rattle.bz_program.specs.Runs.{Asked, IsFront, Ran}
+use Rattle.bz_script.proofs.Loops.{if_ok}
+use Rattle.bz_program.proofs.Faults.{fault_over}
+use Rattle.bz_program.proofs.Fronts.{where_err}
+use Rattle.bz_program.proofs.run.Asked.run.Goals as goal
+
+pub returns-clause-ran : goal.returns-clause-ran
+returns-clause-ran g c =
+    let ran : Asked → _ → _ = λ asked report. Ran g.S.Source.gave g.W.Sink.took asked c.args.source.now c.run.new.source c.args.sink.now c.run.new.sink report in
+    if_ok (λ report out. subst (λ asked. ran asked report) c.self.view_is (record { read = out.0; text = out.1; outcome = out.5; gave_is = out.2; took_is = out.3 }))
+    c.run.result c.run.ensures.outcome
+
+pub returns-clause-front : goal.returns-clause-front
+returns-clause-front g c =
+    let cut : Asked → Type 0 = λ asked. (read : List (List ℕ)) × (text : List ℕ)
+    × g.S.Source.gave c.args.source.now read c.run.new.source × g.W.Sink.took c.args.sink.now text c.run.new.sink × IsFront asked read text in
+    subst (λ asked. OnErr c.run.result (cut asked)) c.self.view_is
+    (where_err (λ out. (out.0, out.1, out.2, out.3, out.5)) c.run.result c.run.ensures.front)
+
+pub returns-clause-fault : goal.returns-clause-fault
+returns-clause-fault g c =
+    let e = c.run.ensures in
+    fault_over g.S.Source.gave g.S.Source.failures c.args.source.now c.run.new.source c.run.result e.read_failed
+    (λ told. let there = e.too_long told in (there.0, there.2, there.3, there.4.going)) e.statement_too_long e.going

@@ -1,0 +1,264 @@
+//! What is done for one package.
+
+ghost use Rattle.std.specs.Prelude.{◌≡◌, ◌⊎◌, ℕ, List, [], IfOk, IfErr, if◌then◌else◌, string_bytes};
+ghost use Rattle.bz_program.specs.Console.{Shows};
+ghost use Rattle.bz_program.specs.Handled as spec;
+ghost use Rattle.bz_program.specs.Program.{is_shown};
+ghost use Rattle.bz_program.specs.Texts.{message_of, fixed_told, hint_told, unopened_text, IsFaultText, IsFileFaultText};
+ghost use Rattle.bz_script.specs.Names.{in_folder};
+
+use crate::console::Console;
+use crate::edit_file::{FileFault, edit_file};
+use crate::edit_stream::edit_stream;
+use crate::run::Asked;
+use bz_engine::{RunFault, Sink, Source, is_query};
+use bz_folder::{CannotOpen, Draft, Folder, Opened, Purpose};
+use bz_script::flags::Flags;
+use bz_script::mistake::DASHED_PACKAGE;
+use bz_script::names::BuildFiles;
+use std::alloc::Global;
+
+/// The exit status of a package that failed (buildozer README, "Error codes").
+pub const FAILED: u8 = 2;
+
+/// Where the program reads and writes.
+#[derive(Drop)]
+pub struct Devices<D, S, O, E> {
+    /// The files of the packages, and the draft of the one that is edited.
+    pub draft: Draft<D>,
+    /// Standard input.
+    pub input: S,
+    pub console: Console<O, E>,
+}
+
+/// Edits a package, shows what that tells, and gives the exit status of the package.
+///
+/// A file that cannot be opened or written, a lack of memory, and a failed read or write are told after the name of the
+/// file and are status 2.
+pub fn edit_package<D: Folder, S: Source, O: Sink, E: Sink>(
+    alloc: Global,
+    flags: &Flags,
+    asked: Asked,
+    devices: &mut Devices<D, S, O, E>,
+) -> u8
+    ensures files { spec.LeavesFiles D.did D.leads D.File.gave flags.now.stdout asked
+        devices.old.draft.folder devices.new.draft.folder result }
+    ensures handled { (account : spec.Account) × spec.IsHandled D.did D.leads D.absent D.File.gave D.File.failures
+        S.gave S.failures O.took E.took flags.now asked devices.old devices.new account result }
+{
+    let status = edit_home(alloc, flags, asked, devices);
+    match devices.console.flush() {
+        Ok(()) => status,
+        Err(_) => FAILED,
+    }
+}
+
+/// Edits the file of a package, or standard input where that is the package.
+fn edit_home<D: Folder, S: Source, O: Sink, E: Sink>(
+    alloc: Global,
+    flags: &Flags,
+    asked: Asked,
+    devices: &mut Devices<D, S, O, E>,
+) -> u8
+    ensures files { spec.LeavesFiles D.did D.leads D.File.gave flags.now.stdout asked
+        devices.old.draft.folder devices.new.draft.folder result }
+    ensures account { spec.HasAccount D.did O.took E.took
+        (spec.IsAccountOf D.leads D.absent D.File.gave D.File.failures S.gave S.failures flags.now asked
+        devices.old.draft.folder devices.old.input devices.new.input)
+        devices.old.draft.folder devices.new.draft.folder devices.old.console devices.new.console result }
+{
+    match asked.home.path() {
+        None => edit_shown(alloc, asked, "-", &mut devices.input, &mut devices.console),
+        Some(folder) => match BuildFiles::of(alloc, folder) {
+            Ok(files) => edit_found(alloc, flags, asked, &files, devices),
+            Err(_) => {
+                devices.console.put_message(folder, "out of memory");
+                FAILED
+            }
+        },
+    }
+}
+
+/// Edits what a source gives, and writes the text to standard output.
+fn edit_shown<S: Source, O: Sink, E: Sink>(
+    alloc: Global,
+    asked: Asked,
+    name: &str,
+    source: &mut S,
+    console: &mut Console<O, E>,
+) -> u8
+    ensures { (account : spec.Account) × spec.IsShownAs S.gave S.failures asked name.now source.old source.new account
+        × Shows O.took E.took console.old account.shown account.told console.new
+        × (account.puts ≡ []) × (result ≡ account.status) }
+{
+    match edit_stream(asked, name, source, console) {
+        Ok(status) => status,
+        Err(fault) => put_fault(alloc, name, fault, console),
+    }
+}
+
+/// Edits the first of the files that is there.
+fn edit_found<D: Folder, S, O: Sink, E: Sink>(
+    alloc: Global,
+    flags: &Flags,
+    asked: Asked,
+    files: &BuildFiles,
+    devices: &mut Devices<D, S, O, E>,
+) -> u8
+    requires { spec.AreFilesOf asked.home (string_bytes files.now.first) (string_bytes files.now.second) }
+    ensures files { spec.LeavesFiles D.did D.leads D.File.gave flags.now.stdout asked
+        devices.old.draft.folder devices.new.draft.folder result }
+    ensures input { devices.new.input ≡ devices.old.input }
+    ensures account { spec.HasAccount D.did O.took E.took
+        (spec.IsFileAs D.leads D.absent D.File.gave D.File.failures flags.now asked devices.old.draft.folder)
+        devices.old.draft.folder devices.new.draft.folder devices.old.console devices.new.console result }
+{
+    match open_first(devices.draft.folder(), files, purpose_of(flags, &asked)) {
+        Ok((opened, name)) => edit_opened(alloc, flags, asked, name, opened, devices),
+        Err(name) => put_unopened(name, &mut devices.console),
+    }
+}
+
+/// What the package's file is opened for: it stays where the flags say so or the script only asks.
+fn purpose_of(flags: &Flags, asked: &Asked) -> Purpose
+    ensures { result ≡ (if is_shown flags.now.stdout asked.now.passes then Purpose.Read else Purpose.Replace) }
+{
+    if flags.stdout || is_query(asked.passes.as_slice()) {
+        Purpose::Read
+    } else {
+        Purpose::Replace
+    }
+}
+
+/// Tells that a file cannot be opened. A flag that stands after the commands is read as a package.
+fn put_unopened<O: Sink, E: Sink>(name: &str, console: &mut Console<O, E>) -> u8
+    ensures status { result ≡ 2 }
+    ensures told { Shows O.took E.took console.old [] (unopened_text name.now) console.new }
+{
+    console.put_message(name, "cannot open");
+    put_hint(name, console);
+    FAILED
+}
+
+/// Tells where flags stand, if the path of a file begins as one.
+fn put_hint<O: Sink, E: Sink>(name: &str, console: &mut Console<O, E>)
+    ensures { Shows O.took E.took console.old [] (hint_told name.now) console.new }
+{
+    if name.starts_with("-") {
+        console.put_message(name, DASHED_PACKAGE);
+    }
+}
+
+/// Opens the first of the files that is there, and gives its name. An `Err` names the one that was tried last.
+fn open_first<'a, D: Folder>(
+    folder: &D,
+    files: &'a BuildFiles,
+    purpose: Purpose,
+) -> Result<(Opened<D::File>, &'a str), &'a str>
+    ensures opened { IfOk result (λ found.
+        spec.IsFirst D.absent folder.now (string_bytes files.now.first) (string_bytes files.now.second) found.1.now
+        × D.leads found.1.now (string_bytes found.0.path) found.0.source) }
+    ensures unopened { IfErr result (λ name.
+        spec.IsFirst D.absent folder.now (string_bytes files.now.first) (string_bytes files.now.second) name.now) }
+{
+    match folder.open(&files.first, purpose) {
+        Ok(opened) => Ok((opened, files.first.as_str())),
+        Err(CannotOpen::Failed) => Err(files.first.as_str()),
+        Err(CannotOpen::Absent) => match folder.open(&files.second, purpose) {
+            Ok(opened) => Ok((opened, files.second.as_str())),
+            Err(_) => Err(files.second.as_str()),
+        },
+    }
+}
+
+/// Edits a file that is open: in place, or to standard output where the flags say so or the script only asks.
+fn edit_opened<D: Folder, S, O: Sink, E: Sink>(
+    alloc: Global,
+    flags: &Flags,
+    asked: Asked,
+    name: &str,
+    opened: Opened<D::File>,
+    devices: &mut Devices<D, S, O, E>,
+) -> u8
+    requires { spec.IsOpened D.leads D.absent devices.old.draft.folder asked.home name.now opened }
+    ensures files { spec.LeavesFiles D.did D.leads D.File.gave flags.now.stdout asked
+        devices.old.draft.folder devices.new.draft.folder result }
+    ensures input { devices.new.input ≡ devices.old.input }
+    ensures account { spec.HasAccount D.did O.took E.took
+        (spec.IsOpenedAs D.File.gave D.File.failures flags.now asked name.now opened)
+        devices.old.draft.folder devices.new.draft.folder devices.old.console devices.new.console result }
+{
+    if purpose_of(flags, &asked) == Purpose::Read {
+        let mut source = opened.source;
+        return edit_shown(alloc, asked, name, &mut source, &mut devices.console);
+    }
+    match edit_file(asked, opened, &mut devices.draft) {
+        Ok((report, replaced)) => {
+            put_replaced(flags, name, replaced, &mut devices.console);
+            devices.console.put_report(name, &report);
+            report.status()
+        }
+        Err(fault) => put_file_fault(alloc, name, fault, &mut devices.console),
+    }
+}
+
+/// Tells that a file was replaced, unless the flags say not to.
+fn put_replaced<O: Sink, E: Sink>(
+    flags: &Flags,
+    name: &str,
+    replaced: bool,
+    console: &mut Console<O, E>,
+)
+    ensures { Shows O.took E.took console.old [] (fixed_told flags.now.quiet replaced name.now) console.new }
+{
+    if replaced && !flags.quiet {
+        console.put_fixed(name);
+    }
+}
+
+/// Tells why a file was not edited.
+fn put_file_fault<O: Sink, E: Sink>(
+    alloc: Global,
+    name: &str,
+    fault: FileFault,
+    console: &mut Console<O, E>,
+) -> u8
+    ensures status { result ≡ 2 }
+    ensures told { (text : List ℕ) × IsFileFaultText fault text
+        × Shows O.took E.took console.old [] (message_of name.now text) console.new }
+{
+    match fault {
+        FileFault::Run(fault) => put_fault(alloc, name, fault, console),
+        FileFault::CannotWrite => {
+            console.put_message(name, "cannot write");
+            FAILED
+        }
+    }
+}
+
+/// Tells why a run ended before its report.
+fn put_fault<O: Sink, E: Sink>(
+    alloc: Global,
+    name: &str,
+    fault: RunFault,
+    console: &mut Console<O, E>,
+) -> u8
+    ensures status { result ≡ 2 }
+    ensures told { (text : List ℕ) × IsFaultText fault text
+        × Shows O.took E.took console.old [] (message_of name.now text) console.new }
+{
+    match fault {
+        RunFault::OutOfMemory(_) => console.put_message(name, "out of memory"),
+        RunFault::ReadFailed => console.put_message(name, "read failed"),
+        RunFault::WriteFailed => console.put_message(name, "write failed"),
+        RunFault::InputTooLong => console.put_message(name, "input too long"),
+        RunFault::StatementTooLong { line } => match format!(in alloc;
+            "{line}: statement too long"
+        ) {
+            Ok(text) => console.put_message(name, &text),
+            Err(_) => console.put_message(name, "statement too long"),
+        },
+        RunFault::Stopped => console.put_message(name, "stopped"),
+    }
+    FAILED
+}
