@@ -3,7 +3,8 @@
 
    A refused call does nothing, and answers as the system would: no memory, a full disk, a fault of the device. A write to a
    file that is lost tells no fault, nor does an unlink that keeps the file, as where another program puts it there again. A
-   read or write of one byte where more were wanted is no fault. No file is to be renamed or removed before it is closed: a
+   read or write of one byte where more were wanted is no fault. Nor is a look at a file that tells another device than the
+   file's own, as where another file system was mounted meanwhile. No file is to be renamed or removed before it is closed: a
    system may refuse the one, and keeps the blocks of the other. Before a call of fchmod that stops the process stops itself,
    until it is told to go on.  */
 #define _GNU_SOURCE
@@ -87,7 +88,10 @@ int open(const char *path, int flags, ...) {
 }
 
 int statx(int folder, const char *restrict path, int flags, unsigned mask, struct statx *restrict answer) {
-    return is_refused("statx", EIO) ? -1 : NEXT(statx)(folder, path, flags, mask, answer);
+    if (is_refused("statx", EIO)) return -1;
+    int told = NEXT(statx)(folder, path, flags, mask, answer);
+    if (told == 0 && is_refused("other device", 0)) answer->stx_dev_minor ^= 1;
+    return told;
 }
 
 char *realpath(const char *restrict path, char *restrict answer) {
