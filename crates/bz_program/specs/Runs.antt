@@ -3,7 +3,10 @@ use Rattle.std.specs.Prelude.{◌≡◌, ℕ, Bool, true, false, ◌&&◌, ◌||
 use Rattle.bz_devices.specs.Ahead.{HasTooLong}
 use Rattle.bz_devices.specs.Device.{ends, NoneEnds, Rises}
 use Rattle.bz_engine.specs.EveryFile.{ForEveryFile}
+use Rattle.bz_engine.specs.NeededReads.{AreReads}
 use Rattle.bz_engine.specs.Outcome.{Script, Run, Told, IsOutcome, IsFrontOf, told_by}
+use Rattle.bz_engine.specs.Stops.{HasEndedAt}
+use Rattle.bz_engine.specs.declared.options.Options.{Options}
 use Rattle.bz_engine.specs.declared.report.Report.{Report}
 use Rattle.bz_engine.specs.declared.report.End.{End}
 use Rattle.bz_engine.specs.declared.report.End.TheVariants.{Whole, Syntax, FirstFailure}
@@ -32,10 +35,15 @@ pub record Asked : Type 0 where
 abbrev pub run_of : Asked → Run
 run_of asked = record { home = asked.home; passes = asked.passes; keep_going = asked.keep_going; max_depth = max_depth }
 
+abbrev pub options_of : Asked → Options
+options_of asked = record { keep_going = asked.keep_going; max_statement = max_statement; max_depth = max_depth; max_reads = max_reads }
+
 -- For every file that begins with these reads (where their end was met, for that file), this text and this report are the outcome
--- of the passes over its statements.
-abbrev pub IsRun : Asked → List (List ℕ) → List ℕ → Report → Type 0
-IsRun asked read text report = ForEveryFile read (λ file. IsOutcome (run_of asked) file text (told_by report))
+-- of the passes over its statements. Each read was needed and keeps to the limits, and no statement is longer than it may be.
+pub record IsRun (asked : Asked) (read : List (List ℕ)) (text : List ℕ) (report : Report) : Type 0 where
+  pub reads : AreReads asked.home asked.passes (options_of asked) read
+  pub outcome : ForEveryFile read (λ file. IsOutcome (run_of asked) file text (told_by report))
+  pub ended : HasEndedAt (run_of asked) max_statement read report.end
 
 -- these reads gave a front of this file, or, where their end was met, all of it
 pub record IsReadOf (file : List ℕ) (read : List (List ℕ)) : Type 0 where
@@ -43,9 +51,10 @@ pub record IsReadOf (file : List ℕ) (read : List (List ℕ)) : Type 0 where
   pub over : IsTrue (ends read) → rest ≡ []
   pub file_is : file ≡ concat read ++ rest
 
--- For every such file this text is a front of the text of each outcome.
-abbrev pub IsFront : Asked → List (List ℕ) → List ℕ → Type 0
-IsFront asked read text = ForEveryFile read (λ file. (whole : List ℕ) (told : Told) → IsOutcome (run_of asked) file whole told → IsFrontOf text whole)
+-- For every such file this text is a front of the text of each outcome; the reads as above.
+pub record IsFront (asked : Asked) (read : List (List ℕ)) (text : List ℕ) : Type 0 where
+  pub reads : AreReads asked.home asked.passes (options_of asked) read
+  pub begins : ForEveryFile read (λ file. (whole : List ℕ) (told : Told) → IsOutcome (run_of asked) file whole told → IsFrontOf text whole)
 
 -- a run read from a source and wrote to a sink, and ended with a report
 pub record Ran {S W : Type 0} (gave : S → List (List ℕ) → S → Type 0) (took : W → List ℕ → W → Type 0)

@@ -7,7 +7,7 @@ use Rattle.bz_program.proofs.laws.the_preview_is_the_edit.Goals as goal
 
 outcome_of : (asked : Asked) (file : List ℕ) (read : List (List ℕ)) (text : List ℕ) (report : Report) → IsReadOf file read → IsRun asked read text report
     → IsOutcome (run_of asked) file text (told_by report)
-outcome_of asked file read text report of ran = subst (λ bytes. IsOutcome (run_of asked) bytes text (told_by report)) (sym of.file_is) (ran.each of.rest of.over)
+outcome_of asked file read text report of ran = subst (λ bytes. IsOutcome (run_of asked) bytes text (told_by report)) (sym of.file_is) (ran.outcome.each of.rest of.over)
 
 pub returns : goal.returns
 returns c asked file read other_read text other_text report other_report of other_of ran other_ran =

@@ -9,7 +9,7 @@ use Rattle.bz_program.proofs.run.Asked.run.Goals as goal
 pub returns-clause-ran : goal.returns-clause-ran
 returns-clause-ran g c =
     let ran : Asked → _ → _ = λ asked report. Ran g.S.Source.gave g.W.Sink.took asked c.args.source.now c.run.new.source c.args.sink.now c.run.new.sink report in
-    if_ok (λ report out. subst (λ asked. ran asked report) c.self.view_is (record { read = out.0; text = out.1; outcome = out.5; gave_is = out.2; took_is = out.3 }))
+    if_ok (λ report out. subst (λ asked. ran asked report) c.self.view_is (record { read = out.0; text = out.1; outcome = record { reads = out.4; outcome = out.5; ended = out.6 }; gave_is = out.2; took_is = out.3 }))
     c.run.result c.run.ensures.outcome
 
 pub returns-clause-front : goal.returns-clause-front
@@ -17,7 +17,7 @@ returns-clause-front g c =
     let cut : Asked → Type 0 = λ asked. (read : List (List ℕ)) × (text : List ℕ)
     × g.S.Source.gave c.args.source.now read c.run.new.source × g.W.Sink.took c.args.sink.now text c.run.new.sink × IsFront asked read text in
     subst (λ asked. OnErr c.run.result (cut asked)) c.self.view_is
-    (where_err (λ out. (out.0, out.1, out.2, out.3, out.5)) c.run.result c.run.ensures.front)
+    (where_err (λ fault out. (out.0, out.1, out.2, out.3, record { reads = out.4; begins = out.5 })) c.run.result c.run.ensures.stopped)
 
 pub returns-clause-fault : goal.returns-clause-fault
 returns-clause-fault g c =
