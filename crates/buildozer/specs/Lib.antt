@@ -2,6 +2,7 @@ pub mod Console
 pub mod FileRuns
 pub mod Files
 pub mod Handled
+pub mod Hints
 pub mod Program
 pub mod Runs
 pub mod Streams

@@ -6,6 +6,7 @@ mod edit_all;
 mod edit_file;
 mod edit_stream;
 mod file_run;
+mod hints;
 mod laws;
 mod package;
 mod run;
