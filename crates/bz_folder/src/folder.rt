@@ -10,8 +10,27 @@ use bz_devices::device::{Failed, Source};
 pub enum CannotOpen {
     /// There is no such file.
     Absent,
+    /// It may be there, and there is no right to open it.
+    NoRight,
+    /// A pipe, a device or a socket is there.
+    NotRegular,
     /// It may be there and cannot be opened.
     Failed,
+}
+
+/// Why a call that changes files failed. It helps a user, and nothing depends on it.
+#[derive(Clone, Copy)]
+pub enum Refusal {
+    /// There is no right to make the change.
+    NoRight,
+    /// There is no space for it.
+    NoSpace,
+    /// A folder is where a file was to be.
+    Folder,
+    /// Another program changed the file meanwhile, or put another in its place.
+    Changed,
+    /// No more is known.
+    Unknown,
 }
 
 /// What a file is opened for.
@@ -78,6 +97,9 @@ pub trait Folder {
     /// Removes what is at the path. At `Ok` nothing is there, as also where nothing was.
     fn remove(&mut self, path: &str) -> Result<(), Failed>
         ensures { did self.old ((Remove path.now, is_ok result) ∷ []) self.new };
+
+    /// Why the call that failed last did.
+    fn refusal(&self) -> Refusal;
 
     ghost did_nothing: { (s : Self) → did s [] s };
 

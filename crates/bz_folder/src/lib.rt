@@ -18,7 +18,7 @@ mod waiting;
 
 pub use author::Author;
 pub use draft::Draft;
-pub use folder::{CannotOpen, Folder, Opened, Purpose};
+pub use folder::{CannotOpen, Folder, Opened, Purpose, Refusal};
 pub use on_disk::OnDisk;
 pub use replace::replace_file;
 pub use tally::Tally;

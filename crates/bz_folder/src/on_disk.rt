@@ -4,11 +4,11 @@
 ghost use Rattle.std.specs.Prelude.{◌≡◌, ⊤};
 ghost use Rattle.bz_folder.specs.Tally.{no_calls, Tallies, tallies_nothing, tallies_more};
 
-use crate::folder::{CannotOpen, Folder, Opened, Purpose};
+use crate::folder::{CannotOpen, Folder, Opened, Purpose, Refusal};
 use crate::tally::Tally;
 use bz_devices::device::Failed;
 use bz_devices::std_device::FromRead;
-use bz_memory::from_str;
+use bz_memory::{NoMemory, from_str};
 use std::alloc::Global;
 use std::cell::Cell;
 use std::fs::{File, Files, Metadata, OpenOptions, Permissions};
@@ -36,10 +36,20 @@ struct Made {
 }
 
 impl Made {
-    /// Writes all of the bytes at the end, and says whether that succeeded.
-    fn write_all(&mut self, bytes: &[u8]) -> bool {
+    /// Writes all of the bytes at the end.
+    fn write_all(&mut self, bytes: &[u8]) -> Result<(), Refusal> {
         self.size = self.size.saturating_add(bytes.len() as u64);
-        self.file.write_all(bytes).is_ok()
+        match self.file.write_all(bytes) {
+            Ok(()) => Ok(()),
+            Err(error) => Err(refusal_of(&error)),
+        }
+    }
+
+    fn set_mode(&self, mode: u32) -> Result<(), Refusal> {
+        match self.file.set_permissions(Permissions::from_mode(mode)) {
+            Ok(()) => Ok(()),
+            Err(error) => Err(refusal_of(&error)),
+        }
     }
 }
 
@@ -53,6 +63,8 @@ pub struct OnDisk<R: Files<File = File>> {
     made: Option<Made>,
     /// The file that may be replaced, as it was before it was read.
     seen: Cell<Option<Metadata>>,
+    /// Why the call that failed last did.
+    refusal: Refusal,
     tally: Tally,
 }
 
@@ -74,6 +86,7 @@ impl<R: Files<File = File> + Drop> OnDisk<R> {
             files,
             made: None,
             seen: Cell::new(None),
+            refusal: Refusal::Unknown,
             tally: Tally {
                 makes: 0,
                 writes: 0,
@@ -89,11 +102,37 @@ impl<R: Files<File = File> + Drop> OnDisk<R> {
 
 /// A pipe would be waited for, and a device is not to be replaced. A folder can be opened, and is
 /// never replaced, since no read of it succeeds.
-fn require_file_or_folder(there: &Metadata) -> io::Result<()> {
+fn require_file_or_folder(there: &Metadata) -> Result<(), CannotOpen> {
     if there.is_file() || there.is_dir() {
         return Ok(());
     }
-    Err(io::Error::from(ErrorKind::InvalidInput))
+    Err(CannotOpen::NotRegular)
+}
+
+impl From<io::Error> for CannotOpen {
+    fn from(error: io::Error) -> CannotOpen {
+        match error.kind() {
+            ErrorKind::NotFound | ErrorKind::NotADirectory => CannotOpen::Absent,
+            ErrorKind::PermissionDenied => CannotOpen::NoRight,
+            _ => CannotOpen::Failed,
+        }
+    }
+}
+
+impl From<NoMemory> for CannotOpen {
+    fn from(_: NoMemory) -> CannotOpen {
+        CannotOpen::Failed
+    }
+}
+
+/// Why a call failed that the system answered so.
+fn refusal_of(error: &io::Error) -> Refusal {
+    match error.kind() {
+        ErrorKind::PermissionDenied | ErrorKind::ReadOnlyFilesystem => Refusal::NoRight,
+        ErrorKind::StorageFull | ErrorKind::QuotaExceeded => Refusal::NoSpace,
+        ErrorKind::IsADirectory => Refusal::Folder,
+        _ => Refusal::Unknown,
+    }
 }
 
 /// Whether two looks were at one file.
@@ -112,7 +151,7 @@ fn is_unchanged(before: &Metadata, now: &Metadata) -> bool {
 
 impl<R: Files<File = File>> OnDisk<R> {
     /// Opens a file that stays.
-    fn open_to_read(&self, path: &str) -> io::Result<Opened<FromRead<File>>> {
+    fn open_to_read(&self, path: &str) -> Result<Opened<FromRead<File>>, CannotOpen> {
         let there = fs::metadata(&self.files, path)?;
         require_file_or_folder(&there)?;
         Ok(Opened {
@@ -123,7 +162,7 @@ impl<R: Files<File = File>> OnDisk<R> {
     }
 
     /// Opens a file that may be replaced, when no other run holds it.
-    fn open_to_replace(&self, path: &str) -> io::Result<Opened<FromRead<File>>> {
+    fn open_to_replace(&self, path: &str) -> Result<Opened<FromRead<File>>, CannotOpen> {
         for _ in 0..MOST_TRIES {
             let path = self.resolve(path)?;
             let file = self.open_locked(&path)?;
@@ -140,11 +179,11 @@ impl<R: Files<File = File>> OnDisk<R> {
                 });
             }
         }
-        Err(io::Error::from(ErrorKind::InvalidInput))
+        Err(CannotOpen::Failed)
     }
 
     /// The path of the file or folder itself, where a link stands at the end of the path.
-    fn resolve(&self, path: &str) -> io::Result<String> {
+    fn resolve(&self, path: &str) -> Result<String, CannotOpen> {
         let there = fs::symlink_metadata(&self.files, path)?;
         if there.is_symlink() {
             let file = self.files.canonicalize(self.alloc, path)?.into_string();
@@ -198,6 +237,24 @@ impl<R: Files<File = File>> OnDisk<R> {
             _ => false,
         }
     }
+
+    /// Puts the file that was made last in the place of the one that was read, unless one of them is otherwise than it
+    /// was left.
+    fn rename_draft(&mut self, from: &str, to: &str) -> Result<(), Refusal>
+        ensures { self.new ≡ self.old }
+    {
+        let made = self.made.take();
+        if !self.is_whole_at(made, from) {
+            return Err(Refusal::Unknown);
+        }
+        if !self.is_as_seen(to) {
+            return Err(Refusal::Changed);
+        }
+        match fs::rename(&self.files, from, to) {
+            Ok(()) => Ok(()),
+            Err(error) => Err(refusal_of(&error)),
+        }
+    }
 }
 
 impl<R: Files<File = File>> Folder for OnDisk<R> {
@@ -215,16 +272,9 @@ impl<R: Files<File = File>> Folder for OnDisk<R> {
     ghost did_more = { λ a b c es fs p q. tallies_more a b c es fs p q };
 
     fn open(&self, path: &str, purpose: Purpose) -> Result<Opened<FromRead<File>>, CannotOpen> {
-        let opened = match purpose {
+        match purpose {
             Purpose::Read => self.open_to_read(path),
             Purpose::Replace => self.open_to_replace(path),
-        };
-        match opened {
-            Ok(opened) => Ok(opened),
-            Err(error) => match error.kind() {
-                ErrorKind::NotFound | ErrorKind::NotADirectory => Err(CannotOpen::Absent),
-                _ => Err(CannotOpen::Failed),
-            },
         }
     }
 
@@ -240,7 +290,8 @@ impl<R: Files<File = File>> Folder for OnDisk<R> {
                 self.tally.makes = self.tally.makes.saturating_add(1);
                 Ok(())
             }
-            Err(_) => {
+            Err(error) => {
+                self.refusal = refusal_of(&error);
                 self.tally.failures = self.tally.failures.saturating_add(1);
                 Err(Failed)
             }
@@ -250,9 +301,10 @@ impl<R: Files<File = File>> Folder for OnDisk<R> {
     fn write(&mut self, _path: &str, bytes: &[u8]) -> Result<(), Failed> {
         let written = match &mut self.made {
             Some(made) => made.write_all(bytes),
-            None => false,
+            None => Err(Refusal::Unknown),
         };
-        if !written {
+        if let Err(why) = written {
+            self.refusal = why;
             self.tally.failures = self.tally.failures.saturating_add(1);
             return Err(Failed);
         }
@@ -263,13 +315,11 @@ impl<R: Files<File = File>> Folder for OnDisk<R> {
 
     fn set_mode(&mut self, _path: &str, mode: u32) -> Result<(), Failed> {
         let set = match &self.made {
-            Some(made) => made
-                .file
-                .set_permissions(Permissions::from_mode(mode))
-                .is_ok(),
-            None => false,
+            Some(made) => made.set_mode(mode),
+            None => Err(Refusal::Unknown),
         };
-        if !set {
+        if let Err(why) = set {
+            self.refusal = why;
             self.tally.failures = self.tally.failures.saturating_add(1);
             return Err(Failed);
         }
@@ -278,9 +328,8 @@ impl<R: Files<File = File>> Folder for OnDisk<R> {
     }
 
     fn rename(&mut self, from: &str, to: &str) -> Result<(), Failed> {
-        let made = self.made.take();
-        let may_rename = self.is_whole_at(made, from) && self.is_as_seen(to);
-        if !may_rename || fs::rename(&self.files, from, to).is_err() {
+        if let Err(why) = self.rename_draft(from, to) {
+            self.refusal = why;
             self.tally.failures = self.tally.failures.saturating_add(1);
             return Err(Failed);
         }
@@ -292,11 +341,16 @@ impl<R: Files<File = File>> Folder for OnDisk<R> {
         self.made = None;
         if let Err(error) = fs::remove_file(&self.files, path) {
             if error.kind() != ErrorKind::NotFound {
+                self.refusal = refusal_of(&error);
                 self.tally.failures = self.tally.failures.saturating_add(1);
                 return Err(Failed);
             }
         }
         self.tally.removes = self.tally.removes.saturating_add(1);
         Ok(())
+    }
+
+    fn refusal(&self) -> Refusal {
+        self.refusal
     }
 }

@@ -2,7 +2,7 @@
 
 use crate::author::Author;
 use crate::draft::Draft;
-use crate::folder::{CannotOpen, Folder, Opened, Purpose};
+use crate::folder::{CannotOpen, Folder, Opened, Purpose, Refusal};
 use crate::replace::replace_file;
 use crate::trouble::Trouble;
 use bz_devices::device::{Failed, Sink};
@@ -82,6 +82,10 @@ impl Folder for Notes {
 
     fn remove(&mut self, _path: &str) -> Result<(), Failed> {
         self.call(b'r')
+    }
+
+    fn refusal(&self) -> Refusal {
+        Refusal::Unknown
     }
 }
 

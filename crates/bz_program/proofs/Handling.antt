@@ -181,7 +181,7 @@ module _ {D F S O E : Type 0} (did : D → List Event → D → Type 0) (leads :
       → IsAccountAt leads absent gave failures input_gave input_failures flags home asked folder input input_after account → IsOwn account.status
   own_at None asked folder input input_after account is = own_shown input_gave input_failures asked _ input input_after account is
   own_at (Some home) asked folder input input_after account (same, inl none) = inl (ap (λ (a : Account). a.status) none)
-  own_at (Some home) asked folder input input_after account (same, inr (path, inl unopened)) = inl (ap (λ (a : Account). a.status) unopened.1)
+  own_at (Some home) asked folder input input_after account (same, inr (path, inl unopened)) = inl (ap (λ (a : Account). a.status) unopened.account_is)
   own_at (Some home) asked folder input input_after account (same, inr (path, inr (opened, is, inl shown))) = own_shown gave failures asked path opened.source shown.1 account shown.2
   own_at (Some home) asked folder input input_after account (same, inr (path, inr (opened, is, inr (placed, inl edited)))) = inr (edited.report, ap (λ (a : Account). a.status) edited.account_is)
   own_at (Some home) asked folder input input_after account (same, inr (path, inr (opened, is, inr (placed, inr kept)))) = inl (ap (λ (a : Account). a.status) kept.account_is)

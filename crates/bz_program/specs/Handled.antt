@@ -4,6 +4,8 @@ use Rattle.std.specs.Prelude.{◌≡◌, ◌⊎◌, ℕ, ◌==◌, Bool, true, f
 use Rattle.std.specs.List.{flat_map}
 use Rattle.bz_folder.specs.Files.{Event}
 use Rattle.bz_folder.specs.Sequence.{SafeRun, Wanted}
+use Rattle.bz_folder.specs.declared.folder.CannotOpen.{CannotOpen}
+use Rattle.bz_folder.specs.declared.folder.CannotOpen.TheVariants.{Absent}
 use Rattle.bz_folder.specs.declared.folder.Opened.{Opened}
 use Rattle.bz_engine.specs.Outcome.{status_of}
 use Rattle.bz_engine.specs.declared.report.Report.{Report}
@@ -18,7 +20,7 @@ use Rattle.bz_program.specs.Console.{Shows, has_failed}
 use Rattle.bz_program.specs.Files.{Leaves, MayHold, MayHoldNothing, IsEdited, IsFileFault}
 use Rattle.bz_program.specs.Program.{Task, asked_for, is_shown}
 use Rattle.bz_program.specs.Runs.{Asked, IsRun, IsFront, IsFaultOver}
-use Rattle.bz_program.specs.Texts.{lines_text, message_of, messages_text, fixed_told, unopened_text, IsFaultText, IsFileFaultText}
+use Rattle.bz_program.specs.Texts.{lines_text, message_of, messages_text, fixed_told, unopened_text, IsFaultText, IsFileFaultTold}
 use Rattle.bz_program.specs.declared.console.Console.{Console}
 use Rattle.bz_program.specs.declared.edit_file.FileFault.{FileFault}
 use Rattle.bz_program.specs.declared.package.Devices.{Devices}
@@ -52,9 +54,9 @@ edited_account quiet name opened text report replaced = record {
   status = status_of report;
 }
 
--- of one for which that failed: the reason alone
-abbrev pub kept_account : {F : Type 0} → List ℕ → Opened F → List ℕ → Account
-kept_account name opened why = record { shown = []; told = message_of name why; puts = (string_bytes opened.path, None) ∷ []; status = 2 }
+-- of one for which that failed: what is told of it alone
+abbrev pub kept_account : {F : Type 0} → Opened F → List ℕ → Account
+kept_account opened told = record { shown = []; told = told; puts = (string_bytes opened.path, None) ∷ []; status = 2 }
 
 -- the account of a run over this source whose text goes to standard output, and what is told after this name
 pub record IsStreamedAs {S : Type 0} (gave : S → List (List ℕ) → S → Type 0) (asked : Asked) (name : List ℕ) (source source_after : S) (account : Account) : Type 0 where
@@ -93,9 +95,9 @@ pub record IsEditedAs {F : Type 0} (gave : F → List (List ℕ) → F → Type 
 pub record IsKeptAs {F : Type 0} (gave : F → List (List ℕ) → F → Type 0) (failures : F → ℕ) (name : List ℕ) (opened : Opened F) (account : Account) : Type 0 where
   pub fault : FileFault
   pub cause : IsFileFault gave failures opened.source fault
-  pub why : List ℕ
-  pub why_is : IsFileFaultText fault why
-  pub account_is : account ≡ kept_account name opened why
+  pub told : List ℕ
+  pub told_is : IsFileFaultTold name fault told
+  pub account_is : account ≡ kept_account opened told
 
 -- The account of a file that was opened: it is shown where the flags say so or all commands print, and else edited in its place.
 abbrev pub IsOpenedAs : {F : Type 0} → (F → List (List ℕ) → F → Type 0) → (F → ℕ) → Flags → Asked → List ℕ → Opened F → Account → Type 0
@@ -126,11 +128,23 @@ pub record IsOpened {D F : Type 0} (leads : List ℕ → List ℕ → F → Type
   pub tried : IsTried absent folder home path
   pub leads_to : leads path (string_bytes opened.path) opened.source
 
+-- the path of a package's folder, where it has one
+abbrev pub folder_of : Package → List ℕ
+folder_of None = []
+folder_of (Some home) = home
+
+-- the account of a file that cannot be opened at that path; of one that is told to be absent, the folder said so
+pub record IsUnopenedAs {D : Type 0} (absent : D → List ℕ → Type 0) (folder : D) (home : Package) (path : List ℕ) (account : Account) : Type 0 where
+  pub tried : IsTried absent folder home path
+  pub why : CannotOpen
+  pub is_absent : why ≡ Absent → absent folder path
+  pub account_is : account ≡ failed_account (unopened_text (folder_of home) path why)
+
 -- the account of the file at that path
 abbrev pub IsFileAs : {D F : Type 0} → (List ℕ → List ℕ → F → Type 0) → (D → List ℕ → Type 0) → (F → List (List ℕ) → F → Type 0) → (F → ℕ) → Flags → Asked → D → Account → Type 0
 IsFileAs {D} {F} leads absent gave failures flags asked folder account =
     (path : List ℕ)
-    × ((IsTried absent folder asked.home path × (account ≡ failed_account (unopened_text path)))
+    × (IsUnopenedAs absent folder asked.home path account
     ⊎ ((opened : Opened F) × IsOpened leads absent folder asked.home path opened × IsOpenedAs gave failures flags asked path opened account))
 
 -- This is what was done for a package: both outputs were handed it, the folder was left so, and the status is the package's own.

@@ -3,6 +3,7 @@ pub mod Disk
 pub mod FileRuns
 pub mod Files
 pub mod Handled
+pub mod Hints
 pub mod Program
 pub mod Runs
 pub mod Streams

@@ -1,14 +1,14 @@
 -- What a run tells (this project's own rule): printed lines, and messages with the file that they are of.
-use Rattle.std.specs.Prelude.{◌≡◌, ◌⊎◌, ℕ, Bool, ◌&&◌, not, if◌then◌else◌, List, [], ◌++◌, codes, nat_eq}
+use Rattle.std.specs.Prelude.{◌≡◌, ◌⊎◌, ℕ, Bool, ◌&&◌, not, if◌then◌else◌, List, [], ◌++◌, Option, Some, None, codes}
 use Rattle.std.specs.Fmt.{decimal}
-use Rattle.std.specs.List.{flat_map, starts_with}
+use Rattle.std.specs.List.{flat_map}
 use Rattle.bz_engine.specs.declared.run_fault.RunFault.{RunFault}
 use Rattle.bz_engine.specs.declared.run_fault.RunFault.TheVariants.{OutOfMemory, ReadFailed, WriteFailed, InputTooLong, StatementTooLong, Stopped}
+use Rattle.bz_folder.specs.declared.folder.CannotOpen.{CannotOpen}
+use Rattle.bz_folder.specs.declared.folder.Refusal.{Refusal}
+use Rattle.bz_program.specs.Hints.{unopened_hint, unwritten_hint}
 use Rattle.bz_program.specs.declared.edit_file.FileFault.{FileFault}
 use Rattle.bz_program.specs.declared.edit_file.FileFault.TheVariants.{Run, CannotWrite}
-
-abbrev pub is_dashed : List ℕ → Bool
-is_dashed path = starts_with nat_eq path (codes "-")
 
 abbrev pub line_of : List ℕ → List ℕ
 line_of text = text ++ codes "\n"
@@ -30,13 +30,18 @@ fixed_text file = codes "fixed " ++ line_of file
 abbrev pub fixed_told : Bool → Bool → List ℕ → List ℕ
 fixed_told quiet replaced file = if replaced && not quiet then fixed_text file else []
 
--- where a path begins with a dash, its package may be a flag that stands after the commands
-abbrev pub hint_told : List ℕ → List ℕ
-hint_told path = if is_dashed path then message_of path (codes "flags come before the commands; a word after them that begins with a dash is a package") else []
+-- a second line, where there is one
+abbrev pub hint_told : List ℕ → Option (List ℕ) → List ℕ
+hint_told path None = []
+hint_told path (Some text) = message_of path text
 
--- what is told of a file that cannot be opened
-abbrev pub unopened_text : List ℕ → List ℕ
-unopened_text path = message_of path (codes "cannot open") ++ hint_told path
+-- what is told of a package's file that cannot be opened
+abbrev pub unopened_text : List ℕ → List ℕ → CannotOpen → List ℕ
+unopened_text home path why = message_of path (codes "cannot open") ++ hint_told path (unopened_hint home path why)
+
+-- what is told of a file that cannot be written
+abbrev pub unwritten_text : List ℕ → Refusal → List ℕ
+unwritten_text path why = message_of path (codes "cannot write") ++ hint_told path (unwritten_hint why)
 
 -- what is told of a run without a report; where there is no memory for a line's number it is left out
 abbrev pub IsFaultText : RunFault → List ℕ → Type 0
@@ -48,6 +53,6 @@ IsFaultText (StatementTooLong line) text = (text ≡ decimal line ++ codes ": st
 IsFaultText Stopped text = text ≡ codes "stopped"
 
 -- what is told of a file that was not edited in its place
-abbrev pub IsFileFaultText : FileFault → List ℕ → Type 0
-IsFileFaultText (Run fault) text = IsFaultText fault text
-IsFileFaultText CannotWrite text = text ≡ codes "cannot write"
+abbrev pub IsFileFaultTold : List ℕ → FileFault → List ℕ → Type 0
+IsFileFaultTold path (Run fault) told = (text : List ℕ) × IsFaultText fault text × (told ≡ message_of path text)
+IsFileFaultTold path CannotWrite told = (why : Refusal) × (told ≡ unwritten_text path why)

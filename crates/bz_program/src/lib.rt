@@ -9,6 +9,7 @@ mod disk;
 mod edit_file;
 mod edit_stream;
 mod file_run;
+mod hints;
 pub mod laws;
 mod package;
 mod packages;

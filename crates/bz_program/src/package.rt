@@ -1,20 +1,21 @@
 //! What is done for one package.
 
-ghost use Rattle.std.specs.Prelude.{◌≡◌, ◌⊎◌, ℕ, List, [], IfOk, IfErr, if◌then◌else◌, string_bytes};
+ghost use Rattle.std.specs.Prelude.{◌≡◌, ◌⊎◌, ℕ, List, [], IfOk, IfErr, if◌then◌else◌, option_map, string_bytes};
 ghost use Rattle.bz_program.specs.Console.{Shows};
 ghost use Rattle.bz_program.specs.Handled as spec;
 ghost use Rattle.bz_program.specs.Program.{is_shown};
-ghost use Rattle.bz_program.specs.Texts.{message_of, fixed_told, hint_told, unopened_text, IsFaultText, IsFileFaultText};
+ghost use Rattle.bz_program.specs.Texts.{message_of, fixed_told, hint_told, unopened_text, IsFaultText, IsFileFaultTold};
 ghost use Rattle.bz_script.specs.Names.{in_folder};
 
 use crate::console::Console;
 use crate::edit_file::{FileFault, edit_file};
 use crate::edit_stream::edit_stream;
+use crate::hints::{of_unopened, of_unwritten};
 use crate::run::Asked;
 use bz_engine::{RunFault, Sink, Source, is_query};
-use bz_folder::{CannotOpen, Draft, Folder, Opened, Purpose};
+use bz_folder::{CannotOpen, Draft, Folder, Opened, Purpose, Refusal};
+use bz_rule::Package;
 use bz_script::flags::Flags;
-use bz_script::mistake::DASHED_PACKAGE;
 use bz_script::names::BuildFiles;
 use std::alloc::Global;
 
@@ -115,7 +116,7 @@ fn edit_found<D: Folder, S, O: Sink, E: Sink>(
 {
     match open_first(devices.draft.folder(), files, purpose_of(flags, &asked)) {
         Ok((opened, name)) => edit_opened(alloc, flags, asked, name, opened, devices),
-        Err(name) => put_unopened(name, &mut devices.console),
+        Err((name, why)) => put_unopened(folder_of(&asked.home), name, why, &mut devices.console),
     }
 }
 
@@ -130,44 +131,62 @@ fn purpose_of(flags: &Flags, asked: &Asked) -> Purpose
     }
 }
 
-/// Tells that a file cannot be opened. A flag that stands after the commands is read as a package.
-fn put_unopened<O: Sink, E: Sink>(name: &str, console: &mut Console<O, E>) -> u8
-    ensures status { result ≡ 2 }
-    ensures told { Shows O.took E.took console.old [] (unopened_text name.now) console.new }
+/// The path of a package's folder, where it has one.
+fn folder_of(home: &Package) -> &str
+    ensures { result.now ≡ spec.folder_of home.now }
 {
-    console.put_message(name, "cannot open");
-    put_hint(name, console);
-    FAILED
-}
-
-/// Tells where flags stand, if the path of a file begins as one.
-fn put_hint<O: Sink, E: Sink>(name: &str, console: &mut Console<O, E>)
-    ensures { Shows O.took E.took console.old [] (hint_told name.now) console.new }
-{
-    if name.starts_with("-") {
-        console.put_message(name, DASHED_PACKAGE);
+    match home.path() {
+        Some(folder) => folder,
+        None => "",
     }
 }
 
-/// Opens the first of the files that is there, and gives its name. An `Err` names the one that was tried last.
+/// Tells that a package's file cannot be opened, and in a second line why, or what else was meant.
+fn put_unopened<O: Sink, E: Sink>(
+    home: &str,
+    name: &str,
+    why: CannotOpen,
+    console: &mut Console<O, E>,
+) -> u8
+    ensures status { result ≡ 2 }
+    ensures told { Shows O.took E.took console.old [] (unopened_text home.now name.now why) console.new }
+{
+    console.put_message(name, "cannot open");
+    put_hint(name, of_unopened(home, name, why), console);
+    FAILED
+}
+
+/// Tells the second line of a message, where there is one.
+fn put_hint<O: Sink, E: Sink>(name: &str, hint: Option<&str>, console: &mut Console<O, E>)
+    ensures { Shows O.took E.took console.old []
+        (hint_told name.now (option_map (λ text. text.now) hint.entry)) console.new }
+{
+    if let Some(text) = hint {
+        console.put_message(name, text);
+    }
+}
+
+/// Opens the first of the files that is there, and gives its name. An `Err` names the one that was tried last, and why it
+/// is not open.
 fn open_first<'a, D: Folder>(
     folder: &D,
     files: &'a BuildFiles,
     purpose: Purpose,
-) -> Result<(Opened<D::File>, &'a str), &'a str>
+) -> Result<(Opened<D::File>, &'a str), (&'a str, CannotOpen)>
     ensures opened { IfOk result (λ found.
         spec.IsFirst D.absent folder.now (string_bytes files.now.first) (string_bytes files.now.second) found.1.now
         × D.leads found.1.now (string_bytes found.0.path) found.0.source) }
-    ensures unopened { IfErr result (λ name.
-        spec.IsFirst D.absent folder.now (string_bytes files.now.first) (string_bytes files.now.second) name.now) }
+    ensures unopened { IfErr result (λ tried.
+        spec.IsFirst D.absent folder.now (string_bytes files.now.first) (string_bytes files.now.second) tried.0.now) }
+    ensures absent { IfErr result (λ tried. tried.1 ≡ CannotOpen.Absent → D.absent folder.now tried.0.now) }
 {
     match folder.open(&files.first, purpose) {
         Ok(opened) => Ok((opened, files.first.as_str())),
-        Err(CannotOpen::Failed) => Err(files.first.as_str()),
         Err(CannotOpen::Absent) => match folder.open(&files.second, purpose) {
             Ok(opened) => Ok((opened, files.second.as_str())),
-            Err(_) => Err(files.second.as_str()),
+            Err(why) => Err((files.second.as_str(), why)),
         },
+        Err(why) => Err((files.first.as_str(), why)),
     }
 }
 
@@ -198,7 +217,10 @@ fn edit_opened<D: Folder, S, O: Sink, E: Sink>(
             devices.console.put_report(name, &report);
             report.status()
         }
-        Err(fault) => put_file_fault(alloc, name, fault, &mut devices.console),
+        Err(fault) => {
+            let why = devices.draft.folder().refusal();
+            put_file_fault(alloc, name, fault, why, &mut devices.console)
+        }
     }
 }
 
@@ -216,21 +238,23 @@ fn put_replaced<O: Sink, E: Sink>(
     }
 }
 
-/// Tells why a file was not edited.
+/// Tells why a file was not edited; where it cannot be written, this is why the call failed.
 fn put_file_fault<O: Sink, E: Sink>(
     alloc: Global,
     name: &str,
     fault: FileFault,
+    why: Refusal,
     console: &mut Console<O, E>,
 ) -> u8
     ensures status { result ≡ 2 }
-    ensures told { (text : List ℕ) × IsFileFaultText fault text
-        × Shows O.took E.took console.old [] (message_of name.now text) console.new }
+    ensures told { (told : List ℕ) × IsFileFaultTold name.now fault told
+        × Shows O.took E.took console.old [] told console.new }
 {
     match fault {
         FileFault::Run(fault) => put_fault(alloc, name, fault, console),
         FileFault::CannotWrite => {
             console.put_message(name, "cannot write");
+            put_hint(name, of_unwritten(why), console);
             FAILED
         }
     }

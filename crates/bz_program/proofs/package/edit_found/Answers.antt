@@ -1,5 +1,6 @@
-use Rattle.std.proofs.Common.{inl, inr, refl, subst}
-use Rattle.bz_program.specs.Handled.{IsTried, failed_account}
+use Rattle.std.proofs.Common.{[], inl, inr, refl, subst}
+use Rattle.bz_program.specs.Console.{Shows}
+use Rattle.bz_program.specs.Handled.{IsTried, folder_of, failed_account}
 use Rattle.bz_program.specs.Texts.{unopened_text}
 use Rattle.bz_program.proofs.Edited.{left_alone, leaves_nothing, tried_as}
 use Rattle.bz_program.proofs.package.edit_found.Goals as goal
@@ -23,10 +24,18 @@ returns-in-Err g c = record {
   files = left_alone g.D.Folder.did g.D.Folder.leads g.D.File.Source.gave c.args.flags.now.stdout c.args.asked g.met.D.Folder.did_nothing c.args.devices.now.draft.folder _;
   input = refl;
   account = record {
-    account = failed_account (unopened_text c.in-Err.name.now);
-    is_its = (c.in-Err.name.now, inl (subst (λ folder. IsTried g.D.Folder.absent folder c.args.asked.home c.in-Err.name.now) c.folder.ensures (tried_as g.D.Folder.absent c.folder.result.now c.args.asked.home _ _ _ c.requires c.in-Err.ensures.unopened), refl));
+    account = failed_account (unopened_text (folder_of c.args.asked.home) c.in-Err.name.now c.in-Err.why);
+    is_its = (
+      c.in-Err.name.now,
+      inl (record {
+        tried = subst (λ folder. IsTried g.D.Folder.absent folder c.args.asked.home c.in-Err.name.now) c.folder.ensures (tried_as g.D.Folder.absent c.folder.result.now c.args.asked.home _ _ _ c.requires c.in-Err.ensures.unopened);
+        why = c.in-Err.why;
+        is_absent = λ e. subst (λ folder. g.D.Folder.absent folder c.in-Err.name.now) c.folder.ensures (c.in-Err.ensures.absent e);
+        account_is = refl;
+      }),
+    );
     left = leaves_nothing g.D.Folder.did g.met.D.Folder.did_nothing c.args.devices.now.draft.folder;
-    shows = c.put_unopened.ensures.told;
+    shows = subst (λ home. Shows g.O.Sink.took g.E.Sink.took c.args.devices.now.console [] (unopened_text home c.in-Err.name.now c.in-Err.why) c.put_unopened.new.console) c.folder_of.ensures c.put_unopened.ensures.told;
     status_is = c.put_unopened.ensures.status;
   };
 }

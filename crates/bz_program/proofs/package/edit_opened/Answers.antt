@@ -67,8 +67,8 @@ pub returns-in-Err-clause-account : goal.returns-in-Err-clause-account
 returns-in-Err-clause-account g c =
     let told = c.put_file_fault.ensures.told in
     record {
-      account = kept_account c.args.name.now c.args.opened told.0;
-      is_its = inr (other_kept _ c.purpose_of.result c.if-eq.ensures c.purpose_of.ensures, inr (record { fault = c.in-Err.fault; cause = c.in-Err.ensures.failed; why = told.0; why_is = told.1; account_is = refl }));
+      account = kept_account c.args.opened told.0;
+      is_its = inr (other_kept _ c.purpose_of.result c.if-eq.ensures c.purpose_of.ensures, inr (record { fault = c.in-Err.fault; cause = c.in-Err.ensures.failed; told = told.0; told_is = told.1; account_is = refl }));
       left = c.in-Err.ensures.placed;
       shows = told.2;
       status_is = c.put_file_fault.ensures.status;
