@@ -167,7 +167,8 @@ fn utf8(rt: HostRuntime) {
 fn is_first_chunk(line: &[u8]) -> bool
     requires { IsTrue (is_physical_line line.now) }
 {
-    matches!(Cutter::new().line(line), Cut::Whole)
+    let mut cutter = Cutter::new();
+    matches!(cutter.line(line), Cut::Whole)
 }
 
 #[test]
@@ -198,10 +199,12 @@ fn is_end(cutter: &mut Cutter, line: &[u8]) -> Result<bool, Fail>
 #[test]
 fn lines_on_one_cutter(rt: HostRuntime) -> Result<(), Fail> {
     let mut cutter = Cutter::new();
-    check_value(&rt, "# a", &is_end(&mut cutter, b"# a\n")?, &false);
-    check_value(&rt, "x = [", &is_end(&mut cutter, b"x = [\n")?, &false);
-    check_value(&rt, "]", &is_end(&mut cutter, b"]\n")?, &true);
-    check_value(&rt, "an empty line", &is_end(&mut cutter, b"\n")?, &true);
+    let comment = is_end(&mut cutter, b"# a\n")?;
+    let bracket = is_end(&mut cutter, b"x = [\n")?;
+    let closed = is_end(&mut cutter, b"]\n")?;
+    let empty = is_end(&mut cutter, b"\n")?;
+    let ends = [comment, bracket, closed, empty];
+    check_value(&rt, "lines in turn", &ends, &[false, false, true, true]);
     Ok(())
 }
 

@@ -16,9 +16,6 @@ loop-ahead-init g c = record {
   within = c.requires.within;
 }
 
-pub goes_on-requires-clause-at_block : goal.goes_on-requires-clause-at_block
-goes_on-requires-clause-at_block g c = (take c.args.end c.loop-ahead.ahead.bytes, c.loop-ahead.invariant.after, c.loop-ahead.invariant.block)
-
 pub returns-in-Ends-clause-ends : goal.returns-in-Ends-clause-ends
 returns-in-Ends-clause-ends g c _ =
     let ahead = c.loop-ahead.ahead in
