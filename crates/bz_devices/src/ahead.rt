@@ -38,8 +38,8 @@ pub struct Ahead {
     ended: bool,
 }
 
-// As many bytes as eight reads give.
-const MANY_TAKEN: usize = 1 << 16;
+// Half of what one read gives: so hardly more is held of an input than what one read gave of it, and few bytes are moved.
+const MANY_TAKEN: usize = PIECE / 2;
 
 impl Model for Ahead {
     ghost use Rattle.std.specs.Prelude.{◌≤◌, ◌+◌, length, take, drop, IsUtf8};
@@ -109,6 +109,22 @@ impl Ahead {
     {
         // The invariant says that this is UTF-8.
         unsafe { from_utf8_unchecked(&self.bytes()[..self.text_len]) }
+    }
+
+    /// How many bytes of the input are held, those that were taken too. Each field is named, so that none that is new goes
+    /// uncounted.
+    pub fn held(&self) -> usize
+        ensures { length self.now.bytes ≤ result }
+    {
+        let Ahead {
+            buffer,
+            start: _,
+            end: _,
+            text_len: _,
+            reads: _,
+            ended: _,
+        } = self;
+        buffer.len()
     }
 
     /// A read met the end of the input.

@@ -50,6 +50,21 @@ impl Model for Progress {
 }
 
 impl Progress {
+    /// How many bytes its buffers have room for. Contracts see what is kept else.
+    pub(crate) fn held(&self) -> usize {
+        let Progress {
+            kept: _,
+            changed: _,
+            failed: _,
+            last: _,
+            line: _,
+            looks: _,
+            spare,
+            written,
+        } = self;
+        spare.held().saturating_add(written.capacity())
+    }
+
     /// The lines of a chunk are passed.
     pub(crate) fn pass_lines(&mut self, chunk: &[u8])
         requires { self.old.line + length chunk.now < 2 ^ 64 }

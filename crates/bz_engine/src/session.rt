@@ -128,6 +128,30 @@ impl Session {
         })
     }
 
+    /// How many bytes it holds beside the script and what it is to tell, which contracts see: those of the input, and those
+    /// that its buffers have room for. Each field is named, so that a new one does not compile until it is counted here.
+    pub fn held(&self) -> usize
+        ensures { length self.now.ahead.bytes ≤ result }
+    {
+        let Session {
+            alloc: _,
+            home: _,
+            passes: _,
+            options: _,
+            progress,
+            ahead,
+            state: _,
+            failure: _,
+            text,
+            bump,
+        } = self;
+        let buffers = progress.held().saturating_add(text.capacity());
+        ahead
+            .held()
+            .saturating_add(buffers)
+            .saturating_add(bump.allocated_bytes())
+    }
+
     /// Takes one chunk of the input, runs the script on it and writes what it leaves.
     pub fn step<S: Source, W: Sink>(
         &mut self,

@@ -18,4 +18,10 @@ impl Spare {
             laid: Vec::new(alloc),
         }
     }
+
+    /// How many bytes there is room for.
+    pub(crate) fn held(&self) -> usize {
+        let Spare { small, laid } = self;
+        small.capacity().saturating_add(laid.capacity())
+    }
 }

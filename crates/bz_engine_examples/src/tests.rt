@@ -4,6 +4,7 @@ mod buffers;
 mod checks;
 mod devices;
 mod faults;
+mod held;
 mod limits;
 mod reports;
 mod runs;
