@@ -9,4 +9,4 @@ pub goes_on-requires : goal.goes_on-requires
 goes_on-requires c =
     let block = c.in-Block.ensures in
     let new = c.new-cutter.ensures.after in
-    (c.args.header.now, block.after c.requires.newline [] new, (block.block [] new).0 refl)
+    record { at_block = (c.args.header.now, block.after c.requires.newline [] new, (block.block [] new).0 refl) }
