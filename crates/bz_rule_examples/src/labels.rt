@@ -7,7 +7,6 @@ use bz_rule::{
     Package, StatementRow, Target, label, matches, quote, read_label, same, shown, value_is,
 };
 use bz_token::{Kind, Token};
-use bz_tree::{Leaf, Node};
 use std::alloc::Global;
 use std::collections::HashMap;
 use std::process::Abort;
@@ -75,36 +74,6 @@ fn values_of_tokens(rt: HostRuntime) {
     check_value(&rt, "bells", &are_bells, &true);
     let is_value = value_is(&token(Kind::Identifier, "'a'"), "a");
     check_value(&rt, "identifier", &is_value, &false);
-}
-
-fn token_of<'a>(leaf: &'a Leaf<'_>) -> Token<'a> {
-    Token {
-        kind: leaf.kind,
-        text: leaf.text.as_str(),
-        line: leaf.line,
-        col: leaf.col,
-        fresh: leaf.fresh,
-    }
-}
-
-/// Whether a statement that is read ends with a string of this value.
-fn ends_with_value(alloc: Global, text: &str, value: &str) -> Result<bool, Fail> {
-    let stmt = statement(alloc, text)?;
-    let is_value = match stmt.nodes.last() {
-        Some(Node::Token(leaf)) => value_is(&token_of(leaf), value),
-        _ => false,
-    };
-    Ok(is_value)
-}
-
-#[test]
-fn value_of_a_leaf(rt: HostRuntime) -> Result<(), Fail> {
-    let text = "x = 'a\\tb' # c\n";
-    let is_value = ends_with_value(rt.alloc(), text, "a\tb")?;
-    check_value(&rt, text, &is_value, &true);
-    let is_other = ends_with_value(rt.alloc(), text, "a\\tb")?;
-    check_value(&rt, text, &is_other, &false);
-    Ok(())
 }
 
 /// Values, and their literals.

@@ -1,8 +1,7 @@
 //! Tokens and their places, first faults, what is UTF-8, first chunks, and what goes on with a block.
 
-ghost use Rattle.std.specs.Prelude.{◌+◌, ◌<◌, ◌≤◌, ◌^◌, ℕ, List, length, IfOk, IsTrue};
-ghost use Rattle.bz_token.specs.Cuts.{IsBlock, is_physical_line, ends_in_newline};
-ghost use Rattle.bz_token.specs.CutterState.{IsAfter};
+ghost use Rattle.std.specs.Prelude.{IsTrue};
+ghost use Rattle.bz_token.specs.Cuts.{is_physical_line, ends_in_newline};
 
 use crate::checks::{check_table, check_value};
 use bumpalo::Bump;
@@ -178,34 +177,6 @@ fn first_lines_end_chunks(rt: HostRuntime) {
     check_value(&rt, "]", &is_first_chunk(b"]\n"), &true);
     check_value(&rt, "an empty line", &is_first_chunk(b"\n"), &true);
     check_value(&rt, "x = \"a", &is_first_chunk(b"x = \"a\n"), &true);
-}
-
-/// Whether a chunk ends with the next line, where none before it is a block's, and it is none.
-fn is_end(cutter: &mut Cutter, line: &[u8]) -> Result<bool, Fail>
-    requires one_line { IsTrue (is_physical_line line.now) }
-    requires newline { IsTrue (ends_in_newline line.now) }
-    requires after { (seen : List ℕ) × IsAfter cutter.old seen × (length seen + length line.now < 2 ^ 64)
-        × (IsBlock seen → ⊥) }
-    ensures after { (seen : List ℕ) → IsAfter cutter.old seen → IfOk result (λ _. (left : List ℕ)
-        × IsAfter cutter.new left × (length left ≤ length seen + length line.now) × (IsBlock left → ⊥)) }
-{
-    match cutter.line(line) {
-        Cut::More => Ok(false),
-        Cut::Whole => Ok(true),
-        Cut::Block => Err("a block".into()),
-    }
-}
-
-#[test]
-fn lines_on_one_cutter(rt: HostRuntime) -> Result<(), Fail> {
-    let mut cutter = Cutter::new();
-    let comment = is_end(&mut cutter, b"# a\n")?;
-    let bracket = is_end(&mut cutter, b"x = [\n")?;
-    let closed = is_end(&mut cutter, b"]\n")?;
-    let empty = is_end(&mut cutter, b"\n")?;
-    let ends = [comment, bracket, closed, empty];
-    check_value(&rt, "lines in turn", &ends, &[false, false, true, true]);
-    Ok(())
 }
 
 /// What ends a block that begins with this line.
