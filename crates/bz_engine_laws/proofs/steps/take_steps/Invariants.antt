@@ -10,6 +10,8 @@ invariant-loop-taken g l = record {
   within : l.taken ≤ l.count;
   same : IsSameRun l.initial.session l.session;
   goes : l.initial.session.state ≡ Going → l.session.state ≡ Going;
+  read_steady : g.S.Source.failures l.source ≡ g.S.Source.failures l.initial.source;
+  write_steady : g.W.Sink.failures l.sink ≡ g.W.Sink.failures l.initial.sink;
   done : (pieces cs : List (List ℕ)) (text : List ℕ) → HasDone l.initial.session pieces cs text
       → HasManyMore l.taken (λ read. g.S.Source.gave l.initial.source read l.source) (λ shown. g.W.Sink.took l.initial.sink shown l.sink) l.session pieces cs text;
 }
