@@ -20,7 +20,7 @@ use Rattle.bz_engine.proofs.Runs.{run_is, reads_for}
 use Rattle.bz_tree.specs.Tree.{Statement}
 use Rattle.bz_devices.specs.Device.{ends}
 use Rattle.bz_engine.specs.NeededReads.{AreDone, IsOneNeeded, AreReads}
-use Rattle.bz_engine.specs.Stops.{NeedsRead, Tells, BeginsNext, AllFit, EndsAfter, HasEndedAt, IsStopped}
+use Rattle.bz_engine.specs.Stops.{NeedsRead, Tells, BeginsNext, AllFit, EndsAfter, HasEndedAt, IsStopped, HasStopped}
 use Rattle.bz_engine.specs.private.Finds.{AreFew}
 use Rattle.bz_engine.proofs.NeededReads.{done_more}
 use Rattle.bz_engine.proofs.Sessions.{read_on, ended_on, reads_on, reads_are}
@@ -96,10 +96,10 @@ are_done v mid max_reads pieces cs read text done on =
     subst (AreDone (run_in v) (pieces ++ read) cs done.statements) (sym on.bytes) (done_more v pieces cs read text done on.stays)
 
 stops_at : (v : SessionValue) (mid : Ahead) (fault : RunFault) (pieces cs read : List (List ℕ)) (text shown : List ℕ) → (done : HasDone v pieces cs text)
-    → AllFit v.options.max_statement cs → IsReadOn v.options.max_reads v.ahead mid read → (shown ≡ []) ⊎ BeginsNext (run_in v) (pieces ++ read) cs done.statements shown
+    → IsReadOn v.options.max_reads v.ahead mid read → (shown ≡ []) ⊎ BeginsNext (run_in v) (pieces ++ read) cs done.statements shown
     → (fault ≢ WriteFailed → shown ≡ []) → Tells v.options v.progress.line mid fault
     → IsStopped (run_in v) v.options (pieces ++ read) (text ++ shown) fault
-stops_at v mid fault pieces cs read text shown done fit on begins unwritten tells =
+stops_at v mid fault pieces cs read text shown done on begins unwritten tells =
     let reads : ℕ → Ahead = λ n. record { bytes = mid.bytes; reads = n; ended = mid.ended } in
     let ends_in : Bool → Ahead = λ b. record { bytes = mid.bytes; reads = length (pieces ++ read); ended = b } in
     let ahead = ap reads (reads_on v mid v.options.max_reads pieces cs read text done on) ∙ ap ends_in (ended_on v mid v.options.max_reads pieces cs read text done on) in
@@ -108,7 +108,6 @@ stops_at v mid fault pieces cs read text shown done fit on begins unwritten tell
       statements = done.statements;
       left = mid.bytes;
       done = are_done v mid v.options.max_reads pieces cs read text done on;
-      fit = fit;
       cut = shown;
       text_is = ap (λ l. l ++ shown) done.text_is;
       begins = begins;
@@ -117,12 +116,10 @@ stops_at v mid fault pieces cs read text shown done fit on begins unwritten tell
           (subst (λ a. Tells v.options v.progress.line a fault) ahead tells);
     }
 
-stopped_for : (v : SessionValue) (fault : RunFault) (home : Package) (passes : Script) (options : Options) (pieces : List (List ℕ)) (text : List ℕ)
-    → v.home ≡ home → v.passes ≡ passes → v.options ≡ options → IsStopped (run_in v) v.options pieces text fault
-    → IsStopped (run_with home passes options) options pieces text fault
-stopped_for v fault home passes options pieces text h p o stopped =
-    subst (λ run. IsStopped run options pieces text fault) (run_is v home passes options h p o)
-    (subst (λ x. IsStopped (run_in v) x pieces text fault) o stopped)
+stopped_for : (Has : Run → Options → Type 0) (v : SessionValue) (home : Package) (passes : Script) (options : Options)
+    → v.home ≡ home → v.passes ≡ passes → v.options ≡ options → Has (run_in v) v.options → Has (run_with home passes options) options
+stopped_for Has v home passes options h p o stopped =
+    subst (λ run. Has run options) (run_is v home passes options h p o) (subst (λ x. Has (run_in v) x) o stopped)
 
 -- the chunks fit by the session's options
 fit_by : (v : SessionValue) (options : Options) (cs : List (List ℕ)) → v.options ≡ options → AllFit options.max_statement cs → AllFit v.options.max_statement cs
@@ -152,10 +149,10 @@ ends_done v mid home passes options pieces cs read text end h p o done on fit la
 pub stops_unread : (v : SessionValue) (mid : Ahead) (fault : RunFault) (home : Package) (passes : Script) (options : Options) (pieces cs read : List (List ℕ)) (text : List ℕ)
     → v.home ≡ home → v.passes ≡ passes → v.options ≡ options → HasDone v pieces cs text
     → IsReadOn v.options.max_reads v.ahead mid read → AllFit options.max_statement cs → Tells v.options v.progress.line mid fault
-    → IsStopped (run_with home passes options) options (pieces ++ read) (text ++ []) fault
+    → HasStopped (run_with home passes options) options (pieces ++ read) (text ++ []) fault
 stops_unread v mid fault home passes options pieces cs read text h p o done on fit tells =
-    stopped_for v fault home passes options (pieces ++ read) (text ++ []) h p o
-    (stops_at v mid fault pieces cs read text [] done (fit_by v options cs o fit) on (inl refl) (λ _. refl) tells)
+    stopped_for (λ run x. HasStopped run x (pieces ++ read) (text ++ []) fault) v home passes options h p o
+    (stops_at v mid fault pieces cs read text [] done on (inl refl) (λ _. refl) tells, fit_by v options cs o fit)
 
 all_done : (v : SessionValue) (pieces cs : List (List ℕ)) (text : List ℕ) → (done : HasDone v pieces cs text)
     → AreDone (run_in v) pieces cs done.statements v.ahead.bytes
@@ -186,13 +183,26 @@ begins_next v w pieces cs statements text shown same is (inr cut) =
       begins = cut.2;
     })
 
+stops_here : (v w : SessionValue) (fault : RunFault) (pieces cs read : List (List ℕ)) (text shown : List ℕ) → HasDone v pieces cs text → IsSameRun v w
+    → IsLeftByFault v w read shown fault → (fault ≢ WriteFailed → shown ≡ []) → IsStopped (run_in v) v.options (pieces ++ read) (text ++ shown) fault
+stops_here v w fault pieces cs read text shown done same left unwritten =
+    stops_at v w.ahead fault pieces cs read text shown done left.read_ahead
+    (begins_next v w (pieces ++ read) cs done.statements text shown same done.text_is (left.front pieces cs text done)) unwritten left.tells
+
 pub stops_by_fault : (v w : SessionValue) (fault : RunFault) (home : Package) (passes : Script) (options : Options) (pieces cs read : List (List ℕ)) (text shown : List ℕ)
+    → v.home ≡ home → v.passes ≡ passes → v.options ≡ options → HasDone v pieces cs text → IsSameRun v w → IsLeftByFault v w read shown fault
+    → (fault ≢ WriteFailed → shown ≡ []) → IsStopped (run_with home passes options) options (pieces ++ read) (text ++ shown) fault
+stops_by_fault v w fault home passes options pieces cs read text shown h p o done same left unwritten =
+    stopped_for (λ run x. IsStopped run x (pieces ++ read) (text ++ shown) fault) v home passes options h p o
+    (stops_here v w fault pieces cs read text shown done same left unwritten)
+
+-- where none of the chunks that are done was too long
+pub stops_in_time : (v w : SessionValue) (fault : RunFault) (home : Package) (passes : Script) (options : Options) (pieces cs read : List (List ℕ)) (text shown : List ℕ)
     → v.home ≡ home → v.passes ≡ passes → v.options ≡ options → HasDone v pieces cs text → IsSameRun v w → AllFit options.max_statement cs
-    → IsLeftByFault v w read shown fault → (fault ≢ WriteFailed → shown ≡ []) → IsStopped (run_with home passes options) options (pieces ++ read) (text ++ shown) fault
-stops_by_fault v w fault home passes options pieces cs read text shown h p o done same fit left unwritten =
-    stopped_for v fault home passes options (pieces ++ read) (text ++ shown) h p o
-    (stops_at v w.ahead fault pieces cs read text shown done (fit_by v options cs o fit) left.read_ahead
-    (begins_next v w (pieces ++ read) cs done.statements text shown same done.text_is (left.front pieces cs text done)) unwritten left.tells)
+    → IsLeftByFault v w read shown fault → (fault ≢ WriteFailed → shown ≡ []) → HasStopped (run_with home passes options) options (pieces ++ read) (text ++ shown) fault
+stops_in_time v w fault home passes options pieces cs read text shown h p o done same fit left unwritten =
+    stopped_for (λ run x. HasStopped run x (pieces ++ read) (text ++ shown) fault) v home passes options h p o
+    (stops_here v w fault pieces cs read text shown done same left unwritten, fit_by v options cs o fit)
 
 -- the input is too long
 pub one_needed_there : (v : SessionValue) (mid : Ahead) (home : Package) (passes : Script) (options : Options) (pieces cs read : List (List ℕ)) (text : List ℕ)

@@ -1,5 +1,5 @@
 -- Where a run stops, and what it has done then (this project's own rule).
--- Begin with `HasEndedAt` and `IsStopped`.
+-- Begin with `HasEndedAt` and `HasStopped`.
 -- Of later stops: 4 `Statement`; 7 `IsAnswerOf`; 8 `chunks`, `line_at`.
 use Rattle.std.specs.Prelude.{◌≡◌, ◌≢◌, ◌⊎◌, ℕ, ◌≤◌, true, false, List, [], ◌∷◌, ◌++◌, length, Option, Some, Ok, Err, ⊤}
 use Rattle.std.specs.List.{concat, AllByRecursion}
@@ -73,16 +73,19 @@ pub record BeginsNext (run : Run) (pieces front : List (List ℕ)) (statements :
   pub adds : text_after run.home run.passes following ≡ text_after run.home run.passes statements ++ added
   pub begins : IsFrontOf text added
 
--- A fault stopped the run after reads that gave these pieces, when it had written this text: that of the chunks that are done, none
--- of them too long, and, where a write failed, a front of what the next one adds.
+-- A fault stopped the run after reads that gave these pieces, when it had written this text: that of the chunks that are done,
+-- and, where a write failed, a front of what the next one adds.
 pub record IsStopped (run : Run) (options : Options) (pieces : List (List ℕ)) (text : List ℕ) (fault : RunFault) : Type 0 where
   pub front : List (List ℕ)
   pub statements : List Statement
   pub left : List ℕ
   pub done : AreDone run pieces front statements left
-  pub fit : AllFit options.max_statement front
   pub cut : List ℕ
   pub text_is : text ≡ text_after run.home run.passes statements ++ cut
   pub begins : (cut ≡ []) ⊎ BeginsNext run pieces front statements cut
   pub unwritten : fault ≢ WriteFailed → cut ≡ []
   pub tells : Tells options (line_at 1 (concat front)) (record { bytes = left; reads = length pieces; ended = ends pieces }) fault
+
+-- So it is, and none of those chunks was too long.
+abbrev pub HasStopped : Run → Options → List (List ℕ) → List ℕ → RunFault → Type 0
+HasStopped run options pieces text fault = (stopped : IsStopped run options pieces text fault) × AllFit options.max_statement stopped.front

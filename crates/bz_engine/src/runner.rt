@@ -5,7 +5,7 @@ ghost use Rattle.bz_devices.specs.Ahead.{HasTooLong};
 ghost use Rattle.bz_devices.specs.Device.{Rises};
 ghost use Rattle.bz_engine.specs.EveryFile.{ForEveryFile};
 ghost use Rattle.bz_engine.specs.NeededReads.{AreReads, IsOneNeeded};
-ghost use Rattle.bz_engine.specs.Stops.{HasEndedAt, IsStopped};
+ghost use Rattle.bz_engine.specs.Stops.{HasEndedAt, HasStopped};
 ghost use Rattle.bz_engine.specs.Outcome.{Told, run_with, IsOutcome, IsFrontOf, told_by};
 ghost use Rattle.std.specs.List.{concat};
 
@@ -45,7 +45,7 @@ pub fn run<S: Source, W: Sink>(
         × S.gave source.old pieces source.new × W.took sink.old text sink.new × AreReads home passes.items options pieces
         × ForEveryFile pieces (λ file. (whole : List ℕ) (told : Told)
         → IsOutcome (run_with home passes.items options) file whole told → IsFrontOf text whole)
-        × IsStopped (run_with home passes.items options) options pieces text fault) }
+        × HasStopped (run_with home passes.items options) options pieces text fault) }
     // Whatever is answered, the devices gave and took what reads and writes gave and took.
     ensures devices { (pieces : List (List ℕ)) × (text : List ℕ)
         × S.gave source.old pieces source.new × W.took sink.old text sink.new }

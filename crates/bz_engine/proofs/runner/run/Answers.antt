@@ -11,7 +11,7 @@ use Rattle.bz_devices.proofs.PassedOn.{err_is, passed_on, not_passed_on}
 use Rattle.bz_memory.specs.NoMemory.{no_memory}
 use Rattle.bz_devices.proofs.ReadOn.{rises_from, read_nothing, small_sum}
 use Rattle.bz_engine.proofs.Faults.{memory_alone}
-use Rattle.bz_engine.proofs.Cut.{BeginsAll, fault_begins, fault_reads, ended_begins, nothing_begins, too_long_in, one_needed_there, one_more_fits, ends_done, stops_unread, stops_by_fault}
+use Rattle.bz_engine.proofs.Cut.{BeginsAll, fault_begins, fault_reads, ended_begins, nothing_begins, too_long_in, one_needed_there, one_more_fits, ends_done, stops_unread, stops_in_time}
 use Rattle.bz_engine.proofs.NeededReads.{no_reads}
 use Rattle.bz_engine.proofs.Runs.{started, shorter, outcome_is, ends_after, reads_for, where_ok, where_is, where_memory, ok_is_no_err}
 use Rattle.bz_engine.proofs.SessionSteps.{did_as}
@@ -142,7 +142,7 @@ returns-in_err-step-clause-stopped g c =
       fault_reads c.loop-session.session c.step.new.self _ c.args.home c.args.passes.items c.args.options inv.pieces inv.cs step.read inv.text step.shown inv.home inv.passes inv.options inv.done (record { needed = step.needed; few = step.bound }) left,
       fault_begins c.loop-session.session c.step.new.self _ c.args.home c.args.passes.items c.args.options inv.pieces inv.cs step.read inv.text step.shown
           inv.home inv.passes inv.options inv.done c.step.ensures.same left,
-      stops_by_fault c.loop-session.session c.step.new.self fault c.args.home c.args.passes.items c.args.options inv.pieces inv.cs step.read inv.text step.shown
+      stops_in_time c.loop-session.session c.step.new.self fault c.args.home c.args.passes.items c.args.options inv.pieces inv.cs step.read inv.text step.shown
           inv.home inv.passes inv.options inv.done c.step.ensures.same inv.fit left
           (λ other. (step.unwritten (λ h. ok_is_no_err _ _ fault h was) (λ h. other (err_is fault WriteFailed (sym was ∙ h)))).0),
     )

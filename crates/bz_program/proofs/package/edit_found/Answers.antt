@@ -1,6 +1,7 @@
-use Rattle.std.proofs.Common.{[], inl, inr, refl, subst}
+use Rattle.std.proofs.Common.{[], inl, inr, refl, ◌∙◌, ap, subst}
 use Rattle.bz_program.specs.Console.{Shows}
 use Rattle.bz_program.specs.Handled.{IsTried, folder_of, failed_account}
+use Rattle.bz_program.specs.Runs.{Asked}
 use Rattle.bz_program.specs.Texts.{unopened_text}
 use Rattle.bz_program.proofs.Edited.{left_alone, leaves_nothing, tried_as}
 use Rattle.bz_program.proofs.package.edit_found.Goals as goal
@@ -35,7 +36,8 @@ returns-in-Err g c = record {
       }),
     );
     left = leaves_nothing g.D.Folder.did g.met.D.Folder.did_nothing c.args.devices.now.draft.folder;
-    shows = subst (λ home. Shows g.O.Sink.took g.E.Sink.took c.args.devices.now.console [] (unopened_text home c.in-Err.name.now c.in-Err.why) c.put_unopened.new.console) c.folder_of.ensures c.put_unopened.ensures.told;
+    shows = subst (λ home. Shows g.O.Sink.took g.E.Sink.took c.args.devices.now.console [] (unopened_text home c.in-Err.name.now c.in-Err.why) c.put_unopened.new.console)
+        (c.folder_of.ensures ∙ ap (λ (a : Asked). folder_of a.home) c.asked.view_is) c.put_unopened.ensures.told;
     status_is = c.put_unopened.ensures.status;
   };
 }
