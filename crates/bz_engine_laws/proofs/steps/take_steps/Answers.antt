@@ -65,7 +65,7 @@ returns-in_err-step-clause-fault g c =
     let inv = c.loop-taken.invariant in
     let fault = c.in_err-step.field-0.0 in
     let was = c.in_err-step.was in
-    let passed = c.from_residual-in_err-step in
+    let passed = c.from_residual in
     let p = err_from_is_err_and passed.result passed.ensures.1 in
     where_is _ passed.result fault (p.1 ∙ ap Err p.2) (λ going pieces cs text done.
     let step = c.step.ensures.steps (inv.goes going) in
@@ -77,7 +77,7 @@ returns-in_err-step-clause-fault g c =
 pub returns-in_err-step-clause-reads_counted : goal.returns-in_err-step-clause-reads_counted
 returns-in_err-step-clause-reads_counted g c going =
     let inv = c.loop-taken.invariant in
-    let passed = c.from_residual-in_err-step in
+    let passed = c.from_residual in
     let p = err_from_is_err_and passed.result passed.ensures.1 in
     counted_err passed.result c.step.result c.in_err-step.field-0.0 ReadFailed _ _ _ c.in_err-step.was (p.1 ∙ ap Err p.2) inv.read_steady
     (c.step.ensures.steps (inv.goes going)).reads_counted
@@ -85,7 +85,7 @@ returns-in_err-step-clause-reads_counted g c going =
 pub returns-in_err-step-clause-writes_counted : goal.returns-in_err-step-clause-writes_counted
 returns-in_err-step-clause-writes_counted g c going =
     let inv = c.loop-taken.invariant in
-    let passed = c.from_residual-in_err-step in
+    let passed = c.from_residual in
     let p = err_from_is_err_and passed.result passed.ensures.1 in
     counted_err passed.result c.step.result c.in_err-step.field-0.0 WriteFailed _ _ _ c.in_err-step.was (p.1 ∙ ap Err p.2) inv.write_steady
     (c.step.ensures.steps (inv.goes going)).writes_counted
