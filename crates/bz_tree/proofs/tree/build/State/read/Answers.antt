@@ -1,8 +1,9 @@
-use Rattle.std.proofs.Common.{arith, ℕ, ◌<◌, List, [], get_or, length, ◌+◌, ◌∷◌, ◌++◌, drop, map, refl, sym, ap, subst, ◌∙◌}
+use Rattle.std.proofs.Common.{arith, false, [], get_or, ◌+◌, ◌∷◌, ◌++◌, drop, map, refl, sym, ap, subst, ◌∙◌}
 use Rattle.std.proofs.lemmas.Grind.{common_steps}
 use Rattle.std.proofs.lemmas.List.{at_drop_all, at_drop_more}
 use Rattle.std.specs.Bool.{then_some}
 use Rattle.bz_token.specs.Places.{placed}
+use Rattle.bz_token.specs.declared.token.Kind.TheVariants.{Identifier}
 use Rattle.bz_token.specs.declared.token.Token.{Token}
 use Rattle.bz_tree.specs.Kinds.{mark_of}
 use Rattle.bz_tree.specs.private.Steps.{has_one, state}
@@ -15,9 +16,9 @@ use Rattle.bz_tree.proofs.tree.build.State.read.Goals as goal
 pub loop-token-init : goal.loop-token-init
 loop-token-init c = record { same = refl; borrowed = omega arith; places = λ now h. h; flat = λ h. h }
 
-with_token : {G : Type 0} → (ts : List Token) (i : ℕ) → i < length ts → ((d : Token) → G) → G
-with_token [] i some f = absurd (omega (arith, some))
-with_token (d ∷ ts) i some f = f d
+-- what a read beyond the tokens would give
+abbrev no_token : Token
+no_token = record { text = record { ref_ptr = (0, 0); now = [] }; line = 0; col = 0; kind = Identifier; fresh = false }
 
 pub loop-token-preserved : goal.loop-token-preserved
 loop-token-preserved c =
@@ -27,9 +28,9 @@ loop-token-preserved c =
     record {
       same = grind (arith, common_steps);
       borrowed = grind (arith, common_steps);
-      places = λ now h. with_token tokens c.loop-token.token-index c.loop-token-test.true (λ d.
-          c.loop-token.invariant.places now (subst (λ ts. AreSpelledFrom (state_spelling old) ts now) (sym (at_drop_more (map placed) tokens c.loop-token.token-index d c.loop-token-test.true))
-          (from_next (state_spelling old) (state_spelling c.step.new.self) now (has_one old.top.kind) (placed (get_or tokens c.loop-token.token-index d)) _ (c.in_ok-step.ensures.places c.if-not-branch.false) h)));
+      places = λ now h. c.loop-token.invariant.places now
+          (subst (λ ts. AreSpelledFrom (state_spelling old) ts now) (sym (at_drop_more (map placed) tokens c.loop-token.token-index no_token c.loop-token-test.true))
+          (from_next (state_spelling old) (state_spelling c.step.new.self) now (has_one old.top.kind) (placed (get_or tokens c.loop-token.token-index no_token)) _ (c.in_ok-step.ensures.places c.if-not-branch.false) h));
       flat = λ h. next_flat _ _ _ _ _ _ value (c.loop-token.invariant.flat h);
     }
 
