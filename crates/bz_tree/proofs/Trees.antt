@@ -6,6 +6,7 @@ pub mod ByOwns
 pub mod OneBracket
 pub mod Complete
 pub mod Sound
+pub mod Placed
 pub mod InPlace
 pub mod Plain
 pub mod BlockLines

@@ -2,5 +2,6 @@ pub mod BlockSteps
 pub mod BorrowedSteps
 pub mod Machine
 pub mod PartSteps
+pub mod PlacedSteps
 pub mod RowSteps
 pub mod Steps

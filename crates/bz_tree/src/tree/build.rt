@@ -1,6 +1,6 @@
 //! The walk over the tokens of a statement, with a stack of open brackets. `chunk.rt` runs it to make a tree.
 
-ghost use Rattle.std.specs.Prelude.{◌≡◌, ◌≤◌, ◌+◌, true, false, map, IfOk, IfSome, IsTrue, OnOk, Some, None, [], ◌∷◌, option_map};
+ghost use Rattle.std.specs.Prelude.{◌≡◌, ◌≤◌, ◌+◌, ◌++◌, length, true, false, map, IfOk, IfSome, IsTrue, OnOk, Some, None, [], ◌∷◌, option_map};
 ghost use Rattle.std.specs.Bool.{then_some};
 ghost use Rattle.bz_token.specs.Places.{placed};
 ghost use Rattle.bz_tree.specs.View.{node_view, group_view, seg_view};
@@ -10,8 +10,10 @@ ghost use Rattle.bz_tree.specs.Brackets.{leaf_of, own_of};
 ghost use Rattle.bz_tree.specs.declared.tree.kinds.Mark.TheVariants.{Close, Comma, Comment, Plain};
 ghost use Rattle.bz_tree.specs.Statement.{one_segment, segment_with};
 ghost use Rattle.bz_tree.specs.Borrowed.{node_owned, group_owned, seg_owned};
+ghost use Rattle.bz_tree.specs.Places.{AreSpelled, a_leaf, opens, closes, spelled, node_spelling, group_spelling, seg_spelling};
 ghost use Rattle.bz_tree.specs.private.BorrowedSteps.{frame_owned, state_owned, inside_owned, walk_owned};
-ghost use Rattle.bz_tree.specs.private.Steps.{done, inside_view, level, levels, with_own, new_level, next, next_at, run, so_far, state};
+ghost use Rattle.bz_tree.specs.private.PlacedSteps.{AreFlat, AreSpelledFrom, IsFlatAt, frame_spelling, state_spelling, inside_spelling, nodes_spelling, walk_spelling};
+ghost use Rattle.bz_tree.specs.private.Steps.{done, has_one, inside_view, level, levels, with_own, new_level, next, next_at, run, so_far, state};
 
 use crate::tree::classes::with_rule_call;
 use crate::tree::kinds::{
@@ -45,6 +47,7 @@ pub(crate) struct State<'a> {
 fn leaf_of<'a>(token: &Token<'a>) -> Node<'a>
     ensures value { node_view result ≡ leaf_of (placed token.now) }
     ensures borrowed { node_owned result ≡ 0 }
+    ensures places { node_spelling result ≡ a_leaf (placed token.now) ∷ [] }
 {
     Node::Token(Leaf {
         kind: token.kind,
@@ -60,6 +63,7 @@ impl<'a> Frame<'a> {
     fn new(alloc: Global, kind: Option<GroupKind>) -> Frame<'a>
         ensures value { level result ≡ new_level kind }
         ensures borrowed { frame_owned result ≡ 0 }
+        ensures places { frame_spelling result ≡ [] }
     {
         Frame {
             kind,
@@ -72,6 +76,8 @@ impl<'a> Frame<'a> {
     fn add_leaf(&mut self, token: &Token<'a>) -> Result<(), NoMemory>
         ensures value { OnOk result (level self.new ≡ with_own (level self.old) (own_of Plain (placed token.now))) }
         ensures borrowed { OnOk result (frame_owned self.new ≤ frame_owned self.old) }
+        ensures places { OnOk result
+            (frame_spelling self.new ≡ frame_spelling self.old ++ a_leaf (placed token.now) ∷ []) }
     {
         if is_for_at(token.kind, token.text) && self.walk.is_in_first() {
             self.kind = as_comprehension(self.kind);
@@ -84,6 +90,8 @@ impl<'a> Frame<'a> {
     fn add_comma(&mut self, alloc: Global, token: &Token<'a>) -> Result<(), NoMemory>
         ensures value { OnOk result (level self.new ≡ with_own (level self.old) (own_of Comma (placed token.now))) }
         ensures borrowed { OnOk result (frame_owned self.new ≤ frame_owned self.old) }
+        ensures places { OnOk result (frame_spelling self.new
+            ≡ frame_spelling self.old ++ spelled Comma (has_one self.old.kind) (placed token.now)) }
     {
         self.at = Preceding::Other;
         match self.kind {
@@ -97,6 +105,8 @@ impl<'a> Frame<'a> {
     fn add_group(&mut self, group: Group<'a>, line: u64) -> Result<(), NoMemory>
         ensures value { OnOk result (level self.new ≡ with_own (level self.old) (node line (group_view group.entry))) }
         ensures borrowed { OnOk result (frame_owned self.new ≤ frame_owned self.old + group_owned group.entry) }
+        ensures places { OnOk result
+            (frame_spelling self.new ≡ frame_spelling self.old ++ group_spelling group.entry) }
     {
         self.at = Preceding::Operand;
         self.walk.add_node(Node::Group(group), line, "")
@@ -111,6 +121,7 @@ impl<'a> State<'a> {
           level self.old.top ∷ levels self.old.outer.items,
         )) }
         ensures borrowed { OnOk result (state_owned self.new ≤ state_owned self.old) }
+        ensures places { OnOk result (state_spelling self.new ≡ state_spelling self.old ++ opens ∷ []) }
     {
         let frame = Frame::new(alloc, Some(group_kind(shape, self.top.at)));
         push(&mut self.outer, mem::replace(&mut self.top, frame))
@@ -121,6 +132,8 @@ impl<'a> State<'a> {
         ensures value { IfOk result (λ some. then_some some (state self.new)
             ≡ next_at (Close shape) (placed token.now) (level self.old.top) (levels self.old.outer.items)) }
         ensures borrowed { OnOk result (state_owned self.new ≤ state_owned self.old) }
+        ensures places { IfOk result (λ some. IsTrue some
+            → state_spelling self.new ≡ state_spelling self.old ++ closes ∷ []) }
     {
         let Some(kind) = self.top.kind else {
             return Ok(false);
@@ -152,6 +165,8 @@ impl<'a> State<'a> {
         ensures value { IfOk result (λ some. then_some some (state self.new)
             ≡ next (placed token.now) (state self.old)) }
         ensures borrowed { OnOk result (state_owned self.new ≤ state_owned self.old) }
+        ensures places { IfOk result (λ some. IsTrue some → state_spelling self.new ≡ state_spelling self.old
+            ++ spelled (spec.mark_of (placed token.now)) (has_one self.old.top.kind) (placed token.now)) }
     {
         let added = match mark_of(token) {
             Mark::Newline => Ok(()),
@@ -173,6 +188,10 @@ impl<'a> State<'a> {
         ensures none { IfOk result (λ some. some ≡ false
             → run (state self.old).0 (state self.old).1 (map placed tokens.now) ≡ None) }
         ensures borrowed { OnOk result (state_owned self.new ≤ state_owned self.old) }
+        ensures places { IfOk result (λ some. IsTrue some
+            → AreSpelledFrom (state_spelling self.old) (map placed tokens.now) (walk_spelling self.new.top.walk)) }
+        ensures flat { IfOk result (λ some. IsTrue some → AreFlat ((state self.old).0 ∷ (state self.old).1)
+            → IsFlatAt None (so_far self.new.top.walk)) }
     {
         for token in tokens {
             if !self.step(alloc, token)? {
@@ -188,6 +207,8 @@ fn one_segment<'a>(alloc: Global, inside: Inside<'a>) -> Result<Seg<'a>, NoMemor
     ensures value { IfOk result
         (λ s. seg_view s ≡ one_segment (inside_view inside.entry).segs (inside_view inside.entry).end) }
     ensures borrowed { IfOk result (λ s. seg_owned s ≤ inside_owned inside.entry) }
+    ensures places { IfOk result
+        (λ s. length inside.entry.segs.items ≤ 1 → seg_spelling s ≡ inside_spelling inside.entry) }
 {
     let mut inside = inside;
     let mut seg = if inside.segs.is_empty() {
@@ -204,6 +225,8 @@ fn whole_segment<'a>(alloc: Global, walk: Walk<'a>) -> Result<Option<Seg<'a>>, N
     ensures value { IfOk result (λ o. option_map seg_view o
         ≡ option_map segment_with (option_map done (so_far walk.entry))) }
     ensures borrowed { IfOk result (λ o. IfSome o (λ s. seg_owned s ≤ walk_owned walk.entry)) }
+    ensures places { IfOk result (λ o. IfSome o (λ s. IsFlatAt None (so_far walk.entry)
+        → seg_spelling s ≡ walk_spelling walk.entry)) }
 {
     let Some(inside) = walk.finish()? else {
         return Ok(None);
@@ -216,11 +239,11 @@ fn whole_segment<'a>(alloc: Global, walk: Walk<'a>) -> Result<Option<Seg<'a>>, N
 pub(crate) fn run<'a>(alloc: Global, tokens: &[Token<'a>]) -> Result<Option<Seg<'a>>, NoMemory>
     ensures value { IfOk result (λ o. option_map seg_view o ≡ run (new_level None) [] (map placed tokens.now)) }
     ensures borrowed { IfOk result (λ o. IfSome o (λ s. seg_owned s ≡ 0)) }
+    ensures places { IfOk result (λ o. IfSome o (λ s. AreSpelled (map placed tokens.now) (nodes_spelling s.nodes.items))) }
 {
-    let mut state = State {
-        outer: Vec::new(alloc),
-        top: Frame::new(alloc, None),
-    };
+    let outer = Vec::new(alloc);
+    let top = Frame::new(alloc, None);
+    let mut state = State { outer, top };
     if !state.read(alloc, tokens)? {
         return Ok(None);
     }

@@ -6,6 +6,7 @@ ghost use Rattle.bz_token.specs.Reading.{AreTokensOf};
 ghost use Rattle.bz_tree.specs.Tree.{Statement};
 ghost use Rattle.bz_tree.specs.View.{view};
 ghost use Rattle.bz_tree.specs.Borrowed.{owned_texts};
+ghost use Rattle.bz_tree.specs.Places.{AreSpelled, HasPlacesIn, HasPlacesOf, spelling};
 ghost use Rattle.bz_tree.specs.Statement.{EndsFit, first_seen, last_seen};
 ghost use Rattle.bz_tree.specs.Chunk.{IsPlain, indent_fault, IsChunkOf, IsStatementIn, IsBlank, IsFaultIn};
 ghost use Rattle.bz_tree.specs.private.BlockSteps.{AreStanding};
@@ -30,6 +31,7 @@ fn plain_statement<'a>(alloc: Global, tokens: &[Token<'a>]) -> Result<Option<Stm
     requires { EndsFit (map placed tokens.now) }
     ensures statement { IfOk result (λ o. IfSome o (λ s. IsPlain (map placed tokens.now) (view s))) }
     ensures borrowed { IfOk result (λ o. IfSome o (λ s. owned_texts s ≡ 0)) }
+    ensures places { IfOk result (λ o. IfSome o (λ s. AreSpelled (map placed tokens.now) (spelling s))) }
     ensures none { IfOk result (λ o. IfNone o ((t : Statement) → IsPlain (map placed tokens.now) t → ⊥)) }
 {
     let Some(end) = counted_end_of(tokens) else {
@@ -66,6 +68,7 @@ fn chunk_statement<'a>(
     ensures statement { IfOk result
         (λ o. IfSome o (λ s. IsChunkOf first_line text.now (map placed tokens.now) (view s))) }
     ensures borrowed { IfOk result (λ o. IfSome o (λ s. owned_texts s ≡ 0)) }
+    ensures places { IfOk result (λ o. IfSome o (HasPlacesOf (map placed tokens.now))) }
     ensures none { IfOk result (λ o. IfNone o ((t : Statement)
         → IsChunkOf first_line text.now (map placed tokens.now) t → ⊥)) }
 {
@@ -124,6 +127,7 @@ pub(crate) fn parse_tokens<'a>(
         → AreTokensOf first_line depth text.now (map placed tokens.now)
         → IsStatementIn first_line depth text.now (view s))) }
     ensures borrowed { IfOk result (λ o. IfSome o (λ s. owned_texts s ≡ 0)) }
+    ensures places { IfOk result (λ o. IfSome o (HasPlacesOf (map placed tokens.now))) }
     ensures blank { IfOk result (λ o. IfNone o ((depth : ℕ)
         → AreTokensOf first_line depth text.now (map placed tokens.now) → IsBlank first_line depth text.now)) }
     ensures fault { IfErr result (λ fault. (depth : ℕ)
@@ -155,6 +159,7 @@ pub fn parse<'a>(
     requires { first_line + count_by (λ b. b == 10) text.now < 2 ^ 64 }
     ensures statement { IfOk result (λ o. IfSome o (λ s. IsStatementIn first_line max_depth text.now (view s))) }
     ensures borrowed { IfOk result (λ o. IfSome o (λ s. owned_texts s ≡ 0)) }
+    ensures places { IfOk result (λ o. IfSome o (HasPlacesIn first_line max_depth text.now)) }
     ensures blank { IfOk result (λ o. IfNone o (IsBlank first_line max_depth text.now)) }
     ensures fault { IfErr result (IsFaultIn first_line max_depth text.now) }
 {

@@ -3,6 +3,8 @@
 ghost use Rattle.std.specs.Prelude.{◌≡◌, ◌≤◌};
 ghost use Rattle.bz_tree.specs.Borrowed.{seg_owned};
 ghost use Rattle.bz_tree.specs.private.BorrowedSteps.{nodes_owned};
+ghost use Rattle.bz_tree.specs.Places.{seg_spelling};
+ghost use Rattle.bz_tree.specs.private.PlacedSteps.{nodes_spelling};
 ghost use Rattle.bz_tree.specs.View.{node_view, nodes_view, seg_view};
 ghost use Rattle.bz_tree.specs.Statement.{is_rule, is_call, rule_call, with_rule_call, is_assign, class_of};
 ghost use Rattle.std.specs.List.{list_any};
@@ -74,6 +76,7 @@ pub(crate) fn is_call(kind: GroupKind) -> bool
 fn rule_call(nodes: Vec<Node<'_>>) -> Vec<Node<'_>>
     ensures value { nodes_view result.items ≡ rule_call (nodes_view nodes.entry.items) }
     ensures borrowed { nodes_owned result.items ≤ nodes_owned nodes.entry.items }
+    ensures places { nodes_spelling result.items ≡ nodes_spelling nodes.entry.items }
 {
     let mut nodes = nodes;
     match nodes.pop() {
@@ -93,6 +96,7 @@ fn rule_call(nodes: Vec<Node<'_>>) -> Vec<Node<'_>>
 pub(crate) fn with_rule_call(seg: Seg<'_>) -> Seg<'_>
     ensures value { seg_view result ≡ with_rule_call (seg_view seg.entry) }
     ensures borrowed { seg_owned result ≤ seg_owned seg.entry }
+    ensures places { seg_spelling result ≡ seg_spelling seg.entry }
 {
     if !is_rule(&seg.nodes) {
         return seg;

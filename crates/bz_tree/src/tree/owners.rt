@@ -4,6 +4,8 @@ ghost use Rattle.std.specs.Prelude.{◌≡◌, ◌≤◌, ◌+◌, ◌++◌, ◌
 ghost use Rattle.bz_tree.specs.Comments.{beside};
 ghost use Rattle.bz_tree.specs.Borrowed.{owned_in, owned_of, node_owned, seg_owned};
 ghost use Rattle.bz_tree.specs.private.BorrowedSteps.{segs_owned, walk_owned, inside_owned};
+ghost use Rattle.bz_tree.specs.Places.{node_spelling, seg_spelling};
+ghost use Rattle.bz_tree.specs.private.PlacedSteps.{segs_spelling, walk_spelling, inside_spelling};
 ghost use Rattle.bz_tree.specs.View.{text_of, texts, node_view, seg_view};
 ghost use Rattle.bz_tree.specs.private.Steps.{walked, so_far, is_in_first, add_beside, inside_view, at_start, after_node, after_comma, after_comment, done, to_last};
 
@@ -47,6 +49,7 @@ pub(crate) struct Inside<'a> {
 fn add_beside<'a>(seg: &mut Seg<'a>, text: &'a str) -> Result<(), NoMemory>
     ensures value { OnOk result (seg_view seg.new ≡ add_beside text.now (seg_view seg.old)) }
     ensures borrowed { OnOk result (seg_owned seg.new ≤ seg_owned seg.old) }
+    ensures places { OnOk result (seg_spelling seg.new ≡ seg_spelling seg.old) }
 {
     if seg.suffix.is_some() {
         push(&mut seg.before, CowStr::Borrowed(text))?;
@@ -60,6 +63,7 @@ fn add_to_last<'a>(segs: &mut Vec<Seg<'a>>, text: &'a str) -> Result<(), NoMemor
     ensures value { OnOk result (map seg_view segs.new.items
         ≡ to_last (text.now) (map seg_view segs.old.items)) }
     ensures borrowed { OnOk result (segs_owned segs.new.items ≤ segs_owned segs.old.items) }
+    ensures places { OnOk result (segs_spelling segs.new.items ≡ segs_spelling segs.old.items) }
 {
     if let Some(mut seg) = segs.pop() {
         add_beside(&mut seg, text)?;
@@ -110,6 +114,7 @@ impl<'a> Walk<'a> {
     pub(crate) fn new(alloc: Global) -> Walk<'a>
         ensures value { so_far result ≡ Some at_start }
         ensures borrowed { walk_owned result ≡ 0 }
+        ensures places { walk_spelling result ≡ [] }
     {
         Walk {
             segs: Vec::new(alloc),
@@ -141,6 +146,7 @@ impl<'a> Walk<'a> {
             ≡ after_node (line + count_by (λ b. b == 10) text.now) (node_view node.entry) (walked self.old)) }
         ensures whole { self.new.whole ≡ self.old.whole }
         ensures borrowed { OnOk result (walk_owned self.new ≤ walk_owned self.old + node_owned node.entry) }
+        ensures places { OnOk result (walk_spelling self.new ≡ walk_spelling self.old ++ node_spelling node.entry) }
     {
         self.last = Before::Node(line, text);
         self.trailing = false;
@@ -152,6 +158,7 @@ impl<'a> Walk<'a> {
     pub(crate) fn add_comma(&mut self, alloc: Global, line: u64) -> Result<(), NoMemory>
         ensures value { OnOk result (so_far self.new ≡ option_and_then (after_comma line) (so_far self.old)) }
         ensures borrowed { OnOk result (walk_owned self.new ≤ walk_owned self.old) }
+        ensures places { OnOk result (walk_spelling self.new ≡ walk_spelling self.old) }
     {
         if self.here.nodes.is_empty() {
             self.whole = false;
@@ -169,6 +176,7 @@ impl<'a> Walk<'a> {
         ensures value { OnOk result (walked self.new ≡ after_comment line (text.now) (walked self.old)) }
         ensures whole { self.new.whole ≡ self.old.whole }
         ensures borrowed { OnOk result (walk_owned self.new ≤ walk_owned self.old) }
+        ensures places { OnOk result (walk_spelling self.new ≡ walk_spelling self.old) }
     {
         match mem::replace(&mut self.last, Before::Nothing) {
             Before::Node(begin, token) if ends_on(begin, newlines(token), line) => {
@@ -185,6 +193,7 @@ impl<'a> Walk<'a> {
     pub(crate) fn finish(self) -> Result<Option<Inside<'a>>, NoMemory>
         ensures value { IfOk result (λ o. option_map inside_view o ≡ option_map done (so_far self.entry)) }
         ensures borrowed { IfOk result (λ o. IfSome o (λ i. inside_owned i ≤ walk_owned self.entry)) }
+        ensures places { IfOk result (λ o. IfSome o (λ i. inside_spelling i ≡ walk_spelling self.entry)) }
     {
         if !self.whole {
             return Ok(None);

@@ -10,6 +10,9 @@ use Rattle.bz_tree.proofs.Trees.Walking.{made-seg, none_in, some_in}
 use Rattle.bz_tree.specs.Borrowed.{owned, owned_in, owned_of, seg_owned}
 use Rattle.bz_tree.specs.private.BorrowedSteps.{nodes_owned}
 use Rattle.bz_tree.proofs.Trees.Borrowed.{owned_more, owned_seg, owned_first, seg_at_most}
+use Rattle.bz_tree.specs.private.PlacedSteps.{nodes_spelling, segs_spelling}
+use Rattle.bz_tree.proofs.Trees.Placed.{only_first}
+use Rattle.bz_tree.proofs.Trees.Placed as placed_seg
 use Rattle.bz_tree.proofs.tree.build.one_segment.Goals.{then-is_empty, else-is_empty}
 use Rattle.bz_tree.proofs.tree.build.one_segment.Goals as goal
 
@@ -62,3 +65,17 @@ returns-clause-borrowed c =
           let first = owned_first seg_owned segs w.remove-seg.result (omega (arith, ap length some.2)) w.remove-seg.ensures.value in
           seg_at_most _ _ (omega (arith, before, ap seg_owned w.seg-is, owned_seg seg, first, ap (λ i. owned_in i.end.items) w.inside-is))
     ]
+
+pub returns-clause-places : goal.returns-clause-places
+returns-clause-places c = λ short.
+    let seg = c.if-is_empty.seg in
+    let segs = c.args.inside.segs.items in
+    let here : nodes_spelling seg.nodes.items ≡ segs_spelling segs = elim c.if-is_empty.branch [
+      | then-is_empty w ↦
+          let none = none_in segs _ c.is_empty.result (omega (arith, c.args.inside.segs.ok.0)) c.is_empty.ensures w.if-is_empty.true in
+          ap (λ s. nodes_spelling s.nodes.items) w.seg-is ∙ (ap nodes_spelling w.empty_segment-seg.ensures.nodes ∙ sym (ap segs_spelling none))
+      | else-is_empty w ↦
+          let some = some_in segs _ c.is_empty.result (omega (arith, c.args.inside.segs.ok.0)) c.is_empty.ensures w.if-is_empty.false in
+          ap (λ s. nodes_spelling s.nodes.items) w.seg-is ∙ only_first segs w.remove-seg.result (omega (arith, ap length some.2)) w.remove-seg.ensures.value short
+    ] in
+    placed_seg.made_seg (record { before = c.append.new.list; nodes = seg.nodes; suffix = seg.suffix }) ∙ here

@@ -1,4 +1,4 @@
-use Rattle.std.proofs.Common.{arith, ◌≡◌, ◌==◌, List, [], ◌∷◌, length, map, Bool, true, false, ◌&&◌, cond, Option, Some, None, option_map, refl, ap, sym, ◌∙◌}
+use Rattle.std.proofs.Common.{arith, ◌≡◌, ◌==◌, List, [], ◌∷◌, ◌++◌, length, map, Bool, true, false, ◌&&◌, cond, Option, Some, None, option_map, refl, ap, sym, ◌∙◌}
 use Rattle.std.proofs.lemmas.Grind.{common_steps}
 use Rattle.std.proofs.lemmas.Result.{IfOk-from_err}
 use Rattle.bz_token.specs.Places.{Placed, placed}
@@ -16,6 +16,10 @@ use Rattle.bz_tree.proofs.Trees.Walking.{last_first, made-group, none_left}
 use Rattle.bz_tree.specs.Borrowed.{total}
 use Rattle.bz_tree.specs.private.BorrowedSteps.{frame_owned}
 use Rattle.bz_tree.proofs.Trees.Borrowed.{made_group, owned_pop}
+use Rattle.bz_tree.specs.Places.{closes as closing_end, joined, opens}
+use Rattle.bz_tree.specs.private.PlacedSteps.{frame_spelling, opened}
+use Rattle.bz_tree.proofs.Trees.Placed.{added, close_spelled, joined_pop}
+use Rattle.bz_tree.proofs.Trees.Placed as placed_group
 use Rattle.bz_tree.proofs.tree.build.State.close.Goals as goal
 
 module _ (shape : Shape) (t : Placed) (top : Level) where
@@ -101,3 +105,15 @@ returns-clause-borrowed c =
     let fits = rw c.in-Some-2.is at c.in_ok-inside.ensures.borrowed in
     let group = made_group (record { kind = c.in-Some.kind; segs = i.segs; one_comma = c.if-len-eq1.one_comma; end = i.end }) in
     omega (arith, outer, top, inner, fits, group, c.in_ok-add_group.ensures.borrowed)
+
+pub returns-clause-places : goal.returns-clause-places
+returns-clause-places c = λ closed.
+    let i = c.in-Some-2.inside in
+    let below = c.in-Some-pop.below in
+    let outer = ap (λ fs. joined (map opened fs)) c.pop.ensures.items ∙ joined_pop opened _ _ _ c.in-Some-pop.is in
+    let inner = ap frame_spelling c.replace-walk.ensures.value in
+    let fits = rw c.in-Some-2.is at c.in_ok-inside.ensures.places in
+    let made = placed_group.made_group (record { kind = c.in-Some.kind; segs = i.segs; one_comma = c.if-len-eq1.one_comma; end = i.end }) in
+    let group = made ∙ ap (λ ps. opens ∷ (ps ++ closing_end ∷ [])) (fits ∙ inner) in
+    let top = added _ _ _ _ _ c.in_ok-add_group.ensures.places (ap frame_spelling c.replace-walk.ensures.after) group in
+    close_spelled (joined (map opened c.pop.new.self.items)) (frame_spelling below) (frame_spelling c.args.self.now.top) _ _ outer top

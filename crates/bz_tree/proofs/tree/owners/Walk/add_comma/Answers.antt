@@ -12,6 +12,9 @@ use Rattle.bz_tree.specs.declared.tree.Seg.{Seg}
 use Rattle.bz_tree.specs.Borrowed.{owned, owned_in, owned_of}
 use Rattle.bz_tree.specs.private.BorrowedSteps.{nodes_owned, segs_owned}
 use Rattle.bz_tree.proofs.Trees.Borrowed.{owned_more, seg_push}
+use Rattle.bz_tree.specs.Places.{seg_spelling}
+use Rattle.bz_tree.specs.private.PlacedSteps.{nodes_spelling, segs_spelling}
+use Rattle.bz_tree.proofs.Trees.Placed.{ends_here, joined_push, spelled_seg}
 use Rattle.bz_tree.proofs.tree.owners.Walk.add_comma.Goals as goal
 
 abbrev after : ℕ → List Segment → List (List ℕ) → List Item → Option (List ℕ) → List (List ℕ) → Walked
@@ -75,3 +78,11 @@ returns-clause-borrowed c =
     let suffix_left = ap (λ (s : Seg). owned_of s.suffix) c.replace-seg.ensures.after ∙ ap owned_of c.empty_segment.ensures.suffix in
     let segs = ap segs_owned c.in_ok-push.ensures.items ∙ seg_push w.segs.items c.replace-seg.result in
     omega (arith, before, after, before_moved, before_left, nodes_moved, nodes_left, suffix_moved, suffix_left, segs)
+
+pub returns-clause-places : goal.returns-clause-places
+returns-clause-places c =
+    let w = c.args.self.now in
+    let moved = ap (λ (s : Seg). nodes_spelling s.nodes.items) c.replace-seg.ensures.value in
+    let left = ap (λ (s : Seg). nodes_spelling s.nodes.items) c.replace-seg.ensures.after ∙ ap nodes_spelling c.empty_segment.ensures.nodes in
+    let segs = ap segs_spelling c.in_ok-push.ensures.items ∙ joined_push seg_spelling w.segs.items c.replace-seg.result in
+    ends_here _ _ _ (segs ∙ ap (λ ps. segs_spelling w.segs.items ++ ps) (spelled_seg c.replace-seg.result ∙ moved)) left

@@ -12,6 +12,9 @@ use Rattle.bz_tree.proofs.Trees.Walking.{none_in, some_in}
 use Rattle.bz_tree.proofs.tree.owners.Walk.finish.Goals.{then-not-is_empty+in_ok-push, else-not-is_empty}
 use Rattle.bz_tree.specs.private.BorrowedSteps.{segs_owned}
 use Rattle.bz_tree.proofs.Trees.Borrowed.{seg_push}
+use Rattle.bz_tree.specs.Places.{seg_spelling}
+use Rattle.bz_tree.specs.private.PlacedSteps.{nodes_spelling, segs_spelling}
+use Rattle.bz_tree.proofs.Trees.Placed.{ends_here, joined_push, spelled_seg}
 use Rattle.bz_tree.proofs.tree.owners.Walk.finish.Goals as goal
 
 abbrev ended : Walk → List Segment → Inside
@@ -48,3 +51,16 @@ returns-clause-borrowed c = elim c.if-not-is_empty.branch [
       omega (arith, ap (λ s. segs_owned s.items) w.segs-is, ap segs_owned w.in_ok-push.ensures.items, seg_push c.args.self.segs.items c.args.self.here)
   | else-not-is_empty w ↦ omega (arith, ap (λ s. segs_owned s.items) w.segs-is)
 ]
+
+pub returns-clause-places : goal.returns-clause-places
+returns-clause-places c =
+    let self = c.args.self in
+    let segs = segs_spelling self.segs.items in
+    elim c.if-not-is_empty.branch [
+      | then-not-is_empty+in_ok-push w ↦
+          ap (λ s. segs_spelling s.items) w.segs-is
+          ∙ (ap segs_spelling w.in_ok-push.ensures.items ∙ (joined_push seg_spelling self.segs.items self.here ∙ ap (λ ps. segs ++ ps) (spelled_seg self.here)))
+      | else-not-is_empty w ↦
+          let none = none_in _ _ c.is_empty.result (omega (arith, self.here.nodes.ok.0)) c.is_empty.ensures w.if-not-is_empty.false in
+          ap (λ s. segs_spelling s.items) w.segs-is ∙ sym (ends_here segs _ _ refl (ap nodes_spelling none))
+    ]
