@@ -21,15 +21,21 @@ value_ended nodes after ps value end read is =
     let size : end ≡ value + length own = is ∙ ap (λ (n : ℕ). value + n) (ap (parts_len true 0) read ∙ nodes_ended (items_of nodes) after) in
     ap (λ (n : ℕ). drop n ps) size ∙ sym (drop-drop (length own) value ps) ∙ ap (drop (length own)) read ∙ drop-append_seam own (segment_end ∷ after)
 
--- the nodes that are read of its parts
-pub value_read : (nodes : List Item) (after : List RowPart) (parts : List Part) (value end : ℕ) → drop value (map part_view parts) ≡ value_parts nodes after → drop end (map part_view parts) ≡ segment_end ∷ after
-    → (value ≤ end) × (end ≤ length parts) → nodes_of_parts (take (end - value) (drop value (map part_view parts))) ≡ nodes
-value_read nodes after parts value end read left within =
+-- its parts, up to its end
+pub value_slice : (nodes : List Item) (after : List RowPart) (parts : List Part) (value end : ℕ) → drop value (map part_view parts) ≡ value_parts nodes after → drop end (map part_view parts) ≡ segment_end ∷ after
+    → (value ≤ end) × (end ≤ length parts) → take (end - value) (drop value (map part_view parts)) ≡ items_parts (items_of nodes)
+value_slice nodes after parts value end read left within =
     let ps : List RowPart = map part_view parts in
     let own : List RowPart = items_parts (items_of nodes) in
     let size : end - value ≡ length own =
     omega (arith, ap length read, ap length left, length-drop value ps, length-drop end ps, length-append own (segment_end ∷ after), length-map parts part_view, within.0, within.1) in
-    ap nodes_of_parts ((λ i. take (size i) (read i)) ∙ take-append_seam own (segment_end ∷ after)) ∙ nodes_back (items_of nodes) ∙ listed_back nodes
+    (λ i. take (size i) (read i)) ∙ take-append_seam own (segment_end ∷ after)
+
+-- the nodes that are read of its parts
+pub value_read : (nodes : List Item) (after : List RowPart) (parts : List Part) (value end : ℕ) → drop value (map part_view parts) ≡ value_parts nodes after → drop end (map part_view parts) ≡ segment_end ∷ after
+    → (value ≤ end) × (end ≤ length parts) → nodes_of_parts (take (end - value) (drop value (map part_view parts))) ≡ nodes
+value_read nodes after parts value end read left within =
+    ap nodes_of_parts (value_slice nodes after parts value end read left within) ∙ nodes_back (items_of nodes) ∙ listed_back nodes
 
 begins_told : (x : Item) (xs : List Item) (after : List RowPart) → begins_list (value_parts (x ∷ xs) after) ≡ is_list x
 begins_told (leaf kind text) xs after = refl

@@ -3,8 +3,8 @@
 
 ghost use Rattle.std.specs.Prelude.{◌≡◌, ◌++◌, ◌∷◌, [], map, option_map, is_some, IfOk, IfSome, IsTrue, OnOk, bytes_eq, codes, string_bytes, nat_le, ◌==◌, ◌||◌, false, true, None, Some};
 ghost use Rattle.std.specs.List.{list_all, list_any};
-ghost use Rattle.bz_tree.specs.Tree.{Statement};
-ghost use Rattle.bz_tree.specs.Rows.{part_view};
+ghost use Rattle.bz_tree.specs.Tree.{Statement, items_of};
+ghost use Rattle.bz_tree.specs.Rows.{items_parts, part_view};
 ghost use Rattle.bz_tree.specs.View.{nodes_view, segs_view};
 ghost use Rattle.bz_command.specs.declared.arguments.Field.TheVariants.{ValueOf};
 ghost use Rattle.bz_attribute.specs.Heads.{IsHeadOf};
@@ -22,7 +22,7 @@ use bz_attribute::{
     value_place,
 };
 use bz_command::{Field, Package, Text, quote, read_value};
-use bz_layout::flat;
+use bz_layout::flat_parts;
 use bz_memory::{NoMemory, push_char, push_number, push_str, with_length_of};
 use bz_tree::{GroupKind, Node, Part, Seg, nodes_of_parts};
 use std::alloc::Global;
@@ -183,13 +183,21 @@ fn push_attribute<'f>(
         push_str(text, "(missing)")?;
         return Ok(Some(attr));
     };
-    let nodes = nodes_of_parts(env.alloc, &parts[value..value_end(parts, value)])?;
-    push_value(env.alloc, text, &nodes)?;
+    let own = &parts[value..value_end(parts, value)];
+    let nodes = nodes_of_parts(env.alloc, own)?;
+    push_value(env.alloc, text, &nodes, own)?;
     Ok(None)
 }
 
-fn push_value(alloc: Global, text: &mut String, value: &[Node<'_>]) -> Result<(), NoMemory>
-    ensures { OnOk result (string_bytes text.new ≡ string_bytes text.old ++ spec.value_text (nodes_view value.now)) }
+// Writes a value: its nodes, which have these parts.
+fn push_value(
+    alloc: Global,
+    text: &mut String,
+    value: &[Node<'_>],
+    parts: &[Part<'_>],
+) -> Result<(), NoMemory>
+    ensures { OnOk result (map part_view parts.now ≡ items_parts (items_of (nodes_view value.now))
+        → string_bytes text.new ≡ string_bytes text.old ++ spec.value_text (nodes_view value.now)) }
 {
     if push_string(alloc, text, value)? {
         return Ok(());
@@ -200,7 +208,7 @@ fn push_value(alloc: Global, text: &mut String, value: &[Node<'_>]) -> Result<()
         }
         _ => push_str(
             text,
-            flat(alloc, value, Some(GroupKind::RuleCall))?.as_str(),
+            flat_parts(alloc, parts, Some(GroupKind::RuleCall))?.as_str(),
         ),
     }
 }

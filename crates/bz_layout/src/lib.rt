@@ -29,6 +29,6 @@ mod spacing;
 mod walk;
 mod write;
 
-pub use flat_text::flat;
+pub use flat_text::{flat, flat_parts};
 pub use gaps::{blank_between, put_gap};
 pub use row::{put_row, put_stmt};

@@ -1,9 +1,10 @@
-use Rattle.std.proofs.Common.{tests, ◌≡◌, ℕ, ◌<◌, ◌≤◌, ◌∷◌, [], ◌++◌, ◌&&◌, get_or, List, Option, Some, None, is_some, false, length, refl, ap, sym, ◌∙◌, arith, append-nil, string_bytes, if◌then◌else◌, is_ok, Result, Ok, Err, OnOk, subst}
+use Rattle.std.proofs.Common.{tests, map, ◌≡◌, ℕ, ◌<◌, ◌≤◌, ◌∷◌, [], ◌++◌, ◌&&◌, get_or, List, Option, Some, None, is_some, false, length, refl, ap, sym, ◌∙◌, arith, append-nil, string_bytes, if◌then◌else◌, is_ok, Result, Ok, Err, OnOk, subst}
 use Rattle.std.proofs.lemmas.Result.{on_ok_weaker}
 use Rattle.std.specs.List.{list_all}
 use Rattle.bz_tree.specs.declared.tree.GroupKind.TheVariants.{RuleCall}
 use Rattle.bz_tree.specs.declared.tree.Node.{Node}
-use Rattle.bz_tree.specs.Tree.{Item}
+use Rattle.bz_tree.specs.Rows.{items_parts, part_view}
+use Rattle.bz_tree.specs.Tree.{Item, items_of}
 use Rattle.bz_tree.specs.View.{node_view, nodes_view}
 use Rattle.bz_layout.specs.Layout.{flat_text}
 use Rattle.bz_attribute.specs.Lists.{is_list}
@@ -43,8 +44,8 @@ written : {T E : Type 0} (r : Result T E) (new old line : List ℕ) → new ≡ 
 written (Ok x) new old line h = h
 written (Err e) new old line h = tt
 
-pub returns-in_ok-flat-in_default : goal.returns-in_ok-flat-in_default
-returns-in_ok-flat-in_default c =
+pub returns-in_ok-flat_parts-in_default : goal.returns-in_ok-flat_parts-in_default
+returns-in_ok-flat_parts-in_default c =
     let no_list : IsFlat (nodes_view c.args.value.now) = elim c.in_default.branch [
       | in_default-via-then-value-lt1 w ↦ no_words c.args.value.now (grind (arith, nat_tests, tests))
       | in_default-via-in-len1+then-is_list+else-are_strings w ↦
@@ -53,9 +54,10 @@ returns-in_ok-flat-in_default c =
       | in_default-via-else-value-lt1+else-value-lt2 w ↦ many c.args.value.now (grind (arith, nat_tests, tests))
     ] in
     let string : is_some (string_value (nodes_view c.args.value.now)) ≡ false = sym c.in_ok-push_string.ensures.is ∙ c.if-branch.false in
-    let flat : c.as_str.result.now ≡ value_text (nodes_view c.args.value.now) = c.as_str.ensures.value ∙ c.in_ok-flat-in_default.ensures.text ∙ sym (flat_value (nodes_view c.args.value.now) string no_list) in
+    let flat : (own : map part_view c.args.parts.now ≡ items_parts (items_of (nodes_view c.args.value.now))) → c.as_str.result.now ≡ value_text (nodes_view c.args.value.now) = λ own.
+    c.as_str.ensures.value ∙ c.in_ok-flat_parts-in_default.ensures.text (nodes_view c.args.value.now) own ∙ sym (flat_value (nodes_view c.args.value.now) string no_list) in
     let before : string_bytes c.push_string.new.text ≡ string_bytes c.args.text.now =
     c.in_ok-push_string.ensures.word ∙ ap (λ (v : Option (List ℕ)). string_bytes c.args.text.now ++ map_or [] word_form v) (none (string_value (nodes_view c.args.value.now)) string) ∙ append-nil (string_bytes c.args.text.now) in
     on_ok_weaker c.push_str.result
-    (λ (is : string_bytes c.push_str.new.string ≡ string_bytes c.push_string.new.text ++ c.as_str.result.now). is ∙ (λ j. before j ++ flat j))
+    (λ (is : string_bytes c.push_str.new.string ≡ string_bytes c.push_string.new.text ++ c.as_str.result.now) own. is ∙ (λ j. before j ++ flat own j))
     (written c.push_str.result (string_bytes c.push_str.new.string) (string_bytes c.push_string.new.text) c.as_str.result.now c.push_str.ensures.bytes)
