@@ -1,4 +1,4 @@
-use Rattle.std.proofs.Common.{◌≡◌, [], map, ap, sym, ◌∙◌, string_bytes, arith}
+use Rattle.std.proofs.Common.{◌≡◌, [], map, ap, ◌∙◌, string_bytes, arith}
 use Rattle.std.proofs.lemmas.Grind.{common_steps}
 use Rattle.bz_tree.specs.Rows.{part_view}
 use Rattle.bz_layout.specs.private.RowLayout.{Laid, start, run, laid}
