@@ -29,12 +29,20 @@ note_of field text = if is_some text then None else Some (Missing (field_name fi
 
 -- the first argument of a name, for which the head is not needed
 pub one_argument : (home : Package) (attr : List ℕ) (head : Head) (ps : List RowPart) (old new : List ℕ) (text : Option (List ℕ))
-    → ((s : Statement) (r : Rule) → IsRuleRow s r ps → option_map (λ (a : Segment). value_text (value a)) (first_named attr r.args) ≡ text)
-    → ((s : Statement) (r : Rule) → IsRuleRow s r ps → new ≡ old ++ map_or (codes "(missing)") (λ text. text) text)
+    → ((s : Statement) (r : Rule) → IsRuleRow s r ps → option_map (λ (a : Segment). value_text (value a)) (first_named attr r.args) ≡ text) → new ≡ old ++ map_or (codes "(missing)") (λ text. text) text
     → HasPrinted home (ValueOf attr ∷ []) head ps old new (note_of (ValueOf attr) text)
 one_argument home attr head ps old new text told is = record {
-  line = λ s r h. is s r h.row ∙ ap (λ (t : Option (List ℕ)). old ++ map_or (codes "(missing)") (λ text. text) t) (sym (told s r h.row));
+  line = λ s r h. is ∙ ap (λ (t : Option (List ℕ)). old ++ map_or (codes "(missing)") (λ text. text) t) (sym (told s r h.row));
   note = λ s r h. ap (note_of (ValueOf attr)) (sym (told s r h.row));
+}
+
+-- its value
+pub one_value : (home : Package) (attr : List ℕ) (head : Head) (ps : List RowPart) (old new : List ℕ)
+    → ((s : Statement) (r : Rule) → IsRuleRow s r ps → (text : List ℕ) × (option_map (λ (a : Segment). value_text (value a)) (first_named attr r.args) ≡ Some text) × (new ≡ old ++ text))
+    → HasPrinted home (ValueOf attr ∷ []) head ps old new None
+one_value home attr head ps old new has = record {
+  line = λ s r h. let it = has s r h.row in it.2 ∙ ap (λ (t : Option (List ℕ)). old ++ map_or (codes "(missing)") (λ text. text) t) (sym it.1);
+  note = λ s r h. ap (note_of (ValueOf attr)) (sym (has s r h.row).1);
 }
 
 -- the name and the kind

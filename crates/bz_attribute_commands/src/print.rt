@@ -1,12 +1,14 @@
 //! `print`: a line with the texts of a rule's fields. bz_rule (`statement_row.rt`) calls `print`, and bz_engine
 //! (`answer.rt`) calls `print_name` for a rule that it does not read.
 
-ghost use Rattle.std.specs.Prelude.{◌≡◌, ◌++◌, ◌∷◌, [], map, option_map, is_some, IfOk, IfSome, IsTrue, OnOk, bytes_eq, codes, string_bytes, nat_le, ◌==◌, ◌||◌, false, true, None, Some};
+ghost use Rattle.std.specs.Prelude.{◌≡◌, ◌++◌, ◌∷◌, [], List, map, option_map, is_some, IfOk, IfSome, IsTrue, OnOk, bytes_eq, codes, string_bytes, nat_le, ◌==◌, ◌||◌, false, true, None, Some};
 ghost use Rattle.std.specs.List.{list_all, list_any};
-ghost use Rattle.bz_tree.specs.Tree.{Statement, items_of};
+ghost use Rattle.bz_tree.specs.Tree.{Item, Statement, items_of};
+ghost use Rattle.bz_tree.specs.declared.tree.GroupKind.TheVariants.{RuleCall};
 ghost use Rattle.bz_tree.specs.Rows.{items_parts, part_view};
 ghost use Rattle.bz_tree.specs.View.{nodes_view, segs_view};
 ghost use Rattle.bz_command.specs.declared.arguments.Field.TheVariants.{ValueOf};
+ghost use Rattle.bz_layout.specs.Layout.{flat_text};
 ghost use Rattle.bz_attribute.specs.Heads.{IsHeadOf};
 ghost use Rattle.bz_attribute.specs.RowPlaces.{IsRuleRow};
 ghost use Rattle.bz_attribute.specs.Rules.{Rule, name_in, rule_of, string_value};
@@ -183,14 +185,25 @@ fn push_attribute<'f>(
         push_str(text, "(missing)")?;
         return Ok(Some(attr));
     };
-    let own = &parts[value..value_end(parts, value)];
-    let nodes = nodes_of_parts(env.alloc, own)?;
-    push_value(env.alloc, text, &nodes, own)?;
+    push_value(env.alloc, text, &parts[value..value_end(parts, value)])?;
     Ok(None)
 }
 
-// Writes a value: its nodes, which have these parts.
-fn push_value(
+// Writes the value that has these parts.
+fn push_value(alloc: Global, text: &mut String, parts: &[Part<'_>]) -> Result<(), NoMemory>
+    ensures { OnOk result ((value : List Item) → map part_view parts.now ≡ items_parts (items_of value)
+        → string_bytes text.new ≡ string_bytes text.old ++ spec.value_text value) }
+{
+    // Neither one string nor one list: its nodes are not made.
+    if let [Part::Token(_, _), _, ..] = parts {
+        return push_flat(alloc, text, parts);
+    }
+    let nodes = nodes_of_parts(alloc, parts)?;
+    push_nodes(alloc, text, &nodes, parts)
+}
+
+// Writes the value that has these nodes and these parts.
+fn push_nodes(
     alloc: Global,
     text: &mut String,
     value: &[Node<'_>],
@@ -206,11 +219,17 @@ fn push_value(
         [node] if is_list(node) && are_strings(elements_at(node)) => {
             push_words(alloc, text, elements_at(node))
         }
-        _ => push_str(
-            text,
-            flat_parts(alloc, parts, Some(GroupKind::RuleCall))?.as_str(),
-        ),
+        _ => push_flat(alloc, text, parts),
     }
+}
+
+// Writes the value that has these parts as the layout has it on one line.
+fn push_flat(alloc: Global, text: &mut String, parts: &[Part<'_>]) -> Result<(), NoMemory>
+    ensures { OnOk result ((value : List Item) → map part_view parts.now ≡ items_parts (items_of value)
+        → string_bytes text.new ≡ string_bytes text.old ++ flat_text (Some RuleCall) value) }
+{
+    let flat = flat_parts(alloc, parts, Some(GroupKind::RuleCall))?;
+    push_str(text, flat.as_str())
 }
 
 // Strings with values.

@@ -1,63 +1,53 @@
-use Rattle.std.proofs.Common.{tests, map, ◌≡◌, ℕ, ◌<◌, ◌≤◌, ◌∷◌, [], ◌++◌, ◌&&◌, get_or, List, Option, Some, None, is_some, false, length, refl, ap, sym, ◌∙◌, arith, append-nil, string_bytes, if◌then◌else◌, is_ok, Result, Ok, Err, OnOk, subst}
+use Rattle.std.proofs.Common.{◌≡◌, ◌++◌, List, ℕ, [], ◌∷◌, map, ap, sym, ◌∙◌, refl, string_bytes, Option, Some, None}
+use Rattle.std.specs.Prelude.{option_and_then}
 use Rattle.std.proofs.lemmas.Result.{on_ok_weaker}
-use Rattle.std.specs.List.{list_all}
-use Rattle.bz_tree.specs.declared.tree.GroupKind.TheVariants.{RuleCall}
-use Rattle.bz_tree.specs.declared.tree.Node.{Node}
-use Rattle.bz_tree.specs.Rows.{items_parts, part_view}
-use Rattle.bz_tree.specs.Tree.{Item, items_of}
-use Rattle.bz_tree.specs.View.{node_view, nodes_view}
-use Rattle.bz_layout.specs.Layout.{flat_text}
-use Rattle.bz_attribute.specs.Lists.{is_list}
-use Rattle.bz_attribute.specs.Rules.{elements, string_value}
-use Rattle.bz_attribute.proofs.Mapped.{one_node}
-use Rattle.bz_attribute_commands.specs.Print.{list_text, value_text, word_form}
-use Rattle.std.proofs.lemmas.Bool.{and_left, and_right}
-use Rattle.std.proofs.lemmas.Bool.Decides.{nat_tests}
-use Rattle.bz_attribute_commands.proofs.print.push_value.Goals as goal
-use Rattle.bz_attribute_commands.proofs.print.push_value.Goals.{in_default-via-then-value-lt1, in_default-via-in-len1+then-is_list+else-are_strings, in_default-via-in-len1+else-is_list, in_default-via-else-value-lt1+else-value-lt2}
 use Rattle.bz_token.specs.Common.{map_or}
+use Rattle.bz_token.specs.declared.token.Kind.{Kind}
+use Rattle.bz_token.specs.declared.token.Kind.TheVariants.{Identifier, Keyword, Integer, String, Operator, Newline, Comment, Kept}
+use Rattle.bz_tree.specs.declared.tree.GroupKind.TheVariants.{RuleCall}
+use Rattle.bz_tree.specs.FromParts.{nodes_of_parts}
+use Rattle.bz_tree.specs.Rows.{RowPart, a_token, items_parts, part_view}
+use Rattle.bz_tree.specs.Tree.{Item, leaf, group, items_of}
+use Rattle.bz_tree.specs.View.{nodes_view}
+use Rattle.bz_tree.proofs.Rows.FromParts.{listed_back, nodes_back}
+use Rattle.bz_layout.specs.Layout.{flat_text}
+use Rattle.bz_attribute.specs.Rules.{only_text}
+use Rattle.bz_command.specs.Values.{value_of}
+use Rattle.bz_attribute_commands.specs.Print.{list_text, value_text, word_form}
+use Rattle.bz_attribute_commands.proofs.print.push_value.Goals as goal
 
-none : (o : Option (List ℕ)) → is_some o ≡ false → o ≡ None
-none None h = refl
-none (Some x) h = absurd cc
+-- two nodes are no string alone
+no_text : (k : Kind) (t : List ℕ) (x : Item) (xs : List Item) → only_text (leaf k t ∷ x ∷ xs) ≡ None
+no_text Identifier t x xs = refl
+no_text Keyword t x xs = refl
+no_text Integer t x xs = refl
+no_text String t x xs = refl
+no_text Operator t x xs = refl
+no_text Newline t x xs = refl
+no_text Comment t x xs = refl
+no_text Kept t x xs = refl
 
--- no list of strings with values
-abbrev IsFlat : List Item → Type 0
-IsFlat nodes = list_text nodes ≡ flat_text (Some RuleCall) nodes
+-- what begins with a token and has more parts is neither one string nor one list
+is_flat : (kind : Kind) (text : List ℕ) (p : RowPart) (ps : List RowPart) (value : List Item) → a_token kind text ∷ p ∷ ps ≡ items_parts (items_of value)
+    → flat_text (Some RuleCall) value ≡ value_text value
+is_flat kind text p ps [] h = absurd cc
+is_flat kind text p ps (leaf k t ∷ []) h = absurd cc
+is_flat kind text p ps (leaf k t ∷ x ∷ xs) h =
+    ap (λ (o : Option (List ℕ)). map_or (list_text (leaf k t ∷ x ∷ xs)) word_form (option_and_then value_of o)) (sym (no_text k t x xs))
+is_flat kind text p ps (group k segs one end ∷ xs) h = absurd cc
 
-flat_value : (nodes : List Item) → is_some (string_value nodes) ≡ false → IsFlat nodes → value_text nodes ≡ flat_text (Some RuleCall) nodes
-flat_value nodes string flat = rw (none (string_value nodes) string) flat
+pub returns-in-Token : goal.returns-in-Token
+returns-in-Token c =
+    on_ok_weaker c.push_flat.result
+    (λ (is : (value : List Item) → map part_view c.args.parts.now ≡ items_parts (items_of value) → string_bytes c.push_flat.new.text ≡ string_bytes c.args.text.now ++ flat_text (Some RuleCall) value) value own.
+    is value own ∙ ap (λ (line : List ℕ). string_bytes c.args.text.now ++ line) (begun c.args.parts.now value grind own))
+    c.push_flat.ensures
 
-no_words : (ns : List Node) → length ns < 1 → IsFlat (nodes_view ns)
-no_words [] h = refl
-no_words (n ∷ ns) h = absurd (omega arith)
-
-many : (ns : List Node) → 2 ≤ length ns → IsFlat (nodes_view ns)
-many [] h = refl
-many (n ∷ []) h = absurd (omega arith)
-many (n ∷ m ∷ ns) h = refl
-
-one : (ns : List Node) (n : Node) → 1 ≤ length ns → length ns < 2 → n ≡ get_or ns 0 n → (is_list (node_view n) && list_all (λ x0. is_some (string_value x0.nodes)) (elements (node_view n))) ≡ false → IsFlat (nodes_view ns)
-one ns n few more at not = subst (λ (xs : List Node). IsFlat (nodes_view xs)) (sym (one_node ns n few more at)) (rw not refl)
-
-written : {T E : Type 0} (r : Result T E) (new old line : List ℕ) → new ≡ (if is_ok r then old ++ line else old) → OnOk r (new ≡ old ++ line)
-written (Ok x) new old line h = h
-written (Err e) new old line h = tt
-
-pub returns-in_ok-flat_parts-in_default : goal.returns-in_ok-flat_parts-in_default
-returns-in_ok-flat_parts-in_default c =
-    let no_list : IsFlat (nodes_view c.args.value.now) = elim c.in_default.branch [
-      | in_default-via-then-value-lt1 w ↦ no_words c.args.value.now (grind (arith, nat_tests, tests))
-      | in_default-via-in-len1+then-is_list+else-are_strings w ↦
-          one c.args.value.now w.node-item.result (omega arith) (omega arith) w.node-item.is (and_right _ _ (ap (list_all (λ x0. is_some (string_value x0.nodes))) (sym w.elements_at.ensures) ∙ sym w.are_strings.ensures ∙ w.if-are_strings.false))
-      | in_default-via-in-len1+else-is_list w ↦ one c.args.value.now w.node-item.result (omega arith) (omega arith) w.node-item.is (and_left _ _ (sym w.is_list.ensures ∙ w.if-is_list.false))
-      | in_default-via-else-value-lt1+else-value-lt2 w ↦ many c.args.value.now (grind (arith, nat_tests, tests))
-    ] in
-    let string : is_some (string_value (nodes_view c.args.value.now)) ≡ false = sym c.in_ok-push_string.ensures.is ∙ c.if-branch.false in
-    let flat : (own : map part_view c.args.parts.now ≡ items_parts (items_of (nodes_view c.args.value.now))) → c.as_str.result.now ≡ value_text (nodes_view c.args.value.now) = λ own.
-    c.as_str.ensures.value ∙ c.in_ok-flat_parts-in_default.ensures.text (nodes_view c.args.value.now) own ∙ sym (flat_value (nodes_view c.args.value.now) string no_list) in
-    let before : string_bytes c.push_string.new.text ≡ string_bytes c.args.text.now =
-    c.in_ok-push_string.ensures.word ∙ ap (λ (v : Option (List ℕ)). string_bytes c.args.text.now ++ map_or [] word_form v) (none (string_value (nodes_view c.args.value.now)) string) ∙ append-nil (string_bytes c.args.text.now) in
-    on_ok_weaker c.push_str.result
-    (λ (is : string_bytes c.push_str.new.string ≡ string_bytes c.push_string.new.text ++ c.as_str.result.now) own. is ∙ (λ j. before j ++ flat own j))
-    (written c.push_str.result (string_bytes c.push_str.new.string) (string_bytes c.push_string.new.text) c.as_str.result.now c.push_str.ensures.bytes)
+pub returns : goal.returns
+returns c =
+    on_ok_weaker c.push_nodes.result
+    (λ (is : map part_view c.args.parts.now ≡ items_parts (items_of (nodes_view c.deref.result.now)) → string_bytes c.push_nodes.new.text ≡ string_bytes c.args.text.now ++ value_text (nodes_view c.deref.result.now)) value own.
+    let nodes : nodes_view c.deref.result.now ≡ value =
+    ap nodes_view c.deref.ensures.value ∙ c.in_ok-nodes.ensures ∙ ap nodes_of_parts own ∙ nodes_back (items_of value) ∙ listed_back value in
+    is (own ∙ ap (λ (xs : List Item). items_parts (items_of xs)) (sym nodes)) ∙ ap (λ (xs : List Item). string_bytes c.args.text.now ++ value_text xs) nodes)
+    c.push_nodes.ensures
