@@ -1,11 +1,12 @@
 //! `print`: a line with the texts of a rule's fields. bz_rule (`statement_row.rt`) calls `print`, and bz_engine
 //! (`answer.rt`) calls `print_name` for a rule that it does not read.
 
-ghost use Rattle.std.specs.Prelude.{◌≡◌, ◌++◌, ◌∷◌, [], List, map, option_map, is_some, IfOk, IfSome, IsTrue, OnOk, bytes_eq, codes, string_bytes, nat_le, ◌==◌, ◌||◌, false, true, None, Some};
+ghost use Rattle.std.specs.Prelude.{◌≡◌, ◌++◌, ◌∷◌, [], ℕ, List, map, option_map, is_some, IfOk, IfSome, IsTrue, OnOk, bytes_eq, codes, string_bytes, nat_le, ◌==◌, ◌||◌, false, true, None, Some};
 ghost use Rattle.std.specs.List.{list_all, list_any};
 ghost use Rattle.bz_tree.specs.Tree.{Item, Statement, items_of};
 ghost use Rattle.bz_tree.specs.declared.tree.GroupKind.TheVariants.{RuleCall};
-ghost use Rattle.bz_tree.specs.Rows.{items_parts, part_view};
+ghost use Rattle.bz_tree.specs.Rows.{a_token, items_parts, part_view};
+ghost use Rattle.bz_token.specs.declared.token.Kind.{Kind};
 ghost use Rattle.bz_tree.specs.View.{nodes_view, segs_view};
 ghost use Rattle.bz_command.specs.declared.arguments.Field.TheVariants.{ValueOf};
 ghost use Rattle.bz_layout.specs.Layout.{flat_text};
@@ -195,11 +196,17 @@ fn push_value(alloc: Global, text: &mut String, parts: &[Part<'_>]) -> Result<()
         → string_bytes text.new ≡ string_bytes text.old ++ spec.value_text value) }
 {
     // Neither one string nor one list: its nodes are not made.
-    if let [Part::Token(_, _), _, ..] = parts {
+    if parts.len() > 1 && is_token(&parts[0]) {
         return push_flat(alloc, text, parts);
     }
     let nodes = nodes_of_parts(alloc, parts)?;
     push_nodes(alloc, text, &nodes, parts)
+}
+
+fn is_token(part: &Part<'_>) -> bool
+    ensures { IsTrue result → (kind : Kind) × (text : List ℕ) × (part_view part.now ≡ a_token kind text) }
+{
+    matches!(part, Part::Token(_, _))
 }
 
 // Writes the value that has these nodes and these parts.

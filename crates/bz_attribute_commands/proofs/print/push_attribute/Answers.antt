@@ -1,5 +1,5 @@
-use Rattle.std.proofs.Common.{◌≡◌, ◌-◌, ◌++◌, List, Some, None, option_map, map, string_bytes, ap, sym, ◌∙◌}
-use Rattle.bz_tree.specs.Tree.{Item, Segment}
+use Rattle.std.proofs.Common.{◌-◌, None, option_map, map, ap, ◌∙◌}
+use Rattle.bz_tree.specs.Tree.{Segment}
 use Rattle.bz_tree.specs.Rows.{part_view}
 use Rattle.bz_attribute.specs.Rules.{value}
 use Rattle.bz_attribute.proofs.EditedAt.{none_first}

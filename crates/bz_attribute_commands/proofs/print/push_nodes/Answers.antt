@@ -1,4 +1,4 @@
-use Rattle.std.proofs.Common.{tests, map, ◌≡◌, ℕ, ◌<◌, ◌≤◌, ◌∷◌, [], ◌++◌, ◌&&◌, get_or, List, Option, Some, None, is_some, false, length, refl, ap, sym, ◌∙◌, arith, append-nil, string_bytes, if◌then◌else◌, is_ok, Result, Ok, Err, OnOk, subst}
+use Rattle.std.proofs.Common.{tests, map, ◌≡◌, ℕ, ◌<◌, ◌≤◌, ◌∷◌, [], ◌++◌, ◌&&◌, get_or, List, Option, Some, None, is_some, false, length, refl, ap, sym, ◌∙◌, arith, append-nil, string_bytes, subst}
 use Rattle.std.proofs.lemmas.Result.{on_ok_weaker}
 use Rattle.std.specs.List.{list_all}
 use Rattle.bz_tree.specs.declared.tree.GroupKind.TheVariants.{RuleCall}
