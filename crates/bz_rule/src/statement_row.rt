@@ -90,10 +90,10 @@ impl<'a> StatementRow<'a> {
     }
 
     /// The statement of a tree. What the tree owns of its texts is copied into the arena.
-    pub fn of_stmt(
+    pub fn of_stmt<'t: 'a>(
         alloc: Global,
         bump: &'a Bump,
-        stmt: &Stmt<'a>,
+        stmt: &Stmt<'t>,
     ) -> Result<StatementRow<'a>, NoMemory>
         ensures { IfOk result (λ row. row ≡ view stmt.now) }
     {

@@ -13,7 +13,7 @@ use std::alloc::Allocator;
 use std::borrow::CowStr;
 
 // A text that lasts as long as the arena: the slice where it is borrowed, a copy in the arena where it is owned.
-fn text_in<'a>(bump: &'a Bump, text: &CowStr<'a>) -> Result<&'a str, NoMemory>
+fn text_in<'a, 't: 'a>(bump: &'a Bump, text: &CowStr<'t>) -> Result<&'a str, NoMemory>
     ensures { IfOk result (λ slice. slice.now ≡ text_of text.now) }
 {
     match text {
@@ -24,9 +24,9 @@ fn text_in<'a>(bump: &'a Bump, text: &CowStr<'a>) -> Result<&'a str, NoMemory>
 
 /// Appends the parts of a statement; texts that it owns are copied into the arena. `Err`: memory was refused, and some
 /// of the parts may have been appended.
-pub fn push_parts<'a, A: Allocator>(
+pub fn push_parts<'a, 't: 'a, A: Allocator>(
     bump: &'a Bump,
-    stmt: &Stmt<'a>,
+    stmt: &Stmt<'t>,
     parts: &mut Vec<Part<'a>, A>,
 ) -> Result<(), NoMemory>
     ensures { OnOk result (map part_view parts.new.items ≡ map part_view parts.old.items ++ parts_of (view stmt.now)) }
@@ -36,9 +36,9 @@ pub fn push_parts<'a, A: Allocator>(
     push_beside(bump, &stmt.suffix, parts)
 }
 
-fn push_above<'a, A: Allocator>(
+fn push_above<'a, 't: 'a, A: Allocator>(
     bump: &'a Bump,
-    comments: &[CowStr<'a>],
+    comments: &[CowStr<'t>],
     parts: &mut Vec<Part<'a>, A>,
 ) -> Result<(), NoMemory>
     ensures { OnOk result (map part_view parts.new.items
@@ -50,9 +50,9 @@ fn push_above<'a, A: Allocator>(
     Ok(())
 }
 
-fn push_beside<'a, A: Allocator>(
+fn push_beside<'a, 't: 'a, A: Allocator>(
     bump: &'a Bump,
-    comment: &Option<CowStr<'a>>,
+    comment: &Option<CowStr<'t>>,
     parts: &mut Vec<Part<'a>, A>,
 ) -> Result<(), NoMemory>
     ensures { OnOk result
@@ -65,9 +65,9 @@ fn push_beside<'a, A: Allocator>(
 }
 
 #[cycle(parts)]
-fn push_segment<'a, A: Allocator>(
+fn push_segment<'a, 't: 'a, A: Allocator>(
     bump: &'a Bump,
-    seg: &Seg<'a>,
+    seg: &Seg<'t>,
     parts: &mut Vec<Part<'a>, A>,
 ) -> Result<(), NoMemory>
     ensures { OnOk result (map part_view parts.new.items
@@ -80,9 +80,9 @@ fn push_segment<'a, A: Allocator>(
 }
 
 #[cycle(parts)]
-fn push_group<'a, A: Allocator>(
+fn push_group<'a, 't: 'a, A: Allocator>(
     bump: &'a Bump,
-    group: &Group<'a>,
+    group: &Group<'t>,
     parts: &mut Vec<Part<'a>, A>,
 ) -> Result<(), NoMemory>
     ensures { OnOk result
@@ -99,9 +99,9 @@ fn push_group<'a, A: Allocator>(
 /// Appends the parts of these nodes; texts that they own are copied into the arena. `Err`: memory was refused, and some
 /// of the parts may have been appended.
 #[cycle(parts)]
-pub fn push_nodes<'a, A: Allocator>(
+pub fn push_nodes<'a, 't: 'a, A: Allocator>(
     bump: &'a Bump,
-    nodes: &[Node<'a>],
+    nodes: &[Node<'t>],
     parts: &mut Vec<Part<'a>, A>,
 ) -> Result<(), NoMemory>
     ensures { OnOk result
