@@ -1,18 +1,18 @@
 -- Reads, one after another.
-use Rattle.std.proofs.Common.{rules, ◌<◌, ◌-◌, ◌*◌, ◌==◌, ◌≡◌, ℕ, ◌≤◌, ◌+◌, Bool, true, false, List, [], ◌∷◌, ◌++◌, length, length-append, take, drop, refl, sym, ◌∙◌, ap, subst, append-nil, append_assoc, arith}
+use Rattle.std.proofs.Common.{rules, ◌<◌, ◌-◌, ◌==◌, ◌≡◌, ℕ, ◌≤◌, ◌+◌, Bool, true, false, List, [], ◌∷◌, ◌++◌, length, length-append, take, drop, refl, sym, ◌∙◌, ap, subst, append-nil, append_assoc, arith}
 use Rattle.std.specs.Prelude.{IsTrue, ◌||◌}
 use Rattle.std.proofs.lemmas.Bool.{false≢true}
 use Rattle.std.proofs.lemmas.List.{drop-append-le, take-append-le}
 use Rattle.std.proofs.lemmas.List.Concat.{flat_map-append}
 use Rattle.bz_devices.specs.Device.{ends, NoneEnds, NoneAfterEnd, Rises}
 use Rattle.bz_devices.specs.DeviceLaws.{ends-append}
-use Rattle.bz_devices.specs.Ahead.{Ahead, AreSmall, IsReadOn, MayFollow, IsUndecided, AreNeeded}
+use Rattle.bz_devices.specs.Ahead.{Ahead, IsReadOn, MayFollow, IsUndecided, AreNeeded}
 use Rattle.std.specs.List.{concat}
 
 -- no read
 pub read_nothing : (max : ℕ) (ahead : Ahead) → ahead.reads ≤ max → IsReadOn max ahead ahead []
 read_nothing max ahead within =
-    record { bytes = sym (append-nil ahead.bytes); reads = omega arith; within = within; ended = or_false ahead.ended; stays = λ _. refl; none_ends = λ _. tt; none_after = tt; small = tt }
+    record { bytes = sym (append-nil ahead.bytes); reads = omega arith; within = within; ended = or_false ahead.ended; stays = λ _. refl; none_ends = λ _. tt; none_after = tt; few = omega arith }
   where
     or_false : (b : Bool) → b ≡ (b || false)
     or_false true = refl
@@ -43,7 +43,7 @@ read_once max most old new items all piece start text_len reads n ended view mad
       stays = λ h. absurd (false≢true (sym before ∙ h));
       none_ends = λ h. (some_bytes piece (ap (λ k. k == 0) (sym size) ∙ h), tt);
       none_after = tt;
-      small = (omega (arith, size, within, few), tt);
+      few = omega (arith, whole, size, within, few);
     } in (
       subst (λ a. IsReadOn max a new (piece ∷ [])) view (subst (λ a. IsReadOn max (record { bytes = drop start items; reads = reads; ended = ended }) a (piece ∷ [])) (sym made) is),
       omega (arith, whole, size, within),
@@ -94,18 +94,6 @@ or_left false b c h k = refl
 or_true : (a b c : Bool) → c ≡ (a || b) → a ≡ true → c ≡ true
 or_true a b c h k = h ∙ ap (λ t. t || b) k
 
-small_append : (xs ys : List (List ℕ)) → AreSmall xs → AreSmall ys → AreSmall (xs ++ ys)
-small_append [] ys h k = k
-small_append (x ∷ xs) ys h k = (h.0, small_append xs ys h.1 k)
-
--- so many bytes at most
-pub small_sum : (pieces : List (List ℕ)) → AreSmall pieces → length (concat pieces) ≤ 8192 * length pieces
-small_sum [] h = omega arith
-small_sum (x ∷ xs) h =
-    let more = small_sum xs h.1 in
-    let whole : length (concat (x ∷ xs)) ≡ length x + length (concat xs) = length-append x (concat xs) in
-    omega (arith, more, whole, h.0)
-
 -- one run of reads after another
 pub read_then : (max : ℕ) (a b c : Ahead) (xs ys : List (List ℕ)) → IsReadOn max a b xs → IsReadOn max b c ys → IsReadOn max a c (xs ++ ys)
 read_then max a b c xs ys first second =
@@ -122,7 +110,7 @@ read_then max a b c xs ys first second =
       none_ends = λ h.
           none_append xs ys (first.none_ends (or_left b.ended (ends ys) c.ended second.ended h)) (second.none_ends h);
       none_after = after_then b.ended xs ys first.none_after second.none_after first.none_ends second.stays;
-      small = small_append xs ys first.small second.small;
+      few = omega (arith, first.few, second.few, ap length all, length-append (concat xs) (concat ys), length-append xs ys);
     }
 
 -- what may follow the bytes after the reads may follow the first with them

@@ -2,7 +2,7 @@
 -- Begin with `IsUndecided` and `HasTooLong`.
 -- Of later stops: 8 `EndsBefore`, `chunks`, `line_at`.
 use Rattle.std.specs.Prelude.{◌≡◌, ℕ, ◌+◌, ◌*◌, ◌<◌, ◌≤◌, Bool, false, ◌||◌, IsTrue, List, [], ◌∷◌, ◌++◌, length, take, drop, ⊤}
-use Rattle.std.specs.List.{concat, AllByRecursion}
+use Rattle.std.specs.List.{concat}
 use Rattle.bz_token.specs.Places.{line_at}
 use Rattle.bz_token.specs.Chunks.{chunks}
 use Rattle.bz_token.specs.Cuts.{EndsBefore}
@@ -14,10 +14,6 @@ pub record Ahead : Type 0 where
   pub reads : ℕ
   pub ended : Bool
 
--- One read gives at most 8,192 bytes.
-abbrev pub AreSmall : List (List ℕ) → Type 0
-AreSmall pieces = AllByRecursion (λ piece. length piece ≤ 8192) pieces
-
 -- Reads gave these pieces, each of at most 8,192 bytes: they stand after the bytes ahead. After the end nothing is read.
 pub record IsReadOn (max_reads : ℕ) (old new : Ahead) (pieces : List (List ℕ)) : Type 0 where
   pub bytes : new.bytes ≡ old.bytes ++ concat pieces
@@ -27,7 +23,7 @@ pub record IsReadOn (max_reads : ℕ) (old new : Ahead) (pieces : List (List ℕ
   pub stays : IsTrue old.ended → pieces ≡ []
   pub none_ends : new.ended ≡ false → NoneEnds pieces
   pub none_after : NoneAfterEnd pieces
-  pub small : AreSmall pieces
+  pub few : length (concat pieces) ≤ 8192 * length pieces
 
 -- what may follow the bytes ahead: nothing, where the end was met
 abbrev pub MayFollow : Ahead → List ℕ → Type 0

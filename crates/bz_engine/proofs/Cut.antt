@@ -150,6 +150,7 @@ pub stops_unread : (v : SessionValue) (mid : Ahead) (fault : RunFault) (home : P
     → v.home ≡ home → v.passes ≡ passes → v.options ≡ options → HasDone v pieces cs text
     → IsReadOn v.options.max_reads v.ahead mid read → AllFit options.max_statement cs → Tells v.options v.progress.line mid fault
     → HasStopped (run_with home passes options) options (pieces ++ read) (text ++ []) fault
+unfolding stops_at
 stops_unread v mid fault home passes options pieces cs read text h p o done on fit tells =
     stopped_for (λ run x. HasStopped run x (pieces ++ read) (text ++ []) fault) v home passes options h p o
     (stops_at v mid fault pieces cs read text [] done on (inl refl) (λ _. refl) tells, fit_by v options cs o fit)
@@ -200,9 +201,13 @@ stops_by_fault v w fault home passes options pieces cs read text shown h p o don
 pub stops_in_time : (v w : SessionValue) (fault : RunFault) (home : Package) (passes : Script) (options : Options) (pieces cs read : List (List ℕ)) (text shown : List ℕ)
     → v.home ≡ home → v.passes ≡ passes → v.options ≡ options → HasDone v pieces cs text → IsSameRun v w → AllFit options.max_statement cs
     → IsLeftByFault v w read shown fault → (fault ≢ WriteFailed → shown ≡ []) → HasStopped (run_with home passes options) options (pieces ++ read) (text ++ shown) fault
+unfolding stops_at
 stops_in_time v w fault home passes options pieces cs read text shown h p o done same fit left unwritten =
-    stopped_for (λ run x. HasStopped run x (pieces ++ read) (text ++ shown) fault) v home passes options h p o
-    (stops_here v w fault pieces cs read text shown done same left unwritten, fit_by v options cs o fit)
+    stopped_for (λ run x. HasStopped run x (pieces ++ read) (text ++ shown) fault) v home passes options h p o (
+      stops_at v w.ahead fault pieces cs read text shown done left.read_ahead
+          (begins_next v w (pieces ++ read) cs done.statements text shown same done.text_is (left.front pieces cs text done)) unwritten left.tells,
+      fit_by v options cs o fit,
+    )
 
 -- the input is too long
 pub one_needed_there : (v : SessionValue) (mid : Ahead) (home : Package) (passes : Script) (options : Options) (pieces cs read : List (List ℕ)) (text : List ℕ)

@@ -4,7 +4,7 @@ use Rattle.std.specs.Prelude.{Option, Result, Ok, OnErr}
 use Rattle.std.proofs.lemmas.Bool.{false≢true}
 use Rattle.std.proofs.lemmas.List.{length-take-le}
 use Rattle.bz_devices.specs.Ahead.{Ahead, IsReadOn, IsNextChunk, IsFewAfter}
-use Rattle.bz_devices.proofs.ReadOn.{read_nothing, small_sum}
+use Rattle.bz_devices.proofs.ReadOn.{read_nothing}
 use Rattle.bz_passes.specs.Exchange.{Fits}
 use Rattle.bz_engine.specs.declared.session.SessionState.{SessionState}
 use Rattle.bz_engine.specs.declared.session.SessionState.TheVariants.{Going, Ended, Stopped}
@@ -63,7 +63,7 @@ pub lines_read : (v : SessionValue) (mid : Ahead) (max_reads : ℕ) (read : List
     → v.progress.line + length mid.bytes ≤ 1 + 8192 * mid.reads
 lines_read v mid max_reads read lines on =
     let all : length mid.bytes ≡ length v.ahead.bytes + length (concat read) = ap length on.bytes ∙ length-append v.ahead.bytes (concat read) in
-    summed v.progress.line (length v.ahead.bytes) (length mid.bytes) (length (concat read)) v.ahead.reads mid.reads (length read) lines all on.reads (small_sum read on.small)
+    summed v.progress.line (length v.ahead.bytes) (length mid.bytes) (length (concat read)) v.ahead.reads mid.reads (length read) lines all on.reads on.few
   where
     summed : (line vb mb jr vr mr r : ℕ) → line + vb ≤ 1 + 8192 * vr → mb ≡ vb + jr → mr ≡ vr + r → jr ≤ 8192 * r → line + mb ≤ 1 + 8192 * mr
     summed line vb mb jr vr mr r a b c d = omega arith

@@ -6,7 +6,7 @@ use Rattle.std.proofs.lemmas.Bool.{false≢true}
 use Rattle.bz_token.specs.Chunks.{chunks}
 use Rattle.bz_command.specs.Labels.{Package}
 use Rattle.bz_devices.specs.Device.{ends, NoneEnds, NoneAfterEnd}
-use Rattle.bz_devices.specs.Ahead.{Ahead, AreSmall, IsReadOn, IsUndecided}
+use Rattle.bz_devices.specs.Ahead.{Ahead, IsReadOn, IsUndecided}
 use Rattle.bz_devices.proofs.MoreReads.{joined_more, none_ends_more, file_more}
 use Rattle.bz_engine.specs.declared.options.Options.{Options}
 use Rattle.bz_engine.specs.Outcome.{Script, Run}
@@ -31,7 +31,7 @@ few_needed run most before (piece ∷ pieces) few h =
     let more : length (concat (before ++ piece ∷ [])) ≡ length (concat before) + length (concat (piece ∷ [])) =
     ap length (joined_more before (piece ∷ [])) ∙ length-append (concat before) (concat (piece ∷ [])) in
     subst (λ l. length l ≤ length (concat l) + 1) (append_assoc before (piece ∷ []) pieces)
-    (few_needed run most (before ++ piece ∷ []) pieces (omega (arith, each, one, more)) h.4)
+    (few_needed run most (before ++ piece ∷ []) pieces (omega (arith, each, one, more)) h.3)
 
 needed_append : (run : Run) (most : ℕ) (before xs ys : List (List ℕ)) → AreNeededAfter run most before xs → AreNeededAfter run most (before ++ xs) ys
     → AreNeededAfter run most before (xs ++ ys)
@@ -40,8 +40,7 @@ needed_append run most before (x ∷ xs) ys h k = (
   h.0,
   h.1,
   h.2,
-  h.3,
-  needed_append run most (before ++ x ∷ []) xs ys h.4 (subst (λ l. AreNeededAfter run most l ys) (sym (append_assoc before (x ∷ []) xs)) k),
+  needed_append run most (before ++ x ∷ []) xs ys h.3 (subst (λ l. AreNeededAfter run most l ys) (sym (append_assoc before (x ∷ []) xs)) k),
 )
 
 -- the chunks that are done, after more reads
@@ -77,17 +76,16 @@ one_few : (k : ℕ) (xs piece rest : List ℕ) → length (xs ++ (piece ++ rest)
 one_few k xs piece rest few = omega (arith, few, length-append xs (piece ++ rest), length-append piece rest, length-append xs piece)
 
 needed_more : (v : SessionValue) (pieces cs more read : List (List ℕ)) (text : List ℕ) → HasDone v pieces cs text → v.ahead.ended ≡ false → NoneEnds (pieces ++ more)
-    → AreFew v.options.max_statement (v.ahead.bytes ++ concat more) read → AreSmall read → NoneAfterEnd read
+    → AreFew v.options.max_statement (v.ahead.bytes ++ concat more) read → NoneAfterEnd read
     → AreNeededAfter (run_in v) v.options.max_statement (pieces ++ more) read
-needed_more v pieces cs more [] text done going none few small after = tt
-needed_more v pieces cs more (piece ∷ []) text done going none few small after = (
+needed_more v pieces cs more [] text done going none few after = tt
+needed_more v pieces cs more (piece ∷ []) text done going none few after = (
   v.ahead.bytes ++ concat more,
   one_needed v pieces cs more text done going none few.needed.0,
-  small.0,
   one_few (v.options.max_statement + 8192) (v.ahead.bytes ++ concat more) piece [] few.few,
   tt,
 )
-needed_more v pieces cs more (piece ∷ (next ∷ read)) text done going none few small after =
+needed_more v pieces cs more (piece ∷ (next ∷ read)) text done going none few after =
     let ahead = v.ahead.bytes ++ concat more in
     let there = sym (append_assoc pieces more (piece ∷ [])) in
     let bytes : ahead ++ piece ≡ v.ahead.bytes ++ concat (more ++ piece ∷ []) =
@@ -97,12 +95,11 @@ needed_more v pieces cs more (piece ∷ (next ∷ read)) text done going none fe
     subst (λ l. length l ≤ v.options.max_statement + 8192) (sym (append_assoc ahead piece (concat (next ∷ read)))) few.few in (
       ahead,
       one_needed v pieces cs more text done going none few.needed.0,
-      small.0,
       one_few (v.options.max_statement + 8192) ahead piece (concat (next ∷ read)) few.few,
       subst (λ l. AreNeededAfter (run_in v) v.options.max_statement l (next ∷ read)) there
           (needed_more v pieces cs (more ++ piece ∷ []) (next ∷ read) text done going
           (subst NoneEnds (append_assoc pieces more (piece ∷ [])) (none_ends_more (pieces ++ more) (piece ∷ []) none (after.0, tt)))
-          (subst (λ l. AreFew v.options.max_statement l (next ∷ read)) bytes (record { needed = few.needed.1; few = bound })) small.1 after.1),
+          (subst (λ l. AreFew v.options.max_statement l (next ∷ read)) bytes (record { needed = few.needed.1; few = bound })) after.1),
     )
 
 going_before : (ended : Bool) (piece : List ℕ) (read : List (List ℕ)) → (IsTrue ended → piece ∷ read ≡ []) → ended ≡ false
@@ -123,7 +120,7 @@ needed_on v mid max_reads pieces cs (piece ∷ read) text done on few =
     needed_append (run_in v) v.options.max_statement [] pieces (piece ∷ read) done.needed
     (subst (λ l. AreNeededAfter (run_in v) v.options.max_statement l (piece ∷ read)) (append-nil pieces)
     (needed_more v pieces cs [] (piece ∷ read) text done going (subst NoneEnds (sym (append-nil pieces)) (done.none_ends going))
-    (subst (λ l. AreFew v.options.max_statement l (piece ∷ read)) (sym (append-nil v.ahead.bytes)) few) on.small on.none_after))
+    (subst (λ l. AreFew v.options.max_statement l (piece ∷ read)) (sym (append-nil v.ahead.bytes)) few) on.none_after))
 
 -- none was made
 pub no_reads : (home : Package) (passes : Script) (options : Options) → AreReads home passes options []

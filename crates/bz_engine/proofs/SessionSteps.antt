@@ -195,7 +195,7 @@ module _ {S W T : Type 0} (gave : S → List (List ℕ) → S → Type 0) (reads
           tells = tells_read old v e source after fault at finds;
         };
         needed = subst (λ x. AreNeeded x.options.max_statement x.ahead.bytes read.0) at read.3.needed;
-        small = read.2.small;
+        few = read.2.few;
         bound = read_within v _ e.ahead v.options.max_reads read.0 at read.2 finds.bound;
         unwritten = λ _ _. (refl, refl);
         reads_counted = (λ h. finds.failed (ap Err (err_is fault ReadFailed h)), λ h. finds.steady (λ k. h (ap Err (err_is fault ReadFailed k))));
@@ -216,7 +216,7 @@ module _ {S W T : Type 0} (gave : S → List (List ℕ) → S → Type 0) (reads
         took = wrote;
         did = left;
         needed = subst (λ y. AreNeeded y.options.max_statement y.ahead.bytes read.0) at read.3.needed;
-        small = read.2.small;
+        few = read.2.few;
         bound = read_within v _ e.ahead v.options.max_reads read.0 at read.2 finds.bound;
         unwritten = λ _ other. absurd (other refl);
         reads_counted = (λ h. absurd cc, λ _. finds.steady (found_no_err x ReadFailed));
@@ -240,7 +240,7 @@ module _ {S W T : Type 0} (gave : S → List (List ℕ) → S → Type 0) (reads
         took = wrote;
         did = did;
         needed = subst (λ y. AreNeeded y.options.max_statement y.ahead.bytes read.0) at read.3.needed;
-        small = read.2.small;
+        few = read.2.few;
         bound = read_within v _ e.ahead v.options.max_reads read.0 at read.2 finds.bound;
         unwritten = λ other _. stays (λ same. other (ap Ok same));
         reads_counted = (λ h. absurd (no_err answer ReadFailed h), λ _. finds.steady (found_no_err x ReadFailed));

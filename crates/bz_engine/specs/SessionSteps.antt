@@ -1,7 +1,7 @@
 -- What a step of a session does to the file's run, and what its faults tell.
 use Rattle.std.specs.Prelude.{◌≡◌, ◌≢◌, ◌⊎◌, ℕ, ◌+◌, ◌*◌, ◌<◌, ◌≤◌, false, List, [], ◌∷◌, ◌++◌, length, Result, Ok, Err, ⊤}
 use Rattle.bz_devices.specs.Device.{IsCounted}
-use Rattle.bz_devices.specs.Ahead.{AreSmall, IsReadOn, AreNeeded, IsTooLong}
+use Rattle.bz_devices.specs.Ahead.{IsReadOn, AreNeeded, IsTooLong}
 use Rattle.bz_engine.specs.declared.report.End.{End}
 use Rattle.bz_engine.specs.declared.run_fault.RunFault.{RunFault}
 use Rattle.bz_engine.specs.declared.run_fault.RunFault.TheVariants.{ReadFailed, WriteFailed}
@@ -84,10 +84,9 @@ pub record Steps (source : Reader) (sink : Writer) (old new : SessionValue) (res
   pub gave : source.Gave read
   pub took : sink.Took shown
   pub did : Did old new read shown result
-  -- Each read was needed and gave at most 8,192 bytes. What stood ahead, and what was read then, is at most the longest chunk and one
-  -- piece more.
+  -- Each read was needed. What stood ahead, and what was read then, is at most the longest chunk and one piece more.
   pub needed : AreNeeded old.options.max_statement old.ahead.bytes read
-  pub small : AreSmall read
+  pub few : length (concat read) ≤ 8192 * length read
   pub bound : length (old.ahead.bytes ++ concat read) ≤ old.options.max_statement + 8192
   -- Only a chunk that is done, or whose write failed, was written.
   pub unwritten : result ≢ Ok step.More → result ≢ Err WriteFailed → (shown ≡ []) × sink.Stays

@@ -3,7 +3,7 @@ use Rattle.std.specs.List.{concat}
 use Rattle.std.proofs.lemmas.Result.{err_from_is_err_and}
 use Rattle.bz_devices.specs.private.AheadSteps.{IsLineAt}
 use Rattle.bz_devices.proofs.Searches.{searches_nothing, searches_then, searches_found, searches_failed}
-use Rattle.bz_devices.proofs.ReadOn.{grows, small_sum}
+use Rattle.bz_devices.proofs.ReadOn.{grows}
 use Rattle.bz_devices.proofs.ChunkAhead.{goes_first, goes_read, last_end, chunk_end, few_left}
 use Rattle.bz_devices.proofs.ahead.chunk_end.Goals as goal
 
@@ -84,11 +84,9 @@ loop-next-smaller g c =
     let first = line.searches.read in
     let read = c.in_ok-is_end.ensures.searches in
     let second = read.read in
-    let most = small_sum line.searches.pieces first.small in
-    let more = small_sum read.pieces second.small in
     let given = ap length first.bytes ∙ length-append c.loop-next.ahead.bytes (concat line.searches.pieces) in
     let then_given = ap length second.bytes ∙ length-append c.read_line.new.ahead.bytes (concat read.pieces) in
-    omega (arith, line.line.after, c.loop-next.invariant.within, line.line.within, most, more, given, then_given, first.reads, first.within, second.reads, second.within)
+    omega (arith, line.line.after, c.loop-next.invariant.within, line.line.within, first.few, second.few, given, then_given, first.reads, first.within, second.reads, second.within)
 
 pub ends_chunk-requires-clause-line : goal.ends_chunk-requires-clause-line
 ends_chunk-requires-clause-line g c = c.in_ok-next.ensures.line

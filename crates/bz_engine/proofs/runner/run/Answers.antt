@@ -9,7 +9,7 @@ use Rattle.bz_engine.specs.SessionValue.{HasDone, at_start, told_at}
 use Rattle.bz_engine.proofs.Advances.{more_is_no_end}
 use Rattle.bz_devices.proofs.PassedOn.{err_is, passed_on, not_passed_on}
 use Rattle.bz_memory.specs.NoMemory.{no_memory}
-use Rattle.bz_devices.proofs.ReadOn.{rises_from, read_nothing, small_sum}
+use Rattle.bz_devices.proofs.ReadOn.{rises_from, read_nothing}
 use Rattle.bz_engine.proofs.Faults.{memory_alone}
 use Rattle.bz_engine.proofs.Cut.{BeginsAll, fault_begins, fault_reads, ended_begins, nothing_begins, too_long_in, one_needed_there, one_more_fits, ends_done, stops_unread, stops_in_time}
 use Rattle.bz_engine.proofs.NeededReads.{no_reads}
@@ -69,7 +69,7 @@ loop-session-smaller g c =
     let within : new.ahead.reads ≤ old.options.max_reads =
     subst (λ o. new.ahead.reads ≤ o.max_reads) c.step.ensures.same.options (subst (λ v. v.ahead.reads ≤ v.options.max_reads) c.session.view_is c.session.invariant.made) in
     subst (λ o. 8193 * (o.max_reads - new.ahead.reads) + length new.ahead.bytes < 8193 * (old.options.max_reads - old.ahead.reads) + length old.ahead.bytes) (sym c.step.ensures.same.options)
-    (shorter old new old.options.max_reads inv.pieces inv.cs step.read more.chunk inv.text (inv.text ++ step.shown) inv.done (more.done inv.pieces inv.cs inv.text inv.done) more.some (small_sum step.read step.small) within)
+    (shorter old new old.options.max_reads inv.pieces inv.cs step.read more.chunk inv.text (inv.text ++ step.shown) inv.done (more.done inv.pieces inv.cs inv.text inv.done) more.some step.few within)
 
 pub returns-in_err-step-clause-too_long : goal.returns-in_err-step-clause-too_long
 returns-in_err-step-clause-too_long g c told =
