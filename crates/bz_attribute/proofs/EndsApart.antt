@@ -3,8 +3,8 @@ use Rattle.std.proofs.Common.{◌≡◌, ℕ, ◌-◌, ◌<◌, ◌&&◌, not, L
 use Rattle.std.specs.List.{list_all, list_any}
 use Rattle.std.proofs.lemmas.Bool.{and_parts, or_parts, ne_eqb}
 use Rattle.std.proofs.lemmas.List.{take_more}
-use Rattle.bz_command.specs.Labels.{is_slash}
-use Rattle.bz_command.specs.Values.{is_plain}
+use Rattle.bz_label.specs.Labels.{is_slash}
+use Rattle.bz_label.specs.Values.{is_plain}
 use Rattle.bz_attribute.specs.private.Apart.{EndApart}
 
 pub split_last : (bs : List ℕ) (d : ℕ) → 0 < length bs → bs ≡ take (length bs - 1) bs ++ get_or bs (length bs - 1) d ∷ []

@@ -3,8 +3,8 @@ use Rattle.std.proofs.Common.{◌≡◌, ℕ, List, [], ◌∷◌, Bool, true, f
 use Rattle.std.specs.List.{list_any, flat_map}
 use Rattle.std.proofs.lemmas.List.Folds.{list_any-append}
 use Rattle.std.proofs.lemmas.Cmp.{nat_list_eq_equiv}
-use Rattle.bz_command.specs.Labels.{Package}
-use Rattle.bz_command.specs.Same.{completed}
+use Rattle.bz_label.specs.Labels.{Package}
+use Rattle.bz_label.specs.Same.{completed}
 use Rattle.bz_attribute.specs.Lists.{same}
 use Rattle.bz_token.specs.Common.{map_or}
 

@@ -3,11 +3,11 @@ use Rattle.std.proofs.Common.{◌≡◌, ℕ, List, [], ◌∷◌, Bool, true, f
 use Rattle.std.specs.List.{list_any, flat_map}
 use Rattle.bz_tree.specs.Rows.{RowPart}
 use Rattle.bz_tree.specs.Tree.{Segment}
-use Rattle.bz_command.specs.Labels.{Package}
-use Rattle.bz_command.specs.LabelSetViews.{Gains, has}
-use Rattle.bz_command.specs.declared.arguments.Moved.{Moved}
-use Rattle.bz_command.specs.declared.arguments.Moved.TheVariants.{All, Values}
-use Rattle.bz_command.specs.declared.label_set.LabelSet.{LabelSet}
+use Rattle.bz_label.specs.Labels.{Package}
+use Rattle.bz_label.specs.LabelSetViews.{Gains, has}
+use Rattle.bz_label.specs.declared.arguments.Moved.{Moved}
+use Rattle.bz_label.specs.declared.arguments.Moved.TheVariants.{All, Values}
+use Rattle.bz_label.specs.declared.label_set.LabelSet.{LabelSet}
 use Rattle.bz_attribute.specs.Effects.{is_chosen}
 use Rattle.bz_attribute.specs.Elements.{AreListsAt, IsNextElement, ListRest, elements_left, rest_parts}
 use Rattle.bz_attribute.specs.Lists.{same}
@@ -15,7 +15,7 @@ use Rattle.bz_attribute.specs.Rules.{string_value}
 use Rattle.bz_attribute.specs.private.ElementSets.{chooses, is_among, is_in, kept}
 use Rattle.bz_attribute.proofs.LabelSets.{any_joined, or_swap, same_back}
 use Rattle.std.proofs.Math.Bool.{and-false, or-false}
-use Rattle.bz_command.specs.Values.{value_of}
+use Rattle.bz_label.specs.Values.{value_of}
 use Rattle.bz_token.specs.Common.{map_or}
 
 -- a value that is kept is the same label as the text

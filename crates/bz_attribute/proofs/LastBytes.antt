@@ -6,9 +6,9 @@ use Rattle.std.specs.Prelude.{nat_eq, not, ◌&&◌}
 use Rattle.std.proofs.lemmas.Bool.{cases_Bool, or_parts}
 use Rattle.std.proofs.lemmas.List.{append_cancel_right, same_from_push}
 use Rattle.bz_token.proofs.Classes.{same_bytes}
-use Rattle.bz_command.specs.Labels.{Package, is_colon, is_slash, last_of, parts_of}
-use Rattle.bz_command.specs.Same.{completed, in_package, is_local, with_name}
-use Rattle.bz_command.proofs.Cuts.{last_cons, some_part}
+use Rattle.bz_label.specs.Labels.{Package, is_colon, is_slash, last_of, parts_of}
+use Rattle.bz_label.specs.Same.{completed, in_package, is_local, with_name}
+use Rattle.bz_label.proofs.Cuts.{last_cons, some_part}
 
 pub record EndsIn (bs end : List ℕ) : Type 0 where
   pub front : List ℕ

@@ -13,7 +13,7 @@ use Rattle.bz_attribute.specs.Lists.{with_value}
 use Rattle.bz_attribute.specs.RowPlaces.{IsArgumentAt, IsRuleRow}
 use Rattle.bz_attribute.specs.Rules.{Rule, first_named, is_named, is_text, name_in, name_of, only_text, string_value, value}
 use Rattle.bz_attribute.specs.private.Parts.{above_len, bare_string, end_len, ends_list, parts_len, plain_len, segment_len, string_in}
-use Rattle.bz_command.specs.Values.{value_of}
+use Rattle.bz_label.specs.Values.{value_of}
 use Rattle.bz_attribute.proofs.EditedAt.{edited_at, first_at, none_first, segs_join}
 use Rattle.bz_attribute.proofs.EndsBack.{argument_long, plain_elements, no_beside_argument, no_beside_end, segment_long}
 use Rattle.bz_attribute.proofs.Lengths.{above_passed, no_more_above, segs_ended}

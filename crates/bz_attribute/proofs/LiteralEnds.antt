@@ -7,10 +7,10 @@ use Rattle.std.proofs.lemmas.List.{same_from_push, take-append-drop}
 use Rattle.bz_token.specs.Common.{map_or}
 use Rattle.bz_token.specs.Pieces.{is_quote}
 use Rattle.bz_token.proofs.Classes.{same_bytes}
-use Rattle.bz_command.specs.Labels.{Package, is_slash}
-use Rattle.bz_command.specs.Values.{content, inner_of, is_newline, is_plain, units, value_of, values}
-use Rattle.bz_command.specs.private.ValueSteps.{first_len, inner_value, value_in}
-use Rattle.bz_command.proofs.Literals.{plain_first, shut, step, units_joined}
+use Rattle.bz_label.specs.Labels.{Package, is_slash}
+use Rattle.bz_label.specs.Values.{content, inner_of, is_newline, is_plain, units, value_of, values}
+use Rattle.bz_label.specs.private.ValueSteps.{first_len, inner_value, value_in}
+use Rattle.bz_label.proofs.Literals.{plain_first, shut, step, units_joined}
 use Rattle.bz_attribute.specs.Lists.{same}
 use Rattle.bz_attribute.specs.private.Apart.{EndApart}
 use Rattle.bz_attribute.proofs.EndsApart.{split_last}

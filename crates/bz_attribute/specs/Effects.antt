@@ -7,10 +7,10 @@ use Rattle.bz_token.specs.declared.token.Kind.TheVariants.{Identifier, Operator,
 use Rattle.bz_tree.specs.declared.tree.GroupKind.TheVariants.{RuleCall, List as ListKind}
 use Rattle.bz_token.specs.Common.{is_empty, map_or}
 use Rattle.bz_tree.specs.Tree.{Item, leaf, group, Segment, Statement, segs_of}
-use Rattle.bz_command.specs.Labels.{Package}
-use Rattle.bz_command.specs.Values.{quoted}
-use Rattle.bz_command.specs.declared.arguments.Moved.{Moved}
-use Rattle.bz_command.specs.declared.arguments.Moved.TheVariants.{All, Values}
+use Rattle.bz_label.specs.Labels.{Package}
+use Rattle.bz_label.specs.Values.{quoted}
+use Rattle.bz_label.specs.declared.arguments.Moved.{Moved}
+use Rattle.bz_label.specs.declared.arguments.Moved.TheVariants.{All, Values}
 use Rattle.bz_attribute.specs.Rules.{Rule, rule_of, elements, is_named, value}
 use Rattle.bz_attribute.specs.Lists.{with_value, parts, edit_parts, is_list, is_only, equals, edit_list, is_joint, is_part, is_plus}
 use Rattle.bz_attribute.specs.declared.done.Done.{Done}

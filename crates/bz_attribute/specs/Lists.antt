@@ -5,8 +5,8 @@ use Rattle.std.specs.List.{list_all}
 use Rattle.bz_token.specs.declared.token.Kind.TheVariants.{Keyword, Operator}
 use Rattle.bz_tree.specs.declared.tree.GroupKind.TheVariants.{List as ListKind}
 use Rattle.bz_tree.specs.Tree.{Item, leaf, group, Segment, segs_of, segments}
-use Rattle.bz_command.specs.Labels.{Package}
-use Rattle.bz_command.specs.Same.{completed}
+use Rattle.bz_label.specs.Labels.{Package}
+use Rattle.bz_label.specs.Same.{completed}
 use Rattle.bz_attribute.specs.Rules.{is_operator_item, elements, name_of, string_value}
 use Rattle.bz_token.specs.Common.{map_or}
 

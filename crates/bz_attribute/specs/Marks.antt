@@ -3,7 +3,7 @@
 -- Of later stops: 5 `Rule`, `is_text`, `kind_text`, `name_in`, `rule_of`.
 use Rattle.std.specs.Prelude.{ℕ, ◌==◌, Bool, true, false, codes, bytes_eq}
 use Rattle.bz_tree.specs.Tree.{Statement}
-use Rattle.bz_command.specs.Labels.{Target, Name, Pkg, All, Kind, Line}
+use Rattle.bz_label.specs.Labels.{Target, Name, Pkg, All, Kind, Line}
 use Rattle.bz_attribute.specs.Rules.{Rule, rule_of, kind_text, name_in, is_text}
 use Rattle.bz_token.specs.Common.{map_or}
 

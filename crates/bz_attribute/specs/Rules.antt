@@ -5,7 +5,7 @@ use Rattle.std.specs.Prelude.{ℕ, List, [], ◌∷◌, ◌++◌, Bool, true, fa
 use Rattle.bz_token.specs.declared.token.Kind.TheVariants.{Identifier, String, Operator}
 use Rattle.bz_tree.specs.declared.tree.GroupKind.TheVariants.{RuleCall}
 use Rattle.bz_tree.specs.Tree.{Item, leaf, group, Segment, segments}
-use Rattle.bz_command.specs.Values.{value_of}
+use Rattle.bz_label.specs.Values.{value_of}
 
 abbrev pub is_operator_item : List ℕ → Item → Bool
 is_operator_item operator (leaf Operator text) = bytes_eq text operator

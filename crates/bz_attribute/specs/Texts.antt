@@ -4,7 +4,7 @@
 use Rattle.std.specs.Prelude.{ℕ, List, [], ◌∷◌, ◌++◌, codes, unwrap_or}
 use Rattle.std.specs.Fmt.{decimal}
 use Rattle.bz_tree.specs.Tree.{Statement}
-use Rattle.bz_command.specs.Labels.{Package, Target, Name, Pkg, All, Kind, Line}
+use Rattle.bz_label.specs.Labels.{Package, Target, Name, Pkg, All, Kind, Line}
 use Rattle.bz_attribute.specs.Rules.{rule_of, kind_text, name_in}
 use Rattle.bz_token.specs.Common.{map_or}
 

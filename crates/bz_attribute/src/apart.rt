@@ -1,8 +1,8 @@
 //! String tokens that are no label of a word, told by their last bytes.
 
 ghost use Rattle.std.specs.Prelude.{◌≡◌, true, false, IsTrue, ◌&&◌, not};
-ghost use Rattle.bz_command.specs.Labels.{Package, is_slash};
-ghost use Rattle.bz_command.specs.Values.{is_plain, value_of};
+ghost use Rattle.bz_label.specs.Labels.{Package, is_slash};
+ghost use Rattle.bz_label.specs.Values.{is_plain, value_of};
 ghost use Rattle.bz_token.specs.Common.{map_or};
 ghost use Rattle.bz_attribute.specs.Lists.{same};
 ghost use Rattle.bz_attribute.specs.private.Apart.{EndApart};

@@ -4,7 +4,7 @@ ghost use Rattle.std.specs.Prelude.{◌≡◌, None, IfOk, Some, false};
 ghost use Rattle.bz_attribute.specs.declared.done.Note.TheVariants.{AttributeExists, NoAttribute, NoValue, NotAList};
 ghost use Rattle.bz_attribute.specs.Effects as spec;
 
-use bz_command::Text;
+use bz_label::Text;
 use bz_memory::NoMemory;
 use std::alloc::Global;
 

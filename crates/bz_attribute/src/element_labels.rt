@@ -5,13 +5,13 @@ ghost use Rattle.bz_tree.specs.Rows.{part_view};
 ghost use Rattle.bz_tree.specs.Tree.{Segment};
 ghost use Rattle.bz_attribute.specs.Elements.{AreLists};
 ghost use Rattle.bz_attribute.specs.private.ElementSets.{choice, is_in, kept};
-ghost use Rattle.bz_command.specs.LabelSetViews.{has};
-ghost use Rattle.bz_command.specs.private.ByteSteps.{left, is_good};
-ghost use Rattle.bz_command.specs.Values.{value_of};
+ghost use Rattle.bz_label.specs.LabelSetViews.{has};
+ghost use Rattle.bz_label.specs.private.ByteSteps.{left, is_good};
+ghost use Rattle.bz_label.specs.Values.{value_of};
 
 use crate::elements::next_of_value;
 use crate::word_set::WordSet;
-use bz_command::{Bytes, LabelSet, Package, value_of};
+use bz_label::{Bytes, LabelSet, Package, value_of};
 use bz_memory::NoMemory;
 use bz_tree::Part;
 use std::alloc::Global;

@@ -6,14 +6,14 @@ ghost use Rattle.bz_tree.specs.Rows.{part_view};
 ghost use Rattle.bz_attribute.specs.Elements.{ForRest, IsFirstEqual, elements_left};
 ghost use Rattle.bz_attribute.specs.Lists.{equals, same};
 ghost use Rattle.bz_attribute.specs.private.Parts.{HasSought};
-ghost use Rattle.bz_command.specs.Labels as labels;
-ghost use Rattle.bz_command.specs.Values.{value_of};
+ghost use Rattle.bz_label.specs.Labels as labels;
+ghost use Rattle.bz_label.specs.Values.{value_of};
 ghost use Rattle.bz_token.specs.Common.{map_or};
 
 use crate::apart::literal_apart;
 use crate::elements::{bare_string, next_of_value};
 use crate::equals::text_equals;
-use bz_command::Package;
+use bz_label::Package;
 use bz_tree::Part;
 
 // Passes elements of a list part that are one string token each, without comments, as long as each is told apart from

@@ -1,6 +1,6 @@
 //! What a command has at hand.
 
-use bz_command::Package;
+use bz_label::Package;
 use std::alloc::Global;
 
 /// What a command has at hand: memory, and the package in which words are labels.

@@ -4,13 +4,13 @@ ghost use Rattle.std.specs.Prelude.{◌≡◌, IsTrue, IfSome, IfNone, None, Som
 ghost use Rattle.bz_tree.specs.View.{seg_view};
 ghost use Rattle.bz_attribute.specs.Rules.{string_value};
 ghost use Rattle.bz_attribute.specs.Lists as spec;
-ghost use Rattle.bz_command.specs.Values as values;
-ghost use Rattle.bz_command.specs.private.ByteSteps.{left, is_good};
+ghost use Rattle.bz_label.specs.Values as values;
+ghost use Rattle.bz_label.specs.private.ByteSteps.{left, is_good};
 ghost use Rattle.bz_token.specs.Common.{map_or};
 
 use crate::apart::literal_apart;
 use crate::rule::only_text;
-use bz_command::{Bytes, Package, same_label, value_of};
+use bz_label::{Bytes, Package, same_label, value_of};
 use bz_tree::Seg;
 
 /// The value of an element that is one string.

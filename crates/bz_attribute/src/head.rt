@@ -11,13 +11,13 @@ ghost use Rattle.bz_attribute.specs.RowPlaces.{ForRule};
 ghost use Rattle.bz_attribute.specs.Rules.{name_in};
 ghost use Rattle.bz_attribute.specs.Texts.{shown_text};
 ghost use Rattle.bz_attribute.specs.private.Parts as spec;
-ghost use Rattle.bz_command.specs.Values.{value_of};
+ghost use Rattle.bz_label.specs.Values.{value_of};
 
 use crate::elements::{string_in, value_place};
 use crate::place::{comments_len, tokens_len};
 use crate::texts::push_home;
 use bumpalo::Bump;
-use bz_command::{Marked, Package, Target, plain_text, read_value};
+use bz_label::{Marked, Package, Target, plain_text, read_value};
 use bz_memory::{NoMemory, alloc_str, push_str};
 use bz_tree::{Class, GroupKind, Part, Row};
 use std::alloc::Global;

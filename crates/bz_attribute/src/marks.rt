@@ -2,12 +2,12 @@
 
 ghost use Rattle.std.specs.Prelude.{◌≡◌, bytes_eq, option_and_then, option_map};
 ghost use Rattle.bz_tree.specs.View.{node_view, nodes_view, seg_view, segs_view, text_of, view};
-ghost use Rattle.bz_command.specs.Values.{value_of};
+ghost use Rattle.bz_label.specs.Values.{value_of};
 ghost use Rattle.bz_attribute.specs.Marks as spec;
 ghost use Rattle.bz_attribute.specs.Rules as rules;
 
 use crate::rule::{is_operator_item, only_text, rule_of};
-use bz_command::{Marked, Target, has_value};
+use bz_label::{Marked, Target, has_value};
 use bz_token::Kind;
 use bz_tree::{Leaf, Node, Seg, Stmt};
 

@@ -3,7 +3,7 @@
 ghost use Rattle.std.specs.Prelude.{◌≡◌, ◌++◌, IfOk, OnOk, string_bytes};
 ghost use Rattle.bz_attribute.specs.Texts as spec;
 
-use bz_command::{Marked, Package, Target};
+use bz_label::{Marked, Package, Target};
 use bz_memory::{NoMemory, push_number, push_str};
 use std::alloc::Global;
 

@@ -4,12 +4,12 @@ ghost use Rattle.std.specs.Prelude.{◌≡◌, ℕ, List, IfOk, IsTrue, false};
 ghost use Rattle.std.specs.List.{list_any};
 ghost use Rattle.std.proofs.Props.{props};
 ghost use Rattle.bz_attribute.specs.Lists.{same};
-ghost use Rattle.bz_command.specs.private.ByteSteps.{left, is_good};
-ghost use Rattle.bz_command.specs.LabelSetViews.{holds};
-ghost use Rattle.bz_command.specs.Values as values;
+ghost use Rattle.bz_label.specs.private.ByteSteps.{left, is_good};
+ghost use Rattle.bz_label.specs.LabelSetViews.{holds};
+ghost use Rattle.bz_label.specs.Values as values;
 ghost use Rattle.bz_token.specs.Common.{map_or};
 
-use bz_command::{Bytes, Package, SortedLabels, Text, same_label, value_of};
+use bz_label::{Bytes, Package, SortedLabels, Text, same_label, value_of};
 use bz_memory::NoMemory;
 use std::alloc::Global;
 

@@ -4,10 +4,10 @@ ghost use Rattle.std.specs.Prelude.{◌≡◌, ◌++◌, ◌∷◌, [], OnOk, co
 ghost use Rattle.bz_token.specs.declared.token.Kind.TheVariants.{Identifier, Operator, String as StringKind};
 ghost use Rattle.bz_tree.specs.Tree.{segs_of};
 ghost use Rattle.bz_tree.specs.Rows.{a_token, part_view, segs_parts};
-ghost use Rattle.bz_command.specs.Values.{quoted};
+ghost use Rattle.bz_label.specs.Values.{quoted};
 ghost use Rattle.bz_attribute.specs.Effects.{string};
 
-use bz_command::quote;
+use bz_label::quote;
 use bz_memory::{NoMemory, alloc_str, push};
 use bz_token::Kind;
 use bz_tree::{Part, Parts};

@@ -12,10 +12,10 @@ use Rattle.bz_layout.specs.declared.spacing.Gap.TheVariants.{Closed}
 use Rattle.bz_layout.specs.Layout.{item_pieces}
 use Rattle.bz_layout.specs.Pieces.{bytes_of, comments, indent, suffix_piece}
 use Rattle.bz_layout.specs.Respell.{respell}
-use Rattle.bz_command.specs.Labels.{Package}
-use Rattle.bz_command.specs.Values.{quoted}
-use Rattle.bz_command.specs.declared.arguments.Moved.TheVariants.{Values}
-use Rattle.bz_list_commands.specs.Add.{add, adds, new_elements}
+use Rattle.bz_label.specs.Labels.{Package}
+use Rattle.bz_label.specs.Values.{quoted}
+use Rattle.bz_label.specs.declared.arguments.Moved.TheVariants.{Values}
+use Rattle.bz_rule.specs.Add.{add, adds, new_elements}
 use Rattle.bz_attribute.specs.Effects.{is_chosen, not_a_list, string}
 use Rattle.bz_canonical.specs.Added.{AddsToLines, IsNew, IsPresent}
 use Rattle.bz_canonical.specs.Canonical.{argument_lines, read_alone}

@@ -28,7 +28,7 @@ use Rattle.std.proofs.Math.Seq.{take-append_seam, drop-append_seam}
 use Rattle.bz_token.specs.Common.{is_empty, is_filled}
 use Rattle.bz_token.proofs.OneFault.{one_tokens}
 use Rattle.bz_tree.specs.Chunk.{IsChunkOf, IsStatementIn}
-use Rattle.bz_tree_laws.proofs.ChunkLaws.{chunk_same}
+use Rattle.bz_layout_laws.proofs.ChunkLaws.{chunk_same}
 use Rattle.bz_attribute.specs.RowPlaces.{IsLocal}
 use Rattle.bz_attribute.proofs.Views.{segments_of}
 use Rattle.bz_canonical.proofs.Pendings.{pend_first, pend_more, pend_same}

@@ -6,10 +6,10 @@ use Rattle.bz_token.specs.declared.token.Kind.TheVariants.{Identifier, Operator}
 use Rattle.bz_tree.proofs.Rows.FromParts.{segs_back}
 use Rattle.bz_tree.specs.declared.tree.GroupKind.TheVariants.{List as ListKind}
 use Rattle.bz_tree.specs.Tree.{leaf, group, Segment, segments, segs_of}
-use Rattle.bz_command.specs.Labels.{Package}
-use Rattle.bz_command.specs.declared.arguments.Attributes.TheVariants.{Named}
-use Rattle.bz_command.specs.declared.arguments.Moved.TheVariants.{Values}
-use Rattle.bz_list_commands.specs.Remove.{remove, removes}
+use Rattle.bz_label.specs.Labels.{Package}
+use Rattle.bz_label.specs.declared.arguments.Attributes.TheVariants.{Named}
+use Rattle.bz_label.specs.declared.arguments.Moved.TheVariants.{Values}
+use Rattle.bz_rule.specs.Remove.{remove, removes}
 use Rattle.bz_attribute.specs.Effects.{filtered, unchosen}
 use Rattle.bz_attribute.specs.Lists.{edit_parts, with_value}
 use Rattle.bz_attribute.specs.Rules.{value}

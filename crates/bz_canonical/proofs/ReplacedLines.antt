@@ -7,10 +7,10 @@ use Rattle.bz_token.specs.declared.token.Kind.TheVariants.{Identifier, Operator}
 use Rattle.bz_tree.proofs.Rows.FromParts.{segs_back}
 use Rattle.bz_tree.specs.declared.tree.GroupKind.TheVariants.{List as ListKind}
 use Rattle.bz_tree.specs.Tree.{leaf, group, Segment, segments, segs_of}
-use Rattle.bz_command.specs.Labels.{Package}
-use Rattle.bz_command.specs.Values.{quoted}
-use Rattle.bz_command.specs.declared.arguments.Attributes.TheVariants.{Named}
-use Rattle.bz_list_commands.specs.Replace.{is_replaced, replace, replaced, replaces, replaces_in}
+use Rattle.bz_label.specs.Labels.{Package}
+use Rattle.bz_label.specs.Values.{quoted}
+use Rattle.bz_label.specs.declared.arguments.Attributes.TheVariants.{Named}
+use Rattle.bz_rule.specs.Replace.{is_replaced, replace, replaced, replaces, replaces_in}
 use Rattle.bz_canonical.specs.Canonical.{argument_lines, read_alone}
 use Rattle.bz_canonical.specs.Replaced.{IsReplaced, ReplacesInLines}
 use Rattle.bz_canonical.specs.declared.edited.EditedList.{EditedList}

@@ -10,8 +10,8 @@ use Rattle.bz_token.specs.private.Scans.{is_plain}
 use Rattle.bz_token.proofs.PlainStrings.{short, passed}
 use Rattle.bz_token.proofs.Scanning.{all_front}
 use Rattle.bz_token.proofs.StringUnits.{closes_units}
-use Rattle.bz_command.specs.Values.{written, value_of}
-use Rattle.bz_command.proofs.ReadBack.{quoted_value}
+use Rattle.bz_label.specs.Values.{written, value_of}
+use Rattle.bz_label.proofs.ReadBack.{quoted_value}
 use Rattle.bz_canonical.specs.private.Fronts.{IsQuotedFront, is_simple}
 
 -- plain bytes leave a string open

@@ -3,9 +3,9 @@
 use Rattle.std.specs.Prelude.{◌≡◌, ℕ, List, [], ◌∷◌, ◌++◌, true, false, None}
 use Rattle.bz_token.specs.Common.{is_empty, map_or}
 use Rattle.bz_tree.specs.Tree.{Segment}
-use Rattle.bz_command.specs.Labels.{Package}
-use Rattle.bz_list_commands.specs.Add.{add, adds}
-use Rattle.bz_command.specs.declared.arguments.Moved.TheVariants.{Values}
+use Rattle.bz_label.specs.Labels.{Package}
+use Rattle.bz_rule.specs.Add.{add, adds}
+use Rattle.bz_label.specs.declared.arguments.Moved.TheVariants.{Values}
 use Rattle.bz_attribute.specs.Effects.{chooses, not_a_list}
 use Rattle.bz_attribute.specs.Rules.{first_named}
 use Rattle.bz_canonical.specs.Canonical.{AloneLines, AreReadAlone, argument_lines}

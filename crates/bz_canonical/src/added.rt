@@ -13,7 +13,7 @@ use crate::lists::{after_elements, is_last, is_on_lines, read_element};
 use crate::put_arguments::read_argument_head;
 use bz_attribute::equals::text_equals;
 use bz_attribute::{Env, literal_apart};
-use bz_command::{Package, quote};
+use bz_label::{Package, quote};
 use bz_memory::{NoMemory, extend_from_slice, push};
 use bz_token::check_utf8;
 use std::alloc::Global;

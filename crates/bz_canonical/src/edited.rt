@@ -12,7 +12,7 @@ use crate::lists::{
 };
 use crate::put_arguments::Pending;
 use crate::value::either;
-use bz_command::{Package, has_value, quote};
+use bz_label::{Package, has_value, quote};
 use bz_memory::{NoMemory, extend_from_slice};
 use std::alloc::Global;
 

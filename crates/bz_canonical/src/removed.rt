@@ -6,7 +6,7 @@ ghost use Rattle.bz_canonical.specs.Removed.{RemovesFromLines};
 
 use crate::added::ListValue;
 use crate::edited::{EditedList, ListEdit, put_edited};
-use bz_command::Package;
+use bz_label::Package;
 use bz_memory::NoMemory;
 
 /// What `remove` makes of the argument that has these lines, where its value is one list of strings (`execute_on_list`

@@ -10,24 +10,24 @@ use Rattle.bz_layout.specs.Gaps.{gap_text, lines_before}
 use Rattle.bz_layout.specs.Layout.{layout_text}
 use Rattle.bz_tree.specs.declared.tree.Class.{Class}
 use Rattle.bz_engine.specs.Progress.{text_following}
-use Rattle.bz_command.specs.declared.arguments.Attributes.TheVariants.{Named}
-use Rattle.bz_command.specs.declared.arguments.Commented.TheVariants.{Attribute}
-use Rattle.bz_command.specs.declared.arguments.Moved.TheVariants.{Values}
-use Rattle.bz_command.specs.declared.arguments.Setting.TheVariants.{ToValues}
-use Rattle.bz_command.specs.Labels.{Package}
-use Rattle.bz_command.specs.Values.{quoted}
+use Rattle.bz_label.specs.declared.arguments.Attributes.TheVariants.{Named}
+use Rattle.bz_label.specs.declared.arguments.Commented.TheVariants.{Attribute}
+use Rattle.bz_label.specs.declared.arguments.Moved.TheVariants.{Values}
+use Rattle.bz_label.specs.declared.arguments.Setting.TheVariants.{ToValues}
+use Rattle.bz_label.specs.Labels.{Package}
+use Rattle.bz_label.specs.Values.{quoted}
 use Rattle.bz_attribute.specs.declared.done.Done.{Done}
 use Rattle.bz_attribute.specs.Effects.{chooses, done, edit_first, has, is_chosen, slot_done, with_args, with_comment}
 use Rattle.bz_attribute.specs.declared.done.Note.TheVariants.{NoAttribute}
 use Rattle.bz_attribute.proofs.EditedAt.{with_args_at}
 use Rattle.bz_attribute.proofs.Locals.{is_there}
 use Rattle.bz_attribute.specs.Lists.{equals, parts}
-use Rattle.bz_list_commands.specs.Replace.{is_replaced, replaces_in}
+use Rattle.bz_rule.specs.Replace.{is_replaced, replaces_in}
 use Rattle.bz_attribute.specs.RowPlaces.{LooksAt}
 use Rattle.bz_attribute.specs.Rules.{Rule, first_named, is_named, is_text, rule_of, string_value, value}
 use Rattle.std.specs.List.{list_any}
-use Rattle.bz_attribute_commands.specs.Argument.{new_argument}
-use Rattle.bz_attribute_commands.specs.Comment.{comment_line}
+use Rattle.bz_rule.specs.Argument.{new_argument}
+use Rattle.bz_rule.specs.Comment.{comment_line}
 use Rattle.bz_canonical.specs.Commented.{TakesComment, commented}
 use Rattle.bz_canonical.specs.Added.{AddsToLines, LacksInLines}
 use Rattle.bz_canonical.specs.Removed.{RemovesFromLines}
@@ -37,7 +37,7 @@ use Rattle.bz_canonical.proofs.SmallRules.{small_after, small_told}
 use Rattle.bz_rule.specs.declared.command.Action.TheVariants.{Add, Comment, Remove, Replace, Set, SetIfAbsent}
 use Rattle.bz_rule.specs.Commands.{Command, after, args_after, args_done, done_of}
 use Rattle.bz_rule.specs.OneAttribute.{one_attribute}
-use Rattle.bz_rule.proofs.Commands.{local}
+use Rattle.bz_rule.proofs.Lawfulness.{local}
 use Rattle.bz_engine.specs.declared.argument.EditedArgument.{EditedArgument}
 use Rattle.bz_engine.specs.declared.argument.EditedArgument.TheVariants.{Unchanged, Lines}
 use Rattle.bz_canonical.specs.declared.added.ListValue.{ListValue}

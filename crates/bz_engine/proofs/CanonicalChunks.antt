@@ -10,8 +10,8 @@ use Rattle.std.specs.Str.{IsUtf8}
 use Rattle.bz_token.specs.Places.{line_at}
 use Rattle.bz_tree.specs.Chunk.{IsStatementIn}
 use Rattle.bz_tree.specs.Tree.{Statement}
-use Rattle.bz_tree_laws.proofs.ChunkLaws.{chunk_class}
-use Rattle.bz_command.specs.Labels.{Name, Pkg, All, Kind as OfKind, Line}
+use Rattle.bz_layout_laws.proofs.ChunkLaws.{chunk_class}
+use Rattle.bz_label.specs.Labels.{Name, Pkg, All, Kind as OfKind, Line}
 use Rattle.bz_attribute.specs.Rules.{Rule, is_text, rule_of}
 use Rattle.bz_canonical.specs.Canonical.{HasName, IsCanonical, between, rule_name}
 use Rattle.bz_devices.specs.Ahead.{Ahead, IsFewAfter}

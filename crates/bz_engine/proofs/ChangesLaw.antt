@@ -3,9 +3,9 @@ use Rattle.std.proofs.Common.{◌≡◌, ◌≢◌, ◌⊎◌, inl, inr, Bool, t
 use Rattle.std.specs.Prelude.{◌↔◌, IsTrue, Option, ⊤}
 use Rattle.std.specs.List.{list_any, list_all}
 use Rattle.bz_tree.specs.Tree.{Statement}
-use Rattle.bz_command.specs.Labels.{Package, Target}
+use Rattle.bz_label.specs.Labels.{Package, Target}
 use Rattle.bz_rule.specs.Commands.{Command, is_command, after, done_of}
-use Rattle.bz_command.specs.Passes.{Slot, Meaning, Pass, Marked, with_mark, marked, executed, meets, slots_after_pass, some_of_commands, some_execution}
+use Rattle.bz_passes.specs.Passes.{Slot, Meaning, Pass, Marked, with_mark, marked, executed, meets, slots_after_pass, some_of_commands, some_execution}
 use Rattle.bz_engine.specs.Changes.{CommandsChange, Changes, AreCommands}
 use Rattle.bz_engine.specs.Language.{meaning, changes}
 

@@ -8,7 +8,7 @@ use Rattle.bz_passes.specs.Exchange.{IsLeftBy, IsPassedBy, slot_after}
 use Rattle.bz_engine.specs.Language.{meaning, changes, fails_on}
 use Rattle.bz_engine.specs.File.{IsAnswerOf}
 use Rattle.bz_engine.specs.Outcome.{Run, slots_of, is_query}
-use Rattle.bz_command.specs.Passes.{slots_after}
+use Rattle.bz_passes.specs.Passes.{slots_after}
 use Rattle.bz_engine.specs.Progress.{Progress, IsKeptOf, last_class, text_following}
 use Rattle.bz_engine.specs.declared.edit.Scripted.{Scripted}
 use Rattle.bz_engine.specs.declared.edit.Scripted.TheVariants as scripts

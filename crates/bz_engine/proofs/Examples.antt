@@ -2,7 +2,7 @@
 use Rattle.std.proofs.Common.{◌≡◌, ℕ, Bool, true, false, List, [], ◌∷◌, refl, nat_eq}
 use Rattle.std.specs.Prelude.{Option, None, Some, not}
 use Rattle.bz_devices.specs.Device.{ends}
-use Rattle.bz_command.specs.Passes.{Slot, Meaning, Pass, slots_after, log_of, some_execution, some_missing}
+use Rattle.bz_passes.specs.Passes.{Slot, Meaning, Pass, slots_after, log_of, some_execution, some_missing}
 use Rattle.bz_passes.specs.Exchange.{kept_of, told}
 use Rattle.std.specs.List.{concat}
 

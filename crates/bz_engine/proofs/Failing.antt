@@ -5,13 +5,13 @@ use Rattle.std.specs.Prelude.{Option, None, Some, option_to_list, map}
 use Rattle.std.specs.List.{flat_map}
 use Rattle.std.proofs.lemmas.Bool.{false≢true}
 use Rattle.bz_tree.specs.Tree.{Statement}
-use Rattle.bz_command.specs.Labels.{Package}
+use Rattle.bz_label.specs.Labels.{Package}
 use Rattle.bz_rule.specs.Commands.{Command, done_of}
 use Rattle.bz_attribute.specs.Effects.{fails}
 use Rattle.bz_attribute.specs.declared.done.Note.{Note}
 use Rattle.bz_attribute.specs.declared.done.Note.TheVariants.{Missing, NoAttribute, AttributeExists, NotAList, NoValue}
 use Rattle.bz_passes.specs.declared.entry.Entry.{Entry}
-use Rattle.bz_command.specs.Passes.{Slot}
+use Rattle.bz_passes.specs.Passes.{Slot}
 use Rattle.bz_passes.specs.Exchange.{Kept, IsLeftBy, log_alone, some_alone}
 use Rattle.bz_engine.specs.Language.{meaning, changes, fails_on, note_told}
 use Rattle.bz_engine.specs.Outcome.{Run}

@@ -5,8 +5,8 @@ use Rattle.bz_tree.specs.Tree.{Statement}
 use Rattle.bz_tree.specs.declared.tree.Class.{Class}
 use Rattle.bz_layout.specs.Layout.{layout_text}
 use Rattle.bz_layout.specs.Gaps.{lines_between, lines_before, gap_text}
-use Rattle.bz_command.specs.Labels.{Package}
-use Rattle.bz_command.specs.Passes.{Slot, slots_after}
+use Rattle.bz_label.specs.Labels.{Package}
+use Rattle.bz_passes.specs.Passes.{Slot, slots_after}
 use Rattle.bz_passes.specs.Exchange.{slot_after}
 use Rattle.bz_engine.specs.Language.{meaning}
 use Rattle.bz_engine.specs.Outcome.{Script, slots_of, left_in, text_of, is_query, text_after}

@@ -4,7 +4,7 @@ use Rattle.std.specs.Prelude.{IsTrue}
 use Rattle.std.specs.List.{concat}
 use Rattle.std.proofs.lemmas.Bool.{false≢true}
 use Rattle.bz_token.specs.Chunks.{chunks}
-use Rattle.bz_command.specs.Labels.{Package}
+use Rattle.bz_label.specs.Labels.{Package}
 use Rattle.bz_devices.specs.Device.{ends, NoneEnds, NoneAfterEnd}
 use Rattle.bz_devices.specs.Ahead.{Ahead, IsReadOn, IsUndecided}
 use Rattle.bz_devices.proofs.MoreReads.{joined_more, none_ends_more, file_more}

@@ -20,7 +20,7 @@ use Rattle.bz_tree.specs.Grammar.{comments}
 use Rattle.bz_tree.specs.Chunk.{IsPlain, IsOneOf, indent_at, indent_fault, IsChunkOf, IsReadAs, IsNoStatement, IsLexical}
 use Rattle.bz_tree.proofs.Trees.Sound.{some_injective}
 use Rattle.bz_tree.proofs.Trees.Standing.{bare_empty}
-use Rattle.bz_tree_laws.proofs.ChunkLaws.{chunk_same}
+use Rattle.bz_layout_laws.proofs.ChunkLaws.{chunk_same}
 use Rattle.bz_engine.specs.declared.report.SyntaxFault.{SyntaxFault}
 use Rattle.bz_engine.specs.declared.report.SyntaxFault.TheVariants.{NotUtf8, Parse}
 use Rattle.bz_engine.specs.File.{not_utf8, IsAnswerOf}

@@ -6,8 +6,8 @@ use Rattle.std.proofs.lemmas.Bool.{false≢true}
 use Rattle.bz_token.specs.Places.{line_at}
 use Rattle.bz_token.specs.Chunks.{chunks}
 use Rattle.bz_tree.specs.Tree.{Statement}
-use Rattle.bz_command.specs.Labels.{Package}
-use Rattle.bz_command.specs.Passes.{Slot, slots_after}
+use Rattle.bz_label.specs.Labels.{Package}
+use Rattle.bz_passes.specs.Passes.{Slot, slots_after}
 use Rattle.bz_engine.specs.declared.report.SyntaxFault.{SyntaxFault}
 use Rattle.bz_passes.specs.Exchange.{slot_after, some_alone}
 use Rattle.bz_engine.specs.Language.{meaning, fails_on}

@@ -3,8 +3,8 @@ use Rattle.std.proofs.Common.{◌≡◌, Bool, true, false, ◌||◌, List, [], 
 use Rattle.std.specs.Prelude.{Some}
 use Rattle.std.specs.List.{flat_map}
 use Rattle.bz_tree.specs.Tree.{Statement}
-use Rattle.bz_command.specs.Labels.{Package}
-use Rattle.bz_command.specs.Passes.{Slot, Meaning, Pass, Marked, marked, executed, entries, log_of_commands, slots_after_pass}
+use Rattle.bz_label.specs.Labels.{Package}
+use Rattle.bz_passes.specs.Passes.{Slot, Meaning, Pass, Marked, marked, executed, entries, log_of_commands, slots_after_pass}
 use Rattle.bz_passes.specs.Exchange.{logs_alone, slot_after_pass, kept_alone, log_alone, some_alone}
 use Rattle.bz_engine.specs.Language.{meaning, fails_on}
 use Rattle.bz_engine.specs.Outcome.{Script, slots_of, said, some_failure}

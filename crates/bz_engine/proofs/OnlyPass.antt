@@ -7,8 +7,8 @@ use Rattle.bz_tree.specs.declared.tree.Class.{Class}
 use Rattle.bz_tree.specs.declared.tree.Class.TheVariants.{Rule as RuleClass}
 use Rattle.bz_tree.specs.Statement.{class_of}
 use Rattle.bz_tree.specs.Tree.{Statement}
-use Rattle.bz_command.specs.Labels.{Package, Target}
-use Rattle.bz_command.specs.Passes.{Slot, marked}
+use Rattle.bz_label.specs.Labels.{Package, Target}
+use Rattle.bz_passes.specs.Passes.{Slot, marked}
 use Rattle.bz_attribute.specs.declared.done.Done.{Done}
 use Rattle.bz_attribute.specs.Effects.{fails, with_args}
 use Rattle.bz_attribute.specs.Marks.{marks, marks_rule}

@@ -8,7 +8,7 @@ use Rattle.bz_tree.specs.declared.fault.ParseFault.{ParseFault}
 use Rattle.bz_tree.specs.Chunk.{IsStatementIn, IsBlank, IsFaultIn}
 use Rattle.bz_tree.specs.Rows.{IsRowOf}
 use Rattle.bz_tree.specs.Tree.{Statement}
-use Rattle.bz_tree_laws.proofs.ChunkLaws.{chunk_class}
+use Rattle.bz_layout_laws.proofs.ChunkLaws.{chunk_class}
 use Rattle.bz_engine.specs.private.ChunkRead.{IsReadAs}
 use Rattle.bz_engine.specs.private.Rows.{IsStatementRow}
 

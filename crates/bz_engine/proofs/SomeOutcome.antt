@@ -8,9 +8,9 @@ use Rattle.std.proofs.lemmas.Str.{IsUtf8-nil, IsUtf8-from_is_utf8, is_utf8-from_
 use Rattle.bz_token.specs.Places.{line_at}
 use Rattle.bz_token.specs.Chunks.{chunks}
 use Rattle.bz_tree.specs.Tree.{Statement}
-use Rattle.bz_tree_laws.specs.Answers.{HasAnswer}
-use Rattle.bz_tree_laws.proofs.SomeAnswer.{some_answer}
-use Rattle.bz_command.specs.Passes.{Slot}
+use Rattle.bz_layout_laws.specs.Answers.{HasAnswer}
+use Rattle.bz_layout_laws.proofs.SomeAnswer.{some_answer}
+use Rattle.bz_passes.specs.Passes.{Slot}
 use Rattle.bz_engine.specs.declared.report.SyntaxFault.{SyntaxFault}
 use Rattle.bz_engine.specs.declared.report.SyntaxFault.TheVariants.{Parse}
 use Rattle.bz_passes.specs.Exchange.{some_alone}

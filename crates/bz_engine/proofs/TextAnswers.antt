@@ -3,15 +3,15 @@ use Rattle.std.proofs.Common.{◌≡◌, ℕ, Bool, true, false, ◌||◌, List,
 use Rattle.std.specs.Prelude.{Option, None, Some, if◌then◌else◌, option_to_list}
 use Rattle.std.proofs.lemmas.Bool.{false≢true}
 use Rattle.bz_tree.specs.Tree.{Segment, Statement}
-use Rattle.bz_command.specs.declared.arguments.Attributes.TheVariants.{Named}
-use Rattle.bz_command.specs.Labels.{Package}
+use Rattle.bz_label.specs.declared.arguments.Attributes.TheVariants.{Named}
+use Rattle.bz_label.specs.Labels.{Package}
 use Rattle.bz_attribute.specs.declared.done.Done.{Done}
 use Rattle.bz_attribute.specs.Effects.{done, has}
 use Rattle.bz_attribute.specs.Rules.{Rule, first_named, is_named, rule_of}
 use Rattle.bz_canonical.specs.Canonical.{Between, HasPlace, first_args, rule_args}
 use Rattle.bz_rule.specs.declared.command.Action.TheVariants.{Remove, Replace}
 use Rattle.bz_rule.specs.Commands.{Command, args_done, done_of}
-use Rattle.bz_rule.proofs.Commands.{lawful}
+use Rattle.bz_rule.proofs.Lawfulness.{lawful}
 use Rattle.bz_engine.specs.private.Found.{IsWithout, Makes, looked_at, told_line}
 use Rattle.bz_token.specs.Common.{is_empty, map_or}
 

@@ -2,14 +2,14 @@
 use Rattle.std.proofs.Common.{◌≡◌, ◌≤◌, ◌<◌, ℕ, true, false, List, [], ◌∷◌, ◌++◌, length, get_or, refl, sym, ◌∙◌, ap, append_assoc, arith}
 use Rattle.std.specs.Prelude.{None, Some, codes, if◌then◌else◌, is_some, option_and_then, option_map, unwrap_or}
 use Rattle.bz_tree.specs.Tree.{Segment, Statement}
-use Rattle.bz_command.specs.Labels.{Package}
-use Rattle.bz_command.specs.declared.arguments.Commented.TheVariants.{Attribute, Value}
-use Rattle.bz_command.specs.declared.arguments.Field.{Field}
-use Rattle.bz_command.specs.declared.arguments.Field.TheVariants.{ValueOf}
+use Rattle.bz_label.specs.Labels.{Package}
+use Rattle.bz_label.specs.declared.arguments.Commented.TheVariants.{Attribute, Value}
+use Rattle.bz_label.specs.declared.arguments.Field.{Field}
+use Rattle.bz_label.specs.declared.arguments.Field.TheVariants.{ValueOf}
 use Rattle.bz_attribute.specs.declared.done.Done.{Done}
 use Rattle.bz_attribute.specs.declared.done.Note.TheVariants.{Missing, NoAttribute}
-use Rattle.bz_attribute_commands.specs.Comment.{comment_note}
-use Rattle.bz_attribute_commands.specs.Print.{printed, value_text}
+use Rattle.bz_rule.specs.Comment.{comment_note}
+use Rattle.bz_rule.specs.Print.{printed, value_text}
 use Rattle.bz_attribute.specs.Effects.{done, is_absent}
 use Rattle.bz_attribute.specs.Rules.{Rule, first_named, kind_text, name_in, rule_of, string_value, value}
 use Rattle.bz_attribute.specs.Texts.{home_text, shown_text}
@@ -18,7 +18,7 @@ use Rattle.bz_passes.specs.declared.entry.Entry.{Entry}
 use Rattle.bz_passes.specs.declared.entry.Entry.TheVariants.{Warning}
 use Rattle.bz_rule.specs.declared.command.Action.TheVariants.{Comment, Print}
 use Rattle.bz_rule.specs.Commands.{Command, args_done, done_of}
-use Rattle.bz_rule.proofs.Commands.{lawful}
+use Rattle.bz_rule.proofs.Lawfulness.{lawful}
 use Rattle.bz_engine.specs.Language.{note_told}
 use Rattle.bz_engine.specs.Messages.{note_text}
 use Rattle.bz_engine.specs.private.Found.{IsWithout, Tells, needed}

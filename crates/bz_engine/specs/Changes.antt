@@ -1,9 +1,9 @@
 -- When a script changed something: some command, when it ran, left some statement different from what it found.
 use Rattle.std.specs.Prelude.{◌≢◌, ◌⊎◌, IsTrue, List, [], ◌∷◌, map}
 use Rattle.std.specs.List.{list_all}
-use Rattle.bz_command.specs.Labels.{Target}
+use Rattle.bz_label.specs.Labels.{Target}
 use Rattle.bz_rule.specs.Commands.{Command, is_command}
-use Rattle.bz_command.specs.Passes.{Meaning, Slot, Pass, Marked, marked, executed, slots_after_pass}
+use Rattle.bz_passes.specs.Passes.{Meaning, Slot, Pass, Marked, marked, executed, slots_after_pass}
 
 abbrev pub CommandsChange : {S T C M : Type 0} → Meaning S T C M → List C → List (Marked S) → Type 0
 CommandsChange m [] xs = ⊥

@@ -4,7 +4,7 @@
 use Rattle.std.specs.Prelude.{ℕ, Bool, false, List, [], ◌∷◌, ◌++◌, Option, None, Some, map, option_to_list}
 use Rattle.bz_token.specs.Common.{map_or}
 use Rattle.bz_tree.specs.Tree.{Statement}
-use Rattle.bz_command.specs.Labels.{Package, Target, must_mark}
+use Rattle.bz_label.specs.Labels.{Package, Target, must_mark}
 use Rattle.bz_rule.specs.Commands.{Command, after, done_of}
 use Rattle.bz_attribute.specs.Marks.{marks}
 use Rattle.bz_attribute.specs.Texts.{shown_text}
@@ -14,7 +14,7 @@ use Rattle.bz_attribute.specs.declared.done.Note.TheVariants.{Missing}
 use Rattle.bz_passes.specs.declared.entry.Entry.{Entry}
 use Rattle.bz_passes.specs.declared.entry.Entry.TheVariants.{Line, Warning, Failure}
 use Rattle.bz_engine.specs.Messages.{not_found_text, note_text}
-use Rattle.bz_command.specs.Passes.{Meaning, Slot}
+use Rattle.bz_passes.specs.Passes.{Meaning, Slot}
 
 -- a missing field is a warning, each other note a failure
 abbrev pub note_told : List ℕ → Option Note → List Entry

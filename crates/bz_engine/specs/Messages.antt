@@ -7,7 +7,7 @@ use Rattle.bz_token.specs.declared.fault.LexFault.TheVariants.{OutOfMemory, BadC
 use Rattle.bz_tree.specs.declared.fault.ParseFault.TheVariants as parse
 use Rattle.bz_attribute.specs.declared.done.Note.{Note}
 use Rattle.bz_attribute.specs.declared.done.Note.TheVariants.{Missing, NoAttribute, AttributeExists, NotAList, NoValue}
-use Rattle.bz_command.specs.Labels.{Package, Target}
+use Rattle.bz_label.specs.Labels.{Package, Target}
 use Rattle.bz_attribute.specs.Texts.{home_text, target_text}
 use Rattle.bz_engine.specs.declared.report.SyntaxFault.{SyntaxFault}
 use Rattle.bz_engine.specs.declared.report.SyntaxFault.TheVariants.{NotUtf8, Parse}

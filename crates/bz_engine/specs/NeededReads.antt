@@ -5,7 +5,7 @@ use Rattle.std.specs.Prelude.{◌≡◌, ℕ, ◌+◌, ◌≤◌, false, IsTrue,
 use Rattle.std.specs.List.{concat}
 use Rattle.bz_token.specs.Chunks.{chunks}
 use Rattle.bz_tree.specs.Tree.{Statement}
-use Rattle.bz_command.specs.Labels.{Package}
+use Rattle.bz_label.specs.Labels.{Package}
 use Rattle.bz_devices.specs.Device.{ends, NoneEnds}
 use Rattle.bz_devices.specs.Ahead.{IsUndecided}
 use Rattle.bz_engine.specs.declared.options.Options.{Options}

@@ -8,7 +8,7 @@ use Rattle.bz_token.specs.Chunks.{chunks}
 use Rattle.bz_tree.specs.Tree.{Statement}
 use Rattle.bz_layout.specs.Layout.{layout_text}
 use Rattle.bz_layout.specs.Gaps.{lines_between, gap_text}
-use Rattle.bz_command.specs.Labels.{Package, Target}
+use Rattle.bz_label.specs.Labels.{Package, Target}
 use Rattle.bz_rule.specs.Commands.{Command, is_print}
 use Rattle.bz_passes.specs.Entries.{line_text, message_text, failure_text}
 use Rattle.bz_engine.specs.declared.options.Options.{Options}
@@ -16,7 +16,7 @@ use Rattle.bz_engine.specs.declared.report.SyntaxFault.{SyntaxFault}
 use Rattle.bz_engine.specs.declared.report.End.{End}
 use Rattle.bz_engine.specs.declared.report.End.TheVariants.{Whole, Syntax, FirstFailure}
 use Rattle.bz_engine.specs.declared.report.Report.{Report}
-use Rattle.bz_command.specs.Passes.{Meaning, Pass, Slot, marked, log_of_commands, slots_after_pass, slots_after, log_of, some_execution, some_missing}
+use Rattle.bz_passes.specs.Passes.{Meaning, Pass, Slot, marked, log_of_commands, slots_after_pass, slots_after, log_of, some_execution, some_missing}
 use Rattle.bz_engine.specs.Messages.{fault_text}
 use Rattle.bz_engine.specs.Language.{meaning, changes, fails_on}
 use Rattle.bz_engine.specs.File.{AreStatementsOf, IsFile}

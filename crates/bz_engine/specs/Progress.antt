@@ -6,9 +6,9 @@ use Rattle.bz_tree.specs.Tree.{Statement}
 use Rattle.bz_tree.specs.declared.tree.Class.{Class}
 use Rattle.bz_layout.specs.Gaps.{lines_before, gap_text}
 use Rattle.bz_layout.specs.Layout.{layout_text}
-use Rattle.bz_command.specs.Labels.{Package}
+use Rattle.bz_label.specs.Labels.{Package}
 use Rattle.bz_passes.specs.declared.entry.Entry.{Entry}
-use Rattle.bz_command.specs.Passes.{Slot, slots_after}
+use Rattle.bz_passes.specs.Passes.{Slot, slots_after}
 use Rattle.bz_passes.specs.Exchange.{Kept, IsLeftBy, slot_after}
 use Rattle.bz_engine.specs.Language.{meaning, changes, fails_on}
 use Rattle.bz_engine.specs.File.{AreStatementsOf}

@@ -9,8 +9,8 @@ ghost use Rattle.bz_engine.specs.private.Found.{IsFound, IsMarked, IsWithout, Le
 
 use crate::canonical::Found;
 use bz_attribute::Env;
-use bz_attribute_commands::print::print_name;
-use bz_command::{Attributes, Marked, Setting, Target};
+use bz_rule::commands::print::print_name;
+use bz_label::{Attributes, Marked, Setting, Target};
 use bz_memory::NoMemory;
 use bz_rule::{Action, Command, one_attribute};
 

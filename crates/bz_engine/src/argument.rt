@@ -5,20 +5,20 @@ ghost use Rattle.std.specs.Prelude.{◌≡◌, ◌++◌, ◌∷◌, ℕ, List, [
 ghost use Rattle.bz_canonical.specs.Added.{LacksInLines};
 ghost use Rattle.bz_canonical.specs.Canonical.{argument_lines, between, read_alone, small_text};
 ghost use Rattle.bz_rule.specs.OneAttribute.{one_attribute};
-ghost use Rattle.bz_command.specs.declared.arguments.Attributes.TheVariants.{Named};
-ghost use Rattle.bz_command.specs.declared.arguments.Commented.TheVariants.{Attribute};
+ghost use Rattle.bz_label.specs.declared.arguments.Attributes.TheVariants.{Named};
+ghost use Rattle.bz_label.specs.declared.arguments.Commented.TheVariants.{Attribute};
 ghost use Rattle.bz_rule.specs.declared.command.Action.TheVariants.{Add, Comment, Remove, Replace};
 ghost use Rattle.bz_engine.specs.private.ArgumentEdits.{AddsArgument, AreLinesAfter, EditsLines, EditsList, EditsPlace, EditsSmallRule, list_argument, new_of, set_by};
 
 use crate::edit::ScriptRun;
 use crate::spare::Spare;
 use bz_attribute::Env;
-use bz_attribute_commands::argument::put_argument;
+use bz_rule::commands::argument::put_argument;
 use bz_canonical::{
     ArgumentPlace, EditedList, ListValue, ReplacedValue, lacks, put_added, put_removed,
     put_replaced,
 };
-use bz_command::{Attributes, Commented, Setting, quote};
+use bz_label::{Attributes, Commented, Setting, quote};
 use bz_memory::{NoMemory, extend_from_slice, push_str};
 use bz_rule::{Action, Command, Done, StatementRow, Text, execute};
 use bz_tree::read_text;

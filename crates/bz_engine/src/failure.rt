@@ -2,7 +2,7 @@
 
 ghost use Rattle.std.specs.Prelude.{◌≡◌, ◌∷◌, ◌++◌, [], codes, IfOk, IfSome, IsTrue, Some};
 ghost use Rattle.bz_attribute.specs.Texts.{home_text};
-ghost use Rattle.bz_command.specs.declared.arguments.Field.TheVariants.{ValueOf};
+ghost use Rattle.bz_label.specs.declared.arguments.Field.TheVariants.{ValueOf};
 ghost use Rattle.bz_rule.specs.declared.command.Action.TheVariants.{Print};
 ghost use Rattle.bz_attribute.specs.declared.done.Note.TheVariants.{NoAttribute};
 ghost use Rattle.bz_engine.specs.Language.{note_told};
@@ -13,7 +13,7 @@ use crate::canonical::Found;
 use crate::edit::ScriptRun;
 use crate::message::{missing_name, note_text};
 use bz_attribute::push_home;
-use bz_command::{Commented, Field, Package};
+use bz_label::{Commented, Field, Package};
 use bz_memory::{NoMemory, push_str};
 use bz_passes::entry::Entry;
 use bz_rule::{Action, Command, Note, Text};

@@ -2,9 +2,9 @@
 
 ghost use Rattle.std.specs.Prelude.{◌≡◌, ◌↔◌, ℕ, List, [], Bool, Result, Option, true};
 ghost use Rattle.bz_tree.specs.Tree.{Statement};
-ghost use Rattle.bz_command.specs.Labels.{Package, Target};
+ghost use Rattle.bz_label.specs.Labels.{Package, Target};
 ghost use Rattle.bz_rule.specs.Commands.{Command};
-ghost use Rattle.bz_command.specs.Passes.{Pass, Slot, some_execution};
+ghost use Rattle.bz_passes.specs.Passes.{Pass, Slot, some_execution};
 ghost use Rattle.bz_engine.specs.Changes.{AreCommands, Changes};
 ghost use Rattle.bz_engine.specs.File.{IsAnswerOf, IsFile};
 ghost use Rattle.bz_engine.specs.Outcome.{Script, Run, Told, IsOutcome};

@@ -30,7 +30,7 @@ mod spare;
 mod telling;
 mod written;
 
-pub use bz_command::Pass;
+pub use bz_passes::pass::Pass;
 pub use bz_devices::device::{Failed, Sink, Source};
 pub use bz_devices::output::write_all;
 pub use bz_devices::std_device::{FromRead, ToWrite};

@@ -5,7 +5,7 @@ ghost use Rattle.std.specs.Prelude.{◌≡◌, ◌++◌, if◌then◌else◌, []
 ghost use Rattle.bz_tree.specs.Tree.{Statement};
 ghost use Rattle.bz_layout.specs.Layout.{layout_text};
 ghost use Rattle.bz_passes.specs.Exchange.{Fits};
-ghost use Rattle.bz_command.specs.declared.arguments.Commented.TheVariants.{Attribute};
+ghost use Rattle.bz_label.specs.declared.arguments.Commented.TheVariants.{Attribute};
 ghost use Rattle.bz_rule.specs.declared.command.Action.TheVariants.{Comment};
 ghost use Rattle.bz_rule.specs.OneAttribute.{one_attribute};
 ghost use Rattle.bz_engine.specs.Outcome.{is_query};
@@ -22,7 +22,7 @@ use crate::edit::ScriptRun;
 use crate::progress::Progress;
 use crate::rule_passes::OnePass;
 use crate::written::{begin_statement, put_canonical};
-use bz_attribute_commands::comment::comment_line;
+use bz_rule::commands::comment::comment_line;
 use bz_canonical::{ArgumentPlace, EditedList, comment_place};
 use bz_layout::put_gap;
 use bz_memory::{NoMemory, extend_from_slice};

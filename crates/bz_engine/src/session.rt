@@ -30,7 +30,7 @@ use crate::run_fault::RunFault;
 use crate::spare::Spare;
 use crate::telling::{report_of_all, report_of_fault, report_of_one};
 use bumpalo::Bump;
-use bz_command::Pass;
+use bz_passes::pass::Pass;
 use bz_devices::ahead::{Ahead, ChunkFault, next_chunk, read_where_open};
 use bz_devices::device::{Failed, Sink, Source};
 use bz_devices::limits::Limits;

@@ -10,7 +10,7 @@ use crate::message;
 use crate::progress::Progress;
 use crate::report::{End, Report, SyntaxFault};
 use crate::rules::Rules;
-use bz_command::Pass;
+use bz_passes::pass::Pass;
 use bz_memory::NoMemory;
 use bz_passes::kept::{is_some_not_found, tell};
 use bz_passes::texts::Texts;

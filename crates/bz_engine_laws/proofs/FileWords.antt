@@ -17,8 +17,8 @@ use Rattle.bz_tree.specs.Chunk.{IsOneOf}
 use Rattle.bz_tree.specs.Kinds.{operator_mark}
 use Rattle.bz_tree.specs.Statement.{first_seen, first_token}
 use Rattle.bz_tree.specs.Tree.{Item, leaf, group, Items, no_items, item, Segs, no_segs, seg, Statement, items_of}
-use Rattle.bz_tree_laws.specs.Words.{Word, word_of, words_among, opening, closing, bracket_word, item_words, items_words, segs_words, words_of}
-use Rattle.bz_tree_laws.proofs.WordsKept.{statement_words, lines_words, words_append}
+use Rattle.bz_layout_laws.specs.Words.{Word, word_of, words_among, opening, closing, bracket_word, item_words, items_words, segs_words, words_of}
+use Rattle.bz_layout_laws.proofs.WordsKept.{statement_words, lines_words, words_append}
 use Rattle.bz_layout.specs.Respell.{respell}
 use Rattle.bz_layout_laws.specs.FileRead.{AreFound}
 use Rattle.bz_layout_laws.specs.Lineless.{lineless}

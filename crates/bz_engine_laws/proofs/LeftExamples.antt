@@ -10,8 +10,8 @@ use Rattle.bz_tree.specs.declared.tree.Class.TheVariants.{Rule, Block}
 use Rattle.bz_tree.specs.declared.tree.GroupKind.TheVariants.{RuleCall}
 use Rattle.bz_tree.specs.Tree.{Item, leaf, group, Statement, segs_of}
 use Rattle.bz_rule.specs.declared.command.Action.TheVariants.{Add, Delete}
-use Rattle.bz_command.specs.Labels.{Package, Name, All}
-use Rattle.bz_command.specs.Names.{is_identifier}
+use Rattle.bz_label.specs.Labels.{Package, Name, All}
+use Rattle.bz_label.specs.Names.{is_identifier}
 use Rattle.bz_engine.specs.Changes.{AreCommands}
 use Rattle.bz_engine.specs.Outcome.{Script, is_query, text_after}
 use Rattle.bz_engine_laws.specs.Written.{HaveUtf8Words, left_by}

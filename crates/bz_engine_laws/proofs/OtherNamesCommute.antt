@@ -8,8 +8,8 @@ use Rattle.bz_token.specs.Common.{map_or}
 use Rattle.bz_tree.specs.Tree.{Statement}
 use Rattle.bz_attribute.specs.Marks.{marks, marks_rule}
 use Rattle.bz_attribute.specs.Rules.{Rule, is_text, name_in, rule_of}
-use Rattle.bz_command.specs.Labels.{Package, Name}
-use Rattle.bz_command.specs.Passes.{Slot, Marked, executed, with_mark}
+use Rattle.bz_label.specs.Labels.{Package, Name}
+use Rattle.bz_passes.specs.Passes.{Slot, Marked, executed, with_mark}
 use Rattle.bz_passes.specs.Exchange.{slot_after, slot_after_commands, slot_after_pass}
 use Rattle.bz_rule.specs.Commands.{Command, after}
 use Rattle.bz_rule_laws.specs.Unmentioned.{may_change}

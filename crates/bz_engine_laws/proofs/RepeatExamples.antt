@@ -1,10 +1,10 @@
 -- Which scripts are repeatable, computed.
 use Rattle.std.proofs.Common.{◌≡◌, List, [], ◌∷◌, true, false, refl}
 use Rattle.std.specs.Prelude.{codes}
-use Rattle.bz_command.specs.Labels.{Target, Name, All, Kind}
-use Rattle.bz_command.specs.Passes.{Pass}
-use Rattle.bz_command.specs.declared.arguments.Attributes.TheVariants.{Every, Named}
-use Rattle.bz_command.specs.declared.arguments.Setting.TheVariants.{ToKind}
+use Rattle.bz_label.specs.Labels.{Target, Name, All, Kind}
+use Rattle.bz_passes.specs.Passes.{Pass}
+use Rattle.bz_label.specs.declared.arguments.Attributes.TheVariants.{Every, Named}
+use Rattle.bz_label.specs.declared.arguments.Setting.TheVariants.{ToKind}
 use Rattle.bz_rule.specs.Commands.{Command}
 use Rattle.bz_rule.specs.declared.command.Action.TheVariants.{Add, Remove, Rename, Set}
 use Rattle.bz_engine_laws.specs.Repeatable.{is_repeatable}

@@ -6,8 +6,8 @@ use Rattle.std.proofs.lemmas.Bool.{and_from, and_parts, false≢true}
 use Rattle.bz_tree.specs.Tree.{Statement}
 use Rattle.bz_layout_laws.specs.Spelled.{spelled, spelled_statement}
 use Rattle.bz_layout_laws.specs.Lineless.{lineless}
-use Rattle.bz_command.specs.Labels.{Package, Target, Name, Pkg, All, Kind as OfKind, Line}
-use Rattle.bz_command.specs.Passes.{Pass, some_missing}
+use Rattle.bz_label.specs.Labels.{Package, Target, Name, Pkg, All, Kind as OfKind, Line}
+use Rattle.bz_passes.specs.Passes.{Pass, some_missing}
 use Rattle.bz_attribute.specs.Marks.{marks}
 use Rattle.bz_rule.specs.Commands.{Command, is_print}
 use Rattle.bz_rule_laws.specs.Again.{AreSettled, is_line, is_steady, looks_past}

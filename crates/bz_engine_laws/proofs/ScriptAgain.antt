@@ -5,16 +5,16 @@ use Rattle.std.specs.List.{AllByRecursion, list_all, list_any}
 use Rattle.std.proofs.lemmas.Bool.{and_from, and_parts, false≢true, or_parts}
 use Rattle.std.proofs.lemmas.Slice.Eq.{bytes_eq-Decides}
 use Rattle.bz_tree.specs.Tree.{Statement}
-use Rattle.bz_command.specs.Labels.{Package, Target, Name}
-use Rattle.bz_command.specs.Passes.{Slot, Pass, with_mark, marked, executed, is_missing, some_missing, slots_after_pass}
+use Rattle.bz_label.specs.Labels.{Package, Target, Name}
+use Rattle.bz_passes.specs.Passes.{Slot, Pass, with_mark, marked, executed, is_missing, some_missing, slots_after_pass}
 use Rattle.bz_passes.specs.Exchange.{slot_after_commands, slot_after_pass, slot_after, some_of_commands_alone, some_alone}
 use Rattle.bz_passes.proofs.ExchangeLaw.{pass_alone, some_alone_lem}
 use Rattle.bz_attribute.specs.Marks.{marks, marks_rule}
 use Rattle.bz_attribute.specs.Rules.{Rule, is_text, name_in, rule_of}
-use Rattle.bz_command.specs.declared.arguments.Attributes.{Attributes}
-use Rattle.bz_command.specs.declared.arguments.Attributes.TheVariants.{Every, Named}
+use Rattle.bz_label.specs.declared.arguments.Attributes.{Attributes}
+use Rattle.bz_label.specs.declared.arguments.Attributes.TheVariants.{Every, Named}
 use Rattle.bz_rule.specs.Commands.{Command, after, is_command}
-use Rattle.bz_rule.proofs.Commands.{lawful}
+use Rattle.bz_rule.proofs.Lawfulness.{lawful}
 use Rattle.bz_rule_laws.specs.Again.{AreCalm, AreOnce, AreSettled, IsOnce, IsSettled, after_all, are_all_apart, are_apart, is_steady, looks_past, subject}
 use Rattle.bz_rule_laws.specs.Unmentioned.{arguments_of}
 use Rattle.bz_rule_laws.proofs.CommandsAgain.{FindsNothing as SecondTime, all_find_nothing, steady_leaves}

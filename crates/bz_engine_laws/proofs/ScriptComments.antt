@@ -10,8 +10,8 @@ use Rattle.bz_layout_laws.specs.Lineless.{lineless}
 use Rattle.bz_rule.specs.Commands.{Command, after}
 use Rattle.bz_rule_laws.specs.Commands.{keeps_comments}
 use Rattle.bz_rule_laws.proofs.Commands.{comments_after}
-use Rattle.bz_command.specs.Labels.{Package}
-use Rattle.bz_command.specs.Passes.{Slot, Marked, marked, executed}
+use Rattle.bz_label.specs.Labels.{Package}
+use Rattle.bz_passes.specs.Passes.{Slot, Marked, marked, executed}
 use Rattle.bz_passes.specs.Exchange.{slot_after_commands, slot_after_pass, slot_after}
 use Rattle.bz_engine.specs.Changes.{AreCommands}
 use Rattle.bz_engine.specs.declared.report.SyntaxFault.{SyntaxFault}

@@ -8,9 +8,9 @@ use Rattle.bz_tree.specs.Tree.{Statement}
 use Rattle.bz_layout_laws.specs.KeptBlock.{IsKeptBlock}
 use Rattle.bz_layout_laws.specs.WellFormed.{IsWellFormed}
 use Rattle.bz_rule.specs.Commands.{Command, is_command, command_passes, after}
-use Rattle.bz_command.specs.Labels.{Package}
-use Rattle.bz_command.specs.Passes.{Slot, Marked, marked, executed}
-use Rattle.bz_rule.proofs.Commands.{no_rule_stays}
+use Rattle.bz_label.specs.Labels.{Package}
+use Rattle.bz_passes.specs.Passes.{Slot, Marked, marked, executed}
+use Rattle.bz_rule.proofs.Lawfulness.{no_rule_stays}
 use Rattle.bz_rule_laws.proofs.Commands.{formed_after}
 use Rattle.bz_rule_laws.proofs.Utf8Commands.{commands_utf8}
 use Rattle.bz_engine.specs.Changes.{AreCommands}

@@ -5,13 +5,13 @@ use Rattle.std.specs.List.{AllByRecursion}
 use Rattle.std.proofs.lemmas.Bool.{cases_Bool, false≢true}
 use Rattle.std.proofs.lemmas.Slice.Eq.{bytes_eq-Decides}
 use Rattle.bz_tree.specs.Tree.{Statement}
-use Rattle.bz_command.specs.Labels.{Package}
-use Rattle.bz_command.specs.Passes.{Slot, Meaning, Pass, Marked, marked, executed, slots_after_commands, slots_after_pass, slots_after}
+use Rattle.bz_label.specs.Labels.{Package}
+use Rattle.bz_passes.specs.Passes.{Slot, Meaning, Pass, Marked, marked, executed, slots_after_commands, slots_after_pass, slots_after}
 use Rattle.bz_engine.specs.Changes.{CommandsChange, PassChanges, Changes, AreCommands}
 use Rattle.bz_engine.specs.Language.{meaning}
 use Rattle.bz_engine.specs.declared.report.End.TheVariants.{Whole, FirstFailure}
 use Rattle.bz_engine.specs.Outcome.{Run, Script, Told, IsOutcome, IsWholeRun, EndsAtFailure, is_query, left_in, slots_of, text_of, some_change, told_of}
-use Rattle.bz_rule.proofs.Commands.{changed_tells}
+use Rattle.bz_rule.proofs.Lawfulness.{changed_tells}
 use Rattle.bz_engine.proofs.ChangesLaw.{changes_tell}
 use Rattle.bz_engine.proofs.OneOutcome.{one_give}
 use Rattle.bz_engine_laws.specs.Sound.{IsSound}

@@ -3,7 +3,7 @@ use Rattle.std.proofs.Common.{◌≡◌, ◌≢◌, inl, inr, ℕ, Bool, true, f
 use Rattle.std.specs.Prelude.{Option, None, Some, if◌then◌else◌}
 use Rattle.std.proofs.lemmas.Bool.{false≢true}
 use Rattle.bz_tree.specs.Tree.{Statement}
-use Rattle.bz_command.specs.Passes.{some_missing}
+use Rattle.bz_passes.specs.Passes.{some_missing}
 use Rattle.bz_engine.specs.Changes.{AreCommands}
 use Rattle.bz_engine.specs.Language.{meaning}
 use Rattle.bz_engine.specs.declared.report.Report.{Report}
@@ -11,7 +11,7 @@ use Rattle.bz_engine.specs.declared.report.SyntaxFault.{SyntaxFault}
 use Rattle.bz_engine.specs.declared.report.End.TheVariants.{Whole}
 use Rattle.bz_engine.specs.File.{IsFile}
 use Rattle.bz_engine.specs.Outcome.{Run, Told, IsOutcome, IsWholeRun, is_query, left_in, slots_of, text_of, some_change, some_failure, told_of, told_by, status_of}
-use Rattle.bz_rule.proofs.Commands.{changed_tells}
+use Rattle.bz_rule.proofs.Lawfulness.{changed_tells}
 use Rattle.bz_engine.proofs.ChangesLaw.{changes_tell}
 use Rattle.bz_engine.proofs.OneOutcome.{one_outcome}
 use Rattle.bz_engine_laws.specs.Status.{IsDoneWhole, SomeChange}

@@ -9,8 +9,8 @@ use Rattle.bz_layout.specs.Gaps.{lines_between, gap_text}
 use Rattle.bz_layout.specs.Layout.{layout_text}
 use Rattle.bz_attribute.specs.Marks.{marks}
 use Rattle.bz_rule.specs.Commands.{Command}
-use Rattle.bz_command.specs.Labels.{Package}
-use Rattle.bz_command.specs.Passes.{Slot, with_mark}
+use Rattle.bz_label.specs.Labels.{Package}
+use Rattle.bz_passes.specs.Passes.{Slot, with_mark}
 use Rattle.bz_passes.specs.Exchange.{slot_after_commands, slot_after_pass, slot_after}
 use Rattle.bz_passes.proofs.ExchangeLaw.{slots_alone}
 use Rattle.bz_engine.specs.declared.report.End.TheVariants.{Whole}

@@ -1,8 +1,8 @@
 -- The lines on which a statement was read (this project's own rule).
 use Rattle.std.specs.Prelude.{◌≡◌, ℕ, None, Some}
 use Rattle.bz_tree.specs.Tree.{Statement}
-use Rattle.bz_command.specs.Labels.{Line}
-use Rattle.bz_command.specs.Passes.{Slot}
+use Rattle.bz_label.specs.Labels.{Line}
+use Rattle.bz_passes.specs.Passes.{Slot}
 use Rattle.bz_attribute.specs.Marks.{marks}
 
 -- It is on the same lines, and a target that is a line marks both or neither.

@@ -1,8 +1,8 @@
 -- Passes on rules of other names (this project's own rule).
 use Rattle.std.specs.Prelude.{ℕ, List, Bool, not, codes}
 use Rattle.std.specs.List.{list_all}
-use Rattle.bz_command.specs.Labels.{Target, Name}
-use Rattle.bz_command.specs.Passes.{Pass}
+use Rattle.bz_label.specs.Labels.{Target, Name}
+use Rattle.bz_passes.specs.Passes.{Pass}
 use Rattle.bz_rule.specs.Commands.{Command}
 use Rattle.bz_rule_laws.specs.Unmentioned.{may_change}
 

@@ -2,8 +2,8 @@
 use Rattle.std.specs.Prelude.{◌≡◌, ℕ, List, [], ◌∷◌, Bool, true, false, ◌&&◌, if◌then◌else◌, bytes_eq}
 use Rattle.std.specs.List.{list_all}
 use Rattle.bz_tree.specs.Tree.{Statement}
-use Rattle.bz_command.specs.Labels.{Package, Target, Name}
-use Rattle.bz_command.specs.Passes.{Pass, some_missing}
+use Rattle.bz_label.specs.Labels.{Package, Target, Name}
+use Rattle.bz_passes.specs.Passes.{Pass, some_missing}
 use Rattle.bz_rule.specs.Commands.{Command}
 use Rattle.bz_rule_laws.specs.Again.{HasOnce, are_all_apart, are_apart, is_steady, looks_past}
 use Rattle.bz_rule_laws.specs.Unmentioned.{arguments_of}

@@ -1,8 +1,8 @@
 -- What a report's status says of the file.
 use Rattle.std.specs.Prelude.{◌≡◌, ℕ, false, List, None}
 use Rattle.bz_tree.specs.Tree.{Statement}
-use Rattle.bz_command.specs.Labels.{Package}
-use Rattle.bz_command.specs.Passes.{some_missing}
+use Rattle.bz_label.specs.Labels.{Package}
+use Rattle.bz_passes.specs.Passes.{some_missing}
 use Rattle.bz_engine.specs.Changes.{Changes}
 use Rattle.bz_engine.specs.File.{IsFile}
 use Rattle.bz_engine.specs.Language.{meaning}

@@ -2,7 +2,7 @@
 use Rattle.std.specs.Prelude.{◌≡◌, Bool, true, None, Some, filter}
 use Rattle.std.specs.List.{list_all, list_any}
 use Rattle.bz_tree.specs.Tree.{Segment, Statement}
-use Rattle.bz_command.specs.Passes.{Slot}
+use Rattle.bz_passes.specs.Passes.{Slot}
 use Rattle.bz_rule_laws.specs.Unmentioned.{arguments_of, is_delete, is_unmentioned}
 use Rattle.bz_engine.specs.Outcome.{Script}
 

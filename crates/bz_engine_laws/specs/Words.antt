@@ -3,7 +3,7 @@ use Rattle.std.specs.Prelude.{◌≡◌, List}
 use Rattle.std.specs.List.{flat_map, AllByRecursion}
 use Rattle.bz_tree.specs.declared.tree.Class.TheVariants.{Block}
 use Rattle.bz_tree.specs.Tree.{Statement}
-use Rattle.bz_tree_laws.specs.Words.{Word, words_of}
+use Rattle.bz_layout_laws.specs.Words.{Word, words_of}
 use Rattle.bz_layout.specs.Respell.{respell}
 
 -- the words of statements, one statement after another

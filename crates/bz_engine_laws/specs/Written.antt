@@ -6,8 +6,8 @@ use Rattle.std.specs.Str.{is_utf8}
 use Rattle.bz_tree.specs.Tree.{Statement}
 use Rattle.bz_layout_laws.specs.Spelled.{spelled_statement}
 use Rattle.bz_layout_laws.specs.Lineless.{lineless}
-use Rattle.bz_command.specs.Labels.{Package}
-use Rattle.bz_command.specs.Passes.{slots_after}
+use Rattle.bz_label.specs.Labels.{Package}
+use Rattle.bz_passes.specs.Passes.{slots_after}
 use Rattle.bz_rule.specs.Commands.{command_passes}
 use Rattle.bz_engine.specs.File.{IsFile}
 use Rattle.bz_engine.specs.Language.{meaning}

@@ -3,7 +3,7 @@
 ghost use Rattle.std.specs.Prelude.{◌≡◌, ◌≤◌, ℕ, List, Bool, Option, map, true, false};
 ghost use Rattle.bz_tree.specs.Comments.{comments_of};
 ghost use Rattle.bz_tree.specs.Tree.{Statement};
-ghost use Rattle.bz_command.specs.Labels.{Package};
+ghost use Rattle.bz_label.specs.Labels.{Package};
 ghost use Rattle.bz_engine.specs.declared.report.SyntaxFault.{SyntaxFault};
 ghost use Rattle.bz_engine.specs.Changes.{AreCommands};
 ghost use Rattle.bz_engine.specs.Outcome.{Run, Script, Told, IsOutcome, is_query};

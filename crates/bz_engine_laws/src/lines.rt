@@ -2,7 +2,7 @@
 
 ghost use Rattle.std.specs.Prelude.{◌≡◌, ◌++◌, ◌∷◌, List, [], Option};
 ghost use Rattle.bz_tree.specs.Tree.{Statement};
-ghost use Rattle.bz_command.specs.Labels.{Package};
+ghost use Rattle.bz_label.specs.Labels.{Package};
 ghost use Rattle.bz_engine.specs.Outcome.{Script, left_in};
 ghost use Rattle.bz_engine_laws.specs.Lines.{KeepsLines};
 ghost use Rattle.bz_engine_laws.specs.Written.{left_by};

@@ -2,7 +2,7 @@
 
 ghost use Rattle.std.specs.Prelude.{◌≡◌, ◌++◌, ◌∷◌, ℕ, List, bytes_eq, false, true};
 ghost use Rattle.bz_tree.specs.Tree.{Statement};
-ghost use Rattle.bz_command.specs.Labels.{Package};
+ghost use Rattle.bz_label.specs.Labels.{Package};
 ghost use Rattle.bz_engine.specs.Outcome.{Script};
 ghost use Rattle.bz_rule.specs.Commands.{Command};
 ghost use Rattle.bz_engine_laws.specs.OtherNames.{leave_names, pass_on};

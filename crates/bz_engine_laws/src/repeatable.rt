@@ -3,7 +3,7 @@
 ghost use Rattle.std.specs.Prelude.{◌≡◌, ◌≢◌, ◌≤◌, ℕ, Bool, List, false, true};
 ghost use Rattle.std.specs.List.{AllByRecursion};
 ghost use Rattle.bz_tree.specs.Tree.{Statement};
-ghost use Rattle.bz_command.specs.Labels.{Package};
+ghost use Rattle.bz_label.specs.Labels.{Package};
 ghost use Rattle.bz_engine.specs.Changes.{AreCommands};
 ghost use Rattle.bz_engine.specs.Outcome.{Run, Script, IsOutcome, is_query, some_failure, status_of, told_by};
 ghost use Rattle.bz_engine.specs.declared.report.Report.{Report};

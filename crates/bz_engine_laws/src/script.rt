@@ -7,7 +7,7 @@ ghost use Rattle.bz_rule.specs.Commands.{is_command, command_passes};
 ghost use Rattle.bz_engine.specs.Changes.{AreCommands};
 ghost use Rattle.bz_engine_laws.specs.Written.{HaveUtf8Words};
 
-use bz_command::Pass;
+use bz_passes::pass::Pass;
 use bz_rule::{Command, Target};
 
 /// The commands of each script are ones that can be read, and their words, but for those of `print`, are UTF-8. The

@@ -4,7 +4,7 @@ ghost use Rattle.std.specs.Prelude.{◌≡◌, ◌∷◌, ◌≤◌, ℕ, List, 
 ghost use Rattle.std.specs.List.{AllByRecursion};
 ghost use Rattle.bz_token.specs.Chunks.{chunks};
 ghost use Rattle.bz_tree.specs.Tree.{Statement};
-ghost use Rattle.bz_command.specs.Labels.{Package};
+ghost use Rattle.bz_label.specs.Labels.{Package};
 ghost use Rattle.bz_engine.specs.declared.report.SyntaxFault.{SyntaxFault};
 ghost use Rattle.bz_engine.specs.Changes.{AreCommands};
 ghost use Rattle.bz_engine.specs.File.{IsAnswerOf, IsFile};

@@ -4,7 +4,7 @@ ghost use Rattle.std.specs.Prelude.{◌≡◌, ℕ, List, None, map};
 ghost use Rattle.bz_token.specs.Places.{Placed};
 ghost use Rattle.bz_token.specs.Reading.{AreTokensOf};
 ghost use Rattle.bz_tree.specs.Tree.{Statement};
-ghost use Rattle.bz_tree_laws.specs.Words.{words_among};
+ghost use Rattle.bz_layout_laws.specs.Words.{words_among};
 ghost use Rattle.bz_engine.specs.File.{IsFile};
 ghost use Rattle.bz_engine.specs.Outcome.{text_of};
 ghost use Rattle.bz_engine_laws.specs.Words.{words_of_all, respelled, HasNoBlock};

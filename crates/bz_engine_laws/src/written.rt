@@ -1,7 +1,7 @@
 //! Law on runs: what a run writes is read as what its script left.
 
 ghost use Rattle.std.specs.Prelude.{◌≡◌, ◌≤◌, ℕ, List, Bool, false};
-ghost use Rattle.bz_command.specs.Labels.{Package};
+ghost use Rattle.bz_label.specs.Labels.{Package};
 ghost use Rattle.bz_engine.specs.declared.report.End.TheVariants.{Whole};
 ghost use Rattle.bz_engine.specs.Changes.{AreCommands};
 ghost use Rattle.bz_engine.specs.Outcome.{Run, Script, Told, IsOutcome, is_query};

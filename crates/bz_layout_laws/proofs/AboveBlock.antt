@@ -5,7 +5,7 @@ use Rattle.std.specs.Str.{IsUtf8, is_utf8}
 use Rattle.std.proofs.lemmas.Bool.{and_parts}
 use Rattle.bz_token.specs.Lexical.{is_comment}
 use Rattle.bz_token.specs.Places.{Placed}
-use Rattle.bz_token_laws.proofs.Deeper.{tokens_are_texts}
+use Rattle.bz_layout_laws.proofs.Deeper.{tokens_are_texts}
 use Rattle.bz_token.proofs.Quiet.{both}
 use Rattle.bz_tree.specs.declared.tree.kinds.Mark.{Mark}
 use Rattle.bz_tree.specs.declared.tree.kinds.Mark.TheVariants.{Open, Close, Comma, Comment, Newline, Plain}

@@ -5,14 +5,14 @@ use Rattle.bz_token.specs.Places.{Placed, line_at, column_from, column_at}
 use Rattle.bz_token.specs.Reading.{Piece, bytes_of, tokens_of, AreTokensOf}
 use Rattle.bz_token.proofs.OneFault.{one_tokens}
 use Rattle.bz_token.proofs.Progress.{column_from-append, lines_of}
-use Rattle.bz_token_laws.proofs.Readable.{laid_tokens}
+use Rattle.bz_layout_laws.proofs.Readable.{laid_tokens}
 use Rattle.bz_tree.specs.Blocks.{above, is_block_word, block_indent, is_block, kept_statement, IsKeptText, IsBlockOf}
 use Rattle.bz_tree.specs.Brackets.{without_lines, end_line}
 use Rattle.bz_tree.specs.Chunk.{IsOneOf, IsChunkOf, IsReadAs, IsStatementIn, indent_at, indent_fault}
 use Rattle.bz_tree.specs.Statement.{last_of, first_token, first_seen, last_seen}
 use Rattle.bz_tree.specs.Tree.{Statement}
 use Rattle.bz_tree.proofs.Trees.Sound.{none_is_some}
-use Rattle.bz_tree_laws.proofs.ChunkLaws.{chunk_same}
+use Rattle.bz_layout_laws.proofs.ChunkLaws.{chunk_same}
 use Rattle.bz_layout.specs.Layout.{layout_text}
 use Rattle.bz_layout_laws.specs.BlockIn.{IsBlockIn}
 use Rattle.bz_layout_laws.specs.Legible.{AreComments}

@@ -5,7 +5,7 @@ use Rattle.std.proofs.lemmas.Bool.Decides.{nat_tests}
 use Rattle.bz_token.specs.declared.token.Kind.TheVariants.{Kept}
 use Rattle.bz_token.specs.Places.{Placed, column_at}
 use Rattle.bz_token.specs.Reading.{is_gap, Piece, bytes_of, tokens_of}
-use Rattle.bz_token_laws.proofs.Readable.{read_is_laid}
+use Rattle.bz_layout_laws.proofs.Readable.{read_is_laid}
 use Rattle.bz_tree.specs.declared.tree.Class.TheVariants.{Block}
 use Rattle.bz_tree.specs.Blocks.{above, is_block_word_at, is_block_word, block_indent, is_block, kept_statement, IsKeptText, IsBlockOf}
 use Rattle.bz_tree.specs.Brackets.{end_line}
@@ -13,7 +13,7 @@ use Rattle.bz_tree.specs.Chunk.{IsOneOf, indent_at}
 use Rattle.bz_tree.specs.Statement.{first_token, last_seen}
 use Rattle.bz_tree.specs.Tree.{leaf, Statement}
 use Rattle.bz_tree.proofs.Trees.Sound.{none_is_some, some_injective}
-use Rattle.bz_tree_laws.proofs.KeptSame.{kept_same}
+use Rattle.bz_layout_laws.proofs.KeptSame.{kept_same}
 use Rattle.bz_layout_laws.specs.BlockIn.{IsBlockIn}
 use Rattle.bz_layout_laws.proofs.BlockParts.{AreParts, parts_of}
 use Rattle.bz_layout_laws.proofs.BlockPlaces.{body_tokens, header_token, told}

@@ -11,7 +11,7 @@ use Rattle.bz_token.specs.LogicalLines.{Line}
 use Rattle.bz_token.specs.Places.{column_from}
 use Rattle.bz_token.specs.Reading.{is_gap, Piece, bytes_of}
 use Rattle.bz_token.specs.TokenLines.{line_of, lines_from, lines_of}
-use Rattle.bz_token_laws.proofs.Readable.{bytes_join}
+use Rattle.bz_layout_laws.proofs.Readable.{bytes_join}
 use Rattle.bz_tree.specs.Blocks.{is_block_word_at}
 use Rattle.bz_layout_laws.proofs.BlockHead.{by_word, word_no_line, word_no_comment, word_ended, head_opens}
 use Rattle.bz_layout_laws.proofs.BlockLines.{cut_line, keep_line, stops_front}

@@ -19,7 +19,7 @@ use Rattle.bz_token.specs.Reading.{is_gap, continues_gap, Piece, bytes_of}
 use Rattle.bz_token.proofs.Joins.{line_text}
 use Rattle.bz_token.proofs.Progress.{column_from-append}
 use Rattle.bz_token.specs.ChunkForms.{are_comments, is_rest}
-use Rattle.bz_token_laws.specs.Readable.{are_texts, are_ended}
+use Rattle.bz_layout_laws.specs.Readable.{are_texts, are_ended}
 use Rattle.bz_token.specs.TokenLines.{is_newline_piece, is_comment_piece, kind_of, line_of, lines_from}
 use Rattle.bz_tree.specs.Blocks.{is_block_word_at}
 use Rattle.bz_tree.specs.Statement.{is_aside}

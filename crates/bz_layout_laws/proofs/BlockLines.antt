@@ -12,7 +12,7 @@ use Rattle.bz_token.specs.Lexical.{is_word_byte}
 use Rattle.bz_token.specs.LogicalLines.{Line}
 use Rattle.bz_token.specs.Reading.{Piece, bytes_of}
 use Rattle.bz_token.specs.TokenLines.{is_newline_piece, line_of, lines_from}
-use Rattle.bz_token_laws.proofs.Readable.{bytes_join}
+use Rattle.bz_layout_laws.proofs.Readable.{bytes_join}
 use Rattle.bz_layout_laws.proofs.BlockTests.{newline}
 use Rattle.bz_layout_laws.proofs.BranchWords.{is_branch, stops_word}
 use Rattle.bz_token.specs.Common.{is_empty}

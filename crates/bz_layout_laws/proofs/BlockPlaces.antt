@@ -6,7 +6,7 @@ use Rattle.bz_token.specs.Brackets.{is_line}
 use Rattle.bz_token.specs.Places.{Placed, line_at}
 use Rattle.bz_token.specs.Reading.{Piece, bytes_of, token_of, tokens_of}
 use Rattle.bz_token.proofs.Progress.{lines_of}
-use Rattle.bz_token_laws.proofs.Readable.{bytes_join}
+use Rattle.bz_layout_laws.proofs.Readable.{bytes_join}
 use Rattle.bz_tree.specs.Blocks.{IsAt, IsKeptText, block_indent, is_block}
 use Rattle.bz_tree.specs.Brackets.{is_line as is_line_mark, without_lines}
 use Rattle.bz_tree.specs.Kinds.{mark_of}

@@ -10,9 +10,9 @@ use Rattle.bz_token.specs.Ends.{ends, stops_at}
 use Rattle.bz_token.specs.Lexical.{is_blank, is_newline, is_text}
 use Rattle.bz_token.specs.Reading.{is_gap, Piece, open_after, bytes_of}
 use Rattle.bz_token.proofs.Stops.{newline_stops}
-use Rattle.bz_token_laws.specs.Readable.{are_texts, are_ended, are_fitting}
+use Rattle.bz_layout_laws.specs.Readable.{are_texts, are_ended, are_fitting}
 use Rattle.bz_token.specs.TokenLines.{is_newline_piece}
-use Rattle.bz_token_laws.proofs.Readable.{texts_join, ended_join, fitting_join, open_join}
+use Rattle.bz_layout_laws.proofs.Readable.{texts_join, ended_join, fitting_join, open_join}
 use Rattle.bz_tree.specs.declared.tree.Class.TheVariants.{Comment}
 use Rattle.bz_tree.specs.Statement.{is_aside}
 use Rattle.bz_tree.specs.Tree.{Statement}

@@ -6,7 +6,7 @@ use Rattle.std.proofs.lemmas.Str.{is_utf8-from_IsUtf8}
 use Rattle.bz_token.specs.Brackets.{open_after_token}
 use Rattle.bz_token.specs.Reading.{Piece, IsReading, open_after, bytes_of}
 use Rattle.bz_token.proofs.Quiet.{both}
-use Rattle.bz_token_laws.proofs.Readable.{laid_reading}
+use Rattle.bz_layout_laws.proofs.Readable.{laid_reading}
 use Rattle.bz_tree.specs.Tree.{Statement}
 use Rattle.bz_layout_laws.specs.BlockIn.{IsBlockIn}
 use Rattle.bz_layout_laws.specs.EachText.{HasUtf8}

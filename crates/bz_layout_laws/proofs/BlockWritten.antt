@@ -9,7 +9,7 @@ use Rattle.bz_token.specs.Places.{column_at}
 use Rattle.bz_token.specs.Reading.{Piece, bytes_of, tokens_of}
 use Rattle.bz_token.proofs.Progress.{column_from-append}
 use Rattle.bz_token.specs.TokenLines.{is_newline_piece}
-use Rattle.bz_token_laws.proofs.Readable.{bytes_join}
+use Rattle.bz_layout_laws.proofs.Readable.{bytes_join}
 use Rattle.bz_tree.specs.declared.tree.Class.TheVariants.{Block}
 use Rattle.bz_tree.specs.Blocks.{above_at, above, is_block_word_at}
 use Rattle.bz_tree.specs.Kinds.{kind_mark}

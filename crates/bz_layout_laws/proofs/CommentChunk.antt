@@ -7,10 +7,10 @@ use Rattle.bz_token.specs.FreshStart.{ends_in_line, AreLinesOf}
 use Rattle.bz_token.specs.LogicalLines.{lines}
 use Rattle.bz_token.specs.Reading.{Piece as ReadPiece, open_after, bytes_of as bytes_read, tokens_of}
 use Rattle.bz_token.specs.ChunkForms.{are_comments}
-use Rattle.bz_token_laws.specs.Readable.{are_texts, are_ended, are_fitting}
+use Rattle.bz_layout_laws.specs.Readable.{are_texts, are_ended, are_fitting}
 use Rattle.bz_token.specs.TokenLines.{line_of, lines_of}
 use Rattle.bz_token.proofs.ChunkForms.{statement_chunk}
-use Rattle.bz_token_laws.proofs.Readable.{bytes_join, texts_join, ended_join, fitting_join, open_join, laid_lines, laid_reading}
+use Rattle.bz_layout_laws.proofs.Readable.{bytes_join, texts_join, ended_join, fitting_join, open_join, laid_lines, laid_reading}
 use Rattle.bz_token.proofs.TokenLines.{lines_are_lines, lines_of_join}
 use Rattle.bz_tree.specs.Tree.{Statement}
 use Rattle.bz_layout.specs.Pieces.{comment_lines}

@@ -13,7 +13,7 @@ use Rattle.bz_token.specs.Brackets.{is_inside, is_line as is_line_kind, is_openi
 use Rattle.bz_token.specs.Lexical.{is_text, is_comment}
 use Rattle.bz_token.specs.Places.{Placed, line_at}
 use Rattle.bz_token.specs.Reading.{Piece, IsReading, tokens_of, AreTokensOf}
-use Rattle.bz_token_laws.proofs.Deeper.{tokens_are_texts}
+use Rattle.bz_layout_laws.proofs.Deeper.{tokens_are_texts}
 use Rattle.bz_tree.specs.declared.tree.kinds.Mark.{Mark}
 use Rattle.bz_tree.specs.declared.tree.kinds.Mark.TheVariants.{Open, Close, Comma, Comment, Newline, Plain}
 use Rattle.bz_tree.specs.declared.tree.kinds.Preceding.{Preceding}

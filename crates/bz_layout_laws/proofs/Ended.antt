@@ -9,9 +9,9 @@ use Rattle.bz_token.specs.declared.token.Kind.TheVariants.{Operator, Newline, Co
 use Rattle.bz_token.specs.Lexical.{begins, is_newline}
 use Rattle.bz_token.specs.Ends.{stops_at, ends}
 use Rattle.bz_token.specs.Reading.{bytes_of as bytes_read}
-use Rattle.bz_token_laws.specs.Readable.{are_ended}
-use Rattle.bz_token_laws.proofs.Readable.{ended_join, stopped_at_ends}
-use Rattle.bz_token_laws.proofs.CloseTokens.{whole_stops}
+use Rattle.bz_layout_laws.specs.Readable.{are_ended}
+use Rattle.bz_layout_laws.proofs.Readable.{ended_join, stopped_at_ends}
+use Rattle.bz_layout_laws.proofs.CloseTokens.{whole_stops}
 use Rattle.bz_tree.specs.declared.tree.GroupKind.{GroupKind}
 use Rattle.bz_tree.specs.declared.tree.GroupKind.TheVariants.{Call, List as ListKind, Index, Dict, ListComp, DictComp}
 use Rattle.bz_tree.specs.Tree.{Item, leaf, group, Items, no_items, item, Segs, no_segs, seg, Statement, items_of}

@@ -12,7 +12,7 @@ use Rattle.bz_layout.specs.declared.spacing.Edge.TheVariants.{Start}
 use Rattle.bz_layout.specs.Layout.{layout_text}
 use Rattle.bz_layout_laws.specs.Legible.{AreLegible, IsLegible, begins_block, depth_of}
 use Rattle.bz_layout_laws.specs.Lexemes.{Lexeme, lexeme, lexemes_of}
-use Rattle.bz_tree_laws.specs.Written.{written_entries}
+use Rattle.bz_layout_laws.specs.Written.{written_entries}
 use Rattle.bz_layout_laws.specs.Inside.{HasShape, entries_lexemes}
 use Rattle.bz_layout_laws.specs.Spelled.{spelled_statement}
 use Rattle.bz_layout_laws.specs.Lineless.{lineless}

@@ -14,7 +14,7 @@ use Rattle.bz_token.specs.Places.{Placed}
 use Rattle.bz_token.specs.Reading.{Piece, tokens_of}
 use Rattle.bz_token.specs.TokenLines.{line_of}
 use Rattle.bz_token.proofs.ChunkForms.{statement_chunk}
-use Rattle.bz_token_laws.proofs.Readable.{laid_lines}
+use Rattle.bz_layout_laws.proofs.Readable.{laid_lines}
 use Rattle.bz_tree.specs.declared.tree.Class.{Class}
 use Rattle.bz_tree.specs.declared.tree.Class.TheVariants.{Load, Assign, Rule, Other, Comment, Block}
 use Rattle.bz_tree.specs.Tree.{Statement}

@@ -11,7 +11,7 @@ use Rattle.bz_tree.specs.Chunk.{IsChunkOf, IsStatementIn, IsBlank}
 use Rattle.bz_tree.specs.Statement.{first_seen}
 use Rattle.bz_tree.specs.declared.tree.Class.{Class}
 use Rattle.bz_tree.specs.Tree.{Statement}
-use Rattle.bz_tree_laws.proofs.ChunkLaws.{chunk_same}
+use Rattle.bz_layout_laws.proofs.ChunkLaws.{chunk_same}
 use Rattle.bz_layout.specs.Gaps.{lines_before, gap_text}
 use Rattle.bz_layout.specs.Layout.{layout_text}
 use Rattle.bz_layout_laws.specs.FileRead.{IsFound, AreFound, AreStatementsIn}

@@ -12,7 +12,7 @@ use Rattle.std.specs.List.{list_any}
 use Rattle.bz_token.specs.Lexical.{is_comment as is_comment_text, is_newline, ends_blank, is_text}
 use Rattle.bz_token.specs.Reading.{bytes_of as bytes_read}
 use Rattle.bz_token.proofs.Stops.{token_ended}
-use Rattle.bz_token_laws.specs.Readable.{are_texts, are_ended}
+use Rattle.bz_layout_laws.specs.Readable.{are_texts, are_ended}
 use Rattle.bz_tree.specs.declared.tree.GroupKind.{GroupKind}
 use Rattle.bz_tree.specs.declared.tree.GroupKind.TheVariants.{Call}
 use Rattle.bz_tree.specs.Tree.{leaf, group, Items, no_items, item, Statement, items_of}

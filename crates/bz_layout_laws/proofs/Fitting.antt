@@ -11,8 +11,8 @@ use Rattle.bz_token.specs.declared.token.Kind.TheVariants.{Operator as OperatorT
 use Rattle.bz_token.specs.Lexical.{is_comment}
 use Rattle.bz_token.specs.Brackets.{is_inside, is_line, fits}
 use Rattle.bz_token.specs.Reading.{is_gap, open_after}
-use Rattle.bz_token_laws.specs.Readable.{are_fitting}
-use Rattle.bz_token_laws.proofs.Readable.{fitting_join, open_join}
+use Rattle.bz_layout_laws.specs.Readable.{are_fitting}
+use Rattle.bz_layout_laws.proofs.Readable.{fitting_join, open_join}
 use Rattle.bz_tree.specs.declared.tree.GroupKind.{GroupKind}
 use Rattle.bz_tree.specs.declared.tree.GroupKind.TheVariants.{Call, RuleCall, Load, Paren, List as ListKind, Index, Dict, ListComp, DictComp}
 use Rattle.bz_tree.specs.Comments.{beside}

@@ -11,7 +11,7 @@ use Rattle.bz_tree.specs.Brackets.{single, bracket, Elems, no_elems, elem, leaf_
 use Rattle.bz_tree.specs.Kinds.{mark_of}
 use Rattle.bz_tree.specs.Owners.{Own, Last, no_token, end_of_node, Entry, a_node, a_comma, a_comment, entries_of}
 use Rattle.bz_tree.specs.Tree.{Item, leaf, group, Items, no_items, item, Segs, no_segs, seg, list_of, segments}
-use Rattle.bz_tree_laws.specs.Written.{own_lines, suffix_entry, written_entries}
+use Rattle.bz_layout_laws.specs.Written.{own_lines, suffix_entry, written_entries}
 use Rattle.bz_layout_laws.specs.Parsed.{is_comma_mark, is_comma, nodes_have_for, have_for}
 use Rattle.bz_layout_laws.specs.Spelled.{spelled, spelled_items, spelled_segs}
 use Rattle.bz_layout_laws.proofs.Written.{comma_entry}

@@ -14,9 +14,9 @@ use Rattle.bz_token.specs.Reading.{is_white, is_gap, continues_gap, Piece, open_
 use Rattle.bz_token.proofs.Joins.{line_text}
 use Rattle.bz_token.proofs.Progress.{column_from-append}
 use Rattle.bz_token.specs.ChunkForms.{are_of_block, are_more, is_rest}
-use Rattle.bz_token_laws.specs.Readable.{are_texts, are_ended, are_fitting}
+use Rattle.bz_layout_laws.specs.Readable.{are_texts, are_ended, are_fitting}
 use Rattle.bz_token.specs.TokenLines.{is_newline_piece, lines_from, lines_of}
-use Rattle.bz_token_laws.proofs.Readable.{laid_reading, texts_join, ended_join, fitting_join}
+use Rattle.bz_layout_laws.proofs.Readable.{laid_reading, texts_join, ended_join, fitting_join}
 use Rattle.bz_token.proofs.TokenLines.{lines_are_lines, lines_of_join}
 use Rattle.bz_tree.specs.Tree.{Statement}
 use Rattle.bz_layout_laws.specs.Legible.{AreComments}

@@ -10,7 +10,7 @@ use Rattle.bz_token.specs.Chunks.{chunks}
 use Rattle.bz_token.specs.Lexical.{keywords, operators}
 use Rattle.bz_token.specs.Places.{Placed}
 use Rattle.bz_token.specs.Reading.{Piece, tokens_of, AreTokensOf}
-use Rattle.bz_token_laws.proofs.Readable.{laid_tokens}
+use Rattle.bz_layout_laws.proofs.Readable.{laid_tokens}
 use Rattle.bz_tree.specs.declared.tree.Class.TheVariants.{Block}
 use Rattle.bz_tree.specs.Chunk.{IsReadAs}
 use Rattle.bz_tree.specs.Tree.{leaf, Statement}

@@ -11,7 +11,7 @@ use Rattle.bz_token.specs.FreshStart.{ends_in_line}
 use Rattle.bz_token.specs.Lexical.{is_comment}
 use Rattle.bz_token.specs.LogicalLines.{lines}
 use Rattle.bz_token.specs.Reading.{Piece, bytes_of, tokens_of}
-use Rattle.bz_token_laws.proofs.Readable.{laid_lines}
+use Rattle.bz_layout_laws.proofs.Readable.{laid_lines}
 use Rattle.bz_token.proofs.TokenLines.{lines_join}
 use Rattle.bz_tree.specs.Blocks.{is_block_word_at}
 use Rattle.bz_tree.specs.Tree.{Statement}

@@ -14,7 +14,7 @@ use Rattle.bz_tree.specs.Brackets.{bracket, elems_tokens, elems_own, has_for, is
 use Rattle.bz_tree.specs.Kinds.{operator_mark, group_kind, is_one}
 use Rattle.bz_tree.specs.Owners.{Entry, a_node, no_token, end_of_node, no_empty}
 use Rattle.bz_tree.specs.Tree.{group, Segs, segments}
-use Rattle.bz_tree_laws.specs.Written.{written_entries, HaveNodes}
+use Rattle.bz_layout_laws.specs.Written.{written_entries, HaveNodes}
 use Rattle.bz_layout.specs.Layout.{opening, closing}
 use Rattle.bz_layout_laws.specs.Lexemes.{Lexeme, lexeme}
 use Rattle.bz_layout_laws.specs.Parsed.{have_for}

@@ -16,9 +16,9 @@ use Rattle.bz_tree.specs.Brackets.{Elems, elems_tokens, elems_own, own_items, Ar
 use Rattle.bz_tree.specs.Owners.{Own, Entry, a_node, no_token, entries_of}
 use Rattle.bz_tree.specs.Statement.{segment_of, class_of, is_kept, is_load_word, is_rule, statement_with, IsStatementOf, is_assign}
 use Rattle.bz_tree.specs.Tree.{Item, leaf, group, Segment, Statement, items_of}
-use Rattle.bz_tree_laws.specs.Written.{own_lines, suffix_entry, written_entries}
-use Rattle.bz_tree_laws.proofs.WrittenBack.{statement_back, comments_back}
-use Rattle.bz_tree_laws.proofs.ChunkLaws.{tree_same}
+use Rattle.bz_layout_laws.specs.Written.{own_lines, suffix_entry, written_entries}
+use Rattle.bz_layout_laws.proofs.WrittenBack.{statement_back, comments_back}
+use Rattle.bz_layout_laws.proofs.ChunkLaws.{tree_same}
 use Rattle.bz_layout.specs.declared.spacing.Edge.{Edge}
 use Rattle.bz_layout.specs.declared.spacing.Edge.TheVariants.{Start}
 use Rattle.bz_layout.specs.Broken.{is_broken, segs_hold}

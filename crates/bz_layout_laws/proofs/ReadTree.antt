@@ -12,7 +12,7 @@ use Rattle.bz_tree.specs.Brackets.{after_item, is_paren}
 use Rattle.bz_tree.specs.Kinds.{is_one, group_kind}
 use Rattle.bz_tree.specs.Owners.{Entry, a_node}
 use Rattle.bz_tree.specs.Tree.{Item, leaf, group, Items, no_items, item, Segs, no_segs, seg, list_of, segments}
-use Rattle.bz_tree_laws.specs.Written.{own_lines, suffix_entry, written_entries}
+use Rattle.bz_layout_laws.specs.Written.{own_lines, suffix_entry, written_entries}
 use Rattle.bz_layout.specs.declared.spacing.Edge.{Edge}
 use Rattle.bz_layout.specs.declared.spacing.Edge.TheVariants.{Start}
 use Rattle.bz_layout.specs.Broken.{count, is_broken, segs_hold}

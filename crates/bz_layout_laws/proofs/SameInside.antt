@@ -6,8 +6,8 @@ use Rattle.bz_tree.specs.Brackets.{is_paren, own_items, group_of}
 use Rattle.bz_tree.specs.Kinds.{is_one}
 use Rattle.bz_tree.specs.Owners.{Own, no_token, no_empty, entries_of}
 use Rattle.bz_tree.specs.Tree.{group, Items, no_items, item, Segs, no_segs, seg, items_of, list_of, segs_of, segments}
-use Rattle.bz_tree_laws.specs.Written.{written_entries, HaveNodes}
-use Rattle.bz_tree_laws.proofs.WrittenBack.{group_back}
+use Rattle.bz_layout_laws.specs.Written.{written_entries, HaveNodes}
+use Rattle.bz_layout_laws.proofs.WrittenBack.{group_back}
 use Rattle.bz_layout_laws.specs.Legible.{are_some, AreLegibleSegs}
 use Rattle.bz_layout_laws.specs.FreeLayout.{Choice, inside, following, items_spelled_by, segs_spelled_by}
 use Rattle.bz_layout_laws.specs.Spelled.{spelled_segs}

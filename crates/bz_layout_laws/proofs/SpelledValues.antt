@@ -5,9 +5,9 @@ use Rattle.std.specs.List.{list_all}
 use Rattle.std.proofs.lemmas.Bool.{cases_Bool, and_parts, eqb-false, ne_eqb}
 use Rattle.bz_token.specs.declared.token.Kind.{Kind}
 use Rattle.bz_token.specs.declared.token.Kind.TheVariants.{String}
-use Rattle.bz_command.specs.Values.{opening, value_of, value_at}
-use Rattle.bz_command.specs.private.ValueSteps.{first_len, inner_value, value_in}
-use Rattle.bz_command.proofs.Literals.{step}
+use Rattle.bz_label.specs.Values.{opening, value_of, value_at}
+use Rattle.bz_label.specs.private.ValueSteps.{first_len, inner_value, value_in}
+use Rattle.bz_label.proofs.Literals.{step}
 use Rattle.bz_layout.specs.Respell.{is_plain, content, is_single, respell}
 use Rattle.bz_layout_laws.proofs.Respelled.{within, plain_byte, single_parts}
 

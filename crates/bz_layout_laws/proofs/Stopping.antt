@@ -10,7 +10,7 @@ use Rattle.bz_token.specs.Lexical.{begins, is_newline, is_text, is_word_byte}
 use Rattle.bz_token.specs.Ends.{is_comment_kind, stops_at, ends}
 use Rattle.bz_token.proofs.Classes.{same_bytes, empty_no_text}
 use Rattle.bz_token.proofs.Stops.{operator_stops, plain_stops}
-use Rattle.bz_token_laws.proofs.Readable.{stopped_at_ends}
+use Rattle.bz_layout_laws.proofs.Readable.{stopped_at_ends}
 use Rattle.bz_tree.specs.declared.tree.GroupKind.{GroupKind}
 use Rattle.bz_tree.specs.declared.tree.GroupKind.TheVariants.{Call}
 use Rattle.bz_tree.specs.Tree.{Item, leaf, group}

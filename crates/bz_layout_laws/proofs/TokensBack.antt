@@ -8,9 +8,9 @@ use Rattle.bz_token.specs.FreshStart.{ends_in_line, AreLinesOf}
 use Rattle.bz_token.specs.Places.{Placed, line_at}
 use Rattle.bz_token.specs.Reading.{open_after, tokens_of, AreTokensOf}
 use Rattle.bz_token.proofs.OneFault.{one_tokens}
-use Rattle.bz_token_laws.specs.Readable.{are_texts, are_ended, are_fitting}
-use Rattle.bz_token_laws.proofs.GapLines.{line_stays, last_line_of}
-use Rattle.bz_token_laws.proofs.Readable.{laid_lines}
+use Rattle.bz_layout_laws.specs.Readable.{are_texts, are_ended, are_fitting}
+use Rattle.bz_layout_laws.proofs.GapLines.{line_stays, last_line_of}
+use Rattle.bz_layout_laws.proofs.Readable.{laid_lines}
 use Rattle.bz_token.specs.Ends.{is_comment_kind}
 use Rattle.bz_tree.specs.Statement.{is_aside}
 use Rattle.bz_tree.specs.Tree.{Statement, items_of}

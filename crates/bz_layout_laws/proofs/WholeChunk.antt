@@ -16,11 +16,11 @@ use Rattle.bz_token.specs.LogicalLines.{lines}
 use Rattle.bz_token.specs.Reading.{Piece as ReadPiece, is_gap, open_after, bytes_of as bytes_read}
 use Rattle.bz_token.proofs.Stops.{token_ended}
 use Rattle.bz_token.specs.ChunkForms.{are_comments, ends_chunk}
-use Rattle.bz_token_laws.specs.Readable.{are_texts, are_ended}
+use Rattle.bz_layout_laws.specs.Readable.{are_texts, are_ended}
 use Rattle.bz_token.specs.TokenLines.{line_of, lines_of}
 use Rattle.bz_token.proofs.BlockWords.{no_block}
 use Rattle.bz_token.proofs.ChunkForms.{statement_chunk, comments_chunk}
-use Rattle.bz_token_laws.proofs.Readable.{laid_reading}
+use Rattle.bz_layout_laws.proofs.Readable.{laid_reading}
 use Rattle.bz_token.proofs.TokenLines.{lines_are_lines, lines_of_join, one_line}
 use Rattle.bz_tree.specs.declared.tree.GroupKind.{GroupKind}
 use Rattle.bz_tree.specs.declared.tree.GroupKind.TheVariants.{Call}

@@ -9,7 +9,7 @@ use Rattle.bz_tree.specs.declared.tree.GroupKind.TheVariants.{Paren, Index, List
 use Rattle.bz_tree.specs.Brackets.{is_paren}
 use Rattle.bz_tree.specs.Owners.{Entry, a_node, a_comma}
 use Rattle.bz_tree.specs.Tree.{group, Items, no_items, item, Segs, no_segs, seg, list_of, segments}
-use Rattle.bz_tree_laws.specs.Written.{own_lines, suffix_entry, written_entries}
+use Rattle.bz_layout_laws.specs.Written.{own_lines, suffix_entry, written_entries}
 use Rattle.bz_layout.specs.Broken.{count, have_comments, breaks_by_count, is_broken, segs_hold}
 use Rattle.bz_layout.specs.Layout.{opening, closing, has_commas}
 use Rattle.bz_layout_laws.specs.Lexemes.{Lexeme, lexeme, comment_lexemes, suffix_lexemes, comma_lexemes, item_lexemes, items_lexemes, ended_lexemes, separated_lexemes}

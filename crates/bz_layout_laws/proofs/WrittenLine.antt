@@ -7,7 +7,7 @@ use Rattle.bz_token.specs.declared.token.Kind.TheVariants.{Newline, Comment}
 use Rattle.bz_token.specs.Brackets.{is_line}
 use Rattle.bz_tree.specs.Owners.{a_node}
 use Rattle.bz_tree.specs.Tree.{Item, Statement, items_of, list_of}
-use Rattle.bz_tree_laws.specs.Written.{own_lines, suffix_entry, written_entries}
+use Rattle.bz_layout_laws.specs.Written.{own_lines, suffix_entry, written_entries}
 use Rattle.bz_layout.specs.declared.spacing.Edge.TheVariants.{Start}
 use Rattle.bz_layout.specs.declared.spacing.Gap.TheVariants.{Closed}
 use Rattle.bz_layout.specs.declared.broken.Style.TheVariants.{Broken}

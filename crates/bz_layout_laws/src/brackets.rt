@@ -5,7 +5,7 @@ ghost use Rattle.bz_token.specs.declared.token.Kind.TheVariants.{Operator};
 ghost use Rattle.bz_tree.specs.declared.tree.GroupKind.{GroupKind};
 ghost use Rattle.bz_tree.specs.Brackets.{is_paren};
 ghost use Rattle.bz_tree.specs.Tree.{Segs, Statement, group, segments};
-ghost use Rattle.bz_tree_laws.specs.Written.{written_entries};
+ghost use Rattle.bz_layout_laws.specs.Written.{written_entries};
 ghost use Rattle.bz_layout.specs.Layout.{opening, closing, is_comment};
 ghost use Rattle.bz_layout_laws.specs.Inside.{HasShape, entries_lexemes, has_last_comma, own_segment, without_newlines};
 ghost use Rattle.bz_layout_laws.specs.Lexemes.{lexeme, item_lexemes, lexemes_of};

@@ -4,7 +4,7 @@ ghost use Rattle.std.specs.Prelude.{◌≡◌, ◌≤◌, ℕ, List, [], true};
 ghost use Rattle.bz_token.specs.Places.{Placed};
 ghost use Rattle.bz_token.specs.FreshStart.{AreLinesOf};
 ghost use Rattle.bz_token.specs.Reading.{AreTokensOf, open_after, tokens_of};
-ghost use Rattle.bz_token_laws.specs.Readable.{are_texts, are_ended, are_fitting};
+ghost use Rattle.bz_layout_laws.specs.Readable.{are_texts, are_ended, are_fitting};
 ghost use Rattle.bz_tree.specs.Tree.{Statement};
 ghost use Rattle.bz_layout.specs.Layout.{layout, layout_text};
 ghost use Rattle.bz_layout_laws.specs.Legible.{IsLegible, depth_of};

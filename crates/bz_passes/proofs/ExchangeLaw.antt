@@ -1,7 +1,7 @@
 -- The law Exchange, by induction on commands, passes and slots.
 use Rattle.std.proofs.Common.{◌≡◌, Bool, true, false, ◌||◌, List, [], ◌∷◌, ◌++◌, map, refl, sym, ◌∙◌, ap, append_assoc, append-nil}
 use Rattle.std.specs.List.{flat_map, list_any}
-use Rattle.bz_command.specs.Passes.{Slot, Meaning, Pass, Marked, marked, executed, entries, slots_after_commands, log_of_commands, slots_after_pass, missing, is_missing, some_missing, slots_after, log_of, meets, some_of_commands, some_execution}
+use Rattle.bz_passes.specs.Passes.{Slot, Meaning, Pass, Marked, marked, executed, entries, slots_after_commands, log_of_commands, slots_after_pass, missing, is_missing, some_missing, slots_after, log_of, meets, some_of_commands, some_execution}
 use Rattle.bz_passes.specs.Exchange.{Exchange, Kept, IsLeftBy, logs_alone, slot_after_commands, slot_after_pass, slot_after, kept_alone, logs_of, logs_and, kept_and, kept_of, told, some_not_found, no_slot, some_of_commands_alone, some_alone}
 
 -- a `map` of a `map`

@@ -1,7 +1,7 @@
 -- A slot that one pass of a script alone marks.
 use Rattle.std.proofs.Common.{◌≡◌, ◌≢◌, ℕ, zero, suc, ◌+◌, ◌<◌, Bool, true, false, cond, ◌||◌, List, [], ◌∷◌, length, get_or, filter, Option, Some, None, set, refl, ◌∙◌, ap, sym, arith}
 use Rattle.std.proofs.Math.Nat.{suc_inj}
-use Rattle.bz_command.specs.Passes.{Slot, Meaning, Pass, marked}
+use Rattle.bz_passes.specs.Passes.{Slot, Meaning, Pass, marked}
 use Rattle.bz_passes.specs.Exchange.{Kept, Fits, kept_alone, kept_and, logs_and, pass_alone, pass_and, slot_after, slot_after_pass, some_of_commands_alone}
 use Rattle.bz_passes.specs.OnePass.{IsOnlyAt, IsOnlyFor, and_at}
 use Rattle.bz_passes.specs.declared.index.Key.{Key}

@@ -1,13 +1,13 @@
 -- A slot that no pass marks is passed by.
 use Rattle.std.proofs.Common.{◌≡◌, ℕ, zero, suc, ◌<◌, Bool, true, false, not, ◌||◌, List, [], ◌∷◌, length, get_or, Option, Some, None, is_some, refl, sym, ◌∙◌, ap, arith}
 use Rattle.std.specs.List.{list_any}
-use Rattle.bz_command.specs.Passes.{Slot, Meaning, Pass}
+use Rattle.bz_passes.specs.Passes.{Slot, Meaning, Pass}
 use Rattle.bz_passes.specs.Exchange.{Kept, Fits, IsPassedBy, slot_after, logs_of, kept_of, kept_and, kept_alone, some_alone}
 use Rattle.bz_passes.specs.declared.index.Key.{Key}
 use Rattle.bz_passes.specs.Asked.{IsFirstFrom, IsKeyOf, may_mark}
 use Rattle.bz_passes.proofs.ExchangeLaw.{left_more}
 use Rattle.bz_passes.proofs.Skips.{unmarked_kept, unmarked_slot, unmarked_test}
-use Rattle.bz_command.specs.Passes.{Marked, executed, marked, slots_after_pass}
+use Rattle.bz_passes.specs.Passes.{Marked, executed, marked, slots_after_pass}
 use Rattle.std.specs.Prelude.{map}
 
 -- whether there is a first position is whether the test holds somewhere

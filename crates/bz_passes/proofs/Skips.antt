@@ -2,7 +2,7 @@
 use Rattle.std.proofs.Common.{◌≡◌, ℕ, zero, suc, ◌<◌, ◌≤◌, ◌+◌, Bool, true, false, ◌||◌, List, [], ◌∷◌, ◌++◌, length, take, drop, get_or, refl, sym, ◌∙◌, ap, arith, append_assoc, length-drop, get_or-drop, drop-drop, take-add, ◌-◌}
 use Rattle.std.proofs.lemmas.Grind.{common_steps}
 use Rattle.std.proofs.Math.Nat.{suc_inj}
-use Rattle.bz_command.specs.Passes.{Slot, Meaning, Pass, with_mark, marked}
+use Rattle.bz_passes.specs.Passes.{Slot, Meaning, Pass, with_mark, marked}
 use Rattle.bz_passes.specs.Exchange.{Kept, Fits, slot_after_commands, slot_after_pass, slot_after, logs_alone, logs_and, pass_alone, pass_and, kept_alone, kept_and, some_of_commands_alone, some_alone}
 
 -- a pass that does not mark the slot: it stays, nothing is told, and no test is met

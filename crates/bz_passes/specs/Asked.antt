@@ -2,9 +2,9 @@
 -- Begin with `may_mark` and `IsKeyOf`.
 use Rattle.std.specs.Prelude.{◌≡◌, ◌≤◌, ◌<◌, ℕ, Bool, true, false, List, length, get_or, filter, Option, None, Some, is_none, bytes_eq}
 use Rattle.std.specs.List.{list_any}
-use Rattle.bz_command.specs.Labels as label
-use Rattle.bz_command.specs.Labels.{Target}
-use Rattle.bz_command.specs.Passes.{Meaning, Pass, Slot}
+use Rattle.bz_label.specs.Labels as label
+use Rattle.bz_label.specs.Labels.{Target}
+use Rattle.bz_passes.specs.Passes.{Meaning, Pass, Slot}
 use Rattle.bz_passes.specs.declared.index.Key.{Key}
 use Rattle.bz_passes.specs.declared.index.Key.TheVariants.{NoName, Name, Unknown}
 

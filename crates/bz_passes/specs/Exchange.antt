@@ -1,7 +1,7 @@
 -- A script slot by slot: each slot by itself under the whole script, what is kept of the slots so far, and the log told of it at the end.
 use Rattle.std.specs.Prelude.{length, ◌≡◌, Bool, false, ◌||◌, List, [], ◌∷◌, ◌++◌, map}
 use Rattle.std.specs.List.{flat_map, list_any}
-use Rattle.bz_command.specs.Passes.{Slot, Meaning, Pass, Marked, marked, executed, entries, slots_after_pass, missing, is_missing, some_missing, slots_after, log_of, meets, some_execution}
+use Rattle.bz_passes.specs.Passes.{Slot, Meaning, Pass, Marked, marked, executed, entries, slots_after_pass, missing, is_missing, some_missing, slots_after, log_of, meets, some_execution}
 
 -- What is kept of the slots so far: for each pass whether something was marked, and for each of its commands the log.
 pub record Kept (M : Type 0) : Type 0 where

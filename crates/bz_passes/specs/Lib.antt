@@ -2,4 +2,5 @@ pub mod Asked
 pub mod Entries
 pub mod Exchange
 pub mod OnePass
+pub mod Passes
 pub mod private

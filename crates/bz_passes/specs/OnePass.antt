@@ -1,7 +1,7 @@
 -- A script on a slot that one of its passes alone marks.
 -- Begin with `IsOnlyFor`.
 use Rattle.std.specs.Prelude.{◌≡◌, ℕ, zero, suc, ◌+◌, ◌<◌, Bool, List, [], ◌∷◌, length, get_or, Option}
-use Rattle.bz_command.specs.Passes.{Slot, Meaning, Pass, marked}
+use Rattle.bz_passes.specs.Passes.{Slot, Meaning, Pass, marked}
 use Rattle.bz_passes.specs.Exchange.{Kept, Fits, kept_alone, kept_and, pass_alone, pass_and, slot_after, slot_after_pass, some_alone, some_of_commands_alone}
 use Rattle.bz_passes.specs.declared.index.Key.{Key}
 use Rattle.bz_passes.specs.Asked.{IsKeyOf}

@@ -1,6 +1,6 @@
 //! What a run reports.
 
-use bz_command::Text;
+use bz_label::Text;
 
 /// Something that a run reports, with its text.
 #[derive(Drop)]

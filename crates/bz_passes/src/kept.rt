@@ -2,12 +2,12 @@
 
 ghost use Rattle.std.specs.Prelude.{◌≡◌, ◌++◌, [], List, map, IfOk, OnOk};
 ghost use Rattle.std.specs.List.{flat_map};
-ghost use Rattle.bz_command.specs.Passes.{Slot, is_missing, missing, log_of};
+ghost use Rattle.bz_passes.specs.Passes.{Slot, is_missing, missing, log_of};
 ghost use Rattle.bz_passes.specs.Exchange.{Fits, no_slot, kept_of, told, some_not_found};
 
 use crate::language::Language;
 use crate::log::Log;
-use bz_command::Pass;
+use crate::pass::Pass;
 use bz_memory::{NoMemory, push, with_room_for};
 use std::alloc::Global;
 use std::marker::Model;

@@ -1,7 +1,7 @@
 //! What passes need of a language of targets and commands.
 
 ghost use Rattle.std.specs.Prelude.{◌≡◌, ◌++◌, Bool, true, Option, IfOk, OnOk};
-ghost use Rattle.bz_command.specs.Passes.{Meaning, Slot};
+ghost use Rattle.bz_passes.specs.Passes.{Meaning, Slot};
 ghost use Rattle.bz_passes.specs.declared.entry.Entry.{Entry};
 ghost use Rattle.bz_passes.specs.Asked.{may_mark};
 

@@ -1,7 +1,7 @@
 //! Law of passes: one statement after another, or one command after another.
 
 ghost use Rattle.std.specs.Prelude.{List};
-ghost use Rattle.bz_command.specs.Passes.{Meaning, Pass, Slot};
+ghost use Rattle.bz_passes.specs.Passes.{Meaning, Pass, Slot};
 ghost use Rattle.bz_passes.specs.Exchange.{Exchange};
 
 /// The law that lets a run go statement by statement, whatever targets and commands mean: command by command over the

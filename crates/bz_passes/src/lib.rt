@@ -13,6 +13,7 @@ pub mod kept;
 pub mod language;
 pub mod laws;
 pub mod log;
+pub mod pass;
 pub mod passes;
 pub mod script;
 pub mod target;

@@ -6,7 +6,7 @@ ghost use Rattle.bz_passes.specs.Asked.{IsFirstFrom, may_mark};
 ghost use Rattle.bz_passes.specs.private.Indexes as spec;
 
 use crate::index::{Index, Key};
-use bz_command::Pass;
+use crate::pass::Pass;
 use bz_memory::NoMemory;
 use std::alloc::Global;
 use std::marker::Model;
@@ -31,7 +31,7 @@ pub struct Passes<T: Keyed, C> {
 }
 
 impl<T: Keyed, C> Model for Passes<T, C> {
-    ghost use Rattle.bz_command.specs.Passes as script;
+    ghost use Rattle.bz_passes.specs.Passes as script;
     ghost use Rattle.bz_passes.specs.private.Indexes.{IsIndex};
     ghost use Rattle.std.specs.Prelude.{List};
 

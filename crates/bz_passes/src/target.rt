@@ -1,7 +1,7 @@
 //! What the target of a command asks for.
 
 use crate::passes::Keyed;
-use bz_command::{Marked, Target};
+use bz_label::{Marked, Target};
 
 impl Keyed for Target {
     ghost use Rattle.bz_passes.specs.Asked.{asked_by};

@@ -18,7 +18,7 @@ use Rattle.bz_engine.specs.declared.run_fault.RunFault.TheVariants.{OutOfMemory,
 use Rattle.bz_program.specs.declared.edit_file.FileFault.{FileFault}
 use Rattle.bz_program.specs.declared.edit_file.FileFault.TheVariants.{Run, CannotWrite}
 use Rattle.bz_engine.specs.declared.report.Report.{Report}
-use Rattle.bz_command.specs.Labels.{Package}
+use Rattle.bz_label.specs.Labels.{Package}
 use Rattle.bz_program.specs.declared.file_run.Ended.{Ended}
 use Rattle.bz_program.specs.declared.file_run.Ended.TheVariants.{Told, Failed as EndedByFault, NotYet}
 use Rattle.bz_program.specs.Runs.{Asked, IsRun, IsKeptText, is_kept, is_whole, IsFaultOver}

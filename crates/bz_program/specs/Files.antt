@@ -9,7 +9,7 @@ use Rattle.bz_engine.specs.declared.run_fault.RunFault.{RunFault}
 use Rattle.bz_engine.specs.declared.run_fault.RunFault.TheVariants.{OutOfMemory, ReadFailed, WriteFailed, InputTooLong, StatementTooLong, Stopped}
 use Rattle.bz_program.specs.declared.edit_file.FileFault.{FileFault}
 use Rattle.bz_program.specs.declared.edit_file.FileFault.TheVariants.{Run, CannotWrite}
-use Rattle.bz_command.specs.Labels.{Package}
+use Rattle.bz_label.specs.Labels.{Package}
 use Rattle.bz_script.specs.Names.{IsBuildPath}
 use Rattle.bz_program.specs.Runs.{Asked, IsRun, is_kept, IsKeptText, IsFaultOver}
 

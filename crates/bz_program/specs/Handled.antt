@@ -10,7 +10,7 @@ use Rattle.bz_folder.specs.declared.folder.Opened.{Opened}
 use Rattle.bz_engine.specs.Outcome.{status_of}
 use Rattle.bz_engine.specs.declared.report.Report.{Report}
 use Rattle.bz_engine.specs.declared.run_fault.RunFault.{RunFault}
-use Rattle.bz_command.specs.Labels.{Package}
+use Rattle.bz_label.specs.Labels.{Package}
 use Rattle.bz_script.specs.Groups.{Step}
 use Rattle.bz_script.specs.Names.{in_folder}
 use Rattle.bz_script.specs.Packages.{by_package}

@@ -3,7 +3,7 @@ use Rattle.std.specs.Prelude.{ℕ, Bool, ◌||◌, List, Contains}
 use Rattle.std.specs.List.{list_all}
 use Rattle.bz_engine.specs.Outcome.{Script, is_query}
 use Rattle.bz_folder.specs.Files.{Content}
-use Rattle.bz_command.specs.Labels.{Package}
+use Rattle.bz_label.specs.Labels.{Package}
 use Rattle.bz_program.specs.Files as files
 use Rattle.bz_script.specs.Groups.{Step}
 use Rattle.bz_script.specs.Packages.{by_package}

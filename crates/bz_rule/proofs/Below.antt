@@ -6,11 +6,11 @@ use Rattle.std.proofs.lemmas.List.{drop-append-le, take-append-le, length-map, m
 use Rattle.std.proofs.Math.Seq.{take-append-add}
 use Rattle.bz_tree.specs.Tree.{Statement, items_of}
 use Rattle.bz_tree.specs.Rows.{RowPart, above, beside_part, items_parts, parts_of}
-use Rattle.bz_command.specs.Labels.{Package}
-use Rattle.bz_command.specs.declared.arguments.Commented.TheVariants.{Rule as Above}
-use Rattle.bz_command.specs.declared.arguments.Setting.TheVariants.{ToKind}
-use Rattle.bz_attribute_commands.specs.Comment.{comment_line}
-use Rattle.bz_attribute_commands.specs.Set.{with_kind}
+use Rattle.bz_label.specs.Labels.{Package}
+use Rattle.bz_label.specs.declared.arguments.Commented.TheVariants.{Rule as Above}
+use Rattle.bz_label.specs.declared.arguments.Setting.TheVariants.{ToKind}
+use Rattle.bz_rule.specs.Comment.{comment_line}
+use Rattle.bz_rule.specs.Set.{with_kind}
 use Rattle.bz_attribute.specs.Rules.{Rule, rule_of}
 use Rattle.bz_attribute.specs.RowEdits.{replaced_at}
 use Rattle.bz_attribute.specs.declared.place.Place.{Place}

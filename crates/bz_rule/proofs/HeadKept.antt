@@ -3,28 +3,28 @@ use Rattle.std.proofs.Common.{◌≡◌, ◌∙◌, ℕ, List, [], ◌∷◌, �
 use Rattle.std.specs.Prelude.{bytes_eq, codes}
 use Rattle.std.proofs.lemmas.Slice.Eq.{bytes_eq-Decides}
 use Rattle.bz_tree.specs.Tree.{Item, Segment, Statement}
-use Rattle.bz_command.specs.Labels.{Package}
-use Rattle.bz_command.specs.declared.arguments.Attributes.TheVariants.{Named}
-use Rattle.bz_command.specs.declared.arguments.Commented.TheVariants.{Rule as Above, Attribute, Value}
-use Rattle.bz_command.specs.declared.arguments.Moved.TheVariants.{Values}
-use Rattle.bz_command.specs.declared.arguments.Setting.TheVariants.{ToKind, ToValues}
+use Rattle.bz_label.specs.Labels.{Package}
+use Rattle.bz_label.specs.declared.arguments.Attributes.TheVariants.{Named}
+use Rattle.bz_label.specs.declared.arguments.Commented.TheVariants.{Rule as Above, Attribute, Value}
+use Rattle.bz_label.specs.declared.arguments.Moved.TheVariants.{Values}
+use Rattle.bz_label.specs.declared.arguments.Setting.TheVariants.{ToKind, ToValues}
 use Rattle.bz_attribute.specs.Rules.{Rule, rule_of, first_named, is_named, is_text, name_in, name_of, value, string_value}
 use Rattle.bz_attribute.specs.Lists.{edit_first_part, edit_parts, equals, parts, with_value}
-use Rattle.bz_list_commands.specs.Add.{add, new_elements, with_added}
-use Rattle.bz_attribute_commands.specs.Comment.{comment_attribute, comment_element, comment_line, comment_note, comment_rule, comment_value}
+use Rattle.bz_rule.specs.Add.{add, new_elements, with_added}
+use Rattle.bz_rule.specs.Comment.{comment_attribute, comment_element, comment_line, comment_note, comment_rule, comment_value}
 use Rattle.bz_attribute.specs.Effects.{argument, edit_first, filtered, has, list_item, loses_all, unchosen, with_args, edit_element, with_comment}
 use Rattle.bz_attribute.specs.Heads.{HasHead}
 use Rattle.bz_attribute.specs.declared.head.Head.{Head}
-use Rattle.bz_list_commands.specs.Replace.{replace, replaced, replaced_in}
+use Rattle.bz_rule.specs.Replace.{replace, replaced, replaced_in}
 use Rattle.bz_attribute.specs.RowPlaces.{IsLocal}
-use Rattle.bz_attribute_commands.specs.Set.{is_value, new_of, new_value, set, set_if_absent, set_in}
+use Rattle.bz_rule.specs.Set.{is_value, new_of, new_value, set, set_if_absent, set_in}
 use Rattle.bz_attribute.proofs.EditedAt.{none_first}
 use Rattle.bz_rule.specs.Commands.{Command, args_after}
 use Rattle.bz_rule.specs.declared.command.Action.TheVariants.{Add, Comment, Delete, Print, Remove, Replace, Set, SetIfAbsent}
 use Rattle.bz_rule.specs.OneAttribute.{one_attribute}
 use Rattle.bz_rule.specs.private.RowEdits.{KeepsHead, edits_arguments, rule_after}
 use Rattle.bz_rule.proofs.Arguments.{attribute_named, name_put}
-use Rattle.bz_rule.proofs.Commands.{local}
+use Rattle.bz_rule.proofs.Lawfulness.{local}
 use Rattle.bz_rule.proofs.RowEdited.{args_rule, none_above, one_above}
 use Rattle.bz_token.specs.Common.{is_empty}
 use Rattle.bz_attribute.proofs.Locals.{has_first, is_first_named}

@@ -1,14 +1,31 @@
+pub mod Adding
 pub mod Arguments
+pub mod Arriving
 mod Below
-pub mod Commands
 pub mod CommentEdits
+pub mod CommentLines
+pub mod EachArgument
+pub mod ElementEdits
+pub mod EmptiedLists
 pub mod FirstEdits
 pub mod HeadKept
 pub mod Kept
+pub mod Known
 mod Lawful
+pub mod Lawfulness
 mod Local
+pub mod Meanings
+pub mod MovedRules
+pub mod NamedArgument
+pub mod OneValue
 pub mod PartLaws
+pub mod PlaceEdits
+pub mod Printed
+pub mod PrintedFields
 mod RowEdited
 mod RowStatements
 pub mod RuleClass
+pub mod SameValues
+pub mod SetEdits
 mod Spliced
+pub mod WrittenParts

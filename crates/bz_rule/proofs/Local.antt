@@ -1,13 +1,13 @@
 -- Edits that look at the first argument of a name alone.
 use Rattle.std.proofs.Common.{◌≡◌, ℕ, List, [], ◌∷◌, ◌++◌, Bool, true, false, if◌then◌else◌, Option, Some, None, is_some, refl, ap, sym, ◌∙◌, append-nil}
 use Rattle.bz_tree.specs.Tree.{Segment}
-use Rattle.bz_command.specs.Labels.{Package}
+use Rattle.bz_label.specs.Labels.{Package}
 use Rattle.bz_attribute.specs.Rules.{first_named, is_named}
 use Rattle.bz_attribute.specs.Effects.{argument, edit_first, list_item, not_a_list, with_comment}
-use Rattle.bz_list_commands.specs.Add.{add, new_elements, with_added}
-use Rattle.bz_attribute_commands.specs.Comment.{comment_attribute, comment_element, comment_line, comment_note, comment_value, is_missing}
+use Rattle.bz_rule.specs.Add.{add, new_elements, with_added}
+use Rattle.bz_rule.specs.Comment.{comment_attribute, comment_element, comment_line, comment_note, comment_value, is_missing}
 use Rattle.bz_attribute.specs.RowPlaces.{IsLocal, LooksAt}
-use Rattle.bz_attribute_commands.specs.Set.{new_of, new_value, set, set_in}
+use Rattle.bz_rule.specs.Set.{new_of, new_value, set, set_in}
 use Rattle.bz_attribute.specs.declared.done.Note.{Note}
 use Rattle.bz_attribute.specs.declared.done.Note.TheVariants.{NoAttribute}
 use Rattle.bz_attribute.proofs.EditedAt.{none_first}

@@ -6,13 +6,13 @@ use Rattle.bz_tree.specs.Tree.{Segment, Statement, segs_of}
 use Rattle.bz_tree.specs.Rows.{RowPart, parts_of}
 use Rattle.bz_tree.specs.Statement.{class_of}
 use Rattle.bz_tree.specs.declared.tree.Class.TheVariants.{Rule as RuleClass}
-use Rattle.bz_command.specs.Labels.{Package}
-use Rattle.bz_command.specs.declared.arguments.Commented.TheVariants.{Rule as Above}
-use Rattle.bz_command.specs.declared.arguments.Setting.TheVariants.{ToKind}
-use Rattle.bz_attribute_commands.specs.Comment.{comment_line, comment_rule}
+use Rattle.bz_label.specs.Labels.{Package}
+use Rattle.bz_label.specs.declared.arguments.Commented.TheVariants.{Rule as Above}
+use Rattle.bz_label.specs.declared.arguments.Setting.TheVariants.{ToKind}
+use Rattle.bz_rule.specs.Comment.{comment_line, comment_rule}
 use Rattle.bz_attribute.specs.Rules.{Rule, rule_of, kind_text}
 use Rattle.bz_attribute.specs.Effects.{done, holds_rule, nodes_of, with_args}
-use Rattle.bz_attribute_commands.specs.Set.{kind_after, kind_items, with_kind}
+use Rattle.bz_rule.specs.Set.{kind_after, kind_items, with_kind}
 use Rattle.bz_rule.specs.Commands.{Command, after, args_after, args_done, done_of}
 use Rattle.bz_rule.specs.declared.command.Action.TheVariants.{Comment, Delete, Print, Set}
 use Rattle.bz_attribute.specs.RowEdits.{IsRowEdit, IsWithin, replaced_at}
@@ -22,7 +22,7 @@ use Rattle.bz_attribute.specs.RowPlaces.{IsRuleRow}
 use Rattle.bz_memory.specs.declared.no_memory.NoMemory.{NoMemory}
 use Rattle.bz_attribute.specs.declared.edit.Edit.{Edit}
 use Rattle.bz_rule.specs.private.RowEdits.{edits_arguments, is_edit, rule_after}
-use Rattle.bz_rule.proofs.Commands.{lawful}
+use Rattle.bz_rule.proofs.Lawfulness.{lawful}
 use Rattle.bz_rule.proofs.RuleClass.{class_after, kind_dotted}
 use Rattle.bz_token.specs.Common.{map_or}
 use Rattle.bz_attribute.proofs.Headed.{class_at, rule_class}

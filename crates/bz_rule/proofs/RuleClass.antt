@@ -1,13 +1,13 @@
 -- The class of a rule with other arguments, and what stands before the brackets of one of another kind.
 use Rattle.std.proofs.Common.{◌≡◌, ℕ, ◌<◌, ◌==◌, List, [], ◌∷◌, true, length, Some, refl, ap, ◌∙◌, arith}
 use Rattle.std.specs.List.{slice_split}
-use Rattle.bz_command.proofs.Cuts.{some_part}
+use Rattle.bz_label.proofs.Cuts.{some_part}
 use Rattle.bz_attribute.proofs.RuleParts.{rule_dotted}
 use Rattle.bz_tree.specs.declared.tree.Class.TheVariants.{Rule as RuleClass}
 use Rattle.bz_tree.specs.Tree.{Segment, Statement, segs_of}
 use Rattle.bz_tree.specs.Statement.{class_of}
 use Rattle.bz_attribute.specs.Rules.{Rule, dotted, rule_of}
-use Rattle.bz_attribute_commands.specs.Set.{joined_by_dots, kind_items}
+use Rattle.bz_rule.specs.Set.{joined_by_dots, kind_items}
 use Rattle.bz_attribute.specs.Effects.{nodes_after, with_args}
 use Rattle.bz_attribute.proofs.Headed.{class_at}
 

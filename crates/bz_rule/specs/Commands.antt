@@ -1,38 +1,38 @@
 -- The ten commands: how their words are read (buildozer README, edit commands; the refusals are this project's own rule),
 -- a test of their words; the statement after each, and what it tells.
 -- Begin with `after` and `done_of`.
--- In no stop, since `run` does not reach what they are for: bz_command `Words` (a text as words), `Names` (identifiers and
+-- In no stop, since `run` does not reach what they are for: bz_label `Words` (a text as words), `Names` (identifiers and
 -- kinds), `Arguments` (what arguments keep that were read, a test of their words). They are for how commands are read
 -- (`command_of`, `is_command`) and for `command_passes`.
 use Rattle.std.specs.Prelude.{◌≡◌, ℕ, ◌==◌, List, [], ◌∷◌, Bool, true, false, ◌&&◌, ◌||◌, not, if◌then◌else◌, Option, Some, None, Result, Ok, Err, map, length, codes, bytes_eq, option_map}
 use Rattle.std.specs.List.{list_all, list_any}
 use Rattle.std.specs.Str.{is_utf8}
-use Rattle.bz_command.specs.declared.arguments.Attributes.TheVariants.{Every, Named}
-use Rattle.bz_command.specs.declared.arguments.Setting.TheVariants.{ToKind, ToValues}
-use Rattle.bz_command.specs.declared.arguments.Moved.{Moved}
-use Rattle.bz_command.specs.declared.arguments.Moved.TheVariants.{All, Values}
-use Rattle.bz_command.specs.declared.arguments.Commented.{Commented}
-use Rattle.bz_command.specs.declared.arguments.Commented.TheVariants.{Rule, Attribute, Value}
+use Rattle.bz_label.specs.declared.arguments.Attributes.TheVariants.{Every, Named}
+use Rattle.bz_label.specs.declared.arguments.Setting.TheVariants.{ToKind, ToValues}
+use Rattle.bz_label.specs.declared.arguments.Moved.{Moved}
+use Rattle.bz_label.specs.declared.arguments.Moved.TheVariants.{All, Values}
+use Rattle.bz_label.specs.declared.arguments.Commented.{Commented}
+use Rattle.bz_label.specs.declared.arguments.Commented.TheVariants.{Rule, Attribute, Value}
 use Rattle.bz_rule.specs.declared.command.Action.{Action}
 use Rattle.bz_rule.specs.declared.command.Action.TheVariants.{Add, Remove, Set, SetIfAbsent, Delete, Rename, Move, Replace, Comment, Print}
 use Rattle.bz_rule.specs.declared.command.CommandFault.{CommandFault}
 use Rattle.bz_rule.specs.declared.command.CommandFault.TheVariants.{WrongCount, BadAttribute, BadKind, CommentLine, SameAttribute}
-use Rattle.bz_command.specs.Names.{is_identifier, is_kind}
-use Rattle.bz_command.specs.Words.{words_of}
+use Rattle.bz_label.specs.Names.{is_identifier, is_kind}
+use Rattle.bz_label.specs.Words.{words_of}
 use Rattle.bz_tree.specs.Tree.{Segment, Statement}
-use Rattle.bz_command.specs.Labels.{Package}
+use Rattle.bz_label.specs.Labels.{Package}
 use Rattle.bz_attribute.specs.Rules.{first_named}
 use Rattle.bz_attribute.specs.Effects.{has, done, not_a_list, with_args, slot_done, holds_rule}
-use Rattle.bz_list_commands.specs.Add.{add, adds}
-use Rattle.bz_list_commands.specs.Remove.{remove, removes}
-use Rattle.bz_attribute_commands.specs.Rename.{rename, rename_note}
-use Rattle.bz_attribute_commands.specs.Set.{set, sets, set_if_absent, with_kind, sets_kind_of}
-use Rattle.bz_list_commands.specs.Move.{move, moves, move_note}
-use Rattle.bz_list_commands.specs.Replace.{replace, replaces}
-use Rattle.bz_attribute_commands.specs.Comment.{comment_rule, comment_args, comment_done}
-use Rattle.bz_attribute_commands.specs.Print.{prints}
+use Rattle.bz_rule.specs.Add.{add, adds}
+use Rattle.bz_rule.specs.Remove.{remove, removes}
+use Rattle.bz_rule.specs.Rename.{rename, rename_note}
+use Rattle.bz_rule.specs.Set.{set, sets, set_if_absent, with_kind, sets_kind_of}
+use Rattle.bz_rule.specs.Move.{move, moves, move_note}
+use Rattle.bz_rule.specs.Replace.{replace, replaces}
+use Rattle.bz_rule.specs.Comment.{comment_rule, comment_args, comment_done}
+use Rattle.bz_rule.specs.Print.{prints}
 use Rattle.bz_attribute.specs.declared.done.Done.{Done}
-use Rattle.bz_command.specs.Arguments.{breaks_line, field_of, is_field, are_attributes, is_setting, is_moved, is_commented, is_named_field, attributes_pass, setting_passes, moved_passes, commented_passes}
+use Rattle.bz_label.specs.Arguments.{breaks_line, field_of, is_field, are_attributes, is_setting, is_moved, is_commented, is_named_field, attributes_pass, setting_passes, moved_passes, commented_passes}
 
 -- a command is the enum of the source
 abbrev pub Command : Type 0

@@ -1,5 +1,14 @@
+pub mod Add
+pub mod Argument
 pub mod Commands
+pub mod Comment
+pub mod Move
 pub mod OneAttribute
 pub mod OwnComments
+pub mod Print
+pub mod Remove
+pub mod Rename
+pub mod Replace
 pub mod RowViews
+pub mod Set
 pub mod private

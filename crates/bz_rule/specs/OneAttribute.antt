@@ -1,8 +1,8 @@
 -- The commands that look at the first argument of one attribute alone.
 use Rattle.std.specs.Prelude.{ℕ, List, ◌∷◌, Option, Some, None}
-use Rattle.bz_command.specs.declared.arguments.Attributes.TheVariants.{Named}
-use Rattle.bz_command.specs.declared.arguments.Commented.TheVariants.{Attribute, Value}
-use Rattle.bz_command.specs.declared.arguments.Setting.TheVariants.{ToValues}
+use Rattle.bz_label.specs.declared.arguments.Attributes.TheVariants.{Named}
+use Rattle.bz_label.specs.declared.arguments.Commented.TheVariants.{Attribute, Value}
+use Rattle.bz_label.specs.declared.arguments.Setting.TheVariants.{ToValues}
 use Rattle.bz_rule.specs.Commands.{Command}
 use Rattle.bz_rule.specs.declared.command.Action.TheVariants.{Add, Comment, Remove, Replace, Set, SetIfAbsent}
 

@@ -1,2 +1,9 @@
+pub mod ArgumentEdits
 pub mod CommandSteps
+pub mod CommentTexts
+pub mod ListPlaces
+pub mod PrintSteps
 pub mod RowEdits
+pub mod SetViews
+pub mod StringEdits
+pub mod ValueParts

@@ -2,6 +2,7 @@
 #![tactic(auto)]
 
 mod command;
+pub mod commands;
 mod reader;
 mod row_edit;
 mod row_parts;
@@ -10,7 +11,7 @@ mod statement_row;
 mod texts;
 
 pub use bz_attribute::{Done, Note, label, matches};
-pub use bz_command::{LabelFault, Package, Target, Text, quote, read_label, same, value_is};
+pub use bz_label::{LabelFault, Package, Target, Text, quote, read_label, same, value_is};
 pub use command::{Action, Command, CommandFault, LEFT_OUT, USAGE, one_attribute};
 pub use reader::read_command;
 pub use slot::apply;

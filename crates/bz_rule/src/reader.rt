@@ -3,13 +3,13 @@
 ghost use Rattle.bz_memory.specs.NoMemory.{no_memory};
 ghost use Rattle.std.specs.Prelude.{◌≡◌, ◌≢◌, ◌∷◌, [], Err, MatchResult, Ok, false, if◌then◌else◌, true};
 ghost use Rattle.std.specs.List.{list_any};
-ghost use Rattle.bz_command.specs.Arguments as arguments;
-ghost use Rattle.bz_command.specs.Names.{is_identifier};
+ghost use Rattle.bz_label.specs.Arguments as arguments;
+ghost use Rattle.bz_label.specs.Names.{is_identifier};
 ghost use Rattle.bz_rule.specs.Commands as spec;
 ghost use Rattle.bz_rule.specs.private.CommandSteps.{commented_of};
 
 use crate::command::{Command, CommandFault, read_named};
-use bz_command::{Attributes, Commented, Moved, Seq, Text, read_words};
+use bz_label::{Attributes, Commented, Moved, Seq, Text, read_words};
 use bz_token::is_identifier;
 use std::alloc::Global;
 

@@ -5,15 +5,15 @@ ghost use Rattle.bz_tree.specs.Tree.{Statement};
 ghost use Rattle.bz_tree.specs.Rows.{part_view, parts_of};
 ghost use Rattle.bz_attribute.specs.RowEdits.{IsWithin};
 ghost use Rattle.bz_attribute.specs.Rules.{Rule, rule_of};
-ghost use Rattle.bz_command.specs.Labels as labels;
+ghost use Rattle.bz_label.specs.Labels as labels;
 ghost use Rattle.bz_rule.specs.private.RowEdits.{IsEditFor, KeepsHead, is_edit, rule_after};
 
 use crate::command::{Action, Command, edit_arguments, one_attribute};
 use crate::statement_row::StatementRow;
 use bz_attribute::{Edit, Env, Parts, Place};
-use bz_attribute_commands::line::comment_rule;
-use bz_attribute_commands::set_kind::set_kind;
-use bz_command::{Commented, Setting};
+use crate::commands::line::comment_rule;
+use crate::commands::set_kind::set_kind;
+use bz_label::{Commented, Setting};
 use bz_memory::NoMemory;
 
 /// What a command makes of a rule. The new parts go into a list. `Err`: memory was refused, and the list is of no use.

@@ -9,7 +9,7 @@ use crate::command::Command;
 use crate::statement_row::{StatementRow, execute};
 use bumpalo::Bump;
 use bz_attribute::{Done, Env, is_rule};
-use bz_command::Package;
+use bz_label::Package;
 use bz_memory::NoMemory;
 use bz_tree::Stmt;
 use std::alloc::Global;

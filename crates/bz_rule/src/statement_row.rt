@@ -7,13 +7,13 @@ ghost use Rattle.bz_tree.specs.Tree.{Statement};
 ghost use Rattle.bz_tree.specs.Statement.{class_of};
 ghost use Rattle.bz_tree.specs.View.{view};
 ghost use Rattle.bz_tree.specs.Rows.{IsRowOf, part_view, parts_of};
-ghost use Rattle.bz_command.specs.Labels.{Name};
+ghost use Rattle.bz_label.specs.Labels.{Name};
 ghost use Rattle.bz_attribute.specs.Effects as effects;
 ghost use Rattle.bz_attribute.specs.Heads.{HasHead};
 ghost use Rattle.bz_attribute.specs.Marks as marks;
 ghost use Rattle.bz_attribute.specs.Rules.{is_text, rule_of};
 ghost use Rattle.bz_attribute.specs.Texts.{shown_text};
-ghost use Rattle.bz_attribute_commands.specs.Print.{prints};
+ghost use Rattle.bz_rule.specs.Print.{prints};
 ghost use Rattle.bz_layout.specs.Layout.{layout_text};
 ghost use Rattle.bz_rule.specs.Commands as commands;
 ghost use Rattle.bz_attribute.specs.RowEdits.{IsWithin, replaced_at};
@@ -24,8 +24,8 @@ use crate::row_edit::{edit_rule, kept_head};
 use crate::row_parts::put_in;
 use bumpalo::Bump;
 use bz_attribute::{Done, Env, Executed, Head, Parts, Place, is_rule};
-use bz_attribute_commands::print::print;
-use bz_command::{Field, Package, Target};
+use crate::commands::print::print;
+use bz_label::{Field, Package, Target};
 use bz_layout::put_row;
 use bz_memory::{NoMemory, extend_from_slice, with_room_for_both};
 use bz_tree::{Class, Part, Row, Stmt, push_parts, stmt_of_parts};
@@ -235,7 +235,7 @@ fn done_unless(put: Result<(), NoMemory>, done: Executed) -> Executed
 }
 
 /// Applies a command to what a slot holds, as `apply` does. An `Err` leaves the slot as it was.
-#[tactic(auto, using(crate::proofs::Commands::no_rule_stays, crate::proofs::RowEdited::told_of_none))]
+#[tactic(auto, using(crate::proofs::Lawfulness::no_rule_stays, crate::proofs::RowEdited::told_of_none))]
 pub fn execute(env: Env<'_>, command: &Command, slot: &mut Option<StatementRow<'_>>) -> Executed
     ensures slot { OnOk result (slot.new ≡ commands.after command.now env.entry.home.now slot.old) }
     ensures done { IfOk result (λ done. done ≡ commands.done_of command.now env.entry.home.now slot.old) }

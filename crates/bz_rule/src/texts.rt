@@ -6,7 +6,7 @@ ghost use Rattle.bz_attribute.specs.Texts.{shown_text};
 
 use crate::statement_row::StatementRow;
 use bumpalo::Bump;
-use bz_command::Package;
+use bz_label::Package;
 use bz_memory::NoMemory;
 use bz_tree::Stmt;
 use std::alloc::Global;

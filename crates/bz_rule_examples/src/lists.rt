@@ -1,7 +1,7 @@
 //! What a list and a text give back: the elements and the characters that they were made of.
 
 use crate::checks::{check, check_value};
-use bz_command::{Seq, Text};
+use bz_label::{Seq, Text};
 use std::test::Fail;
 
 #[test]

@@ -2,7 +2,7 @@
 use Rattle.std.proofs.Common.{◌≡◌, ℕ, List, ◌++◌, Option, Some, None, map, option_map, refl, ap, ◌∙◌, [], false}
 use Rattle.std.specs.Prelude.{unwrap_or, ◌∷◌}
 use Rattle.bz_tree.specs.Tree.{Segment, Statement}
-use Rattle.bz_command.specs.Labels.{Package, Target, Name, Pkg, All, Kind as OfKind, Line}
+use Rattle.bz_label.specs.Labels.{Package, Target, Name, Pkg, All, Kind as OfKind, Line}
 use Rattle.bz_attribute.specs.Rules.{Rule, is_text, rule_of, name_in, kind_text}
 use Rattle.bz_attribute.specs.Effects.{with_args}
 use Rattle.bz_attribute.specs.Marks.{marks, marks_rule}

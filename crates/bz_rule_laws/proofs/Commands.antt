@@ -10,7 +10,7 @@ pub mod Replace
 pub mod Set
 use Rattle.std.proofs.Common.{◌≡◌, ℕ, List, Bool, true, Option, Some, map, option_map, subst, zero, suc, ◌≤◌, arith}
 use Rattle.bz_tree.specs.Tree.{Segment, Statement}
-use Rattle.bz_command.specs.Labels.{Package}
+use Rattle.bz_label.specs.Labels.{Package}
 use Rattle.bz_rule.specs.Commands.{Command, is_command, command_passes, after, done_of, args_after}
 use Rattle.bz_rule_laws.specs.Commands.{keeps_comments}
 use Rattle.bz_rule.specs.declared.command.Action.{Action}

@@ -5,20 +5,20 @@ use Rattle.std.proofs.Math.Bool.{or_assoc, or-false}
 use Rattle.std.proofs.lemmas.Bool.{or_left, or_right, and_parts}
 use Rattle.std.proofs.lemmas.List.Folds.{list_any-append}
 use Rattle.bz_tree.specs.Tree.{Segment}
-use Rattle.bz_command.specs.Labels.{Package}
-use Rattle.bz_command.specs.Same.{completed}
-use Rattle.bz_command.specs.declared.arguments.Moved.TheVariants.{Values}
+use Rattle.bz_label.specs.Labels.{Package}
+use Rattle.bz_label.specs.Same.{completed}
+use Rattle.bz_label.specs.declared.arguments.Moved.TheVariants.{Values}
 use Rattle.bz_attribute.specs.Rules.{is_named, is_text, first_named, value}
 use Rattle.bz_attribute.specs.Lists.{edit_first_part, is_attribute, parts, same, with_value}
 use Rattle.bz_attribute.specs.Effects.{chooses, has, is_chosen, not_a_list, string}
-use Rattle.bz_list_commands.specs.Add.{add, fresh, is_fresh, new_elements, with_added}
+use Rattle.bz_rule.specs.Add.{add, fresh, is_fresh, new_elements, with_added}
 use Rattle.bz_attribute.specs.declared.done.Note.TheVariants.{NotAList}
 use Rattle.bz_attribute.proofs.Views.{segments_of}
 use Rattle.bz_rule.proofs.PartLaws.{edit_head}
 use Rattle.bz_rule.proofs.Arguments.{attribute_named, name_put, same_bytes}
 use Rattle.bz_rule_laws.proofs.FirstNamed.{first_after}
 use Rattle.bz_rule_laws.proofs.Likeness.{all_follow, chosen_alike, in_full, same_self, strings_chosen}
-use Rattle.bz_rule.proofs.Commands.Add.{add_kept, added_nothing, new_argument, parts_with}
+use Rattle.bz_rule.proofs.Lawfulness.Add.{add_kept, added_nothing, new_argument, parts_with}
 use Rattle.bz_token.specs.Common.{is_empty, map_or}
 use Rattle.bz_attribute.proofs.Locals.{has_first, is_first_named}
 

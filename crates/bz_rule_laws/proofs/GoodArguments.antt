@@ -3,8 +3,8 @@ use Rattle.std.proofs.Common.{List, [], arith, false, if◌then◌else◌, map, 
 use Rattle.bz_attribute.specs.Effects.{argument, edit_first, filtered, is_chosen, loses_all, string, string_item, unchosen}
 use Rattle.bz_attribute.specs.Lists.{edit_parts, is_attribute}
 use Rattle.bz_attribute.specs.Rules.{is_named, value}
-use Rattle.bz_command.specs.declared.arguments.Moved.{Moved}
-use Rattle.bz_command.specs.Labels.{Package}
+use Rattle.bz_label.specs.declared.arguments.Moved.{Moved}
+use Rattle.bz_label.specs.Labels.{Package}
 use Rattle.bz_rule.proofs.Arguments.{attribute_named}
 use Rattle.bz_rule_laws.proofs.ArgumentValues.{IsValue, good_value, good_with, named_good}
 use Rattle.bz_rule_laws.proofs.ListParts.{KeepsGood, edited_parts_good}

@@ -1,7 +1,7 @@
 -- What a command keeps; of one on the arguments of a rule it follows from what it keeps of these.
 use Rattle.std.proofs.Common.{◌≡◌, ℕ, List, Bool, true, Option, Some, None, map, option_map, refl, ap, sym, ◌∙◌, suc, subst}
 use Rattle.bz_tree.specs.Tree.{Segment, Statement}
-use Rattle.bz_command.specs.Labels.{Package}
+use Rattle.bz_label.specs.Labels.{Package}
 use Rattle.bz_rule.specs.Commands.{Command, is_command, command_passes, after, args_after, args_done, done_of}
 use Rattle.bz_rule_laws.specs.Commands.{keeps_comments}
 use Rattle.bz_attribute.specs.Rules.{rule_of}

@@ -9,9 +9,9 @@ use Rattle.bz_tree.specs.Grammar.{IsArg}
 use Rattle.bz_tree.specs.Tree.{Item, Segment, Statement, items_of}
 use Rattle.bz_layout_laws.specs.EachText.{items_pass}
 use Rattle.bz_layout_laws.specs.WellFormed.{IsWellFormed}
-use Rattle.bz_command.specs.Arguments.{commented_passes, is_commented}
-use Rattle.bz_command.specs.Labels.{Package}
-use Rattle.bz_attribute_commands.specs.Comment.{comment_line}
+use Rattle.bz_label.specs.Arguments.{commented_passes, is_commented}
+use Rattle.bz_label.specs.Labels.{Package}
+use Rattle.bz_rule.specs.Comment.{comment_line}
 use Rattle.bz_attribute.specs.Effects.{done, with_args}
 use Rattle.bz_attribute.specs.Rules.{rule_of}
 use Rattle.bz_attribute.proofs.RuleNodes.{rule_nodes}

@@ -2,7 +2,7 @@
 use Rattle.std.proofs.Common.{◌≡◌, ℕ, List, [], ◌∷◌, Bool, true, Option, is_some, map, ap, sym, ◌∙◌, refl, subst, suc}
 use Rattle.bz_tree.specs.Grammar.{IsArg}
 use Rattle.bz_tree.specs.Tree.{Item, Segment}
-use Rattle.bz_command.specs.Labels.{Package}
+use Rattle.bz_label.specs.Labels.{Package}
 use Rattle.bz_attribute.specs.Effects.{done}
 use Rattle.bz_attribute.specs.Lists.{is_attribute, with_value}
 use Rattle.bz_attribute.specs.Rules.{is_named, is_text}

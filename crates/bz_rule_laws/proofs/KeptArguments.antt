@@ -6,26 +6,26 @@ use Rattle.std.proofs.lemmas.Bool.{cases_Bool, false≢true, or_right}
 use Rattle.std.proofs.lemmas.List.Elements.{filter-append}
 use Rattle.std.proofs.lemmas.Slice.Eq.{bytes_eq-Decides}
 use Rattle.bz_tree.specs.Tree.{Item, Segment, Statement}
-use Rattle.bz_command.specs.Labels.{Package}
-use Rattle.bz_command.specs.declared.arguments.Attributes.{Attributes}
-use Rattle.bz_command.specs.declared.arguments.Attributes.TheVariants.{Every, Named}
-use Rattle.bz_command.specs.declared.arguments.Commented.TheVariants.{Rule as OfRule, Attribute, Value}
-use Rattle.bz_command.specs.declared.arguments.Moved.{Moved}
-use Rattle.bz_command.specs.declared.arguments.Moved.TheVariants.{Values}
-use Rattle.bz_command.specs.declared.arguments.Setting.TheVariants.{ToKind, ToValues}
+use Rattle.bz_label.specs.Labels.{Package}
+use Rattle.bz_label.specs.declared.arguments.Attributes.{Attributes}
+use Rattle.bz_label.specs.declared.arguments.Attributes.TheVariants.{Every, Named}
+use Rattle.bz_label.specs.declared.arguments.Commented.TheVariants.{Rule as OfRule, Attribute, Value}
+use Rattle.bz_label.specs.declared.arguments.Moved.{Moved}
+use Rattle.bz_label.specs.declared.arguments.Moved.TheVariants.{Values}
+use Rattle.bz_label.specs.declared.arguments.Setting.TheVariants.{ToKind, ToValues}
 use Rattle.bz_attribute.specs.Rules.{Rule, is_named, is_text, name_of, rule_of, value, first_named}
 use Rattle.bz_attribute.specs.Lists.{edit_first_part, edit_parts, is_attribute, with_value, parts}
 use Rattle.bz_attribute.specs.Effects.{argument, edit_first, filtered, has, loses_all, unchosen}
-use Rattle.bz_list_commands.specs.Add.{add, new_elements, with_added}
-use Rattle.bz_list_commands.specs.Move.{move, move_note, moves, put_in}
-use Rattle.bz_list_commands.specs.Remove.{goes_with_all, remove}
-use Rattle.bz_attribute_commands.specs.Set.{New, is_value, new_of, new_value, set, set_if_absent, set_in}
+use Rattle.bz_rule.specs.Add.{add, new_elements, with_added}
+use Rattle.bz_rule.specs.Move.{move, move_note, moves, put_in}
+use Rattle.bz_rule.specs.Remove.{goes_with_all, remove}
+use Rattle.bz_rule.specs.Set.{New, is_value, new_of, new_value, set, set_if_absent, set_in}
 use Rattle.bz_rule.specs.declared.command.Action.TheVariants.{Add, Remove, Set, SetIfAbsent, Delete, Rename, Move, Replace, Comment, Print}
 use Rattle.bz_rule.specs.Commands.{Command, after, args_after}
 use Rattle.bz_rule_laws.specs.Commands.{mentions}
-use Rattle.bz_rule.proofs.Commands.Comment.{comment_attribute_edits, comment_value_edits}
-use Rattle.bz_rule.proofs.Commands.Rename.{rename_edits}
-use Rattle.bz_rule.proofs.Commands.Replace.{replace_edits}
+use Rattle.bz_rule.proofs.Lawfulness.Comment.{comment_attribute_edits, comment_value_edits}
+use Rattle.bz_rule.proofs.Lawfulness.Rename.{rename_edits}
+use Rattle.bz_rule.proofs.Lawfulness.Replace.{replace_edits}
 use Rattle.bz_rule.proofs.FirstEdits.{EditsFirst, Noting, noted}
 use Rattle.bz_rule_laws.proofs.KeepsFirst.{KeepsFirst, named_with}
 use Rattle.bz_rule_laws.proofs.Commands.Comment.{attribute_first, value_first}

@@ -2,17 +2,17 @@
 use Rattle.std.proofs.Common.{List, None, [], append-nil, ap, false, if◌then◌else◌, is_some, map, refl, sym, true, ℕ, ◌++◌, ◌∙◌, ◌∷◌, ◌≡◌}
 use Rattle.std.proofs.lemmas.List.{map-append}
 use Rattle.bz_tree.specs.Tree.{Item, Segment}
-use Rattle.bz_command.specs.Labels.{Package}
-use Rattle.bz_command.specs.declared.arguments.Attributes.{Attributes}
-use Rattle.bz_command.specs.declared.arguments.Attributes.TheVariants.{Every, Named}
-use Rattle.bz_command.specs.declared.arguments.Moved.{Moved}
-use Rattle.bz_list_commands.specs.Add.{add, new_elements, with_added}
+use Rattle.bz_label.specs.Labels.{Package}
+use Rattle.bz_label.specs.declared.arguments.Attributes.{Attributes}
+use Rattle.bz_label.specs.declared.arguments.Attributes.TheVariants.{Every, Named}
+use Rattle.bz_label.specs.declared.arguments.Moved.{Moved}
+use Rattle.bz_rule.specs.Add.{add, new_elements, with_added}
 use Rattle.bz_attribute.specs.Effects.{argument, edit_first, filtered, has, list_item, loses_all, unchosen}
 use Rattle.bz_attribute.specs.Lists.{edit_parts, is_attribute, parts, with_value}
-use Rattle.bz_attribute_commands.specs.Rename.{rename, rename_note, rename_to}
-use Rattle.bz_list_commands.specs.Replace.{replace, replaced_in}
+use Rattle.bz_rule.specs.Rename.{rename, rename_note, rename_to}
+use Rattle.bz_rule.specs.Replace.{replace, replaced_in}
 use Rattle.bz_attribute.specs.Rules.{first_named, is_named, value}
-use Rattle.bz_attribute_commands.specs.Set.{is_value, new_of, new_value, set, set_if_absent, set_in}
+use Rattle.bz_rule.specs.Set.{is_value, new_of, new_value, set, set_if_absent, set_in}
 use Rattle.bz_rule.specs.OwnComments.{Comments, no_comments, own_comments}
 use Rattle.bz_token.specs.Common.{is_empty}
 use Rattle.bz_rule_laws.proofs.Segments.{either_way}

@@ -5,11 +5,11 @@ use Rattle.std.proofs.lemmas.Bool.{and_parts, false≢true}
 use Rattle.bz_token.specs.declared.token.Kind.TheVariants.{Identifier, Operator}
 use Rattle.bz_token.specs.Lexical.{is_text}
 use Rattle.bz_tree.specs.Tree.{Item, leaf, group, items_of}
-use Rattle.bz_command.specs.Names.{is_identifier, is_kind}
-use Rattle.bz_command.proofs.Cuts.{some_part}
+use Rattle.bz_label.specs.Names.{is_identifier, is_kind}
+use Rattle.bz_label.proofs.Cuts.{some_part}
 use Rattle.bz_layout_laws.specs.TextsOfKinds.{HaveTexts}
 use Rattle.bz_attribute.specs.Rules.{dotted, is_operator_item}
-use Rattle.bz_attribute_commands.specs.Set.{joined_by_dots, kind_items}
+use Rattle.bz_rule.specs.Set.{joined_by_dots, kind_items}
 use Rattle.bz_rule_laws.proofs.ArgumentValues.{operator_is}
 
 pub data IsDotted : List Item → Type 0 where

@@ -1,9 +1,9 @@
 -- What is a double, and what is printed of what was set, computed.
 use Rattle.std.proofs.Common.{◌≡◌, [], ◌∷◌, true, false, None, Some, codes, refl}
 use Rattle.bz_tree.specs.Tree.{Segment}
-use Rattle.bz_command.specs.Labels.{Package}
+use Rattle.bz_label.specs.Labels.{Package}
 use Rattle.bz_attribute.specs.Effects.{string}
-use Rattle.bz_attribute_commands.specs.Set.{new_of}
+use Rattle.bz_rule.specs.Set.{new_of}
 use Rattle.bz_rule_laws.specs.Doubles.{has_no_double}
 use Rattle.bz_rule_laws.specs.Printed.{words_printed}
 

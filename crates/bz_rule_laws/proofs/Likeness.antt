@@ -5,13 +5,13 @@ use Rattle.std.proofs.Math.Bool.{or-false}
 use Rattle.std.proofs.lemmas.Bool.{and_from, and_parts}
 use Rattle.std.proofs.lemmas.Slice.Eq.{bytes_eq-Decides}
 use Rattle.bz_tree.specs.Tree.{Segment}
-use Rattle.bz_command.specs.Labels.{Package}
-use Rattle.bz_command.specs.Same.{completed}
-use Rattle.bz_command.specs.declared.arguments.Moved.TheVariants.{Values}
+use Rattle.bz_label.specs.Labels.{Package}
+use Rattle.bz_label.specs.Same.{completed}
+use Rattle.bz_label.specs.declared.arguments.Moved.TheVariants.{Values}
 use Rattle.bz_attribute.specs.Rules.{string_value}
 use Rattle.bz_attribute.specs.Lists.{same}
 use Rattle.bz_attribute.specs.Effects.{is_chosen, string}
-use Rattle.bz_command.proofs.ReadBack.{quoted_value}
+use Rattle.bz_label.proofs.ReadBack.{quoted_value}
 use Rattle.bz_rule.proofs.Arguments.{same_bytes}
 use Rattle.bz_token.specs.Common.{map_or}
 use Rattle.bz_attribute.proofs.LabelSets.{same_back}

@@ -2,14 +2,14 @@
 use Rattle.std.proofs.Common.{◌≡◌, ◌==◌, ◌&&◌, ℕ, List, Bool, true, false, Option, Some, None, if◌then◌else◌, is_some, refl, ap, sym, ◌∙◌}
 use Rattle.bz_token.specs.Common.{map_or}
 use Rattle.bz_tree.specs.Tree.{Segment, Statement}
-use Rattle.bz_command.specs.Labels.{Package, Line}
-use Rattle.bz_command.specs.declared.arguments.Commented.TheVariants.{Rule as OfRule}
-use Rattle.bz_command.specs.declared.arguments.Setting.TheVariants.{ToKind}
+use Rattle.bz_label.specs.Labels.{Package, Line}
+use Rattle.bz_label.specs.declared.arguments.Commented.TheVariants.{Rule as OfRule}
+use Rattle.bz_label.specs.declared.arguments.Setting.TheVariants.{ToKind}
 use Rattle.bz_attribute.specs.Effects.{with_args}
 use Rattle.bz_attribute.specs.Marks.{marks, marks_rule}
 use Rattle.bz_attribute.specs.Rules.{Rule, rule_of}
-use Rattle.bz_attribute_commands.specs.Comment.{comment_rule}
-use Rattle.bz_attribute_commands.specs.Set.{with_kind}
+use Rattle.bz_rule.specs.Comment.{comment_rule}
+use Rattle.bz_rule.specs.Set.{with_kind}
 use Rattle.bz_rule.specs.declared.command.Action.TheVariants.{Set, Delete, Comment, Print}
 use Rattle.bz_rule.specs.Commands.{Command, after, args_after}
 use Rattle.bz_rule_laws.proofs.MarksStay.{rule_stays}

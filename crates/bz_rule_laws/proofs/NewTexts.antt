@@ -11,10 +11,10 @@ use Rattle.bz_token.specs.Lexical.{are_two, ends_blank, is_blank, is_comment, is
 use Rattle.bz_token.specs.private.Closing.{closes}
 use Rattle.bz_token.proofs.StringUnits.{closes_units}
 use Rattle.bz_token.proofs.Classes.{same_bytes}
-use Rattle.bz_command.specs.Values.{written, quoted}
-use Rattle.bz_command.specs.Arguments.{breaks_line}
-use Rattle.bz_attribute_commands.specs.Set.{is_constant, is_number as is_digits}
-use Rattle.bz_attribute_commands.specs.Comment.{comment_line, is_blank as is_space, trimmed}
+use Rattle.bz_label.specs.Values.{written, quoted}
+use Rattle.bz_label.specs.Arguments.{breaks_line}
+use Rattle.bz_rule.specs.Set.{is_constant, is_number as is_digits}
+use Rattle.bz_rule.specs.Comment.{comment_line, is_blank as is_space, trimmed}
 
 abbrev double : Quotes
 double = record { byte = 34; long = false }

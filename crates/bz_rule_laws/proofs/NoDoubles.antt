@@ -6,17 +6,17 @@ use Rattle.std.proofs.lemmas.Bool.{and_from, and_parts}
 use Rattle.std.proofs.lemmas.List.Folds.{list_any-append}
 use Rattle.bz_token.specs.Common.{is_empty, map_or}
 use Rattle.bz_tree.specs.Tree.{Segment}
-use Rattle.bz_command.specs.Labels.{Package}
-use Rattle.bz_command.specs.declared.arguments.Moved.TheVariants.{Values}
+use Rattle.bz_label.specs.Labels.{Package}
+use Rattle.bz_label.specs.declared.arguments.Moved.TheVariants.{Values}
 use Rattle.bz_attribute.specs.Effects.{is_chosen, string}
 use Rattle.bz_attribute.specs.Lists.{equals, is_attribute, parts, same}
 use Rattle.bz_attribute.specs.Rules.{first_named, string_value, value}
-use Rattle.bz_list_commands.specs.Add.{add, fresh, is_fresh, new_elements, with_added}
-use Rattle.bz_list_commands.specs.Move.{elements_of}
+use Rattle.bz_rule.specs.Add.{add, fresh, is_fresh, new_elements, with_added}
+use Rattle.bz_rule.specs.Move.{elements_of}
 use Rattle.bz_rule_laws.specs.Doubles.{are_same, has_no_double}
 use Rattle.bz_attribute.proofs.LabelSets.{same_back}
 use Rattle.bz_attribute.proofs.Locals.{is_first_named}
-use Rattle.bz_command.proofs.ReadBack.{quoted_value}
+use Rattle.bz_label.proofs.ReadBack.{quoted_value}
 use Rattle.bz_rule.proofs.Arguments.{attribute_named}
 use Rattle.bz_rule_laws.proofs.Found.{added_elements, first_added, first_after_add, parts_new}
 use Rattle.bz_rule_laws.proofs.Likeness.{all_follow}

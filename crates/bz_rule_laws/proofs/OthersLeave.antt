@@ -4,15 +4,15 @@ use Rattle.std.specs.Prelude.{bytes_eq}
 use Rattle.std.proofs.lemmas.Bool.{and_parts, false≢true}
 use Rattle.std.proofs.lemmas.Slice.Eq.{bytes_eq-Decides}
 use Rattle.bz_tree.specs.Tree.{Segment, Statement}
-use Rattle.bz_command.specs.Labels.{Package}
-use Rattle.bz_command.specs.declared.arguments.Attributes.{Attributes}
-use Rattle.bz_command.specs.declared.arguments.Attributes.TheVariants.{Every, Named}
-use Rattle.bz_command.specs.declared.arguments.Moved.TheVariants.{Values}
-use Rattle.bz_command.specs.declared.arguments.Setting.TheVariants.{ToKind, ToValues}
+use Rattle.bz_label.specs.Labels.{Package}
+use Rattle.bz_label.specs.declared.arguments.Attributes.{Attributes}
+use Rattle.bz_label.specs.declared.arguments.Attributes.TheVariants.{Every, Named}
+use Rattle.bz_label.specs.declared.arguments.Moved.TheVariants.{Values}
+use Rattle.bz_label.specs.declared.arguments.Setting.TheVariants.{ToKind, ToValues}
 use Rattle.bz_attribute.specs.Rules.{Rule, first_named, is_named, is_text, kind_text, name_of, rule_of}
 use Rattle.bz_attribute.specs.Effects.{done, has, not_a_list, slot_done, chooses}
-use Rattle.bz_list_commands.specs.Add.{adds}
-use Rattle.bz_attribute_commands.specs.Set.{sets, sets_kind_of}
+use Rattle.bz_rule.specs.Add.{adds}
+use Rattle.bz_rule.specs.Set.{sets, sets_kind_of}
 use Rattle.bz_attribute.specs.declared.done.Done.{Done}
 use Rattle.bz_rule.specs.declared.command.Action.TheVariants.{Add, Remove, Set, SetIfAbsent, Delete, Replace, Comment, Print}
 use Rattle.bz_rule.specs.Commands.{Command, after, args_after, args_done, done_of}
@@ -22,7 +22,7 @@ use Rattle.bz_rule_laws.proofs.FirstNamed.{first_of_named}
 use Rattle.bz_rule_laws.proofs.KeptArguments.{args_left, narrower}
 use Rattle.bz_rule_laws.proofs.RuleArguments.{kind_kept, kind_there, there, there_after}
 use Rattle.bz_rule_laws.proofs.SecondTime.{print_quiet, told, told_there}
-use Rattle.bz_list_commands.specs.Replace.{replaces_in}
+use Rattle.bz_rule.specs.Replace.{replaces_in}
 use Rattle.bz_token.specs.Common.{map_or}
 use Rattle.bz_attribute.proofs.Locals.{has_first}
 

@@ -1,13 +1,13 @@
 -- Texts that pass a test do so where arguments or elements are written or filtered.
 use Rattle.std.proofs.Common.{Bool, List, [], codes, false, map, not, refl, true, ℕ, ◌++◌, ◌==◌, ◌∷◌, ◌≡◌}
 use Rattle.std.specs.List.{AllByRecursion, slice_split}
-use Rattle.bz_attribute_commands.specs.Comment.{comment_line}
+use Rattle.bz_rule.specs.Comment.{comment_line}
 use Rattle.bz_attribute.specs.Effects.{argument, edit_first, filtered, is_chosen, list_item, loses_all, string, unchosen}
 use Rattle.bz_attribute.specs.Lists.{edit_first_part, edit_parts, with_value}
 use Rattle.bz_attribute.specs.Rules.{is_named, value}
-use Rattle.bz_command.specs.declared.arguments.Moved.{Moved}
-use Rattle.bz_command.specs.Labels.{Package}
-use Rattle.bz_command.specs.Values.{quoted}
+use Rattle.bz_label.specs.declared.arguments.Moved.{Moved}
+use Rattle.bz_label.specs.Labels.{Package}
+use Rattle.bz_label.specs.Values.{quoted}
 use Rattle.bz_rule_laws.proofs.PassingParts.{KeepsPassing, edited_first_part_passes, edited_first_passes, edited_parts_pass}
 use Rattle.bz_rule_laws.proofs.PassingTexts.{NodesPass, SegmentPasses, SegmentsPass, WordPasses, group_passes, value_passes, with_value_passes}
 use Rattle.bz_rule_laws.proofs.Segments.{all_appended, all_filtered, all_mapped, either_way}

@@ -5,7 +5,7 @@ use Rattle.bz_tree.specs.Tree.{Item, Segment, Statement}
 use Rattle.bz_attribute.specs.Rules.{Rule, kind_text, rule_of}
 use Rattle.bz_attribute.specs.declared.done.Done.{Done}
 use Rattle.bz_attribute.specs.Effects.{holds_rule, nodes_after, nodes_of, slot_done, with_args, done}
-use Rattle.bz_attribute_commands.specs.Set.{kind_after, kind_items, sets_kind_of, with_kind}
+use Rattle.bz_rule.specs.Set.{kind_after, kind_items, sets_kind_of, with_kind}
 use Rattle.bz_attribute.proofs.RuleNodes.{rule_nodes}
 use Rattle.bz_token.specs.Common.{map_or}
 use Rattle.bz_attribute.proofs.EditedRules.{nodes_read, rule_after, with_args_twice, rule_with}

@@ -4,23 +4,23 @@ use Rattle.std.specs.List.{list_all, list_any}
 use Rattle.std.proofs.lemmas.Bool.{and_parts, and_right, false≢true, or_left, or_right}
 use Rattle.std.proofs.lemmas.List.Folds.{list_any-append}
 use Rattle.bz_tree.specs.Tree.{Segment, Statement}
-use Rattle.bz_command.specs.Labels.{Package}
-use Rattle.bz_command.specs.declared.arguments.Attributes.{Attributes}
-use Rattle.bz_command.specs.declared.arguments.Attributes.TheVariants.{Every, Named}
-use Rattle.bz_command.specs.declared.arguments.Field.{Field}
-use Rattle.bz_command.specs.declared.arguments.Moved.TheVariants.{Values}
-use Rattle.bz_command.specs.declared.arguments.Setting.TheVariants.{ToKind, ToValues}
+use Rattle.bz_label.specs.Labels.{Package}
+use Rattle.bz_label.specs.declared.arguments.Attributes.{Attributes}
+use Rattle.bz_label.specs.declared.arguments.Attributes.TheVariants.{Every, Named}
+use Rattle.bz_label.specs.declared.arguments.Field.{Field}
+use Rattle.bz_label.specs.declared.arguments.Moved.TheVariants.{Values}
+use Rattle.bz_label.specs.declared.arguments.Setting.TheVariants.{ToKind, ToValues}
 use Rattle.bz_attribute.specs.Rules.{Rule, first_named, is_named, is_text, rule_of, value, kind_text}
 use Rattle.bz_attribute.specs.Lists.{is_attribute, parts}
 use Rattle.bz_attribute.specs.Effects.{argument, chooses, done, fails, has, is_chosen, not_a_list, slot_done, string}
-use Rattle.bz_list_commands.specs.Add.{add, adds, fresh, new_elements}
-use Rattle.bz_list_commands.specs.Remove.{goes_with_all, remove, removes}
-use Rattle.bz_list_commands.specs.Replace.{is_replaced, replace, replaced, replaced_in, replaces, replaces_in}
-use Rattle.bz_attribute_commands.specs.Set.{new_of, new_value, set_if_absent, sets, sets_kind_of}
+use Rattle.bz_rule.specs.Add.{add, adds, fresh, new_elements}
+use Rattle.bz_rule.specs.Remove.{goes_with_all, remove, removes}
+use Rattle.bz_rule.specs.Replace.{is_replaced, replace, replaced, replaced_in, replaces, replaces_in}
+use Rattle.bz_rule.specs.Set.{new_of, new_value, set_if_absent, sets, sets_kind_of}
 use Rattle.bz_attribute.specs.declared.done.Done.{Done}
 use Rattle.bz_attribute.specs.declared.done.Note.TheVariants.{NotAList}
-use Rattle.bz_command.specs.Names.{is_identifier}
-use Rattle.bz_attribute_commands.specs.Print.{missing, field_text, fields_of, prints, printed}
+use Rattle.bz_label.specs.Names.{is_identifier}
+use Rattle.bz_rule.specs.Print.{missing, field_text, fields_of, prints, printed}
 use Rattle.bz_rule.specs.declared.command.Action.TheVariants.{Add, Remove, Set, SetIfAbsent, Replace, Print}
 use Rattle.bz_rule.specs.Commands.{Command, after, args_after, args_done, done_of, is_command}
 use Rattle.bz_rule_laws.specs.Again.{IsOnce, IsQuiet, IsSettled, is_steady, subject}
@@ -31,7 +31,7 @@ use Rattle.bz_attribute.proofs.Locals.{is_first_named}
 use Rattle.bz_rule.proofs.Arguments.{attribute_named, name_put, same_bytes}
 use Rattle.bz_rule_laws.proofs.FirstNamed.{first_after}
 use Rattle.bz_rule_laws.proofs.Segments.{either_way}
-use Rattle.bz_rule.proofs.Commands.Replace.{lists_settled}
+use Rattle.bz_rule.proofs.Lawfulness.Replace.{lists_settled}
 
 -- what the laws of bz_rule say of the effects of commands
 pub record Known : Type 0 where

@@ -6,11 +6,11 @@ use Rattle.bz_tree.specs.declared.tree.GroupKind.TheVariants.{RuleCall}
 use Rattle.bz_tree.specs.Tree.{Item, group, Segment, Statement, segs_of}
 use Rattle.bz_attribute.specs.Rules.{Rule, rule_of, call_at, kind_text, is_named, is_text, first_named, value}
 use Rattle.bz_attribute.specs.Effects.{argument, edit_first, nodes_of, string, done}
-use Rattle.bz_attribute_commands.specs.Set.{New, NewStrings, is_list_attribute, is_number, is_constant, new_word, new_of, new_value, is_value, set_in, set, sets, kind_items, kind_after, with_kind, sets_kind_of}
+use Rattle.bz_rule.specs.Set.{New, NewStrings, is_list_attribute, is_number, is_constant, new_word, new_of, new_value, is_value, set_in, set, sets, kind_items, kind_after, with_kind, sets_kind_of}
 use Rattle.bz_attribute.proofs.Calls.{rule_from_end}
 use Rattle.bz_rule.proofs.Arguments.{attribute_named, name_put, same_bytes}
 use Rattle.bz_rule_laws.proofs.FirstNamed.{first_after}
-use Rattle.bz_rule.proofs.Commands.Set.{in_stays, in_value, is_written, kind_read, set_absent, set_present}
+use Rattle.bz_rule.proofs.Lawfulness.Set.{in_stays, in_value, is_written, kind_read, set_absent, set_present}
 use Rattle.bz_rule_laws.proofs.Found.{first_at_end}
 use Rattle.bz_attribute.specs.Lists.{is_list, is_only}
 use Rattle.bz_token.specs.Common.{map_or}

@@ -8,20 +8,20 @@ use Rattle.bz_token.specs.declared.token.Kind.TheVariants.{Identifier, Integer}
 use Rattle.bz_tree.specs.declared.tree.GroupKind.TheVariants.{List as ListKind}
 use Rattle.bz_tree.specs.Tree.{Item, leaf, group, Segment, Statement, segments}
 use Rattle.bz_layout_laws.specs.Spelled.{spelled}
-use Rattle.bz_command.specs.Labels.{Package}
-use Rattle.bz_command.specs.declared.arguments.Field.TheVariants.{ValueOf}
-use Rattle.bz_command.specs.declared.arguments.Setting.TheVariants.{ToValues}
+use Rattle.bz_label.specs.Labels.{Package}
+use Rattle.bz_label.specs.declared.arguments.Field.TheVariants.{ValueOf}
+use Rattle.bz_label.specs.declared.arguments.Setting.TheVariants.{ToValues}
 use Rattle.bz_attribute.specs.Effects.{argument, done}
 use Rattle.bz_attribute.specs.Rules.{Rule, first_named, is_text, rule_of, string_value, value}
-use Rattle.bz_attribute_commands.specs.Print.{list_text, printed, value_text, word_form}
-use Rattle.bz_attribute_commands.specs.Set.{New, NewConstant, NewNumber, NewString, NewStrings, are_strings, is_value, new_of, new_value, set, set_in}
+use Rattle.bz_rule.specs.Print.{list_text, printed, value_text, word_form}
+use Rattle.bz_rule.specs.Set.{New, NewConstant, NewNumber, NewString, NewStrings, are_strings, is_value, new_of, new_value, set, set_in}
 use Rattle.bz_rule.specs.declared.command.Action.TheVariants.{Set}
 use Rattle.bz_rule.specs.Commands.{after}
 use Rattle.bz_rule_laws.specs.Printed.{printed_of, words_printed}
 use Rattle.bz_rule_laws.specs.Unmentioned.{arguments_in, arguments_of}
 use Rattle.bz_attribute.proofs.Locals.{is_first_named}
 use Rattle.bz_rule.proofs.Arguments.{same_bytes}
-use Rattle.bz_rule.proofs.Commands.Set.{in_stays, in_value, is_written, set_absent, set_present}
+use Rattle.bz_rule.proofs.Lawfulness.Set.{in_stays, in_value, is_written, set_absent, set_present}
 use Rattle.bz_rule_laws.proofs.Found.{first_at_end}
 use Rattle.bz_rule_laws.proofs.RuleArguments.{there, there_after}
 use Rattle.bz_rule_laws.proofs.SetAgain.{first_set}

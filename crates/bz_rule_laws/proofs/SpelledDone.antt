@@ -6,19 +6,19 @@ use Rattle.std.proofs.lemmas.Bool.{false≢true}
 use Rattle.bz_token.specs.declared.token.Kind.TheVariants.{Identifier, Integer}
 use Rattle.bz_tree.specs.Tree.{Item, leaf, group, Segment, Statement}
 use Rattle.bz_layout_laws.specs.Spelled.{spelled}
-use Rattle.bz_command.specs.Labels.{Package, Target, Name, Pkg, All as EachRule, Kind as OfKind, Line}
-use Rattle.bz_command.specs.declared.arguments.Attributes.TheVariants.{Every, Named}
-use Rattle.bz_command.specs.declared.arguments.Moved.{Moved}
-use Rattle.bz_command.specs.declared.arguments.Moved.TheVariants.{All, Values}
-use Rattle.bz_command.specs.declared.arguments.Setting.TheVariants.{ToKind, ToValues}
+use Rattle.bz_label.specs.Labels.{Package, Target, Name, Pkg, All as EachRule, Kind as OfKind, Line}
+use Rattle.bz_label.specs.declared.arguments.Attributes.TheVariants.{Every, Named}
+use Rattle.bz_label.specs.declared.arguments.Moved.{Moved}
+use Rattle.bz_label.specs.declared.arguments.Moved.TheVariants.{All, Values}
+use Rattle.bz_label.specs.declared.arguments.Setting.TheVariants.{ToKind, ToValues}
 use Rattle.bz_attribute.specs.Rules.{elements, first_named, is_text, rule_of, string_value, value}
 use Rattle.bz_attribute.specs.Lists.{is_attribute, is_list, parts, is_only, same}
 use Rattle.bz_attribute.specs.Effects.{chooses, done, is_chosen, not_a_list, slot_done}
-use Rattle.bz_list_commands.specs.Add.{adds, fresh}
+use Rattle.bz_rule.specs.Add.{adds, fresh}
 use Rattle.bz_attribute.specs.Marks.{marks}
-use Rattle.bz_list_commands.specs.Remove.{goes_with_all}
-use Rattle.bz_list_commands.specs.Replace.{is_replaced, replaces_in}
-use Rattle.bz_attribute_commands.specs.Set.{New, NewConstant, NewNumber, NewString, NewStrings, are_strings, is_list_attribute, is_value, new_of, new_word, sets}
+use Rattle.bz_rule.specs.Remove.{goes_with_all}
+use Rattle.bz_rule.specs.Replace.{is_replaced, replaces_in}
+use Rattle.bz_rule.specs.Set.{New, NewConstant, NewNumber, NewString, NewStrings, are_strings, is_list_attribute, is_value, new_of, new_word, sets}
 use Rattle.bz_rule.specs.declared.command.Action.TheVariants.{Add, Remove, Set, SetIfAbsent, Delete, Replace, Comment, Print}
 use Rattle.bz_rule.specs.Commands.{Command, args_done, done_of}
 use Rattle.bz_rule_laws.specs.Again.{IsQuiet, IsSettled, is_line, is_steady}

@@ -9,13 +9,13 @@ use Rattle.bz_layout_laws.specs.EachText.{HasUtf8}
 use Rattle.bz_layout_laws.proofs.Utf8Tokens.{cut_low}
 use Rattle.bz_layout_laws.proofs.Utf8Written.{low_utf8}
 use Rattle.bz_rule.specs.Commands.{Command, command_passes, after}
-use Rattle.bz_command.specs.Labels.{Package}
-use Rattle.bz_command.specs.Values.{quoted, written}
-use Rattle.bz_attribute_commands.specs.Comment.{comment_line, is_blank, trimmed}
+use Rattle.bz_label.specs.Labels.{Package}
+use Rattle.bz_label.specs.Values.{quoted, written}
+use Rattle.bz_rule.specs.Comment.{comment_line, is_blank, trimmed}
 use Rattle.bz_rule_laws.proofs.Commands.{commands_pass}
 use Rattle.bz_rule_laws.proofs.PassingWritten.{PassesWritten}
 use Rattle.bz_rule_laws.proofs.PassingTexts.{WordPasses}
-use Rattle.bz_attribute_commands.proofs.CommentEdits.{blank_low}
+use Rattle.bz_rule.proofs.CommentLines.{blank_low}
 
 -- what stands after an ASCII byte
 after_low : (b : ℕ) (bs : List ℕ) → b < 128 → IsUtf8 (b ∷ bs) → IsUtf8 bs

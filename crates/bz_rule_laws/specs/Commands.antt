@@ -1,8 +1,8 @@
 -- Of each command: which attributes it mentions, and whether it leaves all comments.
 use Rattle.std.specs.Prelude.{ℕ, List, Bool, true, false, ◌||◌, bytes_eq}
-use Rattle.bz_command.specs.declared.arguments.Setting.TheVariants.{ToKind}
+use Rattle.bz_label.specs.declared.arguments.Setting.TheVariants.{ToKind}
 use Rattle.bz_rule.specs.declared.command.Action.TheVariants.{Add, Remove, Set, SetIfAbsent, Delete, Rename, Move, Replace, Comment, Print}
-use Rattle.bz_command.specs.Arguments.{attributes_mention, setting_mentions, comment_mentions, print_mentions}
+use Rattle.bz_label.specs.Arguments.{attributes_mention, setting_mentions, comment_mentions, print_mentions}
 use Rattle.bz_rule.specs.Commands.{Command}
 
 -- the attributes that a command mentions; it looks at no other argument's value, but for that of a rule's name, and changes none

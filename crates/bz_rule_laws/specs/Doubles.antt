@@ -4,7 +4,7 @@ use Rattle.std.specs.Prelude.{List, [], ◌∷◌, Bool, true, false, ◌&&◌, 
 use Rattle.std.specs.List.{list_any}
 use Rattle.bz_token.specs.Common.{map_or}
 use Rattle.bz_tree.specs.Tree.{Segment}
-use Rattle.bz_command.specs.Labels.{Package}
+use Rattle.bz_label.specs.Labels.{Package}
 use Rattle.bz_attribute.specs.Lists.{equals}
 use Rattle.bz_attribute.specs.Rules.{string_value}
 

@@ -4,10 +4,10 @@
 use Rattle.std.specs.Prelude.{ℕ, List, [], ◌∷◌, ◌++◌, Option, Some, codes, map}
 use Rattle.std.specs.List.{join_with_byte}
 use Rattle.bz_tree.specs.Tree.{Statement}
-use Rattle.bz_command.specs.Labels.{Package}
-use Rattle.bz_command.specs.declared.arguments.Field.TheVariants.{ValueOf}
-use Rattle.bz_attribute_commands.specs.Print.{word_form}
-use Rattle.bz_attribute_commands.specs.Set.{New, NewConstant, NewNumber, NewString, NewStrings}
+use Rattle.bz_label.specs.Labels.{Package}
+use Rattle.bz_label.specs.declared.arguments.Field.TheVariants.{ValueOf}
+use Rattle.bz_rule.specs.Print.{word_form}
+use Rattle.bz_rule.specs.Set.{New, NewConstant, NewNumber, NewString, NewStrings}
 use Rattle.bz_rule.specs.declared.command.Action.TheVariants.{Print}
 use Rattle.bz_rule.specs.Commands.{done_of}
 

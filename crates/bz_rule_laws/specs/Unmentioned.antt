@@ -1,7 +1,7 @@
 -- The arguments of a statement that a command does not mention (buildozer README, edit commands: `remove *` leaves `name`).
 use Rattle.std.specs.Prelude.{ℕ, List, [], Bool, true, false, not, Option, None, Some, bytes_eq, codes, filter}
 use Rattle.bz_tree.specs.Tree.{Segment, Statement}
-use Rattle.bz_command.specs.declared.arguments.Attributes.TheVariants.{Every}
+use Rattle.bz_label.specs.declared.arguments.Attributes.TheVariants.{Every}
 use Rattle.bz_attribute.specs.Rules.{Rule, name_of, rule_of}
 use Rattle.bz_rule.specs.declared.command.Action.TheVariants.{Delete, Print, Remove}
 use Rattle.bz_rule.specs.Commands.{Command}

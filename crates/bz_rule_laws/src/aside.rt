@@ -3,7 +3,7 @@
 ghost use Rattle.std.specs.Prelude.{◌≡◌, List, Option, map, option_map};
 ghost use Rattle.bz_tree.specs.Tree.{Segment, Statement};
 ghost use Rattle.bz_rule.specs.Commands.{Command, after, done_of};
-ghost use Rattle.bz_command.specs.Labels.{Package, Target};
+ghost use Rattle.bz_label.specs.Labels.{Package, Target};
 ghost use Rattle.bz_attribute.specs.Effects.{with_args};
 ghost use Rattle.bz_attribute.specs.Marks.{marks};
 ghost use Rattle.bz_attribute.specs.Rules.{rule_of};

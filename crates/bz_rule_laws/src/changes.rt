@@ -3,7 +3,7 @@
 ghost use Rattle.std.specs.Prelude.{◌≡◌, ◌↔◌, Option, true};
 ghost use Rattle.bz_tree.specs.Tree.{Statement};
 ghost use Rattle.bz_rule.specs.Commands.{after, done_of, is_command, Command};
-ghost use Rattle.bz_command.specs.Labels.{Package};
+ghost use Rattle.bz_label.specs.Labels.{Package};
 
 /// A command as [`read_command`](bz_rule::read_command) makes it tells that it changed something exactly where what
 /// stands in the slot is another than before.

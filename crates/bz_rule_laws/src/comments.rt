@@ -2,15 +2,15 @@
 
 ghost use Rattle.std.specs.Prelude.{◌≡◌, ◌++◌, ◌∷◌, if◌then◌else◌, ℕ, List, [], map, Option, option_map, true};
 ghost use Rattle.bz_tree.specs.Tree.{Segment, Statement};
-ghost use Rattle.bz_command.specs.Labels.{Package};
-ghost use Rattle.bz_command.specs.declared.arguments.Attributes.{Attributes};
-ghost use Rattle.bz_command.specs.declared.arguments.Moved.{Moved};
-ghost use Rattle.bz_list_commands.specs.Add as add;
+ghost use Rattle.bz_label.specs.Labels.{Package};
+ghost use Rattle.bz_label.specs.declared.arguments.Attributes.{Attributes};
+ghost use Rattle.bz_label.specs.declared.arguments.Moved.{Moved};
+ghost use Rattle.bz_rule.specs.Add as add;
 ghost use Rattle.bz_attribute.specs.Effects as effects;
-ghost use Rattle.bz_attribute_commands.specs.Rename as rename;
-ghost use Rattle.bz_list_commands.specs.Replace as replace;
+ghost use Rattle.bz_rule.specs.Rename as rename;
+ghost use Rattle.bz_rule.specs.Replace as replace;
 ghost use Rattle.bz_attribute.specs.Rules.{value};
-ghost use Rattle.bz_attribute_commands.specs.Set as set;
+ghost use Rattle.bz_rule.specs.Set as set;
 ghost use Rattle.bz_rule.specs.OwnComments.{no_comments, own_comments};
 ghost use Rattle.bz_tree.specs.Comments.{comments_of};
 ghost use Rattle.bz_rule.specs.Commands.{after, Command};

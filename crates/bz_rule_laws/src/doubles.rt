@@ -2,10 +2,10 @@
 
 ghost use Rattle.std.specs.Prelude.{◌≡◌, ℕ, List, true};
 ghost use Rattle.bz_tree.specs.Tree.{Segment};
-ghost use Rattle.bz_command.specs.Labels.{Package};
+ghost use Rattle.bz_label.specs.Labels.{Package};
 ghost use Rattle.bz_attribute.specs.Rules.{first_named};
-ghost use Rattle.bz_list_commands.specs.Add as add;
-ghost use Rattle.bz_list_commands.specs.Move.{elements_of};
+ghost use Rattle.bz_rule.specs.Add as add;
+ghost use Rattle.bz_rule.specs.Move.{elements_of};
 ghost use Rattle.bz_rule_laws.specs.Doubles.{has_no_double};
 
 /// Where no two elements of the lists of an attribute are the same label in the package, none are after `add`. So it is

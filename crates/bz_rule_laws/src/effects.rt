@@ -4,17 +4,17 @@ ghost use Rattle.std.specs.Prelude.{◌≡◌, ◌≤◌, ◌++◌, ◌∷◌, �
 ghost use Rattle.std.specs.List.{list_all, list_any};
 ghost use Rattle.bz_tree.specs.Tree.{Segment, Statement};
 ghost use Rattle.bz_rule.specs.Commands.{after, done_of};
-ghost use Rattle.bz_command.specs.declared.arguments.Attributes.TheVariants.{Every, Named};
-ghost use Rattle.bz_command.specs.declared.arguments.Setting.TheVariants.{ToKind, ToValues};
-ghost use Rattle.bz_command.specs.declared.arguments.Moved.TheVariants.{Values};
+ghost use Rattle.bz_label.specs.declared.arguments.Attributes.TheVariants.{Every, Named};
+ghost use Rattle.bz_label.specs.declared.arguments.Setting.TheVariants.{ToKind, ToValues};
+ghost use Rattle.bz_label.specs.declared.arguments.Moved.TheVariants.{Values};
 ghost use Rattle.bz_rule.specs.declared.command.Action.TheVariants.{Add, Set};
-ghost use Rattle.bz_command.specs.Labels.{Package};
+ghost use Rattle.bz_label.specs.Labels.{Package};
 ghost use Rattle.bz_attribute.specs.Lists.{is_attribute};
 ghost use Rattle.bz_attribute.specs.Rules.{first_named, is_named};
 ghost use Rattle.bz_token.specs.Common.{map_or};
-ghost use Rattle.bz_list_commands.specs.Add as add;
+ghost use Rattle.bz_rule.specs.Add as add;
 ghost use Rattle.bz_attribute.specs.Effects as effects;
-ghost use Rattle.bz_list_commands.specs.Remove as remove;
+ghost use Rattle.bz_rule.specs.Remove as remove;
 
 /// Where `add` does not fail, an element equals each of its values afterwards, so `remove` finds them.
 #[tactic(auto, using(crate::proofs::Found::add_found))]

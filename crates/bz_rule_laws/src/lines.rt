@@ -2,7 +2,7 @@
 
 ghost use Rattle.std.specs.Prelude.{◌≡◌, ℕ, Some};
 ghost use Rattle.bz_tree.specs.Tree.{Statement};
-ghost use Rattle.bz_command.specs.Labels.{Package, Line};
+ghost use Rattle.bz_label.specs.Labels.{Package, Line};
 ghost use Rattle.bz_attribute.specs.Marks.{marks};
 ghost use Rattle.bz_rule.specs.Commands.{Command, after};
 

@@ -3,10 +3,10 @@
 ghost use Rattle.std.specs.Prelude.{◌≡◌, ℕ, List, Some, is_some, map, true};
 ghost use Rattle.bz_tree.specs.Tree.{Statement};
 ghost use Rattle.bz_layout_laws.specs.Spelled.{spelled};
-ghost use Rattle.bz_command.specs.Labels.{Package};
-ghost use Rattle.bz_command.specs.declared.arguments.Setting.TheVariants.{ToValues};
+ghost use Rattle.bz_label.specs.Labels.{Package};
+ghost use Rattle.bz_label.specs.declared.arguments.Setting.TheVariants.{ToValues};
 ghost use Rattle.bz_attribute.specs.Rules.{first_named, rule_of};
-ghost use Rattle.bz_attribute_commands.specs.Set.{new_of};
+ghost use Rattle.bz_rule.specs.Set.{new_of};
 ghost use Rattle.bz_rule.specs.declared.command.Action.TheVariants.{Set};
 ghost use Rattle.bz_rule.specs.Commands.{after};
 ghost use Rattle.bz_rule_laws.specs.Printed.{printed_of, words_printed};

@@ -2,7 +2,7 @@
 
 ghost use Rattle.std.specs.Prelude.{◌≡◌, ◌↔◌, ℕ, List, Some, is_some, true};
 ghost use Rattle.bz_tree.specs.Tree.{Statement};
-ghost use Rattle.bz_command.specs.Labels as spec;
+ghost use Rattle.bz_label.specs.Labels as spec;
 ghost use Rattle.bz_attribute.specs.Marks.{marks};
 ghost use Rattle.bz_attribute.specs.Rules.{Rule, rule_of, name_in, kind_text};
 

@@ -5,7 +5,7 @@ ghost use Rattle.std.specs.Str.{is_utf8};
 ghost use Rattle.bz_tree.specs.Tree.{Statement};
 ghost use Rattle.bz_layout_laws.specs.EachText.{HasUtf8};
 ghost use Rattle.bz_rule.specs.Commands.{Command, command_passes, after};
-ghost use Rattle.bz_command.specs.Labels.{Package};
+ghost use Rattle.bz_label.specs.Labels.{Package};
 
 /// What a command leaves of a statement whose tokens and comments are UTF-8 has such, if its words, but for those of
 /// `print`, are UTF-8.

@@ -2,7 +2,7 @@
 
 ghost use Rattle.std.specs.Prelude.{◌≡◌, None, Some, true};
 ghost use Rattle.bz_tree.specs.Tree.{Statement};
-ghost use Rattle.bz_command.specs.Labels.{Package};
+ghost use Rattle.bz_label.specs.Labels.{Package};
 ghost use Rattle.bz_rule.specs.Commands.{Command, after};
 ghost use Rattle.bz_rule_laws.specs.Unmentioned.{arguments_of, is_delete, unmentioned};
 

@@ -4,7 +4,7 @@ ghost use Rattle.std.specs.Prelude.{◌≡◌, ◌≤◌, ℕ, suc, List, Some, 
 ghost use Rattle.bz_tree.specs.Grammar.{IsArg};
 ghost use Rattle.bz_tree.specs.Tree.{Segment, Statement};
 ghost use Rattle.bz_rule.specs.Commands.{after, args_after, is_command, Command};
-ghost use Rattle.bz_command.specs.Labels.{Package};
+ghost use Rattle.bz_label.specs.Labels.{Package};
 ghost use Rattle.bz_layout_laws.specs.WellFormed.{IsWellFormed};
 ghost use Rattle.bz_rule_laws.specs.WellFormedSegments.{AreFormed};
 

@@ -7,7 +7,7 @@ use Rattle.std.proofs.lemmas.Bool.{false≢true, or_left, or_right}
 use Rattle.std.proofs.lemmas.Cmp.{nat_list_eq_equiv}
 use Rattle.std.proofs.lemmas.Map.Views.{list_any-from_Contains}
 use Rattle.std.proofs.lemmas.Slice.Eq.{bytes_eq-Decides}
-use Rattle.bz_command.specs.Labels.{Package}
+use Rattle.bz_label.specs.Labels.{Package}
 use Rattle.bz_script.specs.EachPackage.{packages_of, steps_for}
 use Rattle.bz_script.specs.Packages.{by_key, by_package, first_mentions, same_package, values_at}
 use Rattle.bz_script.proofs.Mentions.{any-mentions}

@@ -1,6 +1,6 @@
 -- Scripts, and what each package has of them. The passes are numbers here.
 use Rattle.std.proofs.Common.{◌≡◌, ℕ, [], ◌∷◌, None, Some, codes, refl}
-use Rattle.bz_command.specs.Labels.{Package}
+use Rattle.bz_label.specs.Labels.{Package}
 use Rattle.bz_script.specs.Packages.{first_mentions, same_package, by_package}
 
 abbrev p : Package

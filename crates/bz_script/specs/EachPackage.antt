@@ -1,7 +1,7 @@
 -- A script package by package (this project's own rule).
 -- Begin with `packages_of` and `steps_for`.
 use Rattle.std.specs.Prelude.{List, map, filter}
-use Rattle.bz_command.specs.Labels.{Package}
+use Rattle.bz_label.specs.Labels.{Package}
 use Rattle.bz_script.specs.Packages.{first_mentions, same_package}
 
 -- the packages in the order of first mention

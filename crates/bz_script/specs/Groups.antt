@@ -2,11 +2,11 @@
 use Rattle.std.specs.Prelude.{ℕ, ◌+◌, Bool, List, [], ◌∷◌, map, Option, None, Some, Result, Ok, Err}
 use Rattle.std.specs.List.{filter_map}
 use Rattle.std.specs.Option.{is_some}
-use Rattle.bz_command.specs.Passes.{Pass}
+use Rattle.bz_passes.specs.Passes.{Pass}
 use Rattle.bz_rule.specs.Commands.{Command, command_of}
-use Rattle.bz_command.specs.Labels.{Package, Target, label_of}
+use Rattle.bz_label.specs.Labels.{Package, Target, label_of}
 use Rattle.bz_rule.specs.declared.command.CommandFault.{CommandFault}
-use Rattle.bz_command.specs.declared.labels.LabelFault.{LabelFault}
+use Rattle.bz_label.specs.declared.labels.LabelFault.{LabelFault}
 use Rattle.bz_script.specs.declared.usage.Refused.{Refused}
 use Rattle.bz_script.specs.declared.usage.UsageFault.{UsageFault}
 use Rattle.bz_script.specs.declared.usage.UsageFault.TheVariants as fault

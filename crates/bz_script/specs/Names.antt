@@ -1,6 +1,6 @@
 -- The paths of a package's BUILD file (buildozer README: `BUILD.bazel` and `BUILD`).
 use Rattle.std.specs.Prelude.{◌≡◌, ◌⊎◌, ℕ, if◌then◌else◌, List, [], ◌++◌, None, Some, codes, bytes_eq}
-use Rattle.bz_command.specs.Labels.{Package}
+use Rattle.bz_label.specs.Labels.{Package}
 
 -- the path of a file in a package's folder; the root has the empty path
 abbrev pub in_folder : List ℕ → List ℕ → List ℕ

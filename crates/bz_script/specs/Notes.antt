@@ -2,9 +2,9 @@
 -- project's own rule). Begin with `AreTrue`.
 use Rattle.std.specs.Prelude.{◌≡◌, ℕ, nat_eq, nat_le, ◌==◌, Bool, true, false, not, ◌&&◌, ◌||◌, List, [], ◌∷◌, length, codes, Option, None, Some, IfSome}
 use Rattle.std.specs.List.{list_any, starts_with, ends_with}
-use Rattle.bz_command.specs.declared.arguments.Setting.TheVariants.{ToValues}
-use Rattle.bz_command.specs.declared.arguments.Moved.TheVariants.{Values}
-use Rattle.bz_command.specs.declared.arguments.Commented.TheVariants.{Value}
+use Rattle.bz_label.specs.declared.arguments.Setting.TheVariants.{ToValues}
+use Rattle.bz_label.specs.declared.arguments.Moved.TheVariants.{Values}
+use Rattle.bz_label.specs.declared.arguments.Commented.TheVariants.{Value}
 use Rattle.bz_rule.specs.declared.command.Action.TheVariants.{Add, Remove, Set, SetIfAbsent, Move, Replace, Comment}
 use Rattle.bz_rule.specs.Commands.{Command}
 use Rattle.bz_script.specs.declared.notes.Noted.{Noted}

@@ -1,7 +1,7 @@
 -- The packages of a script in the order of their first mention, each with its passes (this project's own rule).
 use Rattle.std.specs.Prelude.{Bool, not, List, [], ◌∷◌, map, filter, bytes_eq}
 use Rattle.std.specs.Option.{option_eq}
-use Rattle.bz_command.specs.Labels.{Package}
+use Rattle.bz_label.specs.Labels.{Package}
 
 -- the keys without those that are equal to an earlier one
 abbrev pub first_mentions : {K : Type 0} → (K → K → Bool) → List K → List K

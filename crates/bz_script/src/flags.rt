@@ -8,7 +8,7 @@ ghost use Rattle.bz_script.specs.Refused as place;
 ghost use Rattle.bz_script.specs.Results.{map_ok};
 
 use crate::usage::{Refused, UsageFault};
-use bz_command::Text;
+use bz_label::Text;
 use bz_memory::NoMemory;
 use std::alloc::Global;
 

@@ -5,7 +5,7 @@ ghost use Rattle.bz_script.specs.Inputs as spec;
 
 use crate::flags::Flags;
 use crate::usage::UsageFault;
-use bz_command::{Package, Text};
+use bz_label::{Package, Text};
 
 /// Whether the command file is standard input.
 fn reads_commands(file: &Option<Text>) -> bool

@@ -1,7 +1,7 @@
 //! Law of packages: one call for many packages is one call for each.
 
 ghost use Rattle.std.specs.Prelude.{◌≡◌, ◌∷◌, Contains, List, [], flat_map, map};
-ghost use Rattle.bz_command.specs.Labels.{Package};
+ghost use Rattle.bz_label.specs.Labels.{Package};
 ghost use Rattle.bz_script.specs.EachPackage.{packages_of, steps_for};
 ghost use Rattle.bz_script.specs.Packages.{by_package};
 

@@ -2,7 +2,7 @@
 //! of each fault of the readers, and shows it.
 
 use crate::usage::Refused;
-use bz_command::{LabelFault, NO_SUCH_FIELD, is_left_out_field};
+use bz_label::{LabelFault, NO_SUCH_FIELD, is_left_out_field};
 use bz_memory::NoMemory;
 use bz_rule::{CommandFault, LEFT_OUT, USAGE};
 use std::fmt;

@@ -3,7 +3,7 @@
 ghost use Rattle.std.specs.Prelude.{◌≡◌, ◌++◌, [], ◌∷◌, List, map, IfOk, OnOk};
 ghost use Rattle.bz_script.specs.Packages as spec;
 
-use bz_command::Package;
+use bz_label::Package;
 use bz_memory::{NoMemory, insert_last, push};
 use indexmap::IndexMap;
 use std::alloc::Global;

@@ -2,7 +2,7 @@
 
 ghost use Rattle.std.specs.Prelude.{◌≡◌, IfOk};
 
-use bz_command::Text;
+use bz_label::Text;
 use bz_memory::NoMemory;
 use std::alloc::Global;
 use std::fmt;

@@ -5,7 +5,7 @@ ghost use Rattle.bz_script.specs.Refused.{refused};
 
 use crate::mistake::{self, Mistake};
 use crate::quoted::Quoted;
-use bz_command::LabelFault;
+use bz_label::LabelFault;
 use bz_memory::NoMemory;
 use bz_rule::CommandFault;
 use std::alloc::Global;

@@ -1,8 +1,8 @@
 -- For private clauses alone: texts that are told apart by their ends.
 use Rattle.std.specs.Prelude.{ℕ, ◌≡◌, List, ◌∷◌, ◌++◌, true, false}
 use Rattle.std.specs.List.{list_all, list_any}
-use Rattle.bz_command.specs.Labels.{is_slash}
-use Rattle.bz_command.specs.Values.{is_plain}
+use Rattle.bz_label.specs.Labels.{is_slash}
+use Rattle.bz_label.specs.Values.{is_plain}
 
 -- What stands between two quotes and a word end in the same bytes, and the bytes before these differ. None of them is a
 -- slash, and in the literal each stands for itself.

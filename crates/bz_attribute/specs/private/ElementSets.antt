@@ -3,9 +3,9 @@ use Rattle.std.specs.Prelude.{ℕ, List, [], ◌∷◌, Bool, true, ◌&&◌, if
 use Rattle.std.specs.List.{list_any}
 use Rattle.std.specs.Borrow.{Bor}
 use Rattle.bz_tree.specs.Tree.{Segment}
-use Rattle.bz_command.specs.Labels.{Package}
-use Rattle.bz_command.specs.declared.arguments.Moved.{Moved}
-use Rattle.bz_command.specs.declared.arguments.Moved.TheVariants.{All, Values}
+use Rattle.bz_label.specs.Labels.{Package}
+use Rattle.bz_label.specs.declared.arguments.Moved.{Moved}
+use Rattle.bz_label.specs.declared.arguments.Moved.TheVariants.{All, Values}
 use Rattle.bz_attribute.specs.Effects.{is_chosen}
 use Rattle.bz_attribute.specs.Lists.{same}
 use Rattle.bz_attribute.specs.declared.word_set.WordSet.{WordSet}

@@ -5,7 +5,7 @@ use Rattle.bz_tree.specs.Rows.{RowPart, a_token, opening, closing, segment_end, 
 use Rattle.bz_token.specs.declared.token.Kind.TheVariants.{Identifier, Operator, String}
 use Rattle.bz_tree.specs.declared.tree.GroupKind.TheVariants.{RuleCall, List as ListKind}
 use Rattle.bz_tree.specs.Tree.{Item, leaf, Segment}
-use Rattle.bz_command.specs.Labels.{Package}
+use Rattle.bz_label.specs.Labels.{Package}
 use Rattle.bz_attribute.specs.Elements.{ForRest, ListRest, elements_left, found_rest, rest_parts, value_parts}
 use Rattle.bz_attribute.specs.Lists as lists
 

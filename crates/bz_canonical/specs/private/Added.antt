@@ -5,8 +5,8 @@ use Rattle.std.specs.List.{list_any}
 use Rattle.bz_token.specs.Common.{map_or}
 use Rattle.bz_token.specs.declared.token.Kind.TheVariants.{Identifier, Operator}
 use Rattle.bz_tree.specs.Tree.{Segment, leaf}
-use Rattle.bz_command.specs.Labels.{Package}
-use Rattle.bz_command.specs.Values.{quoted, value_of}
+use Rattle.bz_label.specs.Labels.{Package}
+use Rattle.bz_label.specs.Values.{quoted, value_of}
 use Rattle.bz_layout.specs.Pieces.{indent}
 use Rattle.bz_attribute.specs.Lists.{same}
 use Rattle.bz_canonical.specs.Canonical.{AreReadAlone}

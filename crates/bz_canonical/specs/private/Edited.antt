@@ -3,8 +3,8 @@ use Rattle.std.specs.Prelude.{◌≡◌, ◌<◌, ℕ, List, [], ◌∷◌, ◌+
 use Rattle.std.specs.List.{list_any}
 use Rattle.bz_token.specs.Common.{is_empty}
 use Rattle.bz_token.specs.declared.token.Kind.TheVariants.{String}
-use Rattle.bz_command.specs.Labels.{Package}
-use Rattle.bz_command.specs.Values.{quoted, value_of}
+use Rattle.bz_label.specs.Labels.{Package}
+use Rattle.bz_label.specs.Values.{quoted, value_of}
 use Rattle.bz_layout.specs.Respell.{respell}
 use Rattle.bz_attribute.specs.Rules.{is_text}
 use Rattle.bz_canonical.specs.Canonical.{argument_lines}

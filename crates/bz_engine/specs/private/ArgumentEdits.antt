@@ -4,8 +4,8 @@ use Rattle.bz_tree.specs.Tree.{Segment, Statement}
 use Rattle.bz_layout.specs.Layout.{layout_text}
 use Rattle.bz_attribute.specs.declared.done.Done.{Done}
 use Rattle.bz_attribute.specs.Effects.{argument, list_item, string}
-use Rattle.bz_command.specs.declared.arguments.Setting.TheVariants.{ToValues}
-use Rattle.bz_command.specs.Labels.{Package}
+use Rattle.bz_label.specs.declared.arguments.Setting.TheVariants.{ToValues}
+use Rattle.bz_label.specs.Labels.{Package}
 use Rattle.bz_canonical.specs.Canonical.{AloneLines, AreReadAlone, Between, argument_lines, small_text}
 use Rattle.bz_canonical.specs.declared.edited.EditedList.{EditedList}
 use Rattle.bz_canonical.specs.declared.edited.EditedList.TheVariants.{Unchanged, Written}

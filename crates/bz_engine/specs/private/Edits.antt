@@ -8,7 +8,7 @@ use Rattle.bz_engine.specs.declared.edit.Scripted.{Scripted}
 use Rattle.bz_engine.specs.declared.edit.Scripted.TheVariants as scripted
 use Rattle.bz_engine.specs.declared.report.SyntaxFault.{SyntaxFault}
 use Rattle.bz_engine.specs.File.{IsAnswerOf}
-use Rattle.bz_command.specs.Passes.{Slot}
+use Rattle.bz_passes.specs.Passes.{Slot}
 use Rattle.bz_passes.specs.Exchange.{Fits, IsLeftBy, slot_after}
 use Rattle.bz_engine.specs.Language.{meaning, changes, fails_on}
 use Rattle.bz_engine.specs.Outcome.{Run, is_query, text_after, said, slots_of, some_failure}

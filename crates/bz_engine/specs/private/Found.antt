@@ -9,16 +9,16 @@ use Rattle.bz_attribute.specs.declared.done.Done.{Done}
 use Rattle.bz_attribute.specs.declared.done.Note.{Note}
 use Rattle.bz_attribute.specs.Effects.{fails}
 use Rattle.bz_attribute.specs.Texts.{shown_text}
-use Rattle.bz_command.specs.declared.arguments.Commented.TheVariants.{Attribute, Value}
+use Rattle.bz_label.specs.declared.arguments.Commented.TheVariants.{Attribute, Value}
 use Rattle.bz_engine.specs.Language.{meaning, note_told}
-use Rattle.bz_command.specs.declared.arguments.Attributes.TheVariants.{Named}
-use Rattle.bz_command.specs.Labels.{Package, Target}
+use Rattle.bz_label.specs.declared.arguments.Attributes.TheVariants.{Named}
+use Rattle.bz_label.specs.Labels.{Package, Target}
 use Rattle.bz_rule.specs.declared.command.Action.TheVariants.{Comment, Remove, Replace}
 use Rattle.bz_attribute.specs.Rules.{first_named, rule_of}
 use Rattle.bz_attribute.specs.Marks.{marks}
 use Rattle.bz_canonical.specs.Canonical.{HasName, HasPlace, IsNameless, between, rule_args, rule_name}
 use Rattle.bz_rule.specs.Commands.{Command, after, done_of}
-use Rattle.bz_command.specs.Passes.{Pass}
+use Rattle.bz_passes.specs.Passes.{Pass}
 use Rattle.bz_passes.specs.Exchange.{Kept}
 use Rattle.bz_passes.specs.OnePass.{IsOnlyAt}
 use Rattle.bz_passes.specs.declared.entry.Entry.{Entry}

@@ -2,7 +2,7 @@
 use Rattle.std.specs.Prelude.{ℕ, List, Bool, Option, Some, is_some}
 use Rattle.std.specs.List.{list_all}
 use Rattle.bz_tree.specs.Tree.{Statement}
-use Rattle.bz_command.specs.Labels.{Package}
+use Rattle.bz_label.specs.Labels.{Package}
 use Rattle.bz_canonical.specs.Canonical.{HasName}
 use Rattle.bz_passes.specs.Asked.{asked_by}
 use Rattle.bz_passes.specs.Exchange.{IsPassedBy}

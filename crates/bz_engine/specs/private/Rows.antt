@@ -5,7 +5,7 @@ use Rattle.bz_tree.specs.Tree.{Statement}
 use Rattle.bz_tree.specs.Statement.{class_of}
 use Rattle.bz_tree.specs.Chunk.{IsStatementIn}
 use Rattle.bz_tree.specs.Rows.{IsRowOf}
-use Rattle.bz_command.specs.Labels.{Target}
+use Rattle.bz_label.specs.Labels.{Target}
 use Rattle.bz_attribute.specs.Marks.{marks}
 use Rattle.bz_passes.specs.declared.index.Key.{Key}
 use Rattle.bz_passes.specs.Asked.{asked_by, may_mark}

@@ -2,9 +2,9 @@
 use Rattle.std.specs.Prelude.{ℕ, List, [], ◌∷◌, if◌then◌else◌, Result, Ok, Err}
 use Rattle.bz_rule.specs.declared.command.CommandFault.{CommandFault}
 use Rattle.bz_rule.specs.declared.command.CommandFault.TheVariants.{WrongCount, BadAttribute}
-use Rattle.bz_command.specs.declared.arguments.Commented.{Commented}
-use Rattle.bz_command.specs.declared.arguments.Commented.TheVariants.{Rule, Attribute, Value}
-use Rattle.bz_command.specs.Names.{is_identifier}
+use Rattle.bz_label.specs.declared.arguments.Commented.{Commented}
+use Rattle.bz_label.specs.declared.arguments.Commented.TheVariants.{Rule, Attribute, Value}
+use Rattle.bz_label.specs.Names.{is_identifier}
 
 -- what a comment stands before
 abbrev pub commented_of : List (List ℕ) → Result Commented CommandFault

@@ -2,17 +2,17 @@
 use Rattle.std.specs.Prelude.{◌≡◌, ℕ, List, Bool, true, false, Option, Some, ◌≤◌, ◌+◌, length}
 use Rattle.bz_tree.specs.Tree.{Statement}
 use Rattle.bz_tree.specs.Rows.{RowPart, parts_of}
-use Rattle.bz_command.specs.Labels.{Package}
-use Rattle.bz_command.specs.declared.arguments.Commented.TheVariants.{Rule as Above}
-use Rattle.bz_command.specs.declared.arguments.Setting.TheVariants.{ToKind}
+use Rattle.bz_label.specs.Labels.{Package}
+use Rattle.bz_label.specs.declared.arguments.Commented.TheVariants.{Rule as Above}
+use Rattle.bz_label.specs.declared.arguments.Setting.TheVariants.{ToKind}
 use Rattle.bz_rule.specs.Commands.{Command, args_after, done_of}
 use Rattle.bz_rule.specs.declared.command.Action.TheVariants.{Comment, Delete, Print, Set}
-use Rattle.bz_attribute_commands.specs.Comment.{comment_rule}
+use Rattle.bz_rule.specs.Comment.{comment_rule}
 use Rattle.bz_attribute.specs.Effects.{with_args}
 use Rattle.bz_attribute.specs.Heads.{HasHead}
 use Rattle.bz_attribute.specs.RowEdits.{replaced_at}
 use Rattle.bz_attribute.specs.declared.edit.Edit.{Edit}
-use Rattle.bz_attribute_commands.specs.Set.{with_kind}
+use Rattle.bz_rule.specs.Set.{with_kind}
 use Rattle.bz_attribute.specs.declared.head.Head.{Head}
 use Rattle.bz_rule.specs.RowViews.{RowValue, row_statement}
 

@@ -1,11 +1,11 @@
 -- What `add` keeps: other arguments, what is well formed, texts that pass a test, and comments.
 use Rattle.std.proofs.Common.{◌≡◌, ℕ, List, [], ◌∷◌, ◌++◌, true, false, not, if◌then◌else◌, map, refl, Bool, length, suc, ◌==◌}
 use Rattle.bz_tree.specs.Tree.{Segment}
-use Rattle.bz_command.specs.Labels.{Package}
+use Rattle.bz_label.specs.Labels.{Package}
 use Rattle.bz_attribute.specs.Rules.{is_named, value}
 use Rattle.bz_attribute.specs.Lists.{edit_first_part, is_attribute, parts, with_value}
 use Rattle.bz_attribute.specs.Effects.{has, list_item}
-use Rattle.bz_list_commands.specs.Add.{add, new_elements, with_added, fresh, is_fresh}
+use Rattle.bz_rule.specs.Add.{add, new_elements, with_added, fresh, is_fresh}
 use Rattle.bz_rule.proofs.Arguments.{same_bytes}
 use Rattle.bz_rule.specs.declared.command.Action.TheVariants.{Add}
 use Rattle.bz_rule_laws.proofs.Keeps.{Keeps, keeps_slot}
@@ -13,7 +13,7 @@ use Rattle.bz_rule_laws.proofs.NamesKept.{KeepsEach, Leaves, append_kept, edit_o
 use Rattle.bz_rule_laws.proofs.MentionedStay.{leaves_mentioned}
 use Rattle.std.proofs.lemmas.Bool.{and_parts}
 use Rattle.std.specs.List.{AllByRecursion, list_all}
-use Rattle.bz_command.specs.Names.{is_identifier}
+use Rattle.bz_label.specs.Names.{is_identifier}
 use Rattle.bz_rule_laws.proofs.AllComments.{after_new, after_none, first_keeps, first_part_keeps, in_all, in_one, list_none, value_keeps}
 use Rattle.bz_rule_laws.proofs.ArgumentValues.{good_value, good_with}
 use Rattle.bz_rule_laws.proofs.GoodArguments.{appended_good, argument_good, first_good, strings_good}

@@ -3,20 +3,20 @@ use Rattle.std.proofs.Common.{◌≡◌, ℕ, List, [], ◌∷◌, ◌++◌, Boo
 use Rattle.std.specs.List.{list_any, list_all}
 use Rattle.std.proofs.lemmas.Bool.{and_from, and_parts, not-true}
 use Rattle.bz_tree.specs.Tree.{Segment, Items}
-use Rattle.bz_command.specs.Labels.{Package}
+use Rattle.bz_label.specs.Labels.{Package}
 use Rattle.bz_attribute.specs.Rules.{value}
 use Rattle.bz_attribute.specs.Lists.{equals, is_attribute}
 use Rattle.bz_attribute.specs.Effects.{edit_first, edit_element, with_comment}
-use Rattle.bz_attribute_commands.specs.Comment.{comment_element, comment_line}
-use Rattle.bz_command.specs.declared.arguments.Commented.{Commented}
-use Rattle.bz_command.specs.declared.arguments.Commented.TheVariants.{Rule as OfRule, Attribute, Value}
+use Rattle.bz_rule.specs.Comment.{comment_element, comment_line}
+use Rattle.bz_label.specs.declared.arguments.Commented.{Commented}
+use Rattle.bz_label.specs.declared.arguments.Commented.TheVariants.{Rule as OfRule, Attribute, Value}
 use Rattle.bz_rule.specs.declared.command.Action.TheVariants.{Comment}
 use Rattle.bz_rule.proofs.Arguments.{same_bytes}
 use Rattle.bz_rule.proofs.CommentEdits.{with_comments}
 use Rattle.bz_rule_laws.proofs.KeepsComments.{KeepsLines, keeps_comments_first, keeps_rule}
 use Rattle.bz_rule_laws.proofs.KeepsFirst.{KeepsFirst, keeps_first, named_with}
 use Rattle.bz_rule_laws.proofs.Keeps.{Keeps, keeps_slot}
-use Rattle.bz_command.specs.Arguments.{breaks_line, is_commented}
+use Rattle.bz_label.specs.Arguments.{breaks_line, is_commented}
 use Rattle.bz_rule.specs.Commands.{is_command}
 use Rattle.bz_layout_laws.proofs.EachRead.{comments_join}
 use Rattle.bz_rule_laws.proofs.ArgumentValues.{good_value, good_with}
@@ -28,7 +28,7 @@ use Rattle.bz_rule_laws.proofs.PassingWritten.{PassesWritten}
 use Rattle.bz_rule_laws.proofs.Segments.{AreFormed, IsFormed, either_way}
 use Rattle.bz_token.specs.Lexical.{is_comment}
 use Rattle.bz_tree.specs.Grammar.{IsArg, IsTest}
-use Rattle.bz_rule.proofs.Commands.Comment.{one_more, comment_attribute_edits, rule_edits, comment_value_edits}
+use Rattle.bz_rule.proofs.Lawfulness.Comment.{one_more, comment_attribute_edits, rule_edits, comment_value_edits}
 
 -- what it leaves is well formed, and passes a test
 

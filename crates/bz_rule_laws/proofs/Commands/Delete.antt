@@ -1,7 +1,7 @@
 -- What `delete` keeps.
 use Rattle.std.proofs.Common.{◌≡◌, List, true, false, Option, None, is_some, if◌then◌else◌, map, option_map, refl, ap, ◌∙◌, suc}
 use Rattle.bz_tree.specs.Tree.{Segment, Statement}
-use Rattle.bz_command.specs.Labels.{Package}
+use Rattle.bz_label.specs.Labels.{Package}
 use Rattle.bz_rule.specs.declared.command.Action.TheVariants.{Delete}
 use Rattle.bz_attribute.specs.Rules.{rule_of}
 use Rattle.bz_attribute.specs.Effects.{done, holds_rule, with_args}

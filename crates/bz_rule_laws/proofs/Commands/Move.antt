@@ -2,18 +2,18 @@
 use Rattle.std.proofs.Common.{◌≡◌, ℕ, List, [], ◌∷◌, ◌++◌, Bool, true, false, filter, Option, Some, None, if◌then◌else◌, map, is_some, refl, ap, ◌∙◌, bytes_eq, suc}
 use Rattle.std.proofs.lemmas.Bool.{and_parts}
 use Rattle.bz_tree.specs.Tree.{Segment}
-use Rattle.bz_command.specs.Labels.{Package}
-use Rattle.bz_command.specs.Arguments.{is_moved}
+use Rattle.bz_label.specs.Labels.{Package}
+use Rattle.bz_label.specs.Arguments.{is_moved}
 use Rattle.bz_rule.specs.Commands.{is_command}
-use Rattle.bz_command.specs.declared.arguments.Moved.{Moved}
+use Rattle.bz_label.specs.declared.arguments.Moved.{Moved}
 use Rattle.bz_rule.specs.declared.command.Action.TheVariants.{Move}
 use Rattle.bz_attribute.specs.Rules.{first_named, is_named, value, string_value}
 use Rattle.bz_attribute.specs.Lists.{edit_first_part, with_value, is_attribute, parts, equals}
 use Rattle.bz_attribute.specs.Effects.{edit_first, filtered, has, list_item, unchosen, is_chosen}
-use Rattle.bz_list_commands.specs.Move.{arrivals, elements_of, move, move_note, moved, moves, put_in}
+use Rattle.bz_rule.specs.Move.{arrivals, elements_of, move, move_note, moved, moves, put_in}
 use Rattle.bz_rule.proofs.Arguments.{attribute_named}
 use Rattle.bz_rule_laws.proofs.Commands.Remove.{filtered_kept}
-use Rattle.bz_command.specs.Names.{is_identifier}
+use Rattle.bz_label.specs.Names.{is_identifier}
 use Rattle.std.specs.Prelude.{not, ◌&&◌}
 use Rattle.bz_rule_laws.proofs.Keeps.{Keeps, keeps_slot}
 use Rattle.bz_rule_laws.proofs.NamesKept.{KeepsEach, Leaves, append_kept, edit_kept, edit_one_kept, first_kept, has_kept, put_kept, taken}

@@ -5,15 +5,15 @@ use Rattle.std.specs.List.{list_any, join_with_byte}
 use Rattle.std.proofs.lemmas.Bool.{or_right}
 use Rattle.std.proofs.lemmas.Slice.Eq.{bytes_eq-Decides}
 use Rattle.bz_tree.specs.Tree.{Item, Segment, Statement}
-use Rattle.bz_command.specs.Labels.{Package}
-use Rattle.bz_command.specs.declared.arguments.Field.{Field}
-use Rattle.bz_command.specs.declared.arguments.Field.TheVariants.{ValueOf}
+use Rattle.bz_label.specs.Labels.{Package}
+use Rattle.bz_label.specs.declared.arguments.Field.{Field}
+use Rattle.bz_label.specs.declared.arguments.Field.TheVariants.{ValueOf}
 use Rattle.bz_rule.specs.declared.command.Action.TheVariants.{Print}
-use Rattle.bz_command.specs.Arguments.{field_mentions}
+use Rattle.bz_label.specs.Arguments.{field_mentions}
 use Rattle.bz_attribute.specs.Rules.{Rule, rule_of, value}
 use Rattle.bz_attribute.specs.Effects.{with_args, done}
 use Rattle.bz_attribute.specs.declared.done.Note.TheVariants.{Missing}
-use Rattle.bz_attribute_commands.specs.Print.{field_name, field_text, fields_of, missing, printed, prints, value_text}
+use Rattle.bz_rule.specs.Print.{field_name, field_text, fields_of, missing, printed, prints, value_text}
 use Rattle.bz_rule_laws.specs.Aside.{IsAside}
 use Rattle.bz_rule_laws.proofs.Keeps.{Keeps}
 use Rattle.bz_rule_laws.proofs.NamesKept.{KeepsEach, Leaves, first_kept, name_kept}

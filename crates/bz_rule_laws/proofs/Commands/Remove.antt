@@ -1,16 +1,16 @@
 -- What `remove` keeps: other arguments, what is well formed, texts that pass a test, and the comments of what stays.
 use Rattle.std.proofs.Common.{◌≡◌, ℕ, List, [], ◌∷◌, Bool, true, false, not, if◌then◌else◌, None, map, refl, ap, sym, ◌∙◌, suc}
 use Rattle.bz_tree.specs.Tree.{Segment}
-use Rattle.bz_command.specs.Labels.{Package}
-use Rattle.bz_command.specs.declared.arguments.Attributes.{Attributes}
-use Rattle.bz_command.specs.declared.arguments.Attributes.TheVariants.{Every, Named}
-use Rattle.bz_command.specs.declared.arguments.Moved.{Moved}
-use Rattle.bz_command.specs.declared.arguments.Moved.TheVariants.{Values}
+use Rattle.bz_label.specs.Labels.{Package}
+use Rattle.bz_label.specs.declared.arguments.Attributes.{Attributes}
+use Rattle.bz_label.specs.declared.arguments.Attributes.TheVariants.{Every, Named}
+use Rattle.bz_label.specs.declared.arguments.Moved.{Moved}
+use Rattle.bz_label.specs.declared.arguments.Moved.TheVariants.{Values}
 use Rattle.bz_rule.specs.declared.command.Action.TheVariants.{Remove}
 use Rattle.bz_attribute.specs.Rules.{is_named, value}
 use Rattle.bz_attribute.specs.Lists.{edit_parts, is_attribute, parts, with_value}
 use Rattle.bz_attribute.specs.Effects.{done, filtered, loses_all, unchosen}
-use Rattle.bz_list_commands.specs.Remove.{goes_with_all, remove, removes}
+use Rattle.bz_rule.specs.Remove.{goes_with_all, remove, removes}
 use Rattle.bz_rule_laws.specs.Aside.{IsAside}
 use Rattle.bz_rule.proofs.PartLaws.{parts_edited}
 use Rattle.bz_rule.proofs.Arguments.{same_bytes, value_put}

@@ -4,14 +4,14 @@ use Rattle.std.specs.Prelude.{drop}
 use Rattle.std.proofs.lemmas.Bool.{or_right, and_parts}
 use Rattle.bz_tree.specs.Tree.{Item, Segment, group, leaf}
 use Rattle.bz_attribute.specs.Rules.{ident_of, is_operator_item, is_text as is_word, name_of, value}
-use Rattle.bz_attribute_commands.specs.Rename.{rename_to}
+use Rattle.bz_rule.specs.Rename.{rename_to}
 use Rattle.bz_rule.specs.declared.command.Action.TheVariants.{Rename}
-use Rattle.bz_command.specs.Labels.{Package}
+use Rattle.bz_label.specs.Labels.{Package}
 use Rattle.bz_rule_laws.proofs.KeepsFirst.{KeepsFirst, keeps_first}
 use Rattle.bz_rule_laws.proofs.Keeps.{Keeps, keeps_slot}
 use Rattle.bz_rule.proofs.Arguments.{same_bytes}
 use Rattle.bz_attribute.specs.Lists.{is_attribute}
-use Rattle.bz_command.specs.Names.{is_identifier}
+use Rattle.bz_label.specs.Names.{is_identifier}
 use Rattle.bz_rule_laws.proofs.AllComments.{in_nodes}
 use Rattle.bz_rule_laws.proofs.ArgumentValues.{good_value, has_name, named_good}
 use Rattle.bz_rule_laws.proofs.PassingTexts.{NodesPass}
@@ -20,7 +20,7 @@ use Rattle.bz_token.specs.Lexical.{is_text}
 use Rattle.bz_token.specs.declared.token.Kind.TheVariants.{Identifier}
 use Rattle.bz_tree.specs.Comments.{beside}
 use Rattle.bz_tree.specs.Grammar.{IsArg}
-use Rattle.bz_rule.proofs.Commands.Rename.{named_now, rename_edits}
+use Rattle.bz_rule.proofs.Lawfulness.Rename.{named_now, rename_edits}
 
 -- what it leaves is well formed, and passes a test
 

@@ -3,14 +3,14 @@ use Rattle.std.proofs.Common.{◌≡◌, ℕ, List, [], ◌∷◌, Bool, true, f
 use Rattle.bz_token.specs.declared.token.Kind.TheVariants.{String}
 use Rattle.std.proofs.lemmas.Bool.{and_parts}
 use Rattle.bz_tree.specs.Tree.{Item, Segment, group, leaf}
-use Rattle.bz_command.specs.Labels.{Package}
-use Rattle.bz_command.specs.declared.arguments.Attributes.{Attributes}
-use Rattle.bz_command.specs.declared.arguments.Attributes.TheVariants.{Every, Named}
+use Rattle.bz_label.specs.Labels.{Package}
+use Rattle.bz_label.specs.declared.arguments.Attributes.{Attributes}
+use Rattle.bz_label.specs.declared.arguments.Attributes.TheVariants.{Every, Named}
 use Rattle.bz_rule.specs.declared.command.Action.TheVariants.{Replace}
 use Rattle.bz_attribute.specs.Rules.{is_text, string_value, value}
 use Rattle.bz_attribute.specs.Lists.{edit_parts, equals, is_attribute, parts, same}
 use Rattle.bz_attribute.specs.Effects.{done, string_item}
-use Rattle.bz_list_commands.specs.Replace.{is_replaced, replaced, replaced_in, replace, replaces}
+use Rattle.bz_rule.specs.Replace.{is_replaced, replaced, replaced_in, replace, replaces}
 use Rattle.bz_rule.proofs.Arguments.{same_bytes, value_put}
 use Rattle.bz_rule_laws.proofs.KeepsFirst.{KeepsFirst, keeps_first, named_with}
 use Rattle.bz_rule_laws.proofs.Keeps.{Keeps, keeps_slot}
@@ -27,7 +27,7 @@ use Rattle.bz_rule_laws.proofs.Segments.{IsFormed, all_mapped, either_way}
 use Rattle.bz_tree.specs.Comments.{beside}
 use Rattle.bz_tree.specs.Grammar.{IsArg, IsTest}
 use Rattle.bz_token.specs.Common.{map_or}
-use Rattle.bz_rule.proofs.Commands.Replace.{replace_edits}
+use Rattle.bz_rule.proofs.Lawfulness.Replace.{replace_edits}
 
 -- what it leaves is well formed, and passes a test
 

@@ -8,19 +8,19 @@ use Rattle.bz_tree.specs.declared.tree.GroupKind.TheVariants.{RuleCall}
 use Rattle.bz_tree.specs.Tree.{Item, group, Segment, Statement, segs_of, leaf}
 use Rattle.bz_attribute.specs.Rules.{Rule, rule_of, kind_text, is_named, first_named, value, dotted, is_operator_item}
 use Rattle.bz_attribute.specs.Effects.{argument, has, nodes_of, string}
-use Rattle.bz_attribute_commands.specs.Set.{New, NewString, NewNumber, NewConstant, NewStrings, new_of, new_value, is_value, set_in, set, set_if_absent, joined_by_dots, kind_items, kind_after, with_kind, is_constant, is_list_attribute, is_number, new_word}
+use Rattle.bz_rule.specs.Set.{New, NewString, NewNumber, NewConstant, NewStrings, new_of, new_value, is_value, set_in, set, set_if_absent, joined_by_dots, kind_items, kind_after, with_kind, is_constant, is_list_attribute, is_number, new_word}
 use Rattle.bz_attribute.proofs.RuleNodes.{rule_nodes}
-use Rattle.bz_command.specs.declared.arguments.Setting.{Setting}
-use Rattle.bz_command.specs.declared.arguments.Setting.TheVariants.{ToKind, ToValues}
+use Rattle.bz_label.specs.declared.arguments.Setting.{Setting}
+use Rattle.bz_label.specs.declared.arguments.Setting.TheVariants.{ToKind, ToValues}
 use Rattle.bz_rule.specs.declared.command.Action.TheVariants.{Set, SetIfAbsent}
-use Rattle.bz_command.specs.Labels.{Package}
+use Rattle.bz_label.specs.Labels.{Package}
 use Rattle.bz_attribute.specs.Lists.{with_value, is_attribute, is_list, is_only}
 use Rattle.bz_rule.proofs.Arguments.{same_bytes}
 use Rattle.bz_rule_laws.proofs.Keeps.{Keeps, keeps_slot}
 use Rattle.bz_rule_laws.proofs.NamesKept.{KeepsEach, Leaves, append_kept, edit_one_kept, first_kept, has_kept, put_kept, taken}
 use Rattle.bz_rule_laws.proofs.MentionedStay.{leaves_mentioned}
 use Rattle.bz_rule_laws.proofs.Rebuilt.{kind_told, slot_kind_exchanged}
-use Rattle.bz_command.specs.Names.{is_identifier, is_kind}
+use Rattle.bz_label.specs.Names.{is_identifier, is_kind}
 use Rattle.bz_layout_laws.specs.WellFormed.{IsWellFormed}
 use Rattle.bz_rule_laws.proofs.AllComments.{after_new, in_all, in_nodes, list_none, nodes_joined, statement_is}
 use Rattle.bz_rule_laws.proofs.ArgumentValues.{IsValue, good_with}

@@ -1,9 +1,9 @@
 use Rattle.std.proofs.Common.{◌≡◌, ◌||◌, ℕ, List, Option, None, Some, subst, ap, map, option_map, refl, rules, sym, ◌∙◌}
 use Rattle.bz_tree.specs.Rows.{part_view}
 use Rattle.bz_tree.specs.Tree.{Segment}
-use Rattle.bz_command.specs.LabelSetViews.{has}
+use Rattle.bz_label.specs.LabelSetViews.{has}
 use Rattle.bz_attribute.specs.Elements.{AreLists}
-use Rattle.bz_command.specs.private.ByteSteps.{left}
+use Rattle.bz_label.specs.private.ByteSteps.{left}
 use Rattle.bz_attribute.specs.private.ElementSets.{choice, is_among}
 use Rattle.bz_attribute.proofs.LabelsFound.{gained, lists_labelled, no_lists, not_gained, one_labelled}
 use Rattle.bz_attribute.proofs.element_labels.labels_of.Goals as goal

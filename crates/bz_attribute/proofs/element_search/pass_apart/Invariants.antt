@@ -1,6 +1,6 @@
 use Rattle.std.proofs.Common.{◌-◌, ◌≤◌, length, map}
 use Rattle.bz_tree.specs.Rows.{part_view}
-use Rattle.bz_command.specs.Labels.{Package}
+use Rattle.bz_label.specs.Labels.{Package}
 use Rattle.bz_attribute.specs.private.Parts.{HasSought}
 use Rattle.bz_attribute.proofs.element_search.pass_apart.Given as goal
 

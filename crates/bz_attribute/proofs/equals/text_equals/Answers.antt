@@ -1,5 +1,5 @@
 use Rattle.std.proofs.Common.{false, sym, ◌∙◌}
-use Rattle.bz_command.specs.Values.{value_of}
+use Rattle.bz_label.specs.Values.{value_of}
 use Rattle.bz_token.specs.Common.{map_or}
 use Rattle.bz_attribute.specs.Lists.{same}
 use Rattle.bz_attribute.proofs.equals.text_equals.Goals as goal

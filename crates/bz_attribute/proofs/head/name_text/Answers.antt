@@ -1,6 +1,6 @@
 use Rattle.std.proofs.Common.{map, option_and_then, ap, ◌∙◌}
 use Rattle.bz_tree.specs.Rows.{part_view}
-use Rattle.bz_command.specs.Values.{value_of}
+use Rattle.bz_label.specs.Values.{value_of}
 use Rattle.bz_attribute.specs.private.Parts.{string_in}
 use Rattle.bz_attribute.proofs.ListElements.{string_told}
 use Rattle.bz_attribute.proofs.Slices.{rest_seen}

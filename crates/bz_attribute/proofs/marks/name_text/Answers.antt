@@ -5,7 +5,7 @@ use Rattle.std.proofs.lemmas.Iterator.Search.{find_from_yields_List}
 use Rattle.bz_tree.specs.declared.tree.Seg.{Seg}
 use Rattle.bz_tree.specs.Tree.{Segment}
 use Rattle.bz_tree.specs.View.{seg_view, segs_view}
-use Rattle.bz_command.specs.Values.{value_of}
+use Rattle.bz_label.specs.Values.{value_of}
 use Rattle.bz_attribute.specs.Rules.{first_named, is_named, name_in, only_text, string_value, value}
 use Rattle.bz_attribute.proofs.marks.name_text.Goals as goal
 

@@ -1,4 +1,4 @@
-use Rattle.bz_rule.proofs.Commands.{changed_tells}
+use Rattle.bz_rule.proofs.Lawfulness.{changed_tells}
 use Rattle.bz_engine.proofs.ChangesLaw.{changes_tell}
 use Rattle.bz_engine.proofs.laws.changed_is_a_difference.Goals as goal
 

@@ -1,6 +1,6 @@
 use Rattle.std.proofs.Common.{◌≡◌, false, [], map, get_or, ap, ◌∙◌}
 use Rattle.std.proofs.lemmas.List.{take_all}
-use Rattle.bz_command.specs.Passes.{Pass}
+use Rattle.bz_passes.specs.Passes.{Pass}
 use Rattle.bz_passes.specs.Exchange.{no_slot}
 use Rattle.bz_passes.proofs.Steps.{mapped_more, no_slot_fits}
 use Rattle.bz_passes.proofs.kept.nothing_kept.Goals as goal

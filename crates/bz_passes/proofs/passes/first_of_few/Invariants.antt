@@ -1,5 +1,5 @@
 use Rattle.std.proofs.Common.{◌≡◌, ◌≤◌, ◌<◌, ℕ, get_or, false}
-use Rattle.bz_command.specs.declared.pass.Pass.{Pass}
+use Rattle.bz_passes.specs.declared.pass.Pass.{Pass}
 use Rattle.bz_passes.specs.Asked.{may_mark}
 use Rattle.bz_passes.proofs.passes.first_of_few.Given as goal
 

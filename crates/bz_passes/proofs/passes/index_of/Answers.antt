@@ -1,5 +1,5 @@
 use Rattle.std.proofs.Common.{◌∙◌, ap, arith}
-use Rattle.bz_command.specs.declared.pass.Pass.{Pass}
+use Rattle.bz_passes.specs.declared.pass.Pass.{Pass}
 use Rattle.bz_passes.proofs.Positions.{index_more, whole_index}
 use Rattle.bz_passes.proofs.passes.index_of.Goals as goal
 

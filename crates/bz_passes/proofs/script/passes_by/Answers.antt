@@ -1,5 +1,5 @@
 use Rattle.std.proofs.Common.{◌∙◌, ap, not}
-use Rattle.bz_command.specs.declared.pass.Pass.{Pass}
+use Rattle.bz_passes.specs.declared.pass.Pass.{Pass}
 use Rattle.bz_passes.specs.Asked.{may_mark}
 use Rattle.bz_passes.proofs.PassedBy.{none_from_start, passed_by}
 use Rattle.bz_passes.proofs.script.passes_by.Goals as goal

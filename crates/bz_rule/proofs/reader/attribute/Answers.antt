@@ -1,5 +1,5 @@
 use Rattle.std.proofs.Common.{rules}
-use Rattle.bz_command.specs.Names.{is_identifier}
+use Rattle.bz_label.specs.Names.{is_identifier}
 use Rattle.bz_rule.proofs.reader.attribute.Goals as goal
 
 pub returns-in_err-ensure : goal.returns-in_err-ensure

@@ -3,7 +3,7 @@ use Rattle.std.specs.List.{list_all}
 use Rattle.std.specs.Str.{is_utf8}
 use Rattle.std.proofs.lemmas.Bool.{and_parts}
 use Rattle.bz_rule.specs.Commands.{Command, named_command}
-use Rattle.bz_rule.proofs.Commands.{named_read}
+use Rattle.bz_rule.proofs.Lawfulness.{named_read}
 use Rattle.bz_rule.proofs.reader.read_command.Goals as goal
 
 pub invariant_of-result : goal.invariant_of-result

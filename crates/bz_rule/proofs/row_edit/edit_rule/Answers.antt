@@ -10,7 +10,7 @@ use Rattle.bz_attribute.specs.RowEdits.{IsWithin, replaced_at}
 use Rattle.bz_attribute.specs.RowPlaces.{IsRuleRow}
 use Rattle.bz_attribute.proofs.Slices.{rest_seen}
 use Rattle.bz_rule.specs.private.RowEdits.{edits_arguments}
-use Rattle.bz_command.specs.declared.arguments.Commented.TheVariants.{Rule as Above}
+use Rattle.bz_label.specs.declared.arguments.Commented.TheVariants.{Rule as Above}
 use Rattle.bz_rule.specs.declared.command.Action.TheVariants.{Comment}
 use Rattle.bz_rule.proofs.Below.{after_off, below, first_off, fits_parts, parts_below, replaced_behind, told_below}
 use Rattle.bz_rule.proofs.RowEdited.{IsEditOf, arguments_edited, comment_edited, kind_known, some_rule}

@@ -1,6 +1,6 @@
 use Rattle.std.proofs.Common.{rules, ap, sym, ◌∙◌}
 use Rattle.bz_tree.specs.View.{slot_view}
-use Rattle.bz_rule.proofs.Commands.{failure_stays, told_of_slot, unchanged_stays}
+use Rattle.bz_rule.proofs.Lawfulness.{failure_stays, told_of_slot, unchanged_stays}
 use Rattle.bz_rule.proofs.slot.apply.Goals as goal
 
 pub returns-then-not-done-clause-done : goal.returns-then-not-done-clause-done

@@ -1,4 +1,4 @@
-use Rattle.bz_list_commands.specs.Add.{add}
+use Rattle.bz_rule.specs.Add.{add}
 use Rattle.bz_rule_laws.proofs.Found.{add_twice}
 use Rattle.bz_rule_laws.proofs.EditedTwice.{slot_twice}
 use Rattle.bz_rule_laws.proofs.effects.add_twice_is_add_once.Goals as goal

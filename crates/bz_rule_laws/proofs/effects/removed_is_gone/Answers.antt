@@ -1,9 +1,9 @@
-use Rattle.bz_command.specs.declared.arguments.Moved.TheVariants.{Values}
+use Rattle.bz_label.specs.declared.arguments.Moved.TheVariants.{Values}
 use Rattle.bz_attribute.specs.Rules.{is_named}
 use Rattle.bz_attribute.specs.Effects.{filtered, unchosen}
-use Rattle.bz_list_commands.specs.Remove.{goes_with_all}
+use Rattle.bz_rule.specs.Remove.{goes_with_all}
 use Rattle.bz_rule.proofs.Kept.{none_left}
-use Rattle.bz_rule.proofs.Commands.Remove.{filtered_left}
+use Rattle.bz_rule.proofs.Lawfulness.Remove.{filtered_left}
 use Rattle.bz_rule_laws.proofs.Gone.{edited_at}
 use Rattle.bz_rule_laws.proofs.effects.removed_is_gone.Goals as goal
 

@@ -1,4 +1,4 @@
-use Rattle.bz_command.specs.declared.arguments.Setting.TheVariants.{ToValues}
+use Rattle.bz_label.specs.declared.arguments.Setting.TheVariants.{ToValues}
 use Rattle.bz_rule.specs.declared.command.Action.TheVariants.{Set}
 use Rattle.bz_rule.specs.Commands.{args_after, args_done}
 use Rattle.bz_rule_laws.proofs.EditedTwice.{slot_again}

@@ -1,7 +1,7 @@
 use Rattle.std.proofs.Common.{◌≡◌, ◌↔◌, ℕ, List, true, false, Option, None, Some, ap, sym, subst}
 use Rattle.std.proofs.lemmas.Slice.Eq.{bytes_eq-Decides}
 use Rattle.bz_token.specs.Common.{map_or}
-use Rattle.bz_command.specs.Labels.{Name}
+use Rattle.bz_label.specs.Labels.{Name}
 use Rattle.bz_attribute.specs.Marks.{marks_rule}
 use Rattle.bz_attribute.specs.Rules.{Rule, is_text, name_in}
 use Rattle.bz_rule_laws.proofs.targets.marks_are_of_rules.Goals as goal

@@ -1,7 +1,7 @@
 use Rattle.std.proofs.Common.{◌≡◌, take, false}
 use Rattle.std.specs.List.{list_any}
 use Rattle.bz_attribute.specs.Lists.{same}
-use Rattle.bz_command.specs.private.ByteSteps.{left}
+use Rattle.bz_label.specs.private.ByteSteps.{left}
 use Rattle.bz_attribute.proofs.word_set.WordSet.has.Given as goal
 
 abbrev pub invariant-loop-word : goal.invariant-loop-word

@@ -1,5 +1,5 @@
 use Rattle.std.proofs.Common.{◌∙◌, ap}
-use Rattle.bz_command.specs.declared.pass.Pass.{Pass}
+use Rattle.bz_passes.specs.declared.pass.Pass.{Pass}
 use Rattle.bz_passes.specs.private.Indexes.{positions, asks_for}
 use Rattle.bz_passes.proofs.Positions.{rising_list, first_in_list}
 use Rattle.bz_passes.proofs.passes.Passes.named_from.Goals as goal

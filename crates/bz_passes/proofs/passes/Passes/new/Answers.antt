@@ -1,5 +1,5 @@
 use Rattle.std.proofs.Common.{List, subst}
-use Rattle.bz_command.specs.declared.pass.Pass.{Pass}
+use Rattle.bz_passes.specs.declared.pass.Pass.{Pass}
 use Rattle.bz_passes.specs.private.Indexes.{IsIndex}
 use Rattle.bz_passes.proofs.passes.Passes.new.Goals as goal
 

@@ -1,4 +1,0 @@
-pub mod CommentTexts
-pub mod PrintSteps
-pub mod SetViews
-pub mod ValueParts

@@ -1,8 +1,0 @@
-use Rattle.std.proofs.Common.{◌≡◌, take}
-use Rattle.std.specs.List.{fold, flat_map}
-use Rattle.bz_command.specs.private.ByteSteps.{left}
-use Rattle.bz_command.specs.private.LabelSteps.{stirred}
-use Rattle.bz_command.proofs.label.Label.new.Given as goal
-
-abbrev pub invariant-loop-text : goal.invariant-loop-text
-invariant-loop-text l = l.key ≡ fold stirred 0 (flat_map left (take l.text-index l.text-items))

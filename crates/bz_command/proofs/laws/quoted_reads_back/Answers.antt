@@ -1,5 +1,0 @@
-use Rattle.bz_command.proofs.ReadBack.{quoted_value}
-use Rattle.bz_command.proofs.laws.quoted_reads_back.Goals as goal
-
-pub returns : goal.returns
-returns c = quoted_value

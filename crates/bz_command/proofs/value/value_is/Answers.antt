@@ -1,6 +1,0 @@
-use Rattle.std.proofs.Common.{rules}
-use Rattle.bz_command.proofs.Literals.{is_value-iff}
-use Rattle.bz_command.proofs.value.value_is.Goals as goal
-
-pub returns-then-matches : goal.returns-then-matches
-returns-then-matches c = search (rules, is_value-iff)

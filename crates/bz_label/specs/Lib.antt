@@ -1,0 +1,9 @@
+pub mod Arguments
+pub mod LabelSetViews
+pub mod LabelViews
+pub mod Labels
+pub mod Names
+pub mod Same
+pub mod Values
+pub mod Words
+pub mod private

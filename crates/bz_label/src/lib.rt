@@ -1,0 +1,41 @@
+//! Labels, targets, packages, words and the arguments of commands. None of it needs a tree.
+//!
+//! The value of a string literal stands here too, since labels are compared by it; and so does a pass: a target with
+//! its commands, whatever these are.
+#![tactic(auto)]
+
+mod arguments;
+mod bytes;
+mod completed;
+mod decode;
+mod label;
+mod label_set;
+mod labels;
+pub mod laws;
+mod list;
+mod literal;
+mod names;
+mod package;
+mod parts;
+mod sorted_labels;
+mod target;
+mod value;
+mod words;
+
+pub use arguments::{
+    Attributes, Commented, Field, Moved, NO_SUCH_FIELD, Setting, is_left_out_field, read_field,
+};
+pub use bytes::{Bytes, value_of};
+pub use decode::read_value;
+pub use label::{same, same_label};
+pub use label_set::LabelSet;
+pub use labels::{LabelFault, read_label};
+pub use list::{Seq, Text};
+pub use literal::Literal;
+pub use names::is_kind;
+pub use package::Package;
+pub use parts::cut;
+pub use sorted_labels::SortedLabels;
+pub use target::{Marked, Target};
+pub use value::{has_value, plain_text, quote, value_is};
+pub use words::read_words;

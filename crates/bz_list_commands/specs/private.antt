@@ -1,3 +1,0 @@
-pub mod ArgumentEdits
-pub mod ListPlaces
-pub mod StringEdits

@@ -1,0 +1,34 @@
+-- What `add` does (buildozer README, edit commands; which values are left out is this project's own rule).
+-- Begin with `add` and `adds`.
+use Rattle.std.specs.Prelude.{ℕ, List, [], ◌∷◌, ◌++◌, Bool, true, ◌||◌, not, if◌then◌else◌, Option, map}
+use Rattle.std.specs.List.{list_any}
+use Rattle.bz_tree.specs.Tree.{Segment}
+use Rattle.bz_label.specs.Labels.{Package}
+use Rattle.bz_label.specs.declared.arguments.Moved.TheVariants.{Values}
+use Rattle.bz_attribute.specs.Rules.{is_named, value}
+use Rattle.bz_attribute.specs.Lists.{with_value, parts, edit_first_part, same}
+use Rattle.bz_attribute.specs.Effects.{has, edit_first, is_chosen, string, list_item, argument}
+use Rattle.bz_token.specs.Common.{is_empty, map_or}
+
+-- `add <attr> <v>..`: the values that no element of a list part equals and no earlier value is the same as
+abbrev pub is_fresh : Package → List (List Segment) → List (List ℕ) → List ℕ → Bool
+is_fresh home lists earlier v = not (list_any (list_any (is_chosen home (Values (v ∷ [])))) lists || list_any (same home v) earlier)
+
+abbrev pub fresh : Package → List (List Segment) → List (List ℕ) → List (List ℕ) → List (List ℕ)
+fresh home lists earlier [] = []
+fresh home lists earlier (v ∷ values) = (if is_fresh home lists earlier v then v ∷ [] else []) ++ fresh home lists (earlier ++ v ∷ []) values
+
+abbrev pub new_elements : Package → List (List Segment) → List (List ℕ) → List Segment
+new_elements home lists values = map string (fresh home lists [] values)
+
+-- they go to the end of the first list part
+abbrev pub with_added : Package → List (List ℕ) → Segment → Segment
+with_added home values a = if is_empty (parts (value a)) then a else with_value (edit_first_part (λ ss. ss ++ new_elements home (parts (value a)) values) (value a)) a
+
+abbrev pub add : Package → List ℕ → List (List ℕ) → List Segment → List Segment
+add home attr values args =
+    if has attr args then edit_first (is_named attr) (λ a. with_added home values a ∷ []) args
+    else args ++ argument attr (list_item (new_elements home [] values) ∷ []) ∷ []
+
+abbrev pub adds : Package → List (List ℕ) → Option Segment → Bool
+adds home values arg = map_or true (λ a. not (is_empty (new_elements home (parts (value a)) values))) arg

@@ -1,0 +1,22 @@
+-- For private clauses alone: what is printed of the rule of a head and parts.
+use Rattle.std.specs.Prelude.{◌≡◌, ℕ, List, ◌++◌, Option}
+use Rattle.bz_tree.specs.Tree.{Statement}
+use Rattle.bz_tree.specs.Rows.{RowPart}
+use Rattle.bz_label.specs.Labels.{Package}
+use Rattle.bz_label.specs.declared.arguments.Field.{Field}
+use Rattle.bz_attribute.specs.declared.head.Head.{Head}
+use Rattle.bz_attribute.specs.declared.done.Note.{Note}
+use Rattle.bz_attribute.specs.Heads.{IsHeadOf}
+use Rattle.bz_attribute.specs.RowPlaces.{IsRuleRow}
+use Rattle.bz_attribute.specs.Rules.{Rule}
+use Rattle.bz_rule.specs.Print.{line_of, missing}
+
+-- a rule of this head and these parts
+pub record IsRuleOf (known : Head) (ps : List RowPart) (s : Statement) (r : Rule) : Type 0 where
+  pub head : IsHeadOf known s
+  pub row : IsRuleRow s r ps
+
+-- these fields of the rule come after what was there, with this note
+pub record HasPrinted (home : Package) (fields : List Field) (head : Head) (ps : List RowPart) (old new : List ℕ) (told : Option Note) : Type 0 where
+  pub line : (s : Statement) (r : Rule) → IsRuleOf head ps s r → new ≡ old ++ line_of home s r fields
+  pub note : (s : Statement) (r : Rule) → IsRuleOf head ps s r → told ≡ missing home s r fields

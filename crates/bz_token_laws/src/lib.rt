@@ -1,6 +1,0 @@
-//! Laws on tokens and lines that are written: what they are read as.
-#![tactic(auto)]
-
-pub mod chunks;
-pub mod lines;
-pub mod tokens;

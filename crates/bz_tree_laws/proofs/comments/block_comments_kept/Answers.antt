@@ -1,5 +1,0 @@
-use Rattle.bz_tree_laws.proofs.BlockComments.{block_comments_kept}
-use Rattle.bz_tree_laws.proofs.comments.block_comments_kept.Goals as goal
-
-pub returns : goal.returns
-returns c = block_comments_kept

@@ -1,5 +1,0 @@
-use Rattle.bz_tree_laws.proofs.KeptComments.{comments_in_order}
-use Rattle.bz_tree_laws.proofs.comments.comments_in_order.Goals as goal
-
-pub returns : goal.returns
-returns c = comments_in_order

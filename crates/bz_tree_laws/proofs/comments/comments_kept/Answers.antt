@@ -1,5 +1,0 @@
-use Rattle.bz_tree_laws.proofs.KeptComments.{comments_kept}
-use Rattle.bz_tree_laws.proofs.comments.comments_kept.Goals as goal
-
-pub returns : goal.returns
-returns c = comments_kept

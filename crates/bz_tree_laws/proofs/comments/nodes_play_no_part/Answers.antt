@@ -1,5 +1,0 @@
-use Rattle.bz_tree_laws.proofs.Nodes.{inside_over}
-use Rattle.bz_tree_laws.proofs.comments.nodes_play_no_part.Goals as goal
-
-pub returns : goal.returns
-returns c = inside_over

@@ -1,5 +1,0 @@
-use Rattle.bz_tree_laws.proofs.WrittenBack.{comments_back}
-use Rattle.bz_tree_laws.proofs.reading_back.comment_lines_read_back.Goals as goal
-
-pub returns : goal.returns
-returns c = comments_back

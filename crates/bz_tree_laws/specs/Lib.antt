@@ -1,5 +1,0 @@
-pub mod BlockComments
-pub mod Written
-pub mod Nodes
-pub mod Answers
-pub mod Words
