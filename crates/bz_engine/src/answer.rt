@@ -9,9 +9,9 @@ ghost use Rattle.bz_engine.specs.private.Found.{IsFound, IsMarked, IsWithout, Le
 
 use crate::canonical::Found;
 use bz_attribute::Env;
-use bz_rule::commands::print::print_name;
 use bz_label::{Attributes, Marked, Setting, Target};
 use bz_memory::NoMemory;
+use bz_rule::commands::print::print_name;
 use bz_rule::{Action, Command, one_attribute};
 
 /// A rule stays as it is, and this is printed of it.

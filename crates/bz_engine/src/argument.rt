@@ -13,13 +13,13 @@ ghost use Rattle.bz_engine.specs.private.ArgumentEdits.{AddsArgument, AreLinesAf
 use crate::edit::ScriptRun;
 use crate::spare::Spare;
 use bz_attribute::Env;
-use bz_rule::commands::argument::put_argument;
 use bz_canonical::{
     ArgumentPlace, EditedList, ListValue, ReplacedValue, lacks, put_added, put_removed,
     put_replaced,
 };
 use bz_label::{Attributes, Commented, Setting, quote};
 use bz_memory::{NoMemory, extend_from_slice, push_str};
+use bz_rule::commands::argument::put_argument;
 use bz_rule::{Action, Command, Done, StatementRow, Text, execute};
 use bz_tree::read_text;
 use std::alloc::Global;

@@ -30,10 +30,10 @@ mod spare;
 mod telling;
 mod written;
 
-pub use bz_passes::pass::Pass;
 pub use bz_devices::device::{Failed, Sink, Source};
 pub use bz_devices::output::write_all;
 pub use bz_devices::std_device::{FromRead, ToWrite};
+pub use bz_passes::pass::Pass;
 pub use bz_passes::texts::{EachText, Texts};
 pub use options::Options;
 pub use report::{End, Report, SyntaxFault};

@@ -22,10 +22,10 @@ use crate::edit::ScriptRun;
 use crate::progress::Progress;
 use crate::rule_passes::OnePass;
 use crate::written::{begin_statement, put_canonical};
-use bz_rule::commands::comment::comment_line;
 use bz_canonical::{ArgumentPlace, EditedList, comment_place};
 use bz_layout::put_gap;
 use bz_memory::{NoMemory, extend_from_slice};
+use bz_rule::commands::comment::comment_line;
 use bz_rule::one_attribute;
 use bz_tree::Class;
 

@@ -8,8 +8,8 @@ ghost use Rattle.bz_engine.specs.private.Found.{one_pass};
 ghost use Rattle.bz_engine.specs.private.Named.{all_named};
 
 use crate::answer::{asked_attribute, is_answerable};
-use bz_passes::pass::Pass;
 use bz_memory::{NoMemory, from_str};
+use bz_passes::pass::Pass;
 use bz_passes::passes::{Keyed, Passes};
 use bz_rule::{Command, Target};
 use std::alloc::Global;

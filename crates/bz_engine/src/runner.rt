@@ -13,8 +13,8 @@ use crate::options::Options;
 use crate::report::Report;
 use crate::run_fault::RunFault;
 use crate::session::{Session, Step};
-use bz_passes::pass::Pass;
 use bz_devices::device::{Sink, Source};
+use bz_passes::pass::Pass;
 use bz_rule::{Command, Package, Target};
 use std::alloc::Global;
 

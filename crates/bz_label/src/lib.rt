@@ -1,7 +1,6 @@
 //! Labels, targets, packages, words and the arguments of commands. None of it needs a tree.
 //!
-//! The value of a string literal stands here too, since labels are compared by it; and so does a pass: a target with
-//! its commands, whatever these are.
+//! The value of a string literal stands here too, since labels are compared by it.
 #![tactic(auto)]
 
 mod arguments;

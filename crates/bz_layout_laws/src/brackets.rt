@@ -1,4 +1,4 @@
-//! Laws on brackets and statements: what stands in them is written in the form from which bz_tree_laws reads it back.
+//! Laws on brackets and statements: what stands in them is written in the form from which it is read back.
 
 ghost use Rattle.std.specs.Prelude.{◌≡◌, ◌++◌, ◌∷◌, ◌&&◌, ◌==◌, ℕ, List, Bool, [], length, true, false};
 ghost use Rattle.bz_token.specs.declared.token.Kind.TheVariants.{Operator};
@@ -12,7 +12,7 @@ ghost use Rattle.bz_layout_laws.specs.Lexemes.{lexeme, item_lexemes, lexemes_of}
 ghost use Rattle.bz_layout_laws.specs.Legible.{IsLegible};
 ghost use Rattle.bz_token.specs.Common.{is_filled};
 
-/// What stands in a bracket is written, broken over lines or not, as `group_read_back` of bz_tree_laws asks for it; and
+/// What stands in a bracket is written, broken over lines or not, as `group_read_back` asks for it; and
 /// what that law reads of the comma after the last segment is what the group says of it.
 pub fn brackets_are_written_to_be_read()
     ensures inside { (kind : GroupKind) (segs : Segs) (one_comma : Bool) (end : List (List ℕ))

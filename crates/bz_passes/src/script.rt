@@ -10,8 +10,8 @@ use crate::index::Key;
 use crate::kept::Kept;
 use crate::language::{Facts, Language};
 use crate::log::Log;
-use crate::passes::Passes;
 use crate::pass::Pass;
+use crate::passes::Passes;
 use bz_memory::NoMemory;
 
 /// Executes one command on a slot that is marked.

@@ -9,10 +9,10 @@ ghost use Rattle.bz_label.specs.Labels as labels;
 ghost use Rattle.bz_rule.specs.private.RowEdits.{IsEditFor, KeepsHead, is_edit, rule_after};
 
 use crate::command::{Action, Command, edit_arguments, one_attribute};
-use crate::statement_row::StatementRow;
-use bz_attribute::{Edit, Env, Parts, Place};
 use crate::commands::line::comment_rule;
 use crate::commands::set_kind::set_kind;
+use crate::statement_row::StatementRow;
+use bz_attribute::{Edit, Env, Parts, Place};
 use bz_label::{Commented, Setting};
 use bz_memory::NoMemory;
 

@@ -20,11 +20,11 @@ ghost use Rattle.bz_attribute.specs.RowEdits.{IsWithin, replaced_at};
 ghost use Rattle.bz_rule.specs.private.RowEdits.{is_edit, rule_after};
 
 use crate::command::{Action, Command};
+use crate::commands::print::print;
 use crate::row_edit::{edit_rule, kept_head};
 use crate::row_parts::put_in;
 use bumpalo::Bump;
 use bz_attribute::{Done, Env, Executed, Head, Parts, Place, is_rule};
-use crate::commands::print::print;
 use bz_label::{Field, Package, Target};
 use bz_layout::put_row;
 use bz_memory::{NoMemory, extend_from_slice, with_room_for_both};

@@ -10,8 +10,8 @@ ghost use Rattle.bz_script.specs.private.Words.{command_of, label_of};
 
 use crate::usage::{Refused, UsageFault};
 use bz_label::{LabelFault, Package, Target, read_label};
-use bz_passes::pass::Pass;
 use bz_memory::{NoMemory, push, with_room_for};
+use bz_passes::pass::Pass;
 use bz_rule::{Command, CommandFault, read_command};
 use std::alloc::Global;
 

@@ -1,5 +1,5 @@
 //! The nodes that parts are of: one walk over the parts, with a stack of open brackets. bz_rule (`statement_row.rt`)
-//! makes a tree of a row by it, and bz_attribute_commands (`print.rt`) the nodes of a value.
+//! makes a tree of a row by it, and bz_rule (`print.rt`) the nodes of a value.
 
 ghost use Rattle.std.specs.Prelude.{◌≡◌, map, IfOk, OnOk, option_map};
 ghost use Rattle.bz_tree.specs.Tree.{Statement, leaf};
