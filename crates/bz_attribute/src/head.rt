@@ -82,12 +82,12 @@ impl<'a> Head<'a> {
     pub fn is_marked_by(&self, target: &Target) -> bool
         ensures { (s : Statement) → IsHeadOf self.now s → result ≡ marks.marks target.now s }
     {
-        match &target.marked {
-            Marked::Name(name) => matches!(self.name, Some(own) if own == name.as_str()),
+        match target.marked() {
+            Marked::Name(name) => matches!(self.name, Some(own) if own == name),
             Marked::Pkg => self.kind == "package",
             Marked::All => true,
-            Marked::Kind(kind) => self.kind == kind.as_str(),
-            Marked::Line(line) => self.start == *line,
+            Marked::Kind(kind) => self.kind == kind,
+            Marked::Line(line) => self.start == line,
         }
     }
 

@@ -18,12 +18,12 @@ pub fn matches(target: &Target, stmt: &Stmt<'_>) -> bool
     let Some(rule) = rule_of(&stmt.nodes) else {
         return false;
     };
-    match &target.marked {
-        Marked::Name(name) => has_name(&rule.call.segs, name.as_str()),
+    match target.marked() {
+        Marked::Name(name) => has_name(&rule.call.segs, name),
         Marked::Pkg => is_kind(rule.kind, "package"),
         Marked::All => true,
-        Marked::Kind(kind) => is_kind(rule.kind, kind.as_str()),
-        Marked::Line(line) => stmt.start == *line,
+        Marked::Kind(kind) => is_kind(rule.kind, kind),
+        Marked::Line(line) => stmt.start == line,
     }
 }
 

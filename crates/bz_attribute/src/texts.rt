@@ -20,17 +20,17 @@ pub fn label(alloc: Global, home: &Package, target: &Target) -> Result<String, N
 fn push_target(text: &mut String, target: &Target) -> Result<(), NoMemory>
     ensures { OnOk result (string_bytes text.new ≡ string_bytes text.old ++ spec.target_text target.now) }
 {
-    match &target.marked {
-        Marked::Name(name) => push_str(text, name.as_str()),
+    match target.marked() {
+        Marked::Name(name) => push_str(text, name),
         Marked::Pkg => push_str(text, "__pkg__"),
         Marked::All => push_str(text, "*"),
         Marked::Kind(kind) => {
             push_str(text, "%")?;
-            push_str(text, kind.as_str())
+            push_str(text, kind)
         }
         Marked::Line(line) => {
             push_str(text, "%")?;
-            push_number(text, *line)
+            push_number(text, line)
         }
     }
 }

@@ -123,8 +123,8 @@ pub(crate) fn marks_found(target: &Target, found: &Found<'_>) -> bool
 fn marks_name(target: &Target, name: &str) -> bool
     ensures { IsTrue result → (s : Statement) → HasName (Some name.now) s → marks target.now s ≡ true }
 {
-    match &target.marked {
-        Marked::Name(asked) => asked.as_str() == name,
+    match target.marked() {
+        Marked::Name(asked) => asked == name,
         Marked::All => true,
         _ => false,
     }
@@ -134,5 +134,5 @@ fn marks_name(target: &Target, name: &str) -> bool
 fn marks_rules(target: &Target) -> bool
     ensures { IsTrue result → (s : Statement) (r : Rule) → rule_of s.nodes ≡ Some r → marks target.now s ≡ true }
 {
-    matches!(&target.marked, Marked::All)
+    matches!(target.marked(), Marked::All)
 }

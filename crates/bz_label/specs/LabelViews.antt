@@ -5,19 +5,29 @@ use Rattle.bz_label.specs.declared.package.Package.TheInside.{Inside}
 use Rattle.bz_label.specs.Labels as spec
 use Rattle.bz_label.specs.declared.package.PackagePlace.{PackagePlace}
 use Rattle.bz_label.specs.declared.package.PackagePlace.TheVariants.{Standard, Path}
+use Rattle.bz_label.specs.declared.target.Form.{Form}
+use Rattle.bz_label.specs.declared.target.Form.TheVariants.{Name, Pkg, All, Kind, Line}
 use Rattle.bz_label.specs.declared.target.Marked.{Marked}
-use Rattle.bz_label.specs.declared.target.Marked.TheVariants.{Name, Pkg, All, Kind, Line}
+use Rattle.bz_label.specs.declared.target.Marked.TheVariants as marked
 
 abbrev pub package_view : PackagePlace → spec.Package
 package_view Standard = None
 package_view (Path path) = Some path
 
-abbrev pub target_view : Marked → spec.Target
+abbrev pub target_view : Form → spec.Target
 target_view (Name name) = spec.Name name
 target_view Pkg = spec.Pkg
 target_view All = spec.All
 target_view (Kind kind) = spec.Kind kind
 target_view (Line line) = spec.Line line
+
+-- the target that marks these rules
+abbrev pub marked_view : Marked → spec.Target
+marked_view (marked.Name name) = spec.Name name.now
+marked_view marked.Pkg = spec.Pkg
+marked_view marked.All = spec.All
+marked_view (marked.Kind kind) = spec.Kind kind.now
+marked_view (marked.Line line) = spec.Line line
 
 -- the place of a package
 abbrev pub place_of : spec.Package → PackagePlace

@@ -10,7 +10,7 @@ use crate::list::Text;
 use crate::names::is_kind;
 use crate::package::{Package, PackagePlace};
 use crate::parts::cut;
-use crate::target::{Marked, Target};
+use crate::target::{Form, Target};
 use bz_memory::NoMemory;
 use std::alloc::Global;
 
@@ -54,8 +54,8 @@ fn read_named(alloc: Global, text: &str) -> Result<(Package, Target), LabelFault
         None | Some("") => return Err(LabelFault::BadTarget),
         Some(path) => path,
     };
-    let marked = Marked::Name(copied(alloc, last_part(path))?);
-    Ok((package, Target { marked }))
+    let form = Form::Name(copied(alloc, last_part(path))?);
+    Ok((package, Target { form }))
 }
 
 // What stands after the last slash.
@@ -119,13 +119,13 @@ fn read_target(alloc: Global, text: &str) -> Result<Target, LabelFault>
     if !is_target(text) {
         return Err(LabelFault::BadTarget);
     }
-    let marked = match (text, text.strip_prefix("%")) {
-        ("__pkg__", _) => Marked::Pkg,
-        ("*", _) => Marked::All,
+    let form = match (text, text.strip_prefix("%")) {
+        ("__pkg__", _) => Form::Pkg,
+        ("*", _) => Form::All,
         (_, Some(rest)) => return read_percent(alloc, rest),
-        (_, None) => Marked::Name(copied(alloc, text)?),
+        (_, None) => Form::Name(copied(alloc, text)?),
     };
-    Ok(Target { marked })
+    Ok(Target { form })
 }
 
 fn is_target(text: &str) -> bool
@@ -138,14 +138,14 @@ fn is_target(text: &str) -> bool
 fn read_percent(alloc: Global, text: &str) -> Result<Target, LabelFault>
     ensures { result ≢ Err (LabelFault.OutOfMemory no_memory) → result ≡ spec.percent_of text.now }
 {
-    let marked = if is_number(text) {
-        Marked::Line(text.parse().map_err(|_| LabelFault::BadTarget)?)
+    let form = if is_number(text) {
+        Form::Line(text.parse().map_err(|_| LabelFault::BadTarget)?)
     } else if is_kind(text) {
-        Marked::Kind(copied(alloc, text)?)
+        Form::Kind(copied(alloc, text)?)
     } else {
         return Err(LabelFault::BadTarget);
     };
-    Ok(Target { marked })
+    Ok(Target { form })
 }
 
 fn is_number(text: &str) -> bool

@@ -9,8 +9,8 @@ impl Keyed for Target {
     ghost asked = { asked_by };
 
     fn asked(&self) -> Option<&str> {
-        match &self.marked {
-            Marked::Name(name) => Some(name.as_str()),
+        match self.marked() {
+            Marked::Name(name) => Some(name),
             _ => None,
         }
     }

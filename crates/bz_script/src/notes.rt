@@ -196,8 +196,8 @@ pub fn may_need_notes(bytes: &[u8], script: &[(Package, Pass<Target, Command>)])
 }
 
 fn is_all(target: &Target) -> bool {
-    match &target.marked {
-        Marked::Name(name) => name.as_str() == "all",
+    match target.marked() {
+        Marked::Name(name) => name == "all",
         _ => false,
     }
 }
