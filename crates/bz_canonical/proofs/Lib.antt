@@ -31,3 +31,4 @@ pub mod CommentedLines
 pub mod UnnamedRules
 pub mod SimpleBlocks
 pub mod LinedRules
+pub mod SealedLines

@@ -49,7 +49,7 @@ some_counted (x ∷ xs) is = omega arith
 two : (n : ℕ) → 1 ≤ n → nat_le 2 (suc n) ≡ true
 two n h = grind (arith, nat_tests, h)
 
-some_or : (e c t x : Bool) → t ≡ true → (e || c || t || x) ≡ true
+pub some_or : (e c t x : Bool) → t ≡ true → (e || c || t || x) ≡ true
 some_or true c t x is = refl
 some_or false true t x is = refl
 some_or false false t x is = rw is refl

@@ -3,4 +3,5 @@ pub mod Added
 pub mod Commented
 pub mod Removed
 pub mod Replaced
+pub mod SealedArguments
 pub mod private

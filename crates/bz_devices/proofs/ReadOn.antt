@@ -142,13 +142,13 @@ ended_on max old new pieces read h = or_true old.ended (ends pieces) new.ended r
 -- a read, or none, that was needed
 pub needed_one : (max_reads max : ℕ) (old new : Ahead) (pieces : List (List ℕ)) → IsReadOn max_reads old new pieces → new.reads ≤ old.reads + 1 → IsUndecided max old.bytes → AreNeeded max old.bytes pieces
 needed_one max_reads max old new [] read one undecided = tt
-needed_one max_reads max old new (piece ∷ []) read one undecided = (undecided, tt)
+needed_one max_reads max old new (piece ∷ []) read one undecided = (undecided, omega (arith, read.few, ap length (append-nil piece)), tt)
 needed_one max_reads max old new (piece ∷ (next ∷ pieces)) read one undecided = absurd (omega (arith, read.reads, one))
 
 needed_append : (max : ℕ) (bytes : List ℕ) (xs ys : List (List ℕ)) → AreNeeded max bytes xs → AreNeeded max (bytes ++ concat xs) ys → AreNeeded max bytes (xs ++ ys)
 needed_append max bytes [] ys first second = subst (λ l. AreNeeded max l ys) (append-nil bytes) second
 needed_append max bytes (x ∷ xs) ys first second =
-    (first.0, needed_append max (bytes ++ x) xs ys first.1 (subst (λ l. AreNeeded max l ys) (sym (append_assoc bytes x (concat xs))) second))
+    (first.0, first.1, needed_append max (bytes ++ x) xs ys first.2 (subst (λ l. AreNeeded max l ys) (sym (append_assoc bytes x (concat xs))) second))
 
 -- one run of needed reads after another
 pub needed_then : (max_reads max : ℕ) (old new : Ahead) (xs ys : List (List ℕ)) → IsReadOn max_reads old new xs → AreNeeded max old.bytes xs → AreNeeded max new.bytes ys → AreNeeded max old.bytes (xs ++ ys)

@@ -14,7 +14,7 @@ pub record Ahead : Type 0 where
   pub reads : ℕ
   pub ended : Bool
 
--- Reads gave these pieces, each of at most 8,192 bytes: they stand after the bytes ahead. After the end nothing is read.
+-- Reads gave these pieces, at most 8,192 bytes a read: they stand after the bytes ahead. After the end nothing is read.
 pub record IsReadOn (max_reads : ℕ) (old new : Ahead) (pieces : List (List ℕ)) : Type 0 where
   pub bytes : new.bytes ≡ old.bytes ++ concat pieces
   pub reads : new.reads ≡ old.reads + length pieces
@@ -80,7 +80,8 @@ pub record IsUndecided (max_statement : ℕ) (bytes : List ℕ) : Type 0 where
   pub uncertain : NoneIsChunk bytes
   pub fitting : ((rest : List ℕ) → BeginsTooLong max_statement bytes rest) → ⊥
 
--- Each of these reads was needed: the bytes before it left the next chunk open.
+-- Each of these reads was needed, since the bytes before it left the next chunk open, and gave at most 8,192 bytes.
 abbrev pub AreNeeded : ℕ → List ℕ → List (List ℕ) → Type 0
 AreNeeded max_statement bytes [] = ⊤
-AreNeeded max_statement bytes (piece ∷ pieces) = IsUndecided max_statement bytes × AreNeeded max_statement (bytes ++ piece) pieces
+AreNeeded max_statement bytes (piece ∷ pieces) =
+    IsUndecided max_statement bytes × (length piece ≤ 8192) × AreNeeded max_statement (bytes ++ piece) pieces

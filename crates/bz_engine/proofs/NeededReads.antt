@@ -31,7 +31,7 @@ few_needed run most before (piece ∷ pieces) few h =
     let more : length (concat (before ++ piece ∷ [])) ≡ length (concat before) + length (concat (piece ∷ [])) =
     ap length (joined_more before (piece ∷ [])) ∙ length-append (concat before) (concat (piece ∷ [])) in
     subst (λ l. length l ≤ length (concat l) + 1) (append_assoc before (piece ∷ []) pieces)
-    (few_needed run most (before ++ piece ∷ []) pieces (omega (arith, each, one, more)) h.3)
+    (few_needed run most (before ++ piece ∷ []) pieces (omega (arith, each, one, more)) h.4)
 
 needed_append : (run : Run) (most : ℕ) (before xs ys : List (List ℕ)) → AreNeededAfter run most before xs → AreNeededAfter run most (before ++ xs) ys
     → AreNeededAfter run most before (xs ++ ys)
@@ -40,7 +40,8 @@ needed_append run most before (x ∷ xs) ys h k = (
   h.0,
   h.1,
   h.2,
-  needed_append run most (before ++ x ∷ []) xs ys h.3 (subst (λ l. AreNeededAfter run most l ys) (sym (append_assoc before (x ∷ []) xs)) k),
+  h.3,
+  needed_append run most (before ++ x ∷ []) xs ys h.4 (subst (λ l. AreNeededAfter run most l ys) (sym (append_assoc before (x ∷ []) xs)) k),
 )
 
 -- the chunks that are done, after more reads
@@ -82,6 +83,7 @@ needed_more v pieces cs more [] text done going none few after = tt
 needed_more v pieces cs more (piece ∷ []) text done going none few after = (
   v.ahead.bytes ++ concat more,
   one_needed v pieces cs more text done going none few.needed.0,
+  few.needed.1,
   one_few (v.options.max_statement + 8192) (v.ahead.bytes ++ concat more) piece [] few.few,
   tt,
 )
@@ -95,11 +97,12 @@ needed_more v pieces cs more (piece ∷ (next ∷ read)) text done going none fe
     subst (λ l. length l ≤ v.options.max_statement + 8192) (sym (append_assoc ahead piece (concat (next ∷ read)))) few.few in (
       ahead,
       one_needed v pieces cs more text done going none few.needed.0,
+      few.needed.1,
       one_few (v.options.max_statement + 8192) ahead piece (concat (next ∷ read)) few.few,
       subst (λ l. AreNeededAfter (run_in v) v.options.max_statement l (next ∷ read)) there
           (needed_more v pieces cs (more ++ piece ∷ []) (next ∷ read) text done going
           (subst NoneEnds (append_assoc pieces more (piece ∷ [])) (none_ends_more (pieces ++ more) (piece ∷ []) none (after.0, tt)))
-          (subst (λ l. AreFew v.options.max_statement l (next ∷ read)) bytes (record { needed = few.needed.1; few = bound })) after.1),
+          (subst (λ l. AreFew v.options.max_statement l (next ∷ read)) bytes (record { needed = few.needed.2; few = bound })) after.1),
     )
 
 going_before : (ended : Bool) (piece : List ℕ) (read : List (List ℕ)) → (IsTrue ended → piece ∷ read ≡ []) → ended ≡ false

@@ -29,14 +29,16 @@ pub record IsOneNeeded (run : Run) (max_statement : ℕ) (pieces : List (List �
   pub done : AreDone run pieces front statements left
   pub undecided : IsUndecided max_statement left
 
--- Each of these reads, which were made after those, was needed; and with what was left of those it is at most the longest
--- chunk and 8,192 bytes.
+-- Each of these reads, which were made after those, was needed and gave at most 8,192 bytes; and with what was left of those
+-- it is at most the longest chunk and 8,192 bytes.
 abbrev pub AreNeededAfter : Run → ℕ → List (List ℕ) → List (List ℕ) → Type 0
 AreNeededAfter run max_statement before [] = ⊤
 AreNeededAfter run max_statement before (piece ∷ pieces) = (left : List ℕ) × IsOneNeeded run max_statement before left
-    × (length (left ++ piece) ≤ max_statement + 8192) × AreNeededAfter run max_statement (before ++ piece ∷ []) pieces
+    × (length piece ≤ 8192) × (length (left ++ piece) ≤ max_statement + 8192)
+    × AreNeededAfter run max_statement (before ++ piece ∷ []) pieces
 
--- The reads of a run: no more than it may make, at most one more than there are bytes, and each was needed.
+-- The reads of a run: no more than it may make, at most one more than there are bytes, and each was needed and no larger
+-- than it may be.
 pub record AreReads (home : Package) (passes : Script) (options : Options) (pieces : List (List ℕ)) : Type 0 where
   pub within : length pieces ≤ options.max_reads
   pub few : length pieces ≤ length (concat pieces) + 1

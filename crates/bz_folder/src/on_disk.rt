@@ -1,4 +1,4 @@
-//! The folder of a program: the calls of std, and a count of them. `main` of buildozer makes it, and `replace_file`
+//! The folder of a program: the calls of std, and a count of them. `edit_all` of bz_program makes it, and `replace_file`
 //! (`replace.rt`) makes the calls, by the trait `Folder`.
 
 ghost use Rattle.std.specs.Prelude.{◌≡◌, ⊤};

@@ -56,7 +56,7 @@ pub map_more : {A B : Type 0} (f : A → B) (xs : List A) (x : A) → map f (xs 
 map_more f [] x = refl
 map_more f (y ∷ xs) x = ap (λ l. f y ∷ l) (map_more f xs x)
 
-any_more : {A : Type 0} (f : A → Bool) (xs : List A) (x : A) → list_any f (xs ++ x ∷ []) ≡ (list_any f xs || f x)
+pub any_more : {A : Type 0} (f : A → Bool) (xs : List A) (x : A) → list_any f (xs ++ x ∷ []) ≡ (list_any f xs || f x)
 any_more f [] x = elim (f x) as (λ v. (v || false) ≡ v) [ true ↦ refl | false ↦ refl ]
 any_more f (y ∷ xs) x = ap (λ b. f y || b) (any_more f xs x) ∙ elim (f y) as (λ v. (v || (list_any f xs || f x)) ≡ ((v || list_any f xs) || f x)) [ true ↦ refl | false ↦ refl ]
 

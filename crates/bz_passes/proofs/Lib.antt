@@ -1,3 +1,4 @@
+pub mod Alike
 pub mod Cuts
 pub mod ExchangeLaw
 pub mod Steps

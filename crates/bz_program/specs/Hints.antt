@@ -1,21 +1,15 @@
 -- The second lines below `cannot open` and `cannot write`: why, and what to do (this project's own rule).
 use Rattle.std.specs.Prelude.{ℕ, Bool, ◌||◌, if◌then◌else◌, List, [], ◌∷◌, Option, Some, None, codes, nat_eq, bytes_eq}
 use Rattle.std.specs.List.{list_any, starts_with, ends_with}
+use Rattle.bz_rule.specs.declared.command.TheConstants.{LEFT_OUT}
 use Rattle.bz_folder.specs.declared.folder.CannotOpen.{CannotOpen}
 use Rattle.bz_folder.specs.declared.folder.CannotOpen.TheVariants.{Absent, NoRight as NoRightToOpen, NotRegular, Failed}
 use Rattle.bz_folder.specs.declared.folder.Refusal.{Refusal}
 use Rattle.bz_folder.specs.declared.folder.Refusal.TheVariants.{NoRight, NoSpace, Folder, Changed, Unknown}
 
--- the commands of Bazel's own buildozer (README, "Edit commands" and "Print commands") that this program does not have
-abbrev pub left_out : List (List ℕ)
-left_out =
-    codes "copy" ∷ codes "copy_no_overwrite" ∷ codes "dict_add" ∷ codes "dict_delete" ∷ codes "dict_list_add" ∷ codes "dict_list_remove" ∷ codes "dict_remove"
-    ∷ codes "dict_replace_if_equal" ∷ codes "dict_set" ∷ codes "fix" ∷ codes "format" ∷ codes "new" ∷ codes "new_load" ∷ codes "print_comment"
-    ∷ codes "remove_comment" ∷ codes "remove_if_equal" ∷ codes "replace_load" ∷ codes "set_select" ∷ codes "substitute" ∷ codes "substitute_load"
-    ∷ codes "use_repo_add" ∷ codes "use_repo_remove" ∷ codes "version" ∷ []
-
+-- one of the commands of Bazel's own buildozer (README, "Edit commands" and "Print commands") that this program does not have
 abbrev pub is_left_out : List ℕ → Bool
-is_left_out home = list_any (λ command. bytes_eq command home) left_out
+is_left_out home = list_any (λ command. bytes_eq command.now home) LEFT_OUT
 
 -- the names of a BUILD file, and paths that end in one
 abbrev pub is_build_file : List ℕ → Bool

@@ -17,6 +17,7 @@ mod Local
 pub mod Meanings
 pub mod MovedRules
 pub mod NamedArgument
+pub mod NotSeen
 pub mod OneValue
 pub mod PartLaws
 pub mod PlaceEdits
@@ -26,6 +27,8 @@ mod RowEdited
 mod RowStatements
 pub mod RuleClass
 pub mod SameValues
+pub mod SealedArguments
+pub mod SealedStatements
 pub mod SetEdits
 mod Spliced
 pub mod WrittenParts

@@ -10,5 +10,6 @@ pub mod Remove
 pub mod Rename
 pub mod Replace
 pub mod RowViews
+pub mod Sealed
 pub mod Set
 pub mod private

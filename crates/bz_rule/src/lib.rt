@@ -3,6 +3,7 @@
 
 mod command;
 pub mod commands;
+pub mod laws;
 mod reader;
 mod row_edit;
 mod row_parts;

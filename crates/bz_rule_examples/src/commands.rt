@@ -24,6 +24,22 @@ f(
     ] + ["//p:z"],
 )
 ---
+add copts -g -g
+f(name = "a", copts = [])
+->
+f(
+    name = "a",
+    copts = ["-g"],
+)
+---
+add srcs x
+f(srcs = glob(["x"]) + ["y"])
+->
+f(srcs = glob(["x"]) + [
+    "y",
+    "x",
+])
+---
 remove deps 1 2 3 4 5 6 7 8 //q //p:c
 f(deps = ["//q:q"] + ["c", "d"])
 ->
@@ -34,6 +50,14 @@ f(name = "a", copts = [])
 ->
 f(name = "a")
 ---
+remove * x
+f(name = "a", srcs = ["x"], deps = ["x", "y"])
+->
+f(
+    name = "a",
+    deps = ["y"],
+)
+---
 set size small
 f(name = "a")
 ->
@@ -43,9 +67,12 @@ f(
 )
 ---
 set kind a.b
-f(name = "a")
+f(name = "a", copts = [])
 ->
-a.b(name = "a")
+a.b(
+    name = "a",
+    copts = [],
+)
 ---
 set_if_absent tags 7
 f(name = "a")
@@ -111,6 +138,16 @@ f(
 delete
 f(name = "a")
 ->
+---
+print
+f(name = "a", deps = ["x"])
+->
+a f
+---
+print q
+f(name = "a", deps = ["x"])
+->
+(missing)
 ---
 print label deps
 f(name = "a", deps = ["x y", "z"])
@@ -199,6 +236,14 @@ comment x a why␊f(x = ["b"]) ! NoValue x a
 print q r␊f(x = 1) ! Missing q
 print x␊f(x = 1) ! none
 remove y␊f(x = 1) ! none
+remove copts x␊f(name = "a", copts = []) ! none
+set_if_absent copts x␊f(name = "a", copts = []) ! none
+add name x␊f(name = "a", copts = []) ! NotAList name
+comment deps y why␊f(name = "a", deps = ["x"]) ! NoValue deps y
+rename q r␊f(name = "a", deps = ["x"]) ! NoAttribute q
+move name deps *␊f(name = "a", deps = ["x"]) ! NotAList name
+replace deps x x␊f(name = "a", deps = ["x"]) ! none
+print q␊f(name = "a", deps = ["x"]) ! Missing q
 delete␊x = 1 ! none"##;
 
 fn shown_note(alloc: Global, note: &Option<Note>) -> Result<String, Fail> {

@@ -7,6 +7,7 @@ use bz_rule::{
     Package, StatementRow, Target, label, matches, quote, read_label, same, shown, value_is,
 };
 use bz_token::{Kind, Token};
+use bz_tree::{Leaf, Node, Stmt};
 use std::alloc::Global;
 use std::collections::HashMap;
 use std::process::Abort;
@@ -74,6 +75,37 @@ fn values_of_tokens(rt: HostRuntime) {
     check_value(&rt, "bells", &are_bells, &true);
     let is_value = value_is(&token(Kind::Identifier, "'a'"), "a");
     check_value(&rt, "identifier", &is_value, &false);
+}
+
+/// The token that a leaf was read from.
+fn token_of<'a>(leaf: &'a Leaf<'_>) -> Token<'a> {
+    Token {
+        kind: leaf.kind,
+        text: leaf.text.as_str(),
+        line: leaf.line,
+        col: leaf.col,
+        fresh: leaf.fresh,
+    }
+}
+
+/// Whether a leaf of the statement, outside brackets, has this value.
+fn has_leaf_of_value(stmt: &Stmt<'_>, value: &str) -> bool {
+    for node in &stmt.nodes {
+        if let Node::Token(leaf) = node {
+            if value_is(&token_of(leaf), value) {
+                return true;
+            }
+        }
+    }
+    false
+}
+
+#[test]
+fn value_of_a_leaf(rt: HostRuntime) -> Result<(), Fail> {
+    let stmt = statement(rt.alloc(), "x = 'a\\tb'\n")?;
+    check_value(&rt, "a tab", &has_leaf_of_value(&stmt, "a\tb"), &true);
+    check_value(&rt, "x", &has_leaf_of_value(&stmt, "x"), &false);
+    Ok(())
 }
 
 /// Values, and their literals.

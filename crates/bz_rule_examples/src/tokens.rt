@@ -179,6 +179,29 @@ fn first_lines_end_chunks(rt: HostRuntime) {
     check_value(&rt, "x = \"a", &is_first_chunk(b"x = \"a\n"), &true);
 }
 
+/// How many of four lines one cutter takes as a file has them: a comment, a statement of two lines, and an empty line.
+fn lines_taken() -> usize {
+    let mut cutter = Cutter::new();
+    let Cut::More = cutter.line(b"# a\n") else {
+        return 0;
+    };
+    let Cut::More = cutter.line(b"x = [\n") else {
+        return 1;
+    };
+    let Cut::Whole = cutter.line(b"]\n") else {
+        return 2;
+    };
+    let Cut::Whole = cutter.line(b"\n") else {
+        return 3;
+    };
+    4
+}
+
+#[test]
+fn lines_on_one_cutter(rt: HostRuntime) {
+    check_value(&rt, "four lines", &lines_taken(), &4);
+}
+
 /// What ends a block that begins with this line.
 fn after(header: &[u8], ahead: &str, at_end: bool) -> Option<Next>
     requires one_line { IsTrue (is_physical_line header.now) }

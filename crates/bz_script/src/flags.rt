@@ -22,7 +22,7 @@ pub struct Flags {
     pub k: bool,
     /// Write the packages to standard output instead of their files.
     pub stdout: bool,
-    /// Do not tell which files were changed.
+    /// Do not tell which files were changed, and leave out the notes.
     pub quiet: bool,
     /// The command file, where one is named.
     pub file: Option<Text>,

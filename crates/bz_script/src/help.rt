@@ -22,7 +22,7 @@ targets: //pkg:name, //pkg, pkg:name, :name, //pkg:* (all rules), //pkg:%kind, /
 flags:
   -k        goes on where a command fails
   -stdout   writes to standard output and touches no file
-  -quiet    does not tell which files were changed
+  -quiet    does not tell which files were changed, and leaves out the notes
   -f FILE   reads commands from a file (- for standard input), a line each: COMMAND|..|TARGET|..
 
 status: 0 something changed, 1 usage, 2 a failure, 3 nothing changed

@@ -34,6 +34,51 @@ cc_library(
 =>
 status 0
 ---
+add deps //b:c ! -:a
+cc_library␄
+->
+cc_library
+=>
+message: -:a: no such rule
+status 2
+---
+add deps //b:c ! -:a
+cc_library(␄
+->
+=>
+message: 1:11: bracket is not closed
+status 2
+---
+add deps //b:c ! -:a
+cc_library(name="␄
+->
+=>
+message: 1:17: string is not closed
+status 2
+---
+add name x ! -:a
+f(name = "a")
+->
+f(name = "a")
+=>
+message: -:a: attribute 'name' has no list
+status 2
+---
+-k=false set n 7 ! -:zz
+x=1
+->
+x = 1
+=>
+message: -:zz: no such rule
+status 2
+---
+-k=false print ! -:a
+f(name = "a")
+->
+=>
+line: a f
+status 3
+---
 add deps //p:x ! //p:a
 f(name = "a", deps = [":x"])
 ->
@@ -71,6 +116,53 @@ line: b
 line: f
 line: g
 status 3
+---
+delete ! add deps x ! //p:a
+f(name = "a")
+g(name = "b")
+->
+g(name = "b")
+=>
+status 0
+---
+print name startline endline ! -:*
+# c
+f(
+    name = "a",
+)
+g(name = "b")
+->
+=>
+line: a 2 4
+line: b 5 5
+status 3
+---
+delete ! -:%5
+# c
+f(
+    name = "a",
+)
+g(name = "b")
+->
+# c
+f(name = "a")
+=>
+status 0
+---
+delete ! -:%1
+# c
+f(
+    name = "a",
+)
+g(name = "b")
+->
+# c
+f(name = "a")
+
+g(name = "b")
+=>
+message: -:%1: no such rule
+status 2
 ---
 delete ! -:a ; print kind ! -:%5
 # c
@@ -222,6 +314,35 @@ x = 1
 message: 2: indented statement
 status 2
 ---
+set a 1 ! -:*
+def f():
+  x
+ y
+->
+=>
+message: 3: indented statement
+status 2
+---
+set a 1 ! -:*
+def f():
+->
+=>
+message: 1: not a statement
+status 2
+---
+replace * //q:q :y ! //p:a
+f(name = "a", deps = [":x", "//q"])
+->
+f(
+    name = "a",
+    deps = [
+        ":x",
+        ":y",
+    ],
+)
+=>
+status 0
+---
 comment hello\ world ! //p:a
 f(name = "a")
 ->
@@ -356,6 +477,30 @@ message: //p:%package: no attribute 'name' to print
 message: //p:%x: no attribute 'name' to print
 message: //p:%n.g: no attribute 'name' to print
 status 3
+"#;
+
+/// The same of rules without a name, which a second run may give one.
+const NAMELESS: &str = r#"
+---
+add deps //b:c ! -:a
+f()
+$
+->
+f()
+=>
+message: 2:1: bad character
+status 2
+---
+add deps y ! -:a
+f(x = ["a", "b"], )
+->
+f(x = [
+    "a",
+    "b",
+])
+=>
+message: -:a: no such rule
+status 2
 "#;
 
 /// What a run wrote, and how it ended.
@@ -510,12 +655,17 @@ fn check_row(rt: &impl Abort, alloc: Global, asked: &str, answer: &str) -> Resul
     check_run(rt, alloc, script, input.as_bytes(), answer)
 }
 
-#[test]
-fn runs_byte_by_byte(rt: HostRuntime) -> Result<(), Fail> {
-    for (asked, answer) in cut_rows(rt.alloc(), RUNS)? {
-        check_row(&rt, rt.alloc(), asked, answer)?;
+fn check_rows(rt: &impl Abort, alloc: Global, table: &str) -> Result<(), Fail> {
+    for (asked, answer) in cut_rows(alloc, table)? {
+        check_row(rt, alloc, asked, answer)?;
     }
     Ok(())
+}
+
+#[test]
+fn runs_byte_by_byte(rt: HostRuntime) -> Result<(), Fail> {
+    check_rows(&rt, rt.alloc(), RUNS)?;
+    check_rows(&rt, rt.alloc(), NAMELESS)
 }
 
 // The text of a run is written again as it stands, and nothing is told of it.
