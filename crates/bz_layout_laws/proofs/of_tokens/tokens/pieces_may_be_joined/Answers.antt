@@ -1,5 +1,5 @@
 use Rattle.bz_layout_laws.proofs.Readable.{bytes_join, texts_join, ended_join, fitting_join, open_join, stopped_at_ends}
-use Rattle.bz_layout_laws.proofs.written.tokens.pieces_may_be_joined.Goals as goal
+use Rattle.bz_layout_laws.proofs.of_tokens.tokens.pieces_may_be_joined.Goals as goal
 
 pub returns-clause-bytes : goal.returns-clause-bytes
 returns-clause-bytes c = bytes_join

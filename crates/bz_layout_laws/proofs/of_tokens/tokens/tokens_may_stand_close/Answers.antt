@@ -1,6 +1,6 @@
 use Rattle.bz_token.proofs.Stops.{plain_stops}
 use Rattle.bz_layout_laws.proofs.CloseTokens.{opener_stops, later_first, whole_stops}
-use Rattle.bz_layout_laws.proofs.written.tokens.tokens_may_stand_close.Goals as goal
+use Rattle.bz_layout_laws.proofs.of_tokens.tokens.tokens_may_stand_close.Goals as goal
 
 pub returns-clause-opening : goal.returns-clause-opening
 returns-clause-opening c = opener_stops

@@ -1,5 +1,5 @@
 use Rattle.bz_layout_laws.proofs.Readable.{laid_tokens, laid_lines, laid_reading, read_is_laid}
-use Rattle.bz_layout_laws.proofs.written.tokens.pieces_make_a_reading.Goals as goal
+use Rattle.bz_layout_laws.proofs.of_tokens.tokens.pieces_make_a_reading.Goals as goal
 
 pub returns-clause-tokens : goal.returns-clause-tokens
 returns-clause-tokens c = laid_tokens

@@ -1,5 +1,5 @@
 use Rattle.bz_token.proofs.TokenLines.{lines_are_lines, tokens_in_lines, lines_join}
-use Rattle.bz_layout_laws.proofs.written.lines.newline_tokens_cut_lines.Goals as goal
+use Rattle.bz_layout_laws.proofs.of_tokens.lines.newline_tokens_cut_lines.Goals as goal
 
 pub returns-clause-reading : goal.returns-clause-reading
 returns-clause-reading c = lines_are_lines
