@@ -21,7 +21,7 @@ fn name_in<'a>(parts: &[Part<'a>]) -> Option<&'a str>
             Part::Token(Kind::Identifier, name),
             Part::Token(Kind::Operator, operator),
             ..
-        ] if *operator == "=" => { Some(*name) }
+        ] if matches!(operator.as_bytes(), [b'=']) => { Some(*name) }
         _ => None,
     }
 }

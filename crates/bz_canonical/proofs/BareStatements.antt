@@ -11,7 +11,7 @@ use Rattle.bz_tree.specs.declared.tree.kinds.Preceding.{Preceding}
 use Rattle.bz_tree.specs.declared.tree.kinds.Preceding.TheVariants.{Other}
 use Rattle.bz_tree.specs.declared.tree.kinds.Shape.TheVariants.{Round}
 use Rattle.bz_tree.specs.Brackets.{after_item}
-use Rattle.bz_tree.specs.Grammar.{IsTest, IsChain, IsTerm, IsPrimary, IsOperand, IsSuffix, AreSuffixes, IsExpr, IsLoad, IsLoadArg, IsString, IsStatement, is_assignment, operator_role}
+use Rattle.bz_tree.specs.private.Productions.{IsTest, IsChain, IsTerm, IsPrimary, IsOperand, IsSuffix, AreSuffixes, IsExpr, IsLoad, IsLoadArg, IsString, IsStatement, is_assignment, operator_role}
 use Rattle.bz_tree.specs.Kinds.{operator_mark}
 use Rattle.bz_tree.specs.Statement.{is_assign_operator, is_rule, rule_call}
 use Rattle.bz_tree.specs.Tree.{Item, leaf, group, Items, no_items, item, items_of, list_of, segments}

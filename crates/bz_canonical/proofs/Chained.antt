@@ -8,7 +8,7 @@ use Rattle.bz_token.specs.Lexical.{operators, is_text}
 use Rattle.bz_tree.specs.declared.tree.GroupKind.{GroupKind}
 use Rattle.bz_tree.specs.declared.tree.GroupKind.TheVariants.{Call, Index}
 use Rattle.bz_tree.specs.declared.tree.kinds.Shape.TheVariants.{Round}
-use Rattle.bz_tree.specs.Grammar.{IsTest, IsChain, IsTerm, IsPrimary, IsOperand, IsSuffix, AreSuffixes, IsBinOp, is_operator, join, operator_role}
+use Rattle.bz_tree.specs.private.Productions.{IsTest, IsChain, IsTerm, IsPrimary, IsOperand, IsSuffix, AreSuffixes, IsBinOp, is_operator, join, operator_role}
 use Rattle.bz_tree.specs.Kinds.{operator_mark}
 use Rattle.bz_tree.specs.Tree.{Item, leaf, group, Items, no_items, item}
 use Rattle.bz_layout.specs.declared.spacing.Edge.TheVariants.{Operand as EdgeOperand, Operator as EdgeOperator}

@@ -6,7 +6,7 @@ use Rattle.bz_token.specs.declared.token.Kind.TheVariants.{Identifier, Comment, 
 use Rattle.bz_token.specs.Lexical.{operators, is_text}
 use Rattle.bz_tree.specs.declared.tree.GroupKind.{GroupKind}
 use Rattle.bz_tree.specs.declared.tree.GroupKind.TheVariants.{Call, RuleCall, Load, Paren, List as ListKind, Index, Dict, ListComp, DictComp}
-use Rattle.bz_tree.specs.Grammar.{IsTest, IsChain, IsTerm, IsArg, IsEntry, AreArgs, AreTests, AreEntries, AreLoadArgs}
+use Rattle.bz_tree.specs.private.Productions.{IsTest, IsChain, IsTerm, IsArg, IsEntry, AreArgs, AreTests, AreEntries, AreLoadArgs}
 use Rattle.std.proofs.lemmas.Bool.{false≢true}
 use Rattle.bz_tree.specs.Statement.{is_call}
 use Rattle.bz_layout_laws.specs.Legible.{AreComments}

@@ -8,7 +8,7 @@ use Rattle.bz_tree.specs.declared.tree.GroupKind.{GroupKind}
 use Rattle.bz_tree.specs.declared.tree.GroupKind.TheVariants.{List as ListKind, Dict}
 use Rattle.bz_tree.specs.declared.tree.kinds.Shape.TheVariants.{Square, Curly}
 use Rattle.bz_tree.specs.declared.tree.kinds.Preceding.TheVariants.{Other}
-use Rattle.bz_tree.specs.Grammar.{IsOperand, IsPrimary, AreSuffixes}
+use Rattle.bz_tree.specs.private.Productions.{IsOperand, IsPrimary, AreSuffixes}
 use Rattle.bz_tree.specs.Kinds.{group_kind}
 use Rattle.bz_tree.specs.Tree.{leaf, group, Segs}
 use Rattle.bz_layout.specs.declared.spacing.Gap.{Gap}

@@ -8,7 +8,7 @@ use Rattle.bz_token.specs.declared.token.Kind.TheVariants.{Identifier, Operator,
 use Rattle.bz_tree.specs.declared.tree.kinds.Preceding.TheVariants.{Other}
 use Rattle.bz_tree.specs.declared.tree.kinds.Shape.TheVariants.{Square}
 use Rattle.bz_tree.specs.declared.tree.GroupKind.TheVariants.{List as ListKind, RuleCall}
-use Rattle.bz_tree.specs.Grammar.{AreArgs, AreSuffixes, AreTests, IsArg, IsChain, IsOperand, IsPrimary, IsTerm, IsTest}
+use Rattle.bz_tree.specs.private.Productions.{AreArgs, AreSuffixes, AreTests, IsArg, IsChain, IsOperand, IsPrimary, IsTerm, IsTest}
 use Rattle.bz_token.specs.Lexical.{is_text}
 use Rattle.bz_tree.specs.Comments.{beside}
 use Rattle.bz_tree.specs.Kinds.{group_kind}

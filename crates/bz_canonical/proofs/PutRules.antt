@@ -9,7 +9,7 @@ use Rattle.bz_token.specs.Lexical.{is_text, keywords}
 use Rattle.bz_tree.specs.declared.tree.kinds.Shape.TheVariants.{Round}
 use Rattle.bz_tree.specs.declared.tree.Class.TheVariants.{Rule as RuleClass}
 use Rattle.bz_tree.specs.declared.tree.GroupKind.TheVariants.{RuleCall}
-use Rattle.bz_tree.specs.Grammar.{AreArgs, AreSuffixes, IsArg, IsChain, IsExpr, IsOperand, IsPrimary, IsStatement, IsSuffix, IsTerm, IsTest}
+use Rattle.bz_tree.specs.private.Productions.{AreArgs, AreSuffixes, IsArg, IsChain, IsExpr, IsOperand, IsPrimary, IsStatement, IsSuffix, IsTerm, IsTest}
 use Rattle.bz_tree.specs.Tree.{Item, leaf, group, Items, no_items, item, Segs, no_segs, seg, Segment, Statement, items_of, segs_of, segments, list_of}
 use Rattle.bz_layout.specs.Broken.{count, is_broken, segs_hold}
 use Rattle.bz_layout.specs.Layout.{breaks, broken_segs, is_comment, item_pieces, layout_text}

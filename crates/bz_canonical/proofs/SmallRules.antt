@@ -8,7 +8,7 @@ use Rattle.bz_tree.specs.declared.tree.kinds.Shape.TheVariants.{Round}
 use Rattle.bz_tree.specs.declared.tree.Class.TheVariants.{Rule as RuleClass}
 use Rattle.bz_tree.specs.declared.tree.GroupKind.TheVariants.{RuleCall}
 use Rattle.bz_tree.specs.Chunk.{IsStatementIn}
-use Rattle.bz_tree.specs.Grammar.{IsStatement, IsExpr, IsTest, IsChain, IsTerm, IsPrimary, IsOperand, AreSuffixes, IsSuffix}
+use Rattle.bz_tree.specs.private.Productions.{IsStatement, IsExpr, IsTest, IsChain, IsTerm, IsPrimary, IsOperand, AreSuffixes, IsSuffix}
 use Rattle.bz_tree.specs.Tree.{Item, leaf, group, Segment, Statement, items_of, segs_of}
 use Rattle.bz_layout.specs.declared.spacing.Gap.TheVariants.{Closed, Line}
 use Rattle.bz_layout.specs.declared.broken.Style.TheVariants.{Broken}

@@ -5,7 +5,8 @@ use Rattle.std.proofs.lemmas.Bool.{false≢true}
 use Rattle.bz_token.specs.declared.token.Kind.TheVariants.{Newline}
 use Rattle.bz_tree.specs.declared.tree.Class.{Class}
 use Rattle.bz_tree.specs.declared.tree.Class.TheVariants.{Comment}
-use Rattle.bz_tree.specs.Grammar.{IsStatement}
+use Rattle.bz_tree.proofs.Recognizer.InTable.{statement_form}
+use Rattle.bz_tree.specs.private.Productions.{IsStatement}
 use Rattle.bz_tree.specs.Tree.{Item, items_of}
 use Rattle.bz_layout.specs.declared.spacing.Edge.TheVariants.{Start}
 use Rattle.bz_layout.specs.declared.spacing.Gap.TheVariants.{Closed}
@@ -35,7 +36,7 @@ statement_front depth class name kind text start middle end rest b above s besid
       alone = λ none. absurd (false≢true (sym (ap (λ (xs : List Item). are_some (items_of xs)) none) ∙ s.some));
       lines = λ none. absurd (false≢true (sym (ap (λ (xs : List Item). are_some (items_of xs)) none) ∙ s.some));
     };
-    grammar = s.grammar;
+    grammar = statement_form s.grammar;
     depth_fits = s.depth_fits;
   };
   stays = ap (λ xs. record { before = above.notes; nodes = xs; suffix = beside.note; class = class; start = 0; end = 0 }) s.stays;
@@ -67,7 +68,7 @@ comments_front depth text start rest above some ends = record {
   well = record {
     texts = record { some = λ no. absurd (false≢true (sym no)); before = above.are; nodes = tt; suffix = refl };
     parsed = record { kinds = tt; rule = refl; class = refl; alone = λ is. refl; lines = λ is. by above.notes above.front };
-    grammar = IsStatement.comments;
+    grammar = statement_form IsStatement.comments;
     depth_fits = omega arith;
   };
   stays = refl;

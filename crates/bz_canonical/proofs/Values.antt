@@ -6,7 +6,7 @@ use Rattle.bz_token.specs.declared.token.Kind.TheVariants.{Identifier, Operator}
 use Rattle.bz_tree.specs.declared.tree.GroupKind.TheVariants.{Call, List as ListKind}
 use Rattle.bz_tree.specs.declared.tree.kinds.Preceding.TheVariants.{Other}
 use Rattle.bz_tree.specs.declared.tree.kinds.Shape.TheVariants.{Round, Square}
-use Rattle.bz_tree.specs.Grammar.{AreArgs, AreSuffixes, IsArg, IsChain, IsOperand, IsPrimary, IsSuffix, IsTerm, IsTest}
+use Rattle.bz_tree.specs.private.Productions.{AreArgs, AreSuffixes, IsArg, IsChain, IsOperand, IsPrimary, IsSuffix, IsTerm, IsTest}
 use Rattle.bz_tree.specs.Kinds.{group_kind}
 use Rattle.bz_tree.specs.Tree.{leaf, group, no_items, item, no_segs, seg}
 use Rattle.bz_layout.specs.Layout.{item_pieces}

@@ -347,7 +347,6 @@ fn put_small_rule(lines: &str, text: &mut String) -> Result<(), NoMemory>
 /// What was made of the argument of the small rule that is in the slot now. None: more is told of it than that it
 /// changed, or nothing is left of it.
 fn lines_after<'s>(
-    alloc: Global,
     done: &Done,
     slot: &Option<StatementRow<'_>>,
     text: &'s mut Vec<u8>,
@@ -364,7 +363,7 @@ fn lines_after<'s>(
         return Ok(None);
     };
     text.clear();
-    stmt.put(alloc, text)?;
+    stmt.put(text)?;
     let Some(lines) = argument_of(text.as_slice()) else {
         return Ok(None);
     };

@@ -70,7 +70,7 @@ pub(crate) fn put_passed(
         ++ (if is_query script.entry.passes.now then [] else text_following progress.old.last (Some s ∷ []))) }
 {
     if begin_statement(script, row.class, progress, text)? {
-        put_row(script.alloc, row, text)?;
+        put_row(row, text)?;
     }
     Ok(())
 }
@@ -91,7 +91,7 @@ pub(crate) fn put_slot(
         return Ok(());
     };
     if begin_statement(script, stmt.class(), progress, text)? {
-        stmt.put(script.alloc, text)?;
+        stmt.put(text)?;
     }
     Ok(())
 }

@@ -15,7 +15,8 @@ use Rattle.bz_tree.specs.declared.fault.ParseFault.TheVariants.{Lex}
 use Rattle.bz_tree.specs.declared.tree.Class.TheVariants.{Comment, Other}
 use Rattle.bz_tree.specs.Brackets.{leaf_of, single, no_elems, elem}
 use Rattle.bz_tree.specs.Chunk.{IsReadAs}
-use Rattle.bz_tree.specs.Grammar.{comments, expression, last_test, plain, single as one_term, primary, operand, ident, no_suffix}
+use Rattle.bz_tree.proofs.Recognizer.InTable.{statement_form}
+use Rattle.bz_tree.specs.private.Productions.{comments, expression, last_test, plain, single as one_term, primary, operand, ident, no_suffix}
 use Rattle.bz_tree.specs.Tree.{Statement}
 use Rattle.bz_engine.specs.declared.report.SyntaxFault.TheVariants.{Parse}
 use Rattle.bz_engine.specs.File.{IsFile}
@@ -49,7 +50,7 @@ x_read = record {
   some = refl;
   chunk = record {
     tree = record { elems = elem (single name) no_elems; tokens_are = refl; well = (refl, tt); is = refl };
-    grammar = expression (last_test (plain (one_term (primary (operand (ident refl) no_suffix)))));
+    grammar = statement_form (expression (last_test (plain (one_term (primary (operand (ident refl) no_suffix))))));
   };
 }
 
@@ -79,7 +80,7 @@ remark_read : IsReadAs 3 (codes "# c\n") (note ∷ record { kind = Newline; text
 remark_read = record {
   upright = refl;
   some = refl;
-  chunk = record { tree = record { elems = elem (single note) no_elems; tokens_are = refl; well = (refl, tt); is = refl }; grammar = comments };
+  chunk = record { tree = record { elems = elem (single note) no_elems; tokens_are = refl; well = (refl, tt); is = refl }; grammar = statement_form comments };
 }
 
 on_lines : AreOnLines file_tokens 1 (chunks file) (x ∷ remark ∷ [])

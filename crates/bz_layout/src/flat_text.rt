@@ -38,7 +38,8 @@ pub fn flat_parts(
         → string_bytes s ≡ flat_text in_group nodes) }
 {
     let mut text = String::new(alloc);
-    let mut walk = RowWriter::new(alloc, Vec::new(alloc), in_group)?;
+    let bump = Bump::new(alloc);
+    let mut walk = RowWriter::new(&bump, Vec::new(&bump), in_group)?;
     walk.run(parts, &mut text)?;
     Ok(text)
 }

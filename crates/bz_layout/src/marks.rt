@@ -8,9 +8,9 @@ ghost use Rattle.bz_layout.specs.private.RowLayout.{closed, opened_back, back, s
 use crate::broken::breaks_by_count;
 use crate::walk::FIRST_DEPTH;
 use crate::write::has_commas;
+use bumpalo::Bump;
 use bz_memory::{NoMemory, push, with_capacity};
 use bz_tree::{GroupKind, Part};
-use std::alloc::Global;
 
 /// How a bracket is written.
 #[derive(Clone, Copy)]
@@ -36,11 +36,11 @@ pub(crate) struct Contents {
 }
 
 #[derive(Drop)]
-pub(crate) struct Marks {
+pub(crate) struct Marks<'b> {
     // The last is that of the first bracket.
-    pub(crate) marks: Vec<BracketForm>,
+    pub(crate) marks: Vec<BracketForm, &'b Bump>,
     pub(crate) here: Contents,
-    pub(crate) outer: Vec<Contents>,
+    pub(crate) outer: Vec<Contents, &'b Bump>,
 }
 
 impl Contents {
@@ -57,7 +57,7 @@ impl Contents {
     }
 }
 
-impl Marks {
+impl<'b> Marks<'b> {
     // A bracket opens, with all that stands in it after it.
     fn open(&mut self, kind: GroupKind) -> Result<(), NoMemory>
         ensures { OnOk result (scanned self.new ≡ opened_back kind (scanned self.old)) }
@@ -96,13 +96,16 @@ impl Marks {
 }
 
 // The marks of all brackets, that of the first one last.
-pub(crate) fn marks_of(alloc: Global, parts: &[Part<'_>]) -> Result<Vec<BracketForm>, NoMemory>
+pub(crate) fn marks_of<'b>(
+    bump: &'b Bump,
+    parts: &[Part<'_>],
+) -> Result<Vec<BracketForm, &'b Bump>, NoMemory>
     ensures { IfOk result (λ ms. reverse ms.items ≡ (scan (map part_view parts.now)).marks) }
 {
     let mut walk = Marks {
-        marks: with_capacity(alloc, FIRST_CAPACITY)?,
+        marks: with_capacity(bump, FIRST_CAPACITY)?,
         here: Contents::closed(false),
-        outer: with_capacity(alloc, FIRST_DEPTH)?,
+        outer: with_capacity(bump, FIRST_DEPTH)?,
     };
     let mut i = parts.len();
     while i > 0 {

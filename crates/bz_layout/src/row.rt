@@ -30,21 +30,22 @@ fn put_leading(parts: &[Part<'_>], out: &mut Vec<u8>) -> Result<(), NoMemory>
     Ok(())
 }
 
-// The comments above the statement, and its line. After a refusal some of it may stand in `out`.
-fn put_lines(alloc: Global, parts: &[Part<'_>], out: &mut Vec<u8>) -> Result<(), NoMemory>
+// The comments above the statement, and its line. After a refusal some of it may stand in `out`. The lists of the walks
+// stand in the arena.
+fn put_lines(bump: &Bump, parts: &[Part<'_>], out: &mut Vec<u8>) -> Result<(), NoMemory>
     ensures text { OnOk result (out.new.items ≡ lines_text out.old.items (map part_view parts.now)) }
     ensures begun { IsBegunBy out.old.items out.new.items }
 {
     put_leading(parts, out)?;
-    let marks = marks_of(alloc, parts)?;
-    let mut walk = RowWriter::new(alloc, marks, None)?;
+    let marks = marks_of(bump, parts)?;
+    let mut walk = RowWriter::new(bump, marks, None)?;
     walk.run(parts, out)?;
     out.put("\n")
 }
 
 // After a refusal nothing of the text stands there.
 fn put_parts(
-    alloc: Global,
+    bump: &Bump,
     parts: &[Part<'_>],
     class: Class,
     out: &mut Vec<u8>,
@@ -57,7 +58,7 @@ fn put_parts(
     let len = out.len();
     let put = match class {
         Class::Comment => put_leading(parts, out),
-        _ => put_lines(alloc, parts, out),
+        _ => put_lines(bump, parts, out),
     };
     if put.is_err() {
         out.truncate(len);
@@ -74,14 +75,15 @@ pub fn put_stmt(alloc: Global, stmt: &Stmt<'_>, out: &mut Vec<u8>) -> Result<(),
     let bump = Bump::new(alloc);
     let mut parts = Vec::new(alloc);
     push_parts(&bump, stmt, &mut parts)?;
-    put_parts(alloc, &parts, stmt.class, out)
+    put_parts(&bump, &parts, stmt.class, out)
 }
 
-/// Appends the text of a row's statement, as `put_stmt` does. `Err`: memory was refused, and `out` is as it was.
-pub fn put_row(alloc: Global, row: &Row<'_>, out: &mut Vec<u8>) -> Result<(), NoMemory>
+/// Appends the text of a row's statement, as `put_stmt` does. What it needs for itself stands in the arena of the row.
+/// `Err`: memory was refused, and `out` is as it was.
+pub fn put_row(row: &Row<'_>, out: &mut Vec<u8>) -> Result<(), NoMemory>
     ensures appended { OnOk result
         ((s : Statement) → IsRowOf s row.now → out.new.items ≡ out.old.items ++ layout_text s) }
     ensures unchanged { OnErr result (out.new.items ≡ out.old.items) }
 {
-    put_parts(alloc, &row.parts, row.class, out)
+    put_parts(row.parts.allocator(), &row.parts, row.class, out)
 }

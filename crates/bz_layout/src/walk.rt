@@ -14,10 +14,10 @@ use crate::marks::BracketForm;
 use crate::respell::put_written;
 use crate::spacing::{Edge, Gap, hugs, is_byte, token_closes_up, token_edge};
 use crate::write::{brackets, put};
+use bumpalo::Bump;
 use bz_memory::{NoMemory, push, with_capacity};
 use bz_token::Kind;
 use bz_tree::{GroupKind, Part};
-use std::alloc::Global;
 use std::cmp::min;
 
 // Few brackets are deeper.
@@ -34,10 +34,10 @@ pub(crate) struct OpenBracket {
 }
 
 #[derive(Drop)]
-pub(crate) struct RowWriter {
+pub(crate) struct RowWriter<'b> {
     // Those of the brackets to come, the next one last.
-    pub(crate) marks: Vec<BracketForm>,
-    pub(crate) outer: Vec<OpenBracket>,
+    pub(crate) marks: Vec<BracketForm, &'b Bump>,
+    pub(crate) outer: Vec<OpenBracket, &'b Bump>,
     pub(crate) here: OpenBracket,
     pub(crate) left: Edge,
     // That of the line which is being written.
@@ -59,21 +59,21 @@ impl OpenBracket {
     }
 }
 
-impl RowWriter {
+impl<'b> RowWriter<'b> {
     // `within` is the group that all the parts stand in. With no marks no bracket is broken.
     pub(crate) fn new(
-        alloc: Global,
-        marks: Vec<BracketForm>,
+        bump: &'b Bump,
+        marks: Vec<BracketForm, &'b Bump>,
         within: Option<GroupKind>,
-    ) -> Result<RowWriter, NoMemory>
+    ) -> Result<RowWriter<'b>, NoMemory>
         ensures laid { IfOk result
-            (λ walk. (text : List ℕ) → laid walk text ≡ start text (reverse marks.items) within) }
+            (λ walk. (text : List ℕ) → laid walk text ≡ start text (reverse marks.entry.items) within) }
         ensures level { IfOk result (λ walk. walk.level ≡ 0) }
     {
         let depth = min(marks.len(), FIRST_DEPTH);
         Ok(RowWriter {
             marks,
-            outer: with_capacity(alloc, depth)?,
+            outer: with_capacity(bump, depth)?,
             here: OpenBracket::top(within),
             left: Edge::Start,
             level: 0,

@@ -5,7 +5,9 @@ use Rattle.bz_tree.specs.declared.tree.GroupKind.{GroupKind}
 use Rattle.bz_tree.specs.declared.tree.GroupKind.TheVariants.{Load}
 use Rattle.bz_tree.specs.declared.grammar.role.Role.{Role}
 use Rattle.bz_tree.specs.declared.grammar.role.Role.TheVariants.{Not, Tilde, Sum, Star, Stars, Operator, In, Equals, Augmented}
-use Rattle.bz_tree.specs.Grammar.{token_role, is_prefix, is_operator, is_star, is_assignment, join, IsBinOp, operator, not_in, IsTest, plain, conditional, IsChain, single, binary, IsTerm, primary, unary, IsPrimary, number, operand, AreSuffixes, no_suffix, member, suffix, IsSuffix, call, index, IsOperand, ident, text as string_operand, paren, list, dict, list_comp, dict_comp, AreTests, no_test, one_test, AreArgs, no_arg, one_arg, IsArg, positional, keyword, starred, AreEntries, no_entry, one_entry, IsEntry, entry, IsElement, element, IsEntryElement, entry_element, IsFor, for, AreTargets, last_target, target, AreClauses, no_clause, for_clause, if_clause, IsIndex, at, slice, IsRange, upper, stepped, IsOptional, nothing, some, IsExpr, last_test, test, IsString, string, IsLoadArg, loaded, renamed, AreLoadArgs, no_load_arg, load_arg, IsLoad, load, IsStatement, comments, load_statement, expression, assignment}
+use Rattle.bz_tree.specs.Grammar as Table
+use Rattle.bz_tree.proofs.Recognizer.FromTable.{statement_produced}
+use Rattle.bz_tree.specs.private.Productions.{token_role, is_prefix, is_operator, is_star, is_assignment, join, IsBinOp, operator, not_in, IsTest, plain, conditional, IsChain, single, binary, IsTerm, primary, unary, IsPrimary, number, operand, AreSuffixes, no_suffix, member, suffix, IsSuffix, call, index, IsOperand, ident, text as string_operand, paren, list, dict, list_comp, dict_comp, AreTests, no_test, one_test, AreArgs, no_arg, one_arg, IsArg, positional, keyword, starred, AreEntries, no_entry, one_entry, IsEntry, entry, IsElement, element, IsEntryElement, entry_element, IsFor, for, AreTargets, last_target, target, AreClauses, no_clause, for_clause, if_clause, IsIndex, at, slice, IsRange, upper, stepped, IsOptional, nothing, some, IsExpr, last_test, test, IsString, string, IsLoadArg, loaded, renamed, AreLoadArgs, no_load_arg, load_arg, IsLoad, load, IsStatement, comments, load_statement, expression, assignment}
 use Rattle.bz_tree.specs.Tree.{Item, group, Items, item, Segs, Statement, items_of}
 use Rattle.bz_layout.specs.declared.spacing.Edge.TheVariants.{Start}
 use Rattle.bz_layout_laws.specs.Following.{MayFollow, SegsMayFollow, NodesMayFollow}
@@ -205,5 +207,5 @@ statement_follows (assignment {xs} {a} {b} s is ea es eb) h =
     let right = item_after (stands_inside s (assignment_known (token_role s) es)) (expr_follows eb rest.1) in
     subst FollowAny (sym is) (join_operand (expr_follows ea (texts_left a (item s b) all)) right).any
 
-pub nodes_may_follow : (s : Statement) → IsStatement (items_of s.nodes) → HasTexts s → NodesMayFollow s
-nodes_may_follow s grammar texts = (statement_follows grammar texts.nodes).each None Start
+pub nodes_may_follow : (s : Statement) → Table.IsStatement (items_of s.nodes) → HasTexts s → NodesMayFollow s
+nodes_may_follow s grammar texts = (statement_follows (statement_produced (items_of s.nodes) grammar) texts.nodes).each None Start

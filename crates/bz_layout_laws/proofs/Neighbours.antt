@@ -2,7 +2,7 @@
 use Rattle.std.proofs.Common.{◌≡◌, ◌&&◌, Bool, true, false, not, refl, ap, ◌∙◌}
 use Rattle.std.specs.Prelude.{Option}
 use Rattle.bz_tree.specs.declared.tree.GroupKind.{GroupKind}
-use Rattle.bz_tree.specs.Grammar.{join}
+use Rattle.bz_tree.specs.private.Productions.{join}
 use Rattle.bz_tree.specs.Tree.{Item, Items, no_items, item}
 use Rattle.bz_layout.specs.declared.spacing.Edge.{Edge}
 use Rattle.bz_layout.specs.Spacing.{edge_after, holds_on}

@@ -10,7 +10,9 @@ use Rattle.bz_token.specs.Lexical.{is_text, keywords, operators}
 use Rattle.bz_token.proofs.Classes.{same_bytes}
 use Rattle.bz_tree.specs.declared.grammar.role.Role.{Role}
 use Rattle.bz_tree.specs.declared.grammar.role.Role.TheVariants.{Name, Number, Value, Not, Tilde, Sum}
-use Rattle.bz_tree.specs.Grammar.{leaf_role, token_role, is_prefix, join, IsTest, plain, conditional, IsChain, single, binary, IsTerm, primary, unary, IsPrimary, number, operand, IsOperand, ident, text as string_operand, paren, list, dict, list_comp, dict_comp, IsExpr, last_test, test, IsLoad, load, IsStatement, comments, load_statement, expression, assignment}
+use Rattle.bz_tree.specs.Grammar as Table
+use Rattle.bz_tree.proofs.Recognizer.FromTable.{statement_produced}
+use Rattle.bz_tree.specs.private.Productions.{leaf_role, token_role, is_prefix, join, IsTest, plain, conditional, IsChain, single, binary, IsTerm, primary, unary, IsPrimary, number, operand, IsOperand, ident, text as string_operand, paren, list, dict, list_comp, dict_comp, IsExpr, last_test, test, IsLoad, load, IsStatement, comments, load_statement, expression, assignment}
 use Rattle.bz_tree.specs.Statement.{is_load_word}
 use Rattle.bz_tree.specs.Tree.{Item, leaf, group, Items, no_items, item}
 use Rattle.bz_layout_laws.specs.Legible.{begins_block}
@@ -127,8 +129,11 @@ load_no_block (group kind segs one_comma end) xs is = refl
 load_begins : {xs : Items} → IsLoad xs → begins_block xs ≡ false
 load_begins (load {w} is s args) = load_no_block w _ is
 
-pub begins_no_block : (xs : Items) → IsStatement xs → HaveTexts xs → begins_block xs ≡ false
-begins_no_block xs comments are = refl
-begins_no_block xs (load_statement l) are = load_begins l
-begins_no_block xs (expression e) are = operand_no_block xs (expr_begins e) are
-begins_no_block xs (assignment {a} {b} s is ea es eb) are = operand_no_block xs (ap begins_operand is ∙ join_begins a (item s b) (expr_begins ea)) are
+produced_begins : (xs : Items) → IsStatement xs → HaveTexts xs → begins_block xs ≡ false
+produced_begins xs comments are = refl
+produced_begins xs (load_statement l) are = load_begins l
+produced_begins xs (expression e) are = operand_no_block xs (expr_begins e) are
+produced_begins xs (assignment {a} {b} s is ea es eb) are = operand_no_block xs (ap begins_operand is ∙ join_begins a (item s b) (expr_begins ea)) are
+
+pub begins_no_block : (xs : Items) → Table.IsStatement xs → HaveTexts xs → begins_block xs ≡ false
+begins_no_block xs h are = produced_begins xs (statement_produced xs h) are

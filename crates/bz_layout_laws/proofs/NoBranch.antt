@@ -6,7 +6,9 @@ use Rattle.bz_token.specs.declared.token.Kind.{Kind}
 use Rattle.bz_token.specs.declared.token.Kind.TheVariants.{Keyword, String}
 use Rattle.bz_token.specs.Lexical.{is_text, keywords, operators}
 use Rattle.bz_token.proofs.Classes.{same_bytes}
-use Rattle.bz_tree.specs.Grammar.{IsLoad, load, IsStatement, comments, load_statement, expression, assignment}
+use Rattle.bz_tree.specs.Grammar as Table
+use Rattle.bz_tree.proofs.Recognizer.FromTable.{statement_produced}
+use Rattle.bz_tree.specs.private.Productions.{IsLoad, load, IsStatement, comments, load_statement, expression, assignment}
 use Rattle.bz_tree.specs.Statement.{is_load_word}
 use Rattle.bz_tree.specs.Tree.{Item, leaf, group, Items, no_items, item}
 use Rattle.bz_layout_laws.specs.TextsOfKinds.{HaveTexts}
@@ -40,8 +42,11 @@ load_no_branch (group kind segs one_comma end) xs is = refl
 load_begins : {xs : Items} → IsLoad xs → begins_branch xs ≡ false
 load_begins (load {w} is s args) = load_no_branch w _ is
 
-pub begins_no_branch : (xs : Items) → IsStatement xs → HaveTexts xs → begins_branch xs ≡ false
-begins_no_branch xs comments are = refl
-begins_no_branch xs (load_statement l) are = load_begins l
-begins_no_branch xs (expression e) are = operand_no_branch xs (expr_begins e) are
-begins_no_branch xs (assignment {a} {b} s is ea es eb) are = operand_no_branch xs (ap begins_operand is ∙ join_begins a (item s b) (expr_begins ea)) are
+produced_begins : (xs : Items) → IsStatement xs → HaveTexts xs → begins_branch xs ≡ false
+produced_begins xs comments are = refl
+produced_begins xs (load_statement l) are = load_begins l
+produced_begins xs (expression e) are = operand_no_branch xs (expr_begins e) are
+produced_begins xs (assignment {a} {b} s is ea es eb) are = operand_no_branch xs (ap begins_operand is ∙ join_begins a (item s b) (expr_begins ea)) are
+
+pub begins_no_branch : (xs : Items) → Table.IsStatement xs → HaveTexts xs → begins_branch xs ≡ false
+begins_no_branch xs h are = produced_begins xs (statement_produced xs h) are

@@ -50,7 +50,7 @@ pub free_grammar_stays : (c : Choice) (s t : Statement) → lineless t ≡ linel
 free_grammar_stays c s t e h =
     let xs = items_of s.nodes in
     accepted_statement (items_of t.nodes)
-    (ap (λ (u : Statement). is_statement (items_of u.nodes)) e ∙ ap is_statement (items_same (items_spelled_by c xs)) ∙ sym (statement_spelled (items_spelled_by c xs)) ∙ ap is_statement (items_once c xs) ∙ statement_spelled xs ∙ statement_accepted h)
+    (ap (λ (u : Statement). is_statement (items_of u.nodes)) e ∙ ap is_statement (items_same (items_spelled_by c xs)) ∙ sym (statement_spelled (items_spelled_by c xs)) ∙ ap is_statement (items_once c xs) ∙ statement_spelled xs ∙ statement_accepted xs h)
 
 -- in the layout's own way
 pub grammar_stays : (s t : Statement) → lineless t ≡ lineless (spelled_statement s) → IsStatement (items_of s.nodes) → IsStatement (items_of t.nodes)

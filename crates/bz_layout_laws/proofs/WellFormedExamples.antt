@@ -112,8 +112,8 @@ may_not_follow : MayFollow None Start one_operator → ⊥
 may_not_follow h = false≢true h.2.0
 
 not_in_grammar : IsStatement one_operator → ⊥
-not_in_grammar h = false≢true (statement_accepted h)
+not_in_grammar h = false≢true (statement_accepted one_operator h)
 
 -- nor is what begins with a block's word
 block_not_in_grammar : IsStatement (items_of (leaf Keyword (codes "if") ∷ name (codes "x") ∷ [])) → ⊥
-block_not_in_grammar h = false≢true (statement_accepted h)
+block_not_in_grammar h = false≢true (statement_accepted (items_of (leaf Keyword (codes "if") ∷ name (codes "x") ∷ [])) h)

@@ -1,5 +1,5 @@
 -- No command sees what is sealed of the arguments that it does not mention: command by command.
-use Rattle.std.proofs.Common.{◌≡◌, ℕ, List, [], ◌∷◌, ◌++◌, Bool, true, false, if◌then◌else◌, Option, Some, None, is_some, filter, option_map, refl, ap, sym, ◌∙◌, subst}
+use Rattle.std.proofs.Common.{◌≡◌, ℕ, List, [], ◌∷◌, ◌++◌, true, false, if◌then◌else◌, Option, Some, None, is_some, filter, option_map, refl, ap, sym, ◌∙◌, subst}
 use Rattle.std.specs.List.{list_all}
 use Rattle.std.specs.Option.{option_or}
 use Rattle.std.proofs.lemmas.Bool.{and_parts}
@@ -13,10 +13,10 @@ use Rattle.bz_label.specs.declared.arguments.Moved.{Moved}
 use Rattle.bz_label.specs.declared.arguments.Setting.TheVariants.{ToKind, ToValues}
 use Rattle.bz_attribute.specs.Rules.{first_named, is_named, value}
 use Rattle.bz_attribute.specs.Lists.{edit_first_part, with_value}
-use Rattle.bz_attribute.specs.Effects.{argument, chooses, done, edit_first, filtered, has, is_absent, is_chosen, list_item, not_a_list, slot_done, unchosen, with_args}
+use Rattle.bz_attribute.specs.Effects.{argument, chooses, done, edit_first, filtered, is_chosen, list_item, not_a_list, slot_done, unchosen, with_args}
 use Rattle.bz_attribute.specs.declared.done.Note.{Note}
 use Rattle.bz_attribute.specs.declared.done.Note.TheVariants.{AttributeExists, NoAttribute}
-use Rattle.bz_rule.specs.Move.{arrivals, elements_of, move, move_note, moves, put_in}
+use Rattle.bz_rule.specs.Move.{arrivals, elements_of, move_note, moves, put_in}
 use Rattle.bz_rule.specs.Rename.{rename_note, rename_to}
 use Rattle.bz_rule.specs.Commands.{Command, after, args_after, args_done, done_of}
 use Rattle.bz_rule.specs.Sealed.{NotSeen, SlotsSealed, attributes_of, both_empty, both_rules}

@@ -1,5 +1,5 @@
 -- Statements and slots with sealed arguments: what a command does to a rule, and what is seen of it.
-use Rattle.std.proofs.Common.{◌≡◌, ℕ, List, [], ◌∷◌, ◌++◌, Bool, true, false, ◌&&◌, not, if◌then◌else◌, Option, Some, None, is_some, option_map, map, codes, refl, ap, sym, ◌∙◌, subst}
+use Rattle.std.proofs.Common.{◌≡◌, ℕ, List, [], ◌∷◌, ◌++◌, true, false, not, if◌then◌else◌, Option, Some, None, is_some, option_map, map, codes, refl, ap, sym, ◌∙◌}
 use Rattle.std.specs.Prelude.{bytes_eq}
 use Rattle.std.specs.List.{flat_map, join_with_byte, list_all}
 use Rattle.std.proofs.lemmas.Bool.{and_parts}
@@ -15,13 +15,12 @@ use Rattle.bz_attribute.specs.Texts.{home_text, shown_text}
 use Rattle.bz_attribute.specs.Marks.{marks, marks_rule}
 use Rattle.bz_attribute.specs.Effects.{done, holds_rule, nodes_after, nodes_of, slot_done, with_args}
 use Rattle.bz_attribute.specs.declared.done.Done.{Done}
-use Rattle.bz_attribute.specs.declared.done.Note.{Note}
 use Rattle.bz_attribute.specs.declared.done.Note.TheVariants.{Missing}
 use Rattle.bz_attribute.proofs.EditedRules.{nodes_read, rule_after, rule_with}
 use Rattle.bz_rule.specs.Comment.{comment_line, comment_rule}
-use Rattle.bz_rule.specs.Print.{field_name, field_text, fields_of, line_of, missing, printed, prints, value_text}
+use Rattle.bz_rule.specs.Print.{field_name, field_text, fields_of, missing, printed, prints, value_text}
 use Rattle.bz_rule.specs.Set.{kind_after, kind_items, sets_kind_of, with_kind}
-use Rattle.bz_rule.specs.Sealed.{AreSealed, AreShownAlike, IsSealed, SlotsSealed, attributes_printed, both_empty, both_rules, name_told}
+use Rattle.bz_rule.specs.Sealed.{AreShownAlike, IsSealed, SlotsSealed, attributes_printed, both_empty, both_rules}
 use Rattle.bz_rule.proofs.RuleClass.{kind_dotted}
 use Rattle.bz_rule.proofs.SealedArguments.{LeavesSealed, Overlooks, first_overlooks, overlooks_by}
 use Rattle.std.specs.Prelude.{option_and_then, unwrap_or}
@@ -187,3 +186,14 @@ shown_alike like names asked count s t h =
           let name : Option Rule → Option (List ℕ) = map_or None (λ r. name_in r.args) in
           ap name h.read ∙ named ∙ ap name (sym h.read_sealed);
     }
+
+-- the same of slots, as passes see them
+pub slots_marked : (like : Segment → Segment → Type 0) (names : List (List ℕ)) → is_one_of names (codes "name") ≡ true → (target : Target) (count : ℕ) (slot other : Option Statement) → SlotsSealed like names count slot other
+    → map_or false (marks target) slot ≡ map_or false (marks target) other
+slots_marked like names asked target count _ _ both_empty = refl
+slots_marked like names asked target count _ _ (both_rules {s} {t} h) = (shown_alike like names asked count s t h).marked target
+
+pub slots_shown : (like : Segment → Segment → Type 0) (names : List (List ℕ)) → is_one_of names (codes "name") ≡ true → (home : Package) (count : ℕ) (slot other : Option Statement) → SlotsSealed like names count slot other
+    → map_or [] (shown_text home) slot ≡ map_or [] (shown_text home) other
+slots_shown like names asked home count _ _ both_empty = refl
+slots_shown like names asked home count _ _ (both_rules {s} {t} h) = (shown_alike like names asked count s t h).shown home

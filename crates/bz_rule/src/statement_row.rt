@@ -151,11 +151,11 @@ impl<'a> StatementRow<'a> {
     }
 
     /// Appends the canonical text of the statement, with its last newline. An `Err` leaves `out` as it was.
-    pub fn put(&self, alloc: Global, out: &mut Vec<u8>) -> Result<(), NoMemory>
+    pub fn put(&self, out: &mut Vec<u8>) -> Result<(), NoMemory>
         ensures appended { OnOk result (out.new.items ≡ out.old.items ++ layout_text self.now) }
         ensures unchanged { OnErr result (out.new.items ≡ out.old.items) }
     {
-        put_row(alloc, &self.row, out)
+        put_row(&self.row, out)
     }
 
     /// Its tree, which owns its texts. `Err`: memory was refused.

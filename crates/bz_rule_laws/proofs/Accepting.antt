@@ -5,9 +5,9 @@ use Rattle.bz_token.specs.declared.token.Kind.TheVariants.{Identifier}
 use Rattle.bz_tree.specs.declared.tree.GroupKind.TheVariants.{Call, List as ListKind}
 use Rattle.bz_tree.specs.declared.grammar.role.Role.TheVariants.{Bracket}
 use Rattle.bz_tree.specs.Tree.{leaf, group, Items, no_items, item, Segs, no_segs, seg}
-use Rattle.bz_tree.specs.Grammar.{IsTest, plain, single, primary, operand, no_suffix, suffix, call, ident, list, AreTests, no_test, one_test, AreArgs, no_arg, one_arg, IsArg, last_test, IsStatement, expression}
+use Rattle.bz_tree.specs.private.Productions.{IsTest, plain, single, primary, operand, no_suffix, suffix, call, ident, list, AreTests, no_test, one_test, AreArgs, no_arg, one_arg, IsArg, last_test, IsStatement, expression}
 use Rattle.bz_tree.specs.private.Machine.{accepts, begin, each, is_statement, role_of}
-use Rattle.bz_tree.proofs.Recognizer.Recognized.{statement_accepted, accepted_statement}
+use Rattle.bz_tree.proofs.Recognizer.Recognized.{produced_accepted, accepted_produced}
 use Rattle.bz_layout_laws.specs.Legible.{are_some}
 use Rattle.bz_rule_laws.proofs.Tests.{statement_outer}
 
@@ -27,18 +27,18 @@ call_statement segs h = expression (last_test (plain (single (primary (operand (
 tests_each : (segs : Segs) → AreTests segs → each (begin ListKind) segs ≡ true
 tests_each segs h = elim (cases_Bool (each (begin ListKind) segs)) [
   | inl is ↦ is
-  | inr miss ↦ absurd (let is : is_statement (one_list segs) ≡ true = statement_accepted (list_statement segs h) in false≢true (rw miss at is))
+  | inr miss ↦ absurd (let is : is_statement (one_list segs) ≡ true = produced_accepted (list_statement segs h) in false≢true (rw miss at is))
 ]
 
 each_tests : (segs : Segs) → each (begin ListKind) segs ≡ true → AreTests segs
 each_tests segs h =
     let is : is_statement (one_list segs) ≡ true = rw h refl in
-    (statement_outer (accepted_statement (one_list segs) is)).0.1 refl
+    (statement_outer (accepted_produced (one_list segs) is)).0.1 refl
 
 args_each : (segs : Segs) → AreArgs segs → each (begin Call) segs ≡ true
 args_each segs h = elim (cases_Bool (each (begin Call) segs)) [
   | inl is ↦ is
-  | inr miss ↦ absurd (let is : is_statement (one_call segs) ≡ true = statement_accepted (call_statement segs h) in false≢true (rw miss at is))
+  | inr miss ↦ absurd (let is : is_statement (one_call segs) ≡ true = produced_accepted (call_statement segs h) in false≢true (rw miss at is))
 ]
 
 -- a list whose elements are in the grammar is an operand

@@ -8,7 +8,7 @@ use Rattle.bz_token.proofs.Classes.{same_bytes}
 use Rattle.bz_tree.specs.Tree.{Item, leaf, group, Items, no_items, item, Segment, items_of, segs_of}
 use Rattle.bz_tree.specs.Brackets.{is_for_item}
 use Rattle.bz_tree.specs.Comments.{beside}
-use Rattle.bz_tree.specs.Grammar.{IsTest, IsArg, positional, keyword, starred, word_role}
+use Rattle.bz_tree.specs.private.Productions.{IsTest, IsArg, positional, keyword, starred, word_role}
 use Rattle.bz_layout_laws.specs.Legible.{AreComments, items_depth}
 use Rattle.bz_layout_laws.specs.Parsed.{is_comma, nodes_have_for, have_for}
 use Rattle.bz_attribute.specs.Rules.{ident_of, is_operator_item, name_of, value}

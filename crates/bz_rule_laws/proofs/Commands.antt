@@ -26,12 +26,15 @@ use Rattle.bz_rule_laws.proofs.Commands.Remove.{remove_keeping}
 use Rattle.bz_rule_laws.proofs.Commands.Rename.{rename_keeping}
 use Rattle.bz_rule_laws.proofs.Commands.Replace.{replace_keeping}
 use Rattle.bz_rule_laws.proofs.Commands.Set.{set_if_absent_keeping, set_keeping}
-use Rattle.bz_tree.specs.Grammar.{IsArg}
+use Rattle.bz_tree.specs.Grammar.{Argument, Is}
+use Rattle.bz_tree.proofs.Recognizer.InTable.{arg_form}
+use Rattle.bz_tree.proofs.Recognizer.FromTable.{argument_produced}
+use Rattle.bz_tree.specs.private.Productions.{IsArg}
 use Rattle.bz_layout_laws.specs.EachText.{statement_passes}
 use Rattle.bz_layout_laws.specs.WellFormed.{IsWellFormed}
 use Rattle.bz_rule_laws.proofs.PassingRules.{SlotPasses}
 use Rattle.bz_rule_laws.proofs.PassingWritten.{PassesWritten}
-use Rattle.bz_rule_laws.proofs.Segments.{AreFormed}
+use Rattle.bz_rule_laws.proofs.Segments.{AreFormed, formed_so}
 use Rattle.bz_tree.specs.Comments.{comments_of}
 
 pub keeping : (c : Command) (home : Package) → Keeps c home
@@ -54,8 +57,9 @@ pub done_aside : (c : Command) (home : Package) (slot : Option Statement) (g : S
 done_aside c home slot g aside = (keeping c home).told g aside slot
 
 -- what is well formed stays so, and texts pass a test that those before it and the words of the command pass
-pub arguments_formed : (depth : ℕ) (c : Command) (home : Package) (args : List Segment) → is_command c ≡ true → AreFormed IsArg (suc depth) args → AreFormed IsArg (suc depth) (args_after c home args)
-arguments_formed depth c home args h good = (keeping c home).arguments depth args h good
+pub arguments_formed : (depth : ℕ) (c : Command) (home : Package) (args : List Segment) → is_command c ≡ true → AreFormed (Is Argument) (suc depth) args → AreFormed (Is Argument) (suc depth) (args_after c home args)
+arguments_formed depth c home args h good =
+    formed_so IsArg (Is Argument) (λ xs a. arg_form a) (suc depth) (args_after c home args) ((keeping c home).arguments depth args h (formed_so (Is Argument) IsArg argument_produced (suc depth) args good))
 
 pub formed_after : (depth : ℕ) (c : Command) (home : Package) (s t : Statement) → is_command c ≡ true → 2 ≤ depth → IsWellFormed depth s → after c home (Some s) ≡ Some t → IsWellFormed depth t
 formed_after zero c home s t h k w e = absurd (omega arith)

@@ -12,7 +12,7 @@ use Rattle.bz_rule_laws.proofs.NewTexts.{quoted_text}
 use Rattle.bz_rule_laws.proofs.Segments.{AreFormed, IsFormed, all_appended, all_filtered, either_way}
 use Rattle.bz_token.specs.Lexical.{is_text}
 use Rattle.bz_token.specs.declared.token.Kind.TheVariants.{Identifier}
-use Rattle.bz_tree.specs.Grammar.{IsArg, IsTest, no_suffix, operand, plain, primary, single, text}
+use Rattle.bz_tree.specs.private.Productions.{IsArg, IsTest, no_suffix, operand, plain, primary, single, text}
 use Rattle.bz_tree.specs.Tree.{Item, Segment}
 
 pub first_good : (depth : ℕ) (attr : List ℕ) (f : Segment → List Segment) → ((a : Segment) → is_attribute a ≡ true → IsFormed IsArg depth a → AreFormed IsArg depth (f a)) → (args : List Segment) → AreFormed IsArg depth args

@@ -8,7 +8,7 @@ use Rattle.bz_attribute.specs.Rules.{rule_of}
 use Rattle.bz_attribute.specs.Effects.{nodes_after, slot_done, with_args}
 use Rattle.bz_rule_laws.specs.Aside.{IsAside}
 use Rattle.bz_rule_laws.proofs.Rebuilt.{slot_exchanged, told_alike}
-use Rattle.bz_tree.specs.Grammar.{IsArg}
+use Rattle.bz_tree.specs.private.Productions.{IsArg}
 use Rattle.bz_layout_laws.specs.WellFormed.{IsWellFormed}
 use Rattle.bz_rule_laws.proofs.PassingParts.{KeepsPassing}
 use Rattle.bz_rule_laws.proofs.PassingRules.{SlotPasses, StatementPasses, args_nodes_pass, with_nodes}

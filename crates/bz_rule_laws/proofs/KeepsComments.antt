@@ -5,7 +5,7 @@ use Rattle.std.proofs.lemmas.Bool.{and_from, and_parts, false≢true, not-true}
 use Rattle.bz_token.specs.Common.{map_or}
 use Rattle.bz_token.specs.Lexical.{is_comment}
 use Rattle.bz_tree.specs.Comments.{beside}
-use Rattle.bz_tree.specs.Grammar.{IsArg}
+use Rattle.bz_tree.specs.private.Productions.{IsArg}
 use Rattle.bz_tree.specs.Tree.{Item, Segment, Statement, items_of}
 use Rattle.bz_layout_laws.specs.EachText.{items_pass}
 use Rattle.bz_layout_laws.specs.WellFormed.{IsWellFormed}

@@ -1,6 +1,6 @@
 -- What a command keeps that edits the first argument of a name in its place.
 use Rattle.std.proofs.Common.{◌≡◌, ℕ, List, [], ◌∷◌, Bool, true, Option, is_some, map, ap, sym, ◌∙◌, refl, subst, suc}
-use Rattle.bz_tree.specs.Grammar.{IsArg}
+use Rattle.bz_tree.specs.private.Productions.{IsArg}
 use Rattle.bz_tree.specs.Tree.{Item, Segment}
 use Rattle.bz_label.specs.Labels.{Package}
 use Rattle.bz_attribute.specs.Effects.{done}

@@ -14,7 +14,7 @@ use Rattle.bz_rule_laws.proofs.ArgumentValues.{IsValue, no_for}
 use Rattle.bz_rule_laws.proofs.Segments.{AreFormed, form_tests, good_elements, taken_apart, either_way}
 use Rattle.bz_rule_laws.proofs.Tests.{Each, IsInner, is_list_kind, test_inner}
 use Rattle.bz_tree.specs.Brackets.{after_item}
-use Rattle.bz_tree.specs.Grammar.{AreTests, IsTest, list, no_suffix, operand, plain, primary, single}
+use Rattle.bz_tree.specs.private.Productions.{AreTests, IsTest, list, no_suffix, operand, plain, primary, single}
 use Rattle.bz_tree.specs.Kinds.{group_kind}
 use Rattle.bz_tree.specs.Tree.{Item, Items, Segment, Segs, group, item, items_of, leaf, segments, segs_of}
 use Rattle.bz_tree.specs.declared.tree.kinds.Preceding.{Preceding}

@@ -12,7 +12,9 @@ use Rattle.bz_tree.specs.declared.grammar.role.Role.TheVariants.{Dot}
 use Rattle.bz_tree.specs.Comments.{beside}
 use Rattle.bz_tree.specs.Tree.{Item, leaf, group, item, Segs, Statement, items_of, segs_of}
 use Rattle.bz_tree.specs.Statement.{class_of, is_call, is_rule, rule_call, is_assign}
-use Rattle.bz_tree.specs.Grammar.{IsArg, AreArgs, token_role, AreSuffixes, member, suffix, no_suffix, call, IsPrimary, operand, ident, primary, single, plain, last_test, expression}
+use Rattle.bz_tree.proofs.Recognizer.InTable.{statement_form}
+use Rattle.bz_tree.proofs.Recognizer.FromTable.{statement_produced}
+use Rattle.bz_tree.specs.private.Productions.{IsArg, AreArgs, token_role, AreSuffixes, member, suffix, no_suffix, call, IsPrimary, operand, ident, primary, single, plain, last_test, expression}
 use Rattle.bz_layout_laws.specs.Inside.{HasShape}
 use Rattle.bz_layout_laws.specs.Legible.{AreComments, are_some, item_depth, items_depth, segs_depth}
 use Rattle.bz_layout_laws.specs.TextsOfKinds.{HasText, HaveTexts}
@@ -133,7 +135,7 @@ rule_parts depth s r e w =
     let kind : IsDotted r.kind = dotted_is r.kind (rule_dotted [] s.nodes r e) (kind_texts r.kind (rule_call_of r) texts) in
     let text = call_text kind (rule_call_of r) texts in
     let kinds = call_kind kind Other (rule_call_of r) (subst (λ (nodes : List Item). HaveKinds true Other (items_of (plain_calls nodes))) are w.parsed.kinds) in
-    let outer = call_outer kind (rule_call_of r) (subst (λ (nodes : List Item). Each IsOuter (items_of nodes)) are (statement_outer w.grammar)) in
+    let outer = call_outer kind (rule_call_of r) (subst (λ (nodes : List Item). Each IsOuter (items_of nodes)) are (statement_outer (statement_produced (items_of s.nodes) w.grammar))) in
     let fits : items_depth (items_of (nodes_of r)) ≤ suc depth = subst (λ (nodes : List Item). items_depth (items_of nodes) ≤ suc depth) are w.depth_fits in
     let deep : items_depth (items_of (nodes_of r)) ≡ suc (segs_depth (segs_of r.args)) = dotted_depth kind (rule_call_of r) in
     record {
@@ -164,6 +166,6 @@ rule_formed depth s r h =
         alone = λ e. absurd (not_empty h.kind (rule_call_of r) e);
         lines = λ e. absurd (not_empty h.kind (rule_call_of r) e);
       };
-      grammar = expression (last_test (plain (single (primary (dotted_primary h.kind r (form_args depth r.args h.args))))));
+      grammar = statement_form (expression (last_test (plain (single (primary (dotted_primary h.kind r (form_args depth r.args h.args)))))));
       depth_fits = omega arith;
     }

@@ -2,7 +2,7 @@
 use Rattle.std.proofs.Common.{◌≡◌, ℕ, ◌≤◌, List, [], ◌∷◌, ◌++◌, Bool, true, false, filter, map, cond, if◌then◌else◌, arith}
 use Rattle.std.specs.List.{AllByRecursion, flat_map}
 use Rattle.bz_tree.specs.Tree.{Items, Segment, items_of, segs_of}
-use Rattle.bz_tree.specs.Grammar.{IsTest, AreTests, no_test, one_test, IsArg, AreArgs, no_arg, one_arg}
+use Rattle.bz_tree.specs.private.Productions.{IsTest, AreTests, no_test, one_test, IsArg, AreArgs, no_arg, one_arg}
 use Rattle.bz_layout_laws.specs.Legible.{are_some, items_depth, segs_depth}
 use Rattle.bz_layout_laws.specs.TextsOfKinds.{SegsHaveTexts}
 use Rattle.bz_layout_laws.specs.Parsed.{SegsHaveKinds}
@@ -63,6 +63,12 @@ good_elements depth ss h k = put_together IsTest depth ss h (tests_form ss k)
 
 pub good_arguments : (depth : ℕ) (ss : List Segment) → AreIn depth ss → AreArgs (segs_of ss) → AreFormed IsArg depth ss
 good_arguments depth ss h k = put_together IsArg depth ss h (args_form ss k)
+
+-- what is so of the nodes may be said otherwise
+pub formed_so : (F G : Items → Type 0) → ((xs : Items) → F xs → G xs) → (depth : ℕ) (ss : List Segment) → AreFormed F depth ss → AreFormed G depth ss
+formed_so F G same depth [] h = tt
+formed_so F G same depth (s ∷ ss) h =
+    (record { before = h.0.before; suffix = h.0.suffix; nodes = h.0.nodes; form = same (items_of s.nodes) h.0.form }, formed_so F G same depth ss h.1)
 
 -- what is so of both cases of a test
 pub either_way : {X : Type 0} (P : X → Type 0) (b : Bool) {x y : X} → P x → P y → P (if b then x else y)

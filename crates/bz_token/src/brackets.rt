@@ -56,6 +56,7 @@ fn is_pair(a: u8, b: u8) -> bool
 impl Brackets {
     ghost use Rattle.bz_token.specs.private.Scans.{opened, IsMisfit};
 
+    #[inline(always)]
     pub fn new() -> Brackets
         ensures { opened result ≡ [] }
     {

@@ -12,7 +12,7 @@ use crate::lexer::{Cursor, Lexer};
 use crate::token::{Kind, Token};
 use bumpalo::Bump;
 use bumpalo::collections::into_bump_slice;
-use bz_memory::NoMemory;
+use bz_memory::{NoMemory, with_capacity};
 
 /// The chunk that a text begins with, and its tokens, a list in the caller's arena.
 #[derive(Clone, Copy)]
@@ -117,7 +117,7 @@ pub fn first_chunk<'a>(
     requires { first_line + count_by (λ b. b == 10) text.now < 2 ^ 64 }
     ensures front { IfOk result (IsFront first_line max_depth text.now) }
 {
-    let mut lexer = Lexer::new(bump, FIRST_CAPACITY)?;
+    let mut lexer = Lexer::new(with_capacity(bump, FIRST_CAPACITY)?);
     let mut cursor = Cursor::start(text, first_line);
     // The first token of the line that is being read.
     let mut line_start = 0;

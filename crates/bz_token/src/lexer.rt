@@ -148,16 +148,17 @@ pub struct Lexer<'b, 'a> {
 }
 
 impl<'b, 'a> Lexer<'b, 'a> {
-    /// Nothing is read yet. `tokens`, `first_chunk` and `TokenReader` begin so, with room for their first tokens.
+    /// Nothing is read yet: the tokens go into this list. `tokens`, `first_chunk` and `TokenReader` begin so, with room
+    /// for their first tokens.
     #[inline(always)]
-    pub fn new(bump: &'b Bump, capacity: usize) -> Result<Lexer<'b, 'a>, NoMemory>
-        requires { capacity ≤ 4096 }
-        ensures { IfOk result (λ lexer. (lexer.tokens.items ≡ []) × (opened lexer.brackets ≡ [])) }
+    pub fn new(tokens: Vec<Token<'a>, &'b Bump>) -> Lexer<'b, 'a>
+        ensures tokens { result.tokens ≡ tokens.entry }
+        ensures none_open { opened result.brackets ≡ [] }
     {
-        Ok(Lexer {
-            tokens: with_capacity(bump, capacity)?,
+        Lexer {
+            tokens,
             brackets: Brackets::new(),
-        })
+        }
     }
 
     /// The tokens from this one on.
@@ -363,7 +364,7 @@ pub fn tokens_in<'b, 'a>(
     ensures tokens { IfOk result (λ v. AreTokensOf first_line max_depth text.now (map placed v.now)) }
     ensures fault { IfErr result (IsFault first_line max_depth text.now) }
 {
-    let mut lexer = Lexer::new(bump, first_capacity(text.len()))?;
+    let mut lexer = Lexer::new(with_capacity(bump, first_capacity(text.len()))?);
     let mut cursor = Cursor::start(text, first_line);
     while !cursor.rest.is_empty() {
         cursor = lexer.read_line(cursor, max_depth, usize::MAX)?.0;

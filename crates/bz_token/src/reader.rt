@@ -10,7 +10,7 @@ use crate::fault::LexFault;
 use crate::lexer::{Cursor, Lexer};
 use crate::token::Token;
 use bumpalo::Bump;
-use bz_memory::NoMemory;
+use bz_memory::{NoMemory, with_capacity};
 
 // So many tokens are a batch, or fewer.
 const MOST: usize = 256;
@@ -36,7 +36,7 @@ impl<'b, 'a> TokenReader<'b, 'a> {
         ensures { IfOk result (HasGiven first_line max_depth text.now []) }
     {
         Ok(TokenReader {
-            lexer: Lexer::new(bump, MOST)?,
+            lexer: Lexer::new(with_capacity(bump, MOST)?),
             cursor: Cursor::start(text, first_line),
             max_depth,
         })

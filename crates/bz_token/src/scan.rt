@@ -193,6 +193,18 @@ fn byte_at(bytes: &[u8], at: usize) -> u8
     bytes.get(at).copied().unwrap_or(0)
 }
 
+// The length of the operator here, which begins with this byte, or 0.
+#[inline(always)]
+fn operator_after(first: u8, bytes: &[u8]) -> usize
+    requires { first ≡ slice_index bytes.now 0 }
+    ensures in_range { result ≤ length bytes.now }
+    ensures operator { 0 < result → is_operator_text (take result bytes.now) ≡ true }
+    ensures stops { 0 < result → stops_at Operator (take result bytes.now) (drop result bytes.now) ≡ true }
+    ensures none { result ≡ 0 → (n : ℕ) → is_operator_text (take n bytes.now) ≡ false }
+{
+    operator_of(first, byte_at(bytes, 1), byte_at(bytes, 2))
+}
+
 /// The length of the operator here, or 0.
 #[inline(always)]
 pub fn operator_len(bytes: &[u8]) -> usize
@@ -201,5 +213,9 @@ pub fn operator_len(bytes: &[u8]) -> usize
     ensures stops { 0 < result → stops_at Operator (take result bytes.now) (drop result bytes.now) ≡ true }
     ensures none { result ≡ 0 → (n : ℕ) → is_operator_text (take n bytes.now) ≡ false }
 {
-    operator_of(byte_at(bytes, 0), byte_at(bytes, 1), byte_at(bytes, 2))
+    // Most are this one, of which one byte more tells the length.
+    match bytes {
+        [b'=', ..] => operator_after(b'=', bytes),
+        _ => operator_after(byte_at(bytes, 0), bytes),
+    }
 }

@@ -1,234 +1,150 @@
--- The grammar of a statement's nodes (Starlark specification, "Grammar reference"), a relation with a constructor for each row.
--- Chains are flat: nothing is evaluated, so precedence plays no part. In comments `{x}` is any number of x, `[x]` one or none.
+-- The grammar of a statement's nodes: its rows as a table, and what it is to have the form of a row.
+-- The rows are those of the Starlark specification ("Grammar reference"), without blocks and `lambda`.
+-- Nothing is evaluated, so a Binary has its operators in one list. Own to this project: an index is one Test.
 -- Begin with `IsStatement`.
 -- Of later stops: 8 `is_one_of`. It is in bz_token `Lexical`.
-use Rattle.std.specs.Prelude.{codes, ◌≡◌, ℕ, List, [], ◌∷◌, Bool, true, false, if◌then◌else◌, Option}
-use Rattle.std.specs.Str.{bytes_eq}
+use Rattle.std.specs.Prelude.{codes, ◌≡◌, ℕ, List, [], ◌∷◌, ◌++◌, Bool, true}
 use Rattle.bz_token.specs.declared.token.Kind.{Kind}
-use Rattle.bz_token.specs.declared.token.Kind.TheVariants.{Identifier, Keyword, Integer, String, Operator as OperatorToken}
+use Rattle.bz_token.specs.declared.token.Kind.TheVariants.{Identifier, Keyword, Integer, String, Operator}
 use Rattle.bz_tree.specs.declared.tree.GroupKind.{GroupKind}
-use Rattle.bz_tree.specs.declared.tree.GroupKind.TheVariants.{Load, Paren, List as ListKind, Index, Dict, ListComp, DictComp}
-use Rattle.bz_tree.specs.declared.grammar.role.Role.{Role}
-use Rattle.bz_tree.specs.declared.grammar.role.Role.TheVariants.{Name, Number, Value, Dot, Comma, Colon, Equals, Augmented, If, Else, For, In, Not, Tilde, Sum, Star, Stars, Operator, Stray}
+use Rattle.bz_tree.specs.declared.tree.GroupKind.TheVariants.{Call, RuleCall, Load, Paren, List as ListKind, Index, Dict, ListComp, DictComp}
 use Rattle.bz_tree.specs.Tree.{Item, leaf, group, Items, no_items, item, Segs, no_segs, seg}
-use Rattle.bz_tree.specs.Statement.{is_augmented, is_call, is_load_word}
+use Rattle.bz_tree.specs.Statement.{augmented}
 use Rattle.bz_token.specs.Lexical.{is_one_of}
 
-abbrev pub word_role : List ℕ → Role
-word_role text =
-    if bytes_eq text (codes "if") then If
-    else (if bytes_eq text (codes "else") then Else
-    else (if bytes_eq text (codes "for") then For
-    else (if bytes_eq text (codes "in") then In
-    else (if bytes_eq text (codes "not") then Not
-    else (if is_one_of (codes "and" ∷ codes "or" ∷ []) text then Operator
-    else Stray)))))
+infixr 30 ◌then◌
+infixr 20 ◌or◌
+pub data Row : Type 0 where
+  Statement : Row
+  LoadArgument : Row
+  Expression : Row
+  Test : Row
+  Binary : Row
+  Unary : Row
+  Primary : Row
+  Operand : Row
+  Suffix : Row
+  Bracketed : Row
+  Argument : Row
+  Entry : Row
+  Clauses : Row
+  For : Row
+  Subscript : Row
 
-abbrev pub is_infix : List ℕ → Bool
-is_infix text = is_one_of (codes "==" ∷ codes "!=" ∷ codes "<" ∷ codes ">" ∷ codes "<=" ∷ codes ">=" ∷ codes "|" ∷ codes "^" ∷ codes "&" ∷ codes "<<" ∷ codes ">>" ∷ codes "/" ∷ codes "//" ∷ codes "%" ∷ []) text
+-- What a row asks for.
+pub data Form : Type 0 where
+  nothing : Form
+  -- a token of this kind, and one that has one of these texts
+  any : Kind → Form
+  one_of : Kind → List (List ℕ) → Form
+  -- a bracket, by the form of its segments; a segment, by that of its nodes
+  bracket : GroupKind → Form → Form
+  segment : Form → Form
+  row : Row → Form
+  ◌then◌ : Form → Form → Form
+  ◌or◌ : Form → Form → Form
+  -- any number of times, one after another
+  many : Form → Form
 
-abbrev pub operator_role : List ℕ → Role
-operator_role text =
-    if bytes_eq text (codes ".") then Dot
-    else (if bytes_eq text (codes ",") then Comma
-    else (if bytes_eq text (codes ":") then Colon
-    else (if bytes_eq text (codes "=") then Equals
-    else (if bytes_eq text (codes "~") then Tilde
-    else (if bytes_eq text (codes "*") then Star
-    else (if bytes_eq text (codes "**") then Stars
-    else (if is_one_of (codes "+" ∷ codes "-" ∷ []) text then Sum
-    else (if is_augmented text then Augmented
-    else (if is_infix text then Operator
-    else Stray)))))))))
+abbrev pub word : List ℕ → Form
+word text = one_of Keyword (text ∷ [])
 
--- what a token is to the grammar
-abbrev pub leaf_role : Kind → List ℕ → Role
-leaf_role Identifier text = Name
-leaf_role Integer text = Number
-leaf_role String text = Value
-leaf_role Keyword text = word_role text
-leaf_role OperatorToken text = operator_role text
-leaf_role _ text = Stray
+abbrev pub sign : List ℕ → Form
+sign text = one_of Operator (text ∷ [])
 
-abbrev pub token_role : Item → Role
-token_role (leaf kind text) = leaf_role kind text
-token_role (group kind segs one_comma end) = Stray
+abbrev pub maybe : Form → Form
+maybe f = nothing or f
 
--- `+ - ~ not`
-abbrev pub is_prefix : Role → Bool
-is_prefix Sum = true
-is_prefix Tilde = true
-is_prefix Not = true
-is_prefix _ = false
+-- the segments of a bracket stand between its commas
+abbrev pub each_segment : Row → Form
+each_segment r = many (segment (row r))
 
--- `or and in == != < > <= >= | ^ & << >> + - * / // %`
-abbrev pub is_operator : Role → Bool
-is_operator Sum = true
-is_operator Star = true
-is_operator In = true
-is_operator Operator = true
-is_operator _ = false
+abbrev pub prefix : Form
+prefix = one_of Operator (codes "+" ∷ codes "-" ∷ codes "~" ∷ []) or word (codes "not")
 
--- `*` and `**` before an argument
-abbrev pub is_star : Role → Bool
-is_star Star = true
-is_star Stars = true
-is_star _ = false
+abbrev pub binary_signs : List (List ℕ)
+binary_signs =
+    codes "==" ∷ codes "!=" ∷ codes "<" ∷ codes ">" ∷ codes "<=" ∷ codes ">=" ∷ codes "|" ∷ codes "^"
+    ∷ codes "&" ∷ codes "<<" ∷ codes ">>" ∷ codes "+" ∷ codes "-" ∷ codes "*" ∷ codes "/" ∷ codes "//"
+    ∷ codes "%" ∷ []
 
--- `=` and the augmented assignments
-abbrev pub is_assignment : Role → Bool
-is_assignment Equals = true
-is_assignment Augmented = true
-is_assignment _ = false
+abbrev pub binary_words : List (List ℕ)
+binary_words = codes "or" ∷ codes "and" ∷ codes "in" ∷ []
 
--- two lists of items, one after the other
-abbrev pub join : Items → Items → Items
-join no_items ys = ys
-join (item x xs) ys = item x (join xs ys)
+abbrev pub binary : Form
+binary =
+    one_of Operator binary_signs or one_of Keyword binary_words or word (codes "not") then word (codes "in")
 
-abbrev pub is_dot_role : Role → Bool
-is_dot_role Dot = true
-is_dot_role _ = false
+-- of an argument
+abbrev pub star : Form
+star = one_of Operator (codes "*" ∷ codes "**" ∷ [])
 
-abbrev pub begins_dot : Items → Bool
-begins_dot no_items = false
-begins_dot (item x xs) = is_dot_role (token_role x)
+abbrev pub assignment : Form
+assignment = one_of Operator (codes "=" ∷ augmented)
 
--- BinOp: an operator, or `not in`
-pub data IsBinOp : Items → Type 0 where
-  operator : {o : Item} → is_operator (token_role o) ≡ true → IsBinOp (item o no_items)
-  not_in : {n i : Item} → token_role n ≡ Not → token_role i ≡ In → IsBinOp (item n (item i no_items))
+abbrev pub rule : Row → Form
+rule Statement =
+    nothing or row Expression or row Expression then assignment then row Expression
+    or word (codes "load") then bracket Load (segment (any String) then each_segment LoadArgument)
+rule LoadArgument = maybe (any Identifier then sign (codes "=")) then any String
+rule Expression = row Test then many (sign (codes ",") then row Test)
+rule Test = row Binary then maybe (word (codes "if") then row Binary then word (codes "else") then row Test)
+rule Binary = row Unary then many (binary then row Unary)
+rule Unary = many prefix then row Primary
+-- an integer takes no `.` directly after it
+rule Primary =
+    row Operand then many (row Suffix) or any Integer then maybe (row Bracketed then many (row Suffix))
+rule Operand =
+    any Identifier or any String or bracket Paren (each_segment Test) or bracket ListKind (each_segment Test)
+    or bracket Dict (each_segment Entry) or bracket ListComp (segment (row Test then row Clauses))
+    or bracket DictComp (segment (row Entry then row Clauses))
+rule Suffix = sign (codes ".") then any Identifier or row Bracketed
+rule Bracketed =
+    bracket Call (each_segment Argument) or bracket RuleCall (each_segment Argument)
+    or bracket Index (segment (row Subscript))
+rule Argument =
+    row Test or any Identifier then sign (codes "=") then row Test or star then row Test
+rule Entry = row Test then sign (codes ":") then row Test
+rule Clauses = row For then many (row For or word (codes "if") then row Binary)
+rule For =
+    word (codes "for") then row Primary then many (sign (codes ",") then row Primary)
+    then word (codes "in") then row Binary
+rule Subscript =
+    row Test or maybe (row Test) then sign (codes ":") then maybe (row Test)
+    then maybe (sign (codes ":") then maybe (row Test))
 
-mutual
-  -- Test: Chain [`if` Chain `else` Test]
-  pub data IsTest : Items → Type 0 where
-    plain : {xs : Items} → IsChain xs → IsTest xs
-    conditional : {xs a b c : Items} (i e : Item) → xs ≡ join a (item i (join b (item e c))) → IsChain a → token_role i ≡ If → IsChain b → token_role e ≡ Else → IsTest c → IsTest xs
+-- what stands one after another: the nodes of a segment, or the segments of a bracket
+pub data Part : Type 0 where
+  node : Item → Part
+  between_commas : Items → Part
 
-  -- Chain: {Prefix} Primary {BinOp {Prefix} Primary}
-  pub data IsChain : Items → Type 0 where
-    single : {xs : Items} → IsTerm xs → IsChain xs
-    binary : {xs a b : Items} (o : Items) → xs ≡ join a (join o b) → IsTerm a → IsBinOp o → IsChain b → IsChain xs
+abbrev pub nodes : Items → List Part
+nodes no_items = []
+nodes (item x xs) = node x ∷ nodes xs
 
-  -- {Prefix} Primary
-  pub data IsTerm : Items → Type 0 where
-    primary : {xs : Items} → IsPrimary xs → IsTerm xs
-    unary : {p : Item} {xs : Items} → is_prefix (token_role p) ≡ true → IsTerm xs → IsTerm (item p xs)
+abbrev pub contents : Segs → List Part
+contents no_segs = []
+contents (seg before xs beside segs) = between_commas xs ∷ contents segs
 
-  -- Primary: Operand {`.` Ident, Call or Index}; an Int takes no `.` directly after it
-  pub data IsPrimary : Items → Type 0 where
-    number : {x : Item} {xs : Items} → token_role x ≡ Number → AreSuffixes xs → begins_dot xs ≡ false → IsPrimary (item x xs)
-    operand : {x : Item} {xs : Items} → IsOperand x → AreSuffixes xs → IsPrimary (item x xs)
+-- these have the form
+pub data Has : Form → List Part → Type 0 where
+  none : Has nothing []
+  of_kind : {k : Kind} {text : List ℕ} → Has (any k) (node (leaf k text) ∷ [])
+  of_texts : {k : Kind} {texts : List (List ℕ)} {text : List ℕ} → is_one_of texts text ≡ true
+      → Has (one_of k texts) (node (leaf k text) ∷ [])
+  in_bracket : {k : GroupKind} {f : Form} {segs : Segs} {one_comma : Bool} {end : List (List ℕ)}
+      → Has f (contents segs) → Has (bracket k f) (node (group k segs one_comma end) ∷ [])
+  in_segment : {f : Form} {xs : Items} → Has f (nodes xs) → Has (segment f) (between_commas xs ∷ [])
+  by_rule : {r : Row} {ps : List Part} → Has (rule r) ps → Has (row r) ps
+  both : {f g : Form} {ps qs : List Part} → Has f ps → Has g qs → Has (f then g) (ps ++ qs)
+  this : {f g : Form} {ps : List Part} → Has f ps → Has (f or g) ps
+  that : {f g : Form} {ps : List Part} → Has g ps → Has (f or g) ps
+  no_more : {f : Form} → Has (many f) []
+  again : {f : Form} {ps qs : List Part} → Has f ps → Has (many f) qs → Has (many f) (ps ++ qs)
 
-  -- {`.` Ident, Call or Index}
-  pub data AreSuffixes : Items → Type 0 where
-    no_suffix : AreSuffixes no_items
-    member : {d n : Item} {xs : Items} → token_role d ≡ Dot → token_role n ≡ Name → AreSuffixes xs → AreSuffixes (item d (item n xs))
-    suffix : {x : Item} {xs : Items} → IsSuffix x → AreSuffixes xs → AreSuffixes (item x xs)
+-- the nodes are of this row
+abbrev pub Is : Row → Items → Type 0
+Is r xs = Has (row r) (nodes xs)
 
-  -- Call: `(` [Arg {`,` Arg} [`,`]] `)`; Index: one segment
-  pub data IsSuffix : Item → Type 0 where
-    call : {kind : GroupKind} {segs : Segs} {one_comma : Bool} {end : List (List ℕ)} → is_call kind ≡ true → AreArgs segs → IsSuffix (group kind segs one_comma end)
-    index : {before : List (List ℕ)} {nodes : Items} {beside : Option (List ℕ)} {one_comma : Bool} {end : List (List ℕ)} → IsIndex nodes → IsSuffix (group Index (seg before nodes beside no_segs) one_comma end)
-
-  -- Operand: Ident, Text, Paren, List, Dict, ListComp, DictComp (an Int stands in Primary)
-  pub data IsOperand : Item → Type 0 where
-    ident : {x : Item} → token_role x ≡ Name → IsOperand x
-    text : {x : Item} → token_role x ≡ Value → IsOperand x
-    paren : {segs : Segs} {one_comma : Bool} {end : List (List ℕ)} → AreTests segs → IsOperand (group Paren segs one_comma end)
-    list : {segs : Segs} {one_comma : Bool} {end : List (List ℕ)} → AreTests segs → IsOperand (group ListKind segs one_comma end)
-    dict : {segs : Segs} {one_comma : Bool} {end : List (List ℕ)} → AreEntries segs → IsOperand (group Dict segs one_comma end)
-    list_comp : {before : List (List ℕ)} {nodes : Items} {beside : Option (List ℕ)} {one_comma : Bool} {end : List (List ℕ)} → IsElement nodes → IsOperand (group ListComp (seg before nodes beside no_segs) one_comma end)
-    dict_comp : {before : List (List ℕ)} {nodes : Items} {beside : Option (List ℕ)} {one_comma : Bool} {end : List (List ℕ)} → IsEntryElement nodes → IsOperand (group DictComp (seg before nodes beside no_segs) one_comma end)
-
-  -- Test {`,` Test}, between brackets
-  pub data AreTests : Segs → Type 0 where
-    no_test : AreTests no_segs
-    one_test : {before : List (List ℕ)} {nodes : Items} {beside : Option (List ℕ)} {segs : Segs} → IsTest nodes → AreTests segs → AreTests (seg before nodes beside segs)
-
-  -- Arg {`,` Arg}
-  pub data AreArgs : Segs → Type 0 where
-    no_arg : AreArgs no_segs
-    one_arg : {before : List (List ℕ)} {nodes : Items} {beside : Option (List ℕ)} {segs : Segs} → IsArg nodes → AreArgs segs → AreArgs (seg before nodes beside segs)
-
-  -- Arg: Test, Ident `=` Test, `*` Test, `**` Test
-  pub data IsArg : Items → Type 0 where
-    positional : {xs : Items} → IsTest xs → IsArg xs
-    keyword : {n e : Item} {xs : Items} → token_role n ≡ Name → token_role e ≡ Equals → IsTest xs → IsArg (item n (item e xs))
-    starred : {s : Item} {xs : Items} → is_star (token_role s) ≡ true → IsTest xs → IsArg (item s xs)
-
-  -- Test `:` Test {`,` Test `:` Test}
-  pub data AreEntries : Segs → Type 0 where
-    no_entry : AreEntries no_segs
-    one_entry : {before : List (List ℕ)} {nodes : Items} {beside : Option (List ℕ)} {segs : Segs} → IsEntry nodes → AreEntries segs → AreEntries (seg before nodes beside segs)
-
-  -- Test `:` Test
-  pub data IsEntry : Items → Type 0 where
-    entry : {xs a b : Items} (c : Item) → xs ≡ join a (item c b) → IsTest a → token_role c ≡ Colon → IsTest b → IsEntry xs
-
-  -- in a ListComp: Test For {For or `if` Chain}
-  pub data IsElement : Items → Type 0 where
-    element : {xs a b : Items} → xs ≡ join a b → IsTest a → IsFor b → IsElement xs
-
-  -- in a DictComp: Test `:` Test For {For or `if` Chain}
-  pub data IsEntryElement : Items → Type 0 where
-    entry_element : {xs a b : Items} (c : Item) → xs ≡ join a (item c b) → IsTest a → token_role c ≡ Colon → IsElement b → IsEntryElement xs
-
-  -- For {For or `if` Chain}, where For is `for` Primary {`,` Primary} `in` Chain
-  pub data IsFor : Items → Type 0 where
-    for : {xs t c m : Items} (f i : Item) → xs ≡ item f (join t (item i (join c m))) → token_role f ≡ For → AreTargets t → token_role i ≡ In → IsChain c → AreClauses m → IsFor xs
-
-  -- Primary {`,` Primary}
-  pub data AreTargets : Items → Type 0 where
-    last_target : {xs : Items} → IsPrimary xs → AreTargets xs
-    target : {xs a b : Items} (c : Item) → xs ≡ join a (item c b) → IsPrimary a → token_role c ≡ Comma → AreTargets b → AreTargets xs
-
-  -- {For or `if` Chain}
-  pub data AreClauses : Items → Type 0 where
-    no_clause : AreClauses no_items
-    for_clause : {xs : Items} → IsFor xs → AreClauses xs
-    if_clause : {xs c m : Items} (i : Item) → xs ≡ item i (join c m) → token_role i ≡ If → IsChain c → AreClauses m → AreClauses xs
-
-  -- Index: Test, or [Test] `:` [Test] [`:` [Test]]
-  pub data IsIndex : Items → Type 0 where
-    at : {xs : Items} → IsTest xs → IsIndex xs
-    slice : {xs a b : Items} (c : Item) → xs ≡ join a (item c b) → IsOptional a → token_role c ≡ Colon → IsRange b → IsIndex xs
-
-  -- [Test] [`:` [Test]]
-  pub data IsRange : Items → Type 0 where
-    upper : {xs : Items} → IsOptional xs → IsRange xs
-    stepped : {xs a b : Items} (c : Item) → xs ≡ join a (item c b) → IsOptional a → token_role c ≡ Colon → IsOptional b → IsRange xs
-
-  -- [Test]
-  pub data IsOptional : Items → Type 0 where
-    nothing : IsOptional no_items
-    some : {xs : Items} → IsTest xs → IsOptional xs
-
--- Expr: Test {`,` Test}
-pub data IsExpr : Items → Type 0 where
-  last_test : {xs : Items} → IsTest xs → IsExpr xs
-  test : {xs a b : Items} (c : Item) → xs ≡ join a (item c b) → IsTest a → token_role c ≡ Comma → IsExpr b → IsExpr xs
-
--- Text
-pub data IsString : Items → Type 0 where
-  string : {x : Item} → token_role x ≡ Value → IsString (item x no_items)
-
--- [Ident `=`] Text
-pub data IsLoadArg : Items → Type 0 where
-  loaded : {xs : Items} → IsString xs → IsLoadArg xs
-  renamed : {n e : Item} {xs : Items} → token_role n ≡ Name → token_role e ≡ Equals → IsString xs → IsLoadArg (item n (item e xs))
-
-pub data AreLoadArgs : Segs → Type 0 where
-  no_load_arg : AreLoadArgs no_segs
-  load_arg : {before : List (List ℕ)} {nodes : Items} {beside : Option (List ℕ)} {segs : Segs} → IsLoadArg nodes → AreLoadArgs segs → AreLoadArgs (seg before nodes beside segs)
-
--- Load: `load` `(` Text {`,` [Ident `=`] Text} [`,`] `)`
-pub data IsLoad : Items → Type 0 where
-  load : {w : Item} {before : List (List ℕ)} {nodes : Items} {beside : Option (List ℕ)} {segs : Segs} {one_comma : Bool} {end : List (List ℕ)} → is_load_word w ≡ true → IsString nodes → AreLoadArgs segs → IsLoad (item w (item (group Load (seg before nodes beside segs) one_comma end) no_items))
-
--- Statement: Load, or Expr, or Expr AssignOperator Expr; of comment lines alone, nothing
-pub data IsStatement : Items → Type 0 where
-  comments : IsStatement no_items
-  load_statement : {xs : Items} → IsLoad xs → IsStatement xs
-  expression : {xs : Items} → IsExpr xs → IsStatement xs
-  assignment : {xs a b : Items} (s : Item) → xs ≡ join a (item s b) → IsExpr a → is_assignment (token_role s) ≡ true → IsExpr b → IsStatement xs
+abbrev pub IsStatement : Items → Type 0
+IsStatement xs = Is Statement xs

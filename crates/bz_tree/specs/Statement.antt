@@ -67,8 +67,13 @@ abbrev pub segment_of : List Own → Segment
 segment_of owns = segment_with (inside (own_items true owns))
 
 -- the augmented assignments (Starlark specification, "Assignments")
+abbrev pub augmented : List (List ℕ)
+augmented =
+    codes "+=" ∷ codes "-=" ∷ codes "*=" ∷ codes "/=" ∷ codes "//=" ∷ codes "%=" ∷ codes "&=" ∷ codes "|=" ∷ codes "^="
+    ∷ codes "<<=" ∷ codes ">>=" ∷ []
+
 abbrev pub is_augmented : List ℕ → Bool
-is_augmented text = is_one_of (codes "+=" ∷ codes "-=" ∷ codes "*=" ∷ codes "/=" ∷ codes "//=" ∷ codes "%=" ∷ codes "&=" ∷ codes "|=" ∷ codes "^=" ∷ codes "<<=" ∷ codes ">>=" ∷ []) text
+is_augmented text = is_one_of augmented text
 
 abbrev pub is_assign_operator : List ℕ → Bool
 is_assign_operator text = bytes_eq text (codes "=") || is_augmented text

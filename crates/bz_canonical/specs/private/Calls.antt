@@ -2,7 +2,7 @@
 use Rattle.std.specs.Prelude.{◌≡◌, ◌≤◌, ◌<◌, ℕ, List, [], ◌∷◌, ◌++◌, length, Bool, true, false, Some, if◌then◌else◌}
 use Rattle.bz_tree.specs.declared.tree.GroupKind.TheVariants.{Call, RuleCall}
 use Rattle.bz_tree.specs.declared.tree.kinds.Preceding.TheVariants.{Other}
-use Rattle.bz_tree.specs.Grammar.{AreArgs, IsTest}
+use Rattle.bz_tree.specs.private.Productions.{AreArgs, IsTest}
 use Rattle.bz_tree.specs.Tree.{Item, group, Segs, items_of}
 use Rattle.bz_layout.specs.Broken.{have_comments, segs_hold}
 use Rattle.bz_layout.specs.Layout.{broken_segs, flat_segs, item_pieces, items_pieces}

@@ -4,7 +4,7 @@ use Rattle.bz_token.specs.declared.token.Kind.TheVariants.{String}
 use Rattle.bz_tree.specs.declared.tree.kinds.Preceding.TheVariants.{Other}
 use Rattle.bz_tree.specs.declared.tree.Class.{Class}
 use Rattle.bz_tree.specs.declared.tree.GroupKind.TheVariants.{RuleCall, Load}
-use Rattle.bz_tree.specs.Grammar.{IsStatement}
+use Rattle.bz_tree.specs.private.Productions.{IsStatement}
 use Rattle.bz_tree.specs.Statement.{class_of, is_rule, rule_call}
 use Rattle.bz_tree.specs.Tree.{Item, Statement, items_of, segments}
 use Rattle.bz_layout.specs.declared.broken.Style.TheVariants.{Broken}

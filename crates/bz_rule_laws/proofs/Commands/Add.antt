@@ -23,7 +23,7 @@ use Rattle.bz_rule_laws.proofs.PassingWritten.{PassesWritten, argument_added, el
 use Rattle.bz_rule_laws.proofs.Segments.{AreFormed, IsFormed, all_appended, either_way}
 use Rattle.bz_token.specs.Lexical.{is_text}
 use Rattle.bz_token.specs.declared.token.Kind.TheVariants.{Identifier}
-use Rattle.bz_tree.specs.Grammar.{IsArg}
+use Rattle.bz_tree.specs.private.Productions.{IsArg}
 use Rattle.bz_token.specs.Common.{is_empty}
 
 -- beside changes of other arguments

@@ -27,7 +27,7 @@ use Rattle.bz_rule_laws.proofs.PassingTexts.{SegmentPasses, value_passes, with_v
 use Rattle.bz_rule_laws.proofs.PassingWritten.{PassesWritten}
 use Rattle.bz_rule_laws.proofs.Segments.{AreFormed, IsFormed, either_way}
 use Rattle.bz_token.specs.Lexical.{is_comment}
-use Rattle.bz_tree.specs.Grammar.{IsArg, IsTest}
+use Rattle.bz_tree.specs.private.Productions.{IsArg, IsTest}
 use Rattle.bz_rule.proofs.Lawfulness.Comment.{one_more, comment_attribute_edits, rule_edits, comment_value_edits}
 
 -- what it leaves is well formed, and passes a test

@@ -28,7 +28,7 @@ use Rattle.bz_rule_laws.proofs.PassingWritten.{PassesWritten, argument_added, el
 use Rattle.bz_rule_laws.proofs.Segments.{AreFormed, IsFormed, all_appended, all_filtered, either_way}
 use Rattle.bz_token.specs.Lexical.{is_text}
 use Rattle.bz_token.specs.declared.token.Kind.TheVariants.{Identifier}
-use Rattle.bz_tree.specs.Grammar.{IsArg, IsTest}
+use Rattle.bz_tree.specs.private.Productions.{IsArg, IsTest}
 use Rattle.bz_token.specs.Common.{map_or}
 
 -- beside changes of other arguments

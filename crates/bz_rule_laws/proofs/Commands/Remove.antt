@@ -22,7 +22,7 @@ use Rattle.bz_rule_laws.proofs.PassingParts.{edited_first_passes}
 use Rattle.bz_rule_laws.proofs.PassingTexts.{SegmentPasses, SegmentsPass}
 use Rattle.bz_rule_laws.proofs.PassingWritten.{filtered_passes}
 use Rattle.bz_rule_laws.proofs.Segments.{AreFormed, IsFormed, all_filtered, all_flattened, either_way}
-use Rattle.bz_tree.specs.Grammar.{IsArg}
+use Rattle.bz_tree.specs.private.Productions.{IsArg}
 
 -- beside changes of other arguments
 

@@ -19,7 +19,7 @@ use Rattle.bz_rule_laws.proofs.Segments.{IsFormed}
 use Rattle.bz_token.specs.Lexical.{is_text}
 use Rattle.bz_token.specs.declared.token.Kind.TheVariants.{Identifier}
 use Rattle.bz_tree.specs.Comments.{beside}
-use Rattle.bz_tree.specs.Grammar.{IsArg}
+use Rattle.bz_tree.specs.private.Productions.{IsArg}
 use Rattle.bz_rule.proofs.Lawfulness.Rename.{named_now, rename_edits}
 
 -- what it leaves is well formed, and passes a test

@@ -25,7 +25,7 @@ use Rattle.bz_rule_laws.proofs.PassingTexts.{SegmentPasses, value_passes, with_v
 use Rattle.bz_rule_laws.proofs.PassingWritten.{PassesWritten}
 use Rattle.bz_rule_laws.proofs.Segments.{IsFormed, all_mapped, either_way}
 use Rattle.bz_tree.specs.Comments.{beside}
-use Rattle.bz_tree.specs.Grammar.{IsArg, IsTest}
+use Rattle.bz_tree.specs.private.Productions.{IsArg, IsTest}
 use Rattle.bz_token.specs.Common.{map_or}
 use Rattle.bz_rule.proofs.Lawfulness.Replace.{replace_edits}
 

@@ -36,7 +36,7 @@ use Rattle.bz_rule_laws.proofs.Segments.{AreFormed, IsFormed, all_appended, eith
 use Rattle.bz_token.specs.Lexical.{is_text}
 use Rattle.bz_token.specs.declared.token.Kind.TheVariants.{Identifier, Integer, Kept, Newline, Comment, Operator, String, Keyword}
 use Rattle.bz_tree.specs.Comments.{beside, comments_of}
-use Rattle.bz_tree.specs.Grammar.{IsArg, ident, no_suffix, number, operand, plain, primary, single}
+use Rattle.bz_tree.specs.private.Productions.{IsArg, ident, no_suffix, number, operand, plain, primary, single}
 use Rattle.bz_token.specs.Common.{map_or}
 
 -- beside changes of other arguments

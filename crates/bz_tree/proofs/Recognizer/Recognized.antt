@@ -9,10 +9,13 @@ use Rattle.bz_tree.specs.declared.grammar.stage.Goal.TheVariants.{Left, Right}
 use Rattle.bz_tree.specs.declared.grammar.stage.Stage.TheVariants.{Statement, Wants, Loads, Text, LoadArgument, Renames}
 use Rattle.bz_tree.specs.Tree.{Item, leaf, group, Items, no_items, item, Segs, seg}
 use Rattle.bz_tree.specs.Statement.{is_load_word}
-use Rattle.bz_tree.specs.Grammar.{token_role, leaf_role, is_assignment, join, IsExpr, last_test, test, IsString, string, IsLoadArg, loaded, renamed, AreLoadArgs, no_load_arg, load_arg, IsLoad, load, IsStatement, comments, load_statement, expression, assignment}
+use Rattle.bz_tree.specs.private.Productions.{token_role, leaf_role, is_assignment, join, IsExpr, last_test, test, IsString, string, IsLoadArg, loaded, renamed, AreLoadArgs, no_load_arg, load_arg, IsLoad, load, IsStatement, comments, load_statement, expression, assignment}
 use Rattle.bz_tree.specs.private.Machine.{accepts, role_of, each, after_goal, next_wanted, next, is_statement}
 use Rattle.bz_tree.proofs.Recognizer.Accepted.{join_assoc, role_known, step, refused, leave, whole, Accepts, is_test_part, test_run}
+use Rattle.bz_tree.specs.Grammar as Table
 use Rattle.bz_tree.proofs.Recognizer.Meant.{statement_read}
+use Rattle.bz_tree.proofs.Recognizer.InTable.{statement_form}
+use Rattle.bz_tree.proofs.Recognizer.FromTable.{statement_produced}
 
 -- expressions
 expr_run : {xs : Items} → IsExpr xs → (p : Goal) (r : Items) → is_test_part p ≡ true → after_goal p Comma ≡ Wants p false → Accepts p false r → accepts (Wants p false) (join xs r) ≡ true
@@ -56,15 +59,22 @@ statement_run : (xs : Items) → accepts (Wants Left false) xs ≡ true → acce
 statement_run no_items h = refl
 statement_run (item x xs) h = statement_step (role_of x) xs h
 
-pub statement_accepted : {xs : Items} → IsStatement xs → is_statement xs ≡ true
-statement_accepted comments = refl
-statement_accepted (load_statement l) = load_run l
-statement_accepted (expression {xs} e) = statement_run xs (whole (Wants Left false) xs (expr_run e Left no_items refl refl (refl, refl)))
-statement_accepted (assignment {xs} {a} {b} s is ea es eb) =
+pub produced_accepted : {xs : Items} → IsStatement xs → is_statement xs ≡ true
+produced_accepted comments = refl
+produced_accepted (load_statement l) = load_run l
+produced_accepted (expression {xs} e) = statement_run xs (whole (Wants Left false) xs (expr_run e Left no_items refl refl (refl, refl)))
+produced_accepted (assignment {xs} {a} {b} s is ea es eb) =
     let right : accepts (Wants Right false) b ≡ true = whole (Wants Right false) b (expr_run eb Right no_items refl refl (refl, refl)) in
     let all : accepts (Wants Left false) (join a (item s b)) ≡ true = expr_run ea Left (item s b) refl refl (operator_run s (token_role s) refl es b right) in
     statement_run xs (ap (accepts (Wants Left false)) is ∙ all)
 
 -- and the other way
-pub accepted_statement : (xs : Items) → is_statement xs ≡ true → IsStatement xs
-accepted_statement xs h = statement_read xs h
+pub accepted_produced : (xs : Items) → is_statement xs ≡ true → IsStatement xs
+accepted_produced xs h = statement_read xs h
+
+-- the same of the table
+pub statement_accepted : (xs : Items) → Table.IsStatement xs → is_statement xs ≡ true
+statement_accepted xs h = produced_accepted (statement_produced xs h)
+
+pub accepted_statement : (xs : Items) → is_statement xs ≡ true → Table.IsStatement xs
+accepted_statement xs h = statement_form (accepted_produced xs h)

@@ -18,7 +18,7 @@ use Rattle.bz_tree.specs.declared.tree.classes.Naming.{Naming}
 use Rattle.bz_tree.specs.declared.tree.classes.Naming.TheVariants.{Name, Join, End, Never, Lost}
 use Rattle.bz_tree.specs.declared.row.spot.Read.{Read}
 use Rattle.bz_tree.specs.Tree.{Item, leaf, group, Segs, items_of}
-use Rattle.bz_tree.specs.Grammar.{leaf_role, operator_role, is_infix, is_assignment}
+use Rattle.bz_tree.specs.private.Productions.{leaf_role, operator_role, is_infix, is_assignment}
 use Rattle.bz_tree.specs.Statement.{is_ident, is_call, is_rule, is_rule_after, as_rule_call, rule_call, is_assign_operator, is_assign, is_load_word, is_kept, class_of, is_augmented}
 use Rattle.bz_tree.specs.private.Machine.{may_end, in_chain, after_goal, leaves, next_wanted, next_after, next, begin, group_role, is_whole, kind_role, accepts, role_of, each}
 use Rattle.bz_tree.specs.private.RowSteps.{named, called, is_rule_read, is_lost, is_done, read_class}

@@ -53,4 +53,4 @@ no_plain_tree ts same t p = no_answer ts (sym (one_answer ts) ∙ same) t p.tree
 pub no_plain_grammar : (ts : List Placed) (s : Segment) → run (new_level None) [] ts ≡ Some s → is_statement (items_of s.nodes) ≡ false → (t : Statement) → IsPlain ts t → ⊥
 no_plain_grammar ts s same refused t p =
     let nodes : s.nodes ≡ t.nodes = ap (λ (u : Statement). u.nodes) (answer_is_only ts s (sym (one_answer ts) ∙ same) t p.tree) in
-    false≢true (sym refused ∙ ap (λ ns. is_statement (items_of ns)) nodes ∙ statement_accepted p.grammar)
+    false≢true (sym refused ∙ ap (λ ns. is_statement (items_of ns)) nodes ∙ statement_accepted (items_of t.nodes) p.grammar)

@@ -12,7 +12,7 @@ use Rattle.bz_tree.specs.declared.grammar.stage.Stage.TheVariants.{Refused, Stat
 use Rattle.bz_tree.specs.Kinds.{is_one}
 use Rattle.bz_tree.specs.Tree.{Item, leaf, group, Items, no_items, item, Segs, no_segs, seg}
 use Rattle.bz_tree.specs.Statement.{is_load_word}
-use Rattle.bz_tree.specs.Grammar.{leaf_role}
+use Rattle.bz_tree.specs.private.Productions.{leaf_role}
 
 -- where a goal may end
 abbrev pub ends : Goal → Bool

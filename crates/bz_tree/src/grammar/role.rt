@@ -2,7 +2,7 @@
 
 ghost use Rattle.std.specs.Prelude.{◌≡◌, ◌<◌, ◌∷◌, [], length};
 ghost use Rattle.bz_token.specs.declared.token.Kind.TheVariants.{Keyword};
-ghost use Rattle.bz_tree.specs.Grammar.{operator_role, is_assignment};
+ghost use Rattle.bz_tree.specs.private.Productions.{operator_role, is_assignment};
 ghost use Rattle.bz_tree.specs.private.Machine.{kind_role};
 
 use bz_token::Kind;

@@ -62,6 +62,22 @@ pub fn read_statement<'a>(
     {
         return Ok(Some(row));
     }
+    read_tree(alloc, bump, text, first_line, tokens)
+}
+
+// The row by the tree. It is a call, since each call of a function clears the room of all that stands in it.
+#[inline(never)]
+fn read_tree<'a>(
+    alloc: Global,
+    bump: &'a Bump,
+    text: &'a str,
+    first_line: u64,
+    tokens: &[Token<'a>],
+) -> Result<Option<Row<'a>>, ParseFault>
+    requires lines { first_line + count_by (λ b. b == 10) text.now < 2 ^ 64 }
+    requires tokens { (depth : ℕ) × AreTokensOf first_line depth text.now (map placed tokens.now) }
+    ensures { IsReadByTokens first_line text.now (map placed tokens.now) result }
+{
     match parse_tokens(alloc, text, first_line, tokens)? {
         None => Ok(None),
         Some(stmt) => Ok(Some(row_of_tree(bump, stmt)?)),

@@ -282,6 +282,7 @@ impl<'a> RowWalk<'a> {
     }
 
     /// The statement's first token is on the line `start`, and its last ends on `end`.
+    #[inline(always)]
     pub(crate) fn finish(self, start: u64, end: u64) -> Option<Row<'a>>
         ensures row { option_map row_view result ≡ row_run (row_state self.entry) [] }
         ensures lines { IfSome result (λ row. (row.start ≡ start) × (row.end ≡ end)) }

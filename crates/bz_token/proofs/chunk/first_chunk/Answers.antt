@@ -12,9 +12,10 @@ use Rattle.bz_token.proofs.chunk.first_chunk.Goals as goal
 
 pub loop-cursor-init : goal.loop-cursor-init
 loop-cursor-init c =
-    let e = c.in_ok-lexer.ensures in
+    let e = c.new-lexer.ensures in
     let s = c.start-cursor.ensures in
-    started c.args.first_line c.args.max_depth c.args.text.now c.in_ok-lexer.lexer c.start-cursor.result e.0 e.1 s.rest s.line s.col s.none c.utf8.text
+    let none = ap (λ (v : _). v.items) e.tokens ∙ c.in_ok-with_capacity.ensures.items in
+    started c.args.first_line c.args.max_depth c.args.text.now c.new-lexer.result c.start-cursor.result none e.none_open s.rest s.line s.col s.none c.utf8.text
 
 pub tokens_from-requires : goal.tokens_from-requires
 tokens_from-requires c =

@@ -12,9 +12,10 @@ use Rattle.bz_token.proofs.lexer.tokens_in.Goals as goal
 
 pub loop-cursor-init : goal.loop-cursor-init
 loop-cursor-init c =
-    let e = c.in_ok-lexer.ensures in
+    let e = c.new-lexer.ensures in
     let s = c.start-cursor.ensures in
-    (read_fresh c.args.first_line c.args.max_depth c.args.text.now _ _ _ _ _ _ (ap (map placed) e.0) e.1 s.none s.rest s.line s.col c.utf8.text).0
+    let none = ap (λ (v : _). v.items) e.tokens ∙ c.in_ok-with_capacity.ensures.items in
+    (read_fresh c.args.first_line c.args.max_depth c.args.text.now _ _ _ _ _ _ (ap (map placed) none) e.none_open s.none s.rest s.line s.col c.utf8.text).0
 
 pub returns-in_err-cursor-clause-fault : goal.returns-in_err-cursor-clause-fault
 returns-in_err-cursor-clause-fault c = passed_on c.from_residual-in_err-cursor.result c.in_err-cursor.field-0.0 (IsFault c.args.first_line c.args.max_depth c.args.text.now) c.from_residual-in_err-cursor.ensures.1 (c.in_err-cursor.ensures.fault c.args.first_line c.args.text.now [] c.loop-cursor.invariant)
@@ -48,5 +49,5 @@ returns-then-is_inside-clause-fault c =
     let b = after_gap _ _ _ _ _ _ _ _ _ c.loop-cursor.invariant (end_gap _ _ done) in
     if_err _ _ c.closed.result (λ fault left. left_open _ _ _ _ _ _ _ _ _ _ fault b done (subst (λ ts. IsLeftOpen (map placed ts) fault) c.into_bump_slice-tokens.ensures left)) c.closed.ensures.fault
 
-pub returns-in_err-lexer-clause-fault : goal.returns-in_err-lexer-clause-fault
-returns-in_err-lexer-clause-fault c = passed_on c.from_residual.result (OutOfMemory no_memory) (IsFault c.args.first_line c.args.max_depth c.args.text.now) c.from_residual.ensures.1 tt
+pub returns-in_err-with_capacity-clause-fault : goal.returns-in_err-with_capacity-clause-fault
+returns-in_err-with_capacity-clause-fault c = passed_on c.from_residual.result (OutOfMemory no_memory) (IsFault c.args.first_line c.args.max_depth c.args.text.now) c.from_residual.ensures.1 tt

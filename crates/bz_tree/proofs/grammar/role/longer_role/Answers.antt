@@ -1,5 +1,5 @@
 use Rattle.std.proofs.Common.{ap, sym}
-use Rattle.bz_tree.specs.Grammar.{operator_role}
+use Rattle.bz_tree.specs.private.Productions.{operator_role}
 use Rattle.bz_tree.proofs.grammar.role.longer_role.Goals as goal
 
 pub returns-in-text : goal.returns-in-text

@@ -1,7 +1,7 @@
 use Rattle.std.proofs.Common.{ap, sym, ◌∙◌}
 use Rattle.bz_tree.specs.View.{text_of, node_view}
 use Rattle.bz_tree.specs.private.Machine.{kind_role}
-use Rattle.bz_tree.specs.Grammar.{is_assignment}
+use Rattle.bz_tree.specs.private.Productions.{is_assignment}
 use Rattle.bz_tree.specs.Statement.{is_assign}
 use Rattle.bz_tree.proofs.Rows.RowClass.{leaf_assigns}
 use Rattle.bz_tree.proofs.Trees.Walking.{view-Token}
