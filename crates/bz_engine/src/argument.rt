@@ -330,7 +330,7 @@ fn execute_on_small_rule<'s>(
     };
     let mut slot = Some(StatementRow::of_row(script.alloc, script.bump, row)?);
     let done = execute(env, command, &mut slot)?;
-    lines_after(script.alloc, &done, &slot, &mut spare.laid)
+    lines_after(&done, &slot, &mut spare.laid)
 }
 
 /// The small rule that has the argument of these lines alone.
