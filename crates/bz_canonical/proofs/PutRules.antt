@@ -9,6 +9,7 @@ use Rattle.bz_token.specs.Lexical.{is_text, keywords}
 use Rattle.bz_tree.specs.declared.tree.kinds.Shape.TheVariants.{Round}
 use Rattle.bz_tree.specs.declared.tree.Class.TheVariants.{Rule as RuleClass}
 use Rattle.bz_tree.specs.declared.tree.GroupKind.TheVariants.{RuleCall}
+use Rattle.bz_tree.proofs.Recognizer.InTable.{statement_form}
 use Rattle.bz_tree.specs.private.Productions.{AreArgs, AreSuffixes, IsArg, IsChain, IsExpr, IsOperand, IsPrimary, IsStatement, IsSuffix, IsTerm, IsTest}
 use Rattle.bz_tree.specs.Tree.{Item, leaf, group, Items, no_items, item, Segs, no_segs, seg, Segment, Statement, items_of, segs_of, segments, list_of}
 use Rattle.bz_layout.specs.Broken.{count, is_broken, segs_hold}
@@ -381,7 +382,7 @@ rule_read depth attr text name inside next below rest front w back some place h 
           alone = λ none. absurd_of (sym (ap (λ (xs : List Item). are_some (items_of xs)) none));
           lines = λ none. absurd_of (sym (ap (λ (xs : List Item). are_some (items_of xs)) none));
         };
-        grammar = IsStatement.expression (IsExpr.last_test (IsTest.plain (IsChain.single (IsTerm.primary (IsPrimary.operand (IsOperand.ident refl) (AreSuffixes.suffix (IsSuffix.call refl formed.grammar) AreSuffixes.no_suffix))))));
+        grammar = statement_form (IsStatement.expression (IsExpr.last_test (IsTest.plain (IsChain.single (IsTerm.primary (IsPrimary.operand (IsOperand.ident refl) (AreSuffixes.suffix (IsSuffix.call refl formed.grammar) AreSuffixes.no_suffix)))))));
         depth_fits = most _ _ (depth + 1) (omega arith) (most _ _ (depth + 1) (omega (arith, formed.depth_fits)) (omega arith));
       };
       stand = (tt, ((λ no. absurd_of (sym no), (own_stand (name_items name), args_stand depth a.placed a.are)), tt));

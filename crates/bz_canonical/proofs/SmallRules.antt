@@ -8,6 +8,7 @@ use Rattle.bz_tree.specs.declared.tree.kinds.Shape.TheVariants.{Round}
 use Rattle.bz_tree.specs.declared.tree.Class.TheVariants.{Rule as RuleClass}
 use Rattle.bz_tree.specs.declared.tree.GroupKind.TheVariants.{RuleCall}
 use Rattle.bz_tree.specs.Chunk.{IsStatementIn}
+use Rattle.bz_tree.proofs.Recognizer.InTable.{statement_form}
 use Rattle.bz_tree.specs.private.Productions.{IsStatement, IsExpr, IsTest, IsChain, IsTerm, IsPrimary, IsOperand, AreSuffixes, IsSuffix}
 use Rattle.bz_tree.specs.Tree.{Item, leaf, group, Segment, Statement, items_of, segs_of}
 use Rattle.bz_layout.specs.declared.spacing.Gap.TheVariants.{Closed, Line}
@@ -44,7 +45,7 @@ small_formed depth args are = record {
     alone = λ none. refl;
     lines = λ none. absurd_of (sym (ap (λ (xs : List Item). are_some (items_of xs)) none));
   };
-  grammar = IsStatement.expression (IsExpr.last_test (IsTest.plain (IsChain.single (IsTerm.primary (IsPrimary.operand (IsOperand.ident refl) (AreSuffixes.suffix (IsSuffix.call refl are.grammar) AreSuffixes.no_suffix))))));
+  grammar = statement_form (IsStatement.expression (IsExpr.last_test (IsTest.plain (IsChain.single (IsTerm.primary (IsPrimary.operand (IsOperand.ident refl) (AreSuffixes.suffix (IsSuffix.call refl are.grammar) AreSuffixes.no_suffix)))))));
   depth_fits = most _ _ (suc depth) (omega arith) (most _ _ (suc depth) (omega (arith, are.depth_fits)) (omega arith));
 }
 

@@ -110,7 +110,10 @@ pub(crate) fn marks_of<'b>(
     let mut i = parts.len();
     while i > 0 {
         i -= 1;
-        walk.step(&parts[i])?;
+        // Most parts are tokens, which leave all as it is.
+        if !matches!(parts[i], Part::Token(_, _)) {
+            walk.step(&parts[i])?;
+        }
     }
     let Marks { marks, .. } = walk;
     Ok(marks)

@@ -9,7 +9,8 @@ use Rattle.bz_layout_laws.proofs.Readable.{laid_tokens}
 use Rattle.bz_tree.specs.Blocks.{above, is_block_word, block_indent, is_block, kept_statement, IsKeptText, IsBlockOf}
 use Rattle.bz_tree.specs.Brackets.{without_lines, end_line}
 use Rattle.bz_tree.specs.Chunk.{IsOneOf, IsChunkOf, IsReadAs, IsStatementIn, indent_at, indent_fault}
-use Rattle.bz_tree.specs.Statement.{last_of, first_token, first_seen, last_seen}
+use Rattle.std.specs.List.{last_or as last_of}
+use Rattle.bz_tree.specs.Statement.{first_token, first_seen, last_seen}
 use Rattle.bz_tree.specs.Tree.{Statement}
 use Rattle.bz_tree.proofs.Trees.Sound.{none_is_some}
 use Rattle.bz_layout_laws.proofs.ChunkLaws.{chunk_same}

@@ -15,7 +15,8 @@ use Rattle.bz_tree.specs.declared.tree.kinds.Mark.TheVariants.{Open, Close, Comm
 use Rattle.bz_tree.specs.Tree.{Statement}
 use Rattle.bz_tree.specs.Kinds.{operator_mark, kind_mark, mark_of}
 use Rattle.bz_tree.specs.Brackets.{is_line, without_lines}
-use Rattle.bz_tree.specs.Statement.{is_aside, bare_tokens, last_of}
+use Rattle.std.specs.List.{last_or as last_of}
+use Rattle.bz_tree.specs.Statement.{is_aside, bare_tokens}
 use Rattle.bz_tree.specs.Blocks.{IsAt, IsKeptText, above_at, above, IsBlockOf}
 use Rattle.bz_tree.specs.Comments.{comment_of, comments_among}
 use Rattle.bz_layout_laws.specs.BlockComments.{AreWritten, AreKept}

@@ -15,17 +15,12 @@ use Rattle.bz_token.specs.Places.{column_from}
 use Rattle.bz_token.specs.Reading.{is_gap, continues_gap, feeds_gap}
 use Rattle.bz_token.proofs.Classes.{same_bytes}
 use Rattle.bz_tree.specs.Blocks.{is_block_word_at}
+use Rattle.bz_tree.proofs.Trees.Standing.{by_opener}
 use Rattle.bz_layout_laws.proofs.BranchWords.{other_word, stops_word, whole_word}
 
 -- what holds of the three words holds of a word that begins a block
 pub by_word : (P : List ℕ → Type 0) (kind : Kind) (text : List ℕ) → is_block_word_at kind text ≡ true → P (codes "def") → P (codes "for") → P (codes "if") → P text
-by_word P Keyword text h of_def of_for of_if = elim (or_cases (bytes_eq text (codes "def") || bytes_eq text (codes "for")) (bytes_eq text (codes "if")) h) [
-  | inr is ↦ subst P (sym (same_bytes text (codes "if") is)) of_if
-  | inl other ↦ elim (or_cases (bytes_eq text (codes "def")) (bytes_eq text (codes "for")) other) [
-    | inl is ↦ subst P (sym (same_bytes text (codes "def") is)) of_def
-    | inr is ↦ subst P (sym (same_bytes text (codes "for") is)) of_for
-  ]
-]
+by_word P Keyword text h of_def of_for of_if = by_opener P text h of_def of_for of_if
 by_word P _ text h of_def of_for of_if = absurd (false≢true h)
 
 pub word_begins : (kind : Kind) (text after : List ℕ) → is_block_word_at kind text ≡ true → goes_on If (text ++ after) ≡ false

@@ -10,7 +10,8 @@ use Rattle.bz_layout_laws.proofs.Readable.{bytes_join}
 use Rattle.bz_tree.specs.Blocks.{IsAt, IsKeptText, block_indent, is_block}
 use Rattle.bz_tree.specs.Brackets.{is_line as is_line_mark, without_lines}
 use Rattle.bz_tree.specs.Kinds.{mark_of}
-use Rattle.bz_tree.specs.Statement.{bare_tokens, last_of, first_token, last_seen}
+use Rattle.std.specs.List.{last_or as last_of}
+use Rattle.bz_tree.specs.Statement.{bare_tokens, first_token, last_seen}
 use Rattle.bz_tree.proofs.Trees.Sound.{none_is_some}
 use Rattle.bz_layout_laws.proofs.BlockTokens.{front_bare}
 use Rattle.bz_layout_laws.proofs.BlockEnds.{are_newlines, indent_between, block_between}

@@ -10,7 +10,8 @@ use Rattle.bz_tree.specs.declared.tree.kinds.Mark.{Mark}
 use Rattle.bz_tree.specs.declared.tree.kinds.Mark.TheVariants.{Open, Close, Comma, Comment, Newline as NewlineMark, Plain}
 use Rattle.bz_tree.specs.Blocks.{is_colon, with_token, logical_lines, indented, ends_open, bad_line, block_indent, header_line, depth_after, has_colon, is_block}
 use Rattle.bz_tree.specs.Kinds.{kind_mark, mark_of}
-use Rattle.bz_tree.specs.Statement.{is_aside, bare_tokens, last_of, last_token}
+use Rattle.std.specs.List.{last_or as last_of}
+use Rattle.bz_tree.specs.Statement.{is_aside, bare_tokens, last_token}
 use Rattle.bz_token.specs.Common.{map_or}
 
 -- a token without its line

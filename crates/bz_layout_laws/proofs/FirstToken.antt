@@ -51,15 +51,9 @@ after_comments first (text ∷ texts) rest before lines column next =
     front_comment _ _ _ refl refl (after_comments first texts rest ended (line_at first ((before ++ ([] ++ text)) ++ []) ∷ line_at first (before ++ []) ∷ lines) (column_newline 1 (before ++ ([] ++ text))) next)
 
 -- no word that begins a block
-no_opener : {A : Type 0} (a b c : Bool) (x y z : A) → is_some (cond a (Some x) (cond b (Some y) (cond c (Some z) None))) ≡ false → (a || b || c) ≡ false
-no_opener true b c x y z h = absurd (false≢true (sym h))
-no_opener false true c x y z h = absurd (false≢true (sym h))
-no_opener false false true x y z h = absurd (false≢true (sym h))
-no_opener false false false x y z h = refl
-
 no_word : (c : Choice) (kind : Kind) (text : List ℕ) → is_some (opener_of text) ≡ false → is_block_word_at kind (text_of c kind text) ≡ false
-no_word own Keyword text h = no_opener (bytes_eq text (codes "def")) (bytes_eq text (codes "for")) (bytes_eq text (codes "if")) _ _ _ h
-no_word (free breaks inner others) Keyword text h = no_opener (bytes_eq text (codes "def")) (bytes_eq text (codes "for")) (bytes_eq text (codes "if")) _ _ _ h
+no_word own Keyword text h = h
+no_word (free breaks inner others) Keyword text h = h
 no_word c _ text h = refl
 
 front_token : (t : Placed) (ts : List Placed) → is_aside t.kind ≡ false → t.col ≡ 1 → is_block_word t ≡ false → Front (t ∷ ts)

@@ -6,6 +6,7 @@ ghost use Rattle.bz_token.specs.Places.{placed};
 ghost use Rattle.bz_token.specs.FirstChunk.{IsFront};
 ghost use Rattle.bz_token.specs.private.LineEnds.{is_newline_token, is_comment_token, begins_block, line_end};
 
+use crate::brackets::Brackets;
 use crate::cutter::block::opener_at;
 use crate::fault::LexFault;
 use crate::lexer::{Cursor, Lexer};
@@ -117,7 +118,10 @@ pub fn first_chunk<'a>(
     requires { first_line + count_by (λ b. b == 10) text.now < 2 ^ 64 }
     ensures front { IfOk result (IsFront first_line max_depth text.now) }
 {
-    let mut lexer = Lexer::new(with_capacity(bump, FIRST_CAPACITY)?);
+    let mut lexer = Lexer {
+        tokens: with_capacity(bump, FIRST_CAPACITY)?,
+        brackets: Brackets::new(),
+    };
     let mut cursor = Cursor::start(text, first_line);
     // The first token of the line that is being read.
     let mut line_start = 0;

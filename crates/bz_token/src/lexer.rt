@@ -140,7 +140,8 @@ impl<'a> Cursor<'a> {
     }
 }
 
-/// The tokens that were read, and the brackets that are open after them.
+/// The tokens that were read, and the brackets that are open after them. It is made where it stays, without a function
+/// that would give it back: that would copy the room for all brackets.
 #[derive(Drop)]
 pub struct Lexer<'b, 'a> {
     pub tokens: Vec<Token<'a>, &'b Bump>,
@@ -148,19 +149,6 @@ pub struct Lexer<'b, 'a> {
 }
 
 impl<'b, 'a> Lexer<'b, 'a> {
-    /// Nothing is read yet: the tokens go into this list. `tokens`, `first_chunk` and `TokenReader` begin so, with room
-    /// for their first tokens.
-    #[inline(always)]
-    pub fn new(tokens: Vec<Token<'a>, &'b Bump>) -> Lexer<'b, 'a>
-        ensures tokens { result.tokens ≡ tokens.entry }
-        ensures none_open { opened result.brackets ≡ [] }
-    {
-        Lexer {
-            tokens,
-            brackets: Brackets::new(),
-        }
-    }
-
     /// The tokens from this one on.
     #[inline(always)]
     pub fn tokens_from(&self, start: usize) -> &[Token<'a>]
@@ -364,7 +352,10 @@ pub fn tokens_in<'b, 'a>(
     ensures tokens { IfOk result (λ v. AreTokensOf first_line max_depth text.now (map placed v.now)) }
     ensures fault { IfErr result (IsFault first_line max_depth text.now) }
 {
-    let mut lexer = Lexer::new(with_capacity(bump, first_capacity(text.len()))?);
+    let mut lexer = Lexer {
+        tokens: with_capacity(bump, first_capacity(text.len()))?,
+        brackets: Brackets::new(),
+    };
     let mut cursor = Cursor::start(text, first_line);
     while !cursor.rest.is_empty() {
         cursor = lexer.read_line(cursor, max_depth, usize::MAX)?.0;

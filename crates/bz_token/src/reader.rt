@@ -6,6 +6,7 @@ ghost use Rattle.bz_token.specs.Reading.{AreTokensOf};
 ghost use Rattle.bz_token.specs.Faults.{HasFault};
 ghost use Rattle.bz_token.specs.Batches.{HasGiven, batch, left};
 
+use crate::brackets::Brackets;
 use crate::fault::LexFault;
 use crate::lexer::{Cursor, Lexer};
 use crate::token::Token;
@@ -36,7 +37,10 @@ impl<'b, 'a> TokenReader<'b, 'a> {
         ensures { IfOk result (HasGiven first_line max_depth text.now []) }
     {
         Ok(TokenReader {
-            lexer: Lexer::new(with_capacity(bump, MOST)?),
+            lexer: Lexer {
+                tokens: with_capacity(bump, MOST)?,
+                brackets: Brackets::new(),
+            },
             cursor: Cursor::start(text, first_line),
             max_depth,
         })

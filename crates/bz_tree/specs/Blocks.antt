@@ -1,10 +1,10 @@
 -- Blocks: a statement that begins with `def`, `for` or `if` is kept as it was written (this project's own rule).
 -- Begin with `IsBlockOf`.
--- Of later stops: 8 `Placed`, `column_at`, `line_at`.
-use Rattle.std.specs.Prelude.{codes, ℕ, ◌+◌, ◌-◌, List, [], ◌∷◌, ◌++◌, Bool, true, false, not, if◌then◌else◌, ◌≡◌, ◌==◌, ◌&&◌, ◌||◌, nat_lt, Option, Some, None}
-use Rattle.std.specs.Str.{bytes_eq}
+-- Of later stops: 8 `Placed`, `column_at`, `line_at`, `opener_of`.
+use Rattle.std.specs.Prelude.{codes, ℕ, ◌+◌, ◌-◌, List, [], ◌∷◌, ◌++◌, Bool, true, false, not, if◌then◌else◌, ◌≡◌, ◌==◌, ◌&&◌, ◌||◌, nat_lt, Option, Some, None, is_some}
 use Rattle.bz_token.specs.declared.token.Kind.{Kind}
 use Rattle.bz_token.specs.declared.token.Kind.TheVariants.{Keyword, Kept}
+use Rattle.bz_token.specs.Blocks.{opener_of}
 use Rattle.bz_token.specs.Places.{Placed, line_at, column_at}
 use Rattle.bz_tree.specs.declared.tree.Class.TheVariants.{Block}
 use Rattle.bz_tree.specs.declared.tree.kinds.Mark.{Mark}
@@ -15,9 +15,9 @@ use Rattle.bz_tree.specs.Brackets.{end_line}
 use Rattle.bz_tree.specs.Statement.{first_token, last_token, last_seen}
 use Rattle.bz_token.specs.Common.{map_or}
 
--- the words that begin a block
+-- the words that begin a block, `opener_of` of bz_token
 abbrev pub is_block_word_at : Kind → List ℕ → Bool
-is_block_word_at Keyword text = bytes_eq text (codes "def") || bytes_eq text (codes "for") || bytes_eq text (codes "if")
+is_block_word_at Keyword text = is_some (opener_of text)
 is_block_word_at _ text = false
 
 abbrev pub is_block_word : Placed → Bool
@@ -47,7 +47,8 @@ abbrev pub indented : Bool → ℕ → List ℕ → Option (List ℕ)
 indented true column [] = Some (column ∷ [])
 indented true column (c ∷ columns) = if nat_lt c column then Some (column ∷ c ∷ columns) else None
 indented false column [] = None
-indented false column (c ∷ columns) = if c == column then Some (c ∷ columns) else indented false column columns
+indented false column (c ∷ columns) =
+    if c == column then Some (c ∷ columns) else indented false column columns
 
 -- the line ends with `:`; an empty one changes nothing
 abbrev pub ends_open : Bool → List Placed → Bool
@@ -60,7 +61,10 @@ abbrev pub bad_line : List ℕ → Bool → List (List Placed) → Option ℕ
 bad_line columns opens [] = None
 bad_line columns opens ([] ∷ lines) = bad_line columns opens lines
 bad_line columns opens ((t ∷ ts) ∷ lines) =
-    elim (indented opens t.col columns) [ None ↦ Some t.line | Some inner ↦ bad_line inner (ends_open (is_colon t) ts) lines ]
+    elim (indented opens t.col columns) [
+      | None ↦ Some t.line
+      | Some inner ↦ bad_line inner (ends_open (is_colon t) ts) lines
+    ]
 
 -- the line of the first logical line of a block, whose header stands in column 1, that is indented wrongly
 abbrev pub block_indent : List Placed → Option ℕ
@@ -84,7 +88,8 @@ has_colon depth (t ∷ ts) = (depth == 0 && is_colon t) || has_colon (depth_afte
 
 -- A block of the grammar: `:` stands outside brackets in its header line, and its last line does not end with `:`.
 abbrev pub is_block : List Placed → Bool
-is_block tokens = has_colon 0 (header_line (logical_lines tokens)) && not (map_or false is_colon (last_token tokens))
+is_block tokens =
+    has_colon 0 (header_line (logical_lines tokens)) && not (map_or false is_colon (last_token tokens))
 
 -- the comments above the first token
 abbrev pub above_at : Mark → List ℕ → List (List ℕ) → List (List ℕ)
@@ -112,7 +117,14 @@ pub record IsKeptText (first : ℕ) (bytes : List ℕ) (header last : Placed) (k
   pub ends : IsAt first (before ++ front) last
 
 abbrev pub kept_statement : List (List ℕ) → List ℕ → Placed → ℕ → Statement
-kept_statement before kept header end = record { before = before; nodes = leaf Kept kept ∷ []; suffix = None; class = Block; start = header.line; end = end }
+kept_statement before kept header end = record {
+  before = before;
+  nodes = leaf Kept kept ∷ [];
+  suffix = None;
+  class = Block;
+  start = header.line;
+  end = end;
+}
 
 -- The block that the tokens are: its text from the header's first token to the end of its last token, comments counted.
 pub record IsBlockOf (first : ℕ) (bytes : List ℕ) (tokens : List Placed) (s : Statement) : Type 0 where

@@ -22,7 +22,8 @@ pub record IsPlain (tokens : List Placed) (s : Statement) : Type 0 where
 
 abbrev pub indent_at : Option Placed → List Placed → Option ℕ
 indent_at None tokens = None
-indent_at (Some t) tokens = if t.col == 1 then (if is_block_word t then block_indent tokens else None) else Some t.line
+indent_at (Some t) tokens =
+    if t.col == 1 then (if is_block_word t then block_indent tokens else None) else Some t.line
 
 -- The line at which the chunk is indented wrongly: its first token stands in column 1, and the lines of a block on columns that
 -- fit. Comment lines may be indented.
@@ -35,7 +36,8 @@ IsOneOf false first bytes tokens s = IsPlain tokens s
 
 -- The statement of a chunk of these bytes with these tokens.
 abbrev pub IsChunkOf : ℕ → List ℕ → List Placed → Statement → Type 0
-IsChunkOf first bytes tokens s = IsOneOf (map_or false is_block_word (first_token tokens)) first bytes tokens s
+IsChunkOf first bytes tokens s =
+    IsOneOf (map_or false is_block_word (first_token tokens)) first bytes tokens s
 
 -- These tokens are read as the statement: it begins on its column, and is no blank chunk.
 pub record IsReadAs (first : ℕ) (bytes : List ℕ) (tokens : List Placed) (s : Statement) : Type 0 where

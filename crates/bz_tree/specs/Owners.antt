@@ -100,7 +100,11 @@ below_last (a_comma ∷ es) = below_last es
 abbrev pub cell_segment : List Entry → List (List ℕ) → List (List ℕ) → Segment
 cell_segment cell below_it on_comma =
     let shown = beside_last cell ++ on_comma in
-    record { before = above_last cell ++ (below_it ++ drop 1 shown); nodes = nodes_in cell; suffix = first_of shown }
+    record {
+      before = above_last cell ++ (below_it ++ drop 1 shown);
+      nodes = nodes_in cell;
+      suffix = first_of shown;
+    }
 
 -- a segment, if it has a node
 abbrev pub with_segment : Segment → List Segment → List Segment
@@ -110,7 +114,9 @@ with_segment s ss = if is_filled s.nodes then s ∷ ss else ss
 -- is the comment on the line of that comma; those below the last cell's last node are no segment's.
 abbrev pub segments_from : List Entry → List (List Entry) → List Segment
 segments_from cell [] = with_segment (cell_segment cell [] []) []
-segments_from cell (next ∷ cells) = with_segment (cell_segment cell (below_last cell) (same_line next)) (segments_from (later_lines next) cells)
+segments_from cell (next ∷ cells) =
+    with_segment (cell_segment cell (below_last cell) (same_line next))
+    (segments_from (later_lines next) cells)
 
 -- the end comments: those of the last cell that stand below its last node; where it has no node, all but the one on its comma's line
 abbrev pub end_from : List Entry → List (List Entry) → List (List ℕ)

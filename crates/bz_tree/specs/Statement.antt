@@ -17,7 +17,7 @@ use Rattle.bz_tree.specs.Brackets.{Elems, elems_tokens, elems_own, own_items, Ar
 use Rattle.bz_token.specs.Common.{first_of, is_empty, map_or}
 use Rattle.bz_token.specs.Lexical.{is_one_of}
 use Rattle.bz_tree.specs.Kinds.{is_operator_at}
-use Rattle.std.specs.List.{list_any}
+use Rattle.std.specs.List.{list_any, last_or}
 use Rattle.std.specs.Option.{option_or}
 
 -- At depth 0 a statement is one segment, and every comment but the suffix stands before it.
@@ -57,7 +57,11 @@ rule_call (x ∷ y ∷ ys) = x ∷ rule_call (y ∷ ys)
 
 -- the call of a rule is a RuleCall
 abbrev pub with_rule_call : Segment → Segment
-with_rule_call s = record { before = s.before; nodes = (if is_rule s.nodes then rule_call s.nodes else s.nodes); suffix = s.suffix }
+with_rule_call s = record {
+  before = s.before;
+  nodes = (if is_rule s.nodes then rule_call s.nodes else s.nodes);
+  suffix = s.suffix;
+}
 
 abbrev pub segment_with : Inside → Segment
 segment_with i = with_rule_call (one_segment i.segs i.end)
@@ -69,8 +73,8 @@ segment_of owns = segment_with (inside (own_items true owns))
 -- the augmented assignments (Starlark specification, "Assignments")
 abbrev pub augmented : List (List ℕ)
 augmented =
-    codes "+=" ∷ codes "-=" ∷ codes "*=" ∷ codes "/=" ∷ codes "//=" ∷ codes "%=" ∷ codes "&=" ∷ codes "|=" ∷ codes "^="
-    ∷ codes "<<=" ∷ codes ">>=" ∷ []
+    codes "+=" ∷ codes "-=" ∷ codes "*=" ∷ codes "/=" ∷ codes "//=" ∷ codes "%=" ∷ codes "&=" ∷ codes "|="
+    ∷ codes "^=" ∷ codes "<<=" ∷ codes ">>=" ∷ []
 
 abbrev pub is_augmented : List ℕ → Bool
 is_augmented text = is_one_of augmented text
@@ -111,24 +115,19 @@ abbrev pub bare_tokens : List Placed → List Placed
 bare_tokens [] = []
 bare_tokens (t ∷ ts) = if is_aside t.kind then bare_tokens ts else t ∷ bare_tokens ts
 
--- the last of these, or what stood before
-abbrev pub last_of : Option Placed → List Placed → Option Placed
-last_of found [] = found
-last_of found (t ∷ ts) = last_of (Some t) ts
-
 -- the first and the last token of a statement, comments not counted
 abbrev pub first_token : List Placed → Option Placed
 first_token tokens = first_of (bare_tokens tokens)
 
 abbrev pub last_token : List Placed → Option Placed
-last_token tokens = last_of None (bare_tokens tokens)
+last_token tokens = last_or None (bare_tokens tokens)
 
 -- with comments
 abbrev pub first_seen : List Placed → Option Placed
 first_seen tokens = first_of (without_lines tokens)
 
 abbrev pub last_seen : List Placed → Option Placed
-last_seen tokens = last_of None (without_lines tokens)
+last_seen tokens = last_or None (without_lines tokens)
 
 -- the line of the first token; comments count only where nothing else is there
 abbrev pub start_of : List Placed → ℕ
@@ -139,7 +138,14 @@ abbrev pub end_of : List Placed → ℕ
 end_of tokens = map_or 0 end_line (option_or (last_token tokens) (last_seen tokens))
 
 abbrev pub statement_with : List Placed → Segment → Statement
-statement_with tokens s = record { before = s.before; nodes = s.nodes; suffix = s.suffix; class = class_of s.nodes; start = start_of tokens; end = end_of tokens }
+statement_with tokens s = record {
+  before = s.before;
+  nodes = s.nodes;
+  suffix = s.suffix;
+  class = class_of s.nodes;
+  start = start_of tokens;
+  end = end_of tokens;
+}
 
 -- The statement of the tokens: the only tree of brackets whose tokens in order are these, its comments with their owners.
 pub record IsStatementOf (tokens : List Placed) (s : Statement) : Type 0 where

@@ -92,31 +92,30 @@ pub(crate) fn new_of<'w>(attr: &str, words: &'w [Text], is_list: bool) -> New<'w
     }
 }
 
-// The attributes that are lists in all rules.
-const LIST_ATTRIBUTES: [&str; 17] = [
-    "srcs",
-    "hdrs",
-    "textual_hdrs",
-    "deps",
-    "runtime_deps",
-    "exports",
-    "data",
-    "tools",
-    "outs",
-    "visibility",
-    "default_visibility",
-    "tags",
-    "copts",
-    "defines",
-    "includes",
-    "linkopts",
-    "features",
-];
-
+// Whether the attribute is a list in all rules.
 fn is_list_attribute(attr: &str) -> bool
     ensures { result ≡ spec.is_list_attribute attr.now }
 {
-    LIST_ATTRIBUTES.contains(&attr)
+    matches!(
+        attr,
+        "srcs"
+            | "hdrs"
+            | "textual_hdrs"
+            | "deps"
+            | "runtime_deps"
+            | "exports"
+            | "data"
+            | "tools"
+            | "outs"
+            | "visibility"
+            | "default_visibility"
+            | "tags"
+            | "copts"
+            | "defines"
+            | "includes"
+            | "linkopts"
+            | "features"
+    )
 }
 
 fn new_word(word: &str) -> New<'_>

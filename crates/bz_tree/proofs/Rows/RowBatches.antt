@@ -17,7 +17,8 @@ use Rattle.bz_tree.specs.Tree.{Statement}
 use Rattle.bz_tree.specs.Chunk.{IsStatementIn}
 use Rattle.bz_tree.specs.Kinds.{mark_of}
 use Rattle.bz_tree.specs.Brackets.{is_line, without_lines, end_line}
-use Rattle.bz_tree.specs.Statement.{is_aside, bare_tokens, last_of, first_token, first_seen, last_token, last_seen, start_of, end_of}
+use Rattle.std.specs.List.{last_or as last_of}
+use Rattle.bz_tree.specs.Statement.{is_aside, bare_tokens, first_token, first_seen, last_token, last_seen, start_of, end_of}
 use Rattle.bz_tree.specs.Rows.{IsRowOf}
 use Rattle.bz_tree.specs.RowReads.{has_row}
 use Rattle.bz_tree.specs.private.RowSteps.{row_state, row_run, row_start, row_view, is_upright}

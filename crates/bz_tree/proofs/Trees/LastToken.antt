@@ -9,7 +9,8 @@ use Rattle.bz_token.specs.Common.{first_of}
 use Rattle.bz_token.specs.Places.{Placed, placed}
 use Rattle.bz_tree.specs.Kinds.{mark_of}
 use Rattle.bz_tree.specs.Brackets.{is_line, without_lines}
-use Rattle.bz_tree.specs.Statement.{is_aside, bare_tokens, last_of, last_token, last_seen}
+use Rattle.std.specs.List.{last_or as last_of}
+use Rattle.bz_tree.specs.Statement.{is_aside, bare_tokens, last_token, last_seen}
 
 pub bare_append : (xs ys : List Placed) → bare_tokens (xs ++ ys) ≡ bare_tokens xs ++ bare_tokens ys
 bare_append [] ys = refl

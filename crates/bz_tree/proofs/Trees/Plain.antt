@@ -7,7 +7,8 @@ use Rattle.bz_token.specs.Places.{Placed}
 use Rattle.bz_tree.specs.Tree.{Segment, Statement, items_of}
 use Rattle.bz_tree.specs.Kinds.{mark_of}
 use Rattle.bz_tree.specs.Brackets.{end_line, is_line, without_lines}
-use Rattle.bz_tree.specs.Statement.{is_aside, bare_tokens, last_of, last_token, last_seen, end_of, EndsFit, statement_with}
+use Rattle.std.specs.List.{last_or as last_of}
+use Rattle.bz_tree.specs.Statement.{is_aside, bare_tokens, last_token, last_seen, end_of, EndsFit, statement_with}
 use Rattle.bz_tree.specs.private.Machine.{is_statement}
 use Rattle.bz_tree.specs.Chunk.{IsPlain}
 use Rattle.bz_tree.specs.private.Steps.{new_level, run}

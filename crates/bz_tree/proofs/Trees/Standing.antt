@@ -1,6 +1,6 @@
 -- The tokens of a text stand in it at their places.
 use Rattle.std.proofs.Common.{◌≡◌, ℕ, ◌+◌, ◌<◌, ◌^◌, ◌==◌, List, [], ◌∷◌, ◌++◌, count_by, Bool, true, false, ◌&&◌, ◌||◌, cond, Option, Some, None, refl, sym, ap, subst, ◌∙◌, arith, append_assoc, append-nil, inl, inr}
-use Rattle.std.specs.Prelude.{codes}
+use Rattle.std.specs.Prelude.{codes, is_some}
 use Rattle.std.specs.Option.{option_or}
 use Rattle.std.specs.Str.{bytes_eq}
 use Rattle.std.proofs.lemmas.Bool.{false≢true, and_parts, or_cases}
@@ -8,13 +8,16 @@ use Rattle.std.proofs.lemmas.Bool.Decides.{nat_tests}
 use Rattle.std.proofs.lemmas.Slice.Eq.{bytes_eq-Decides}
 use Rattle.bz_token.specs.declared.token.Kind.{Kind}
 use Rattle.bz_token.specs.declared.token.Kind.TheVariants.{Keyword, Operator, Newline}
+use Rattle.bz_token.specs.Blocks.{opener_of}
+use Rattle.bz_token.specs.declared.cutter.block.Opener.TheVariants.{Def, For, If}
 use Rattle.bz_token.specs.Places.{Placed, line_at}
 use Rattle.bz_token.specs.Lexical.{is_text}
 use Rattle.bz_token.specs.Brackets.{is_inside, open_after_token}
 use Rattle.bz_token.specs.Reading.{is_white, is_gap, continues_gap, Piece, IsReading, token_of, tokens_of, AreTokensOf}
 use Rattle.bz_tree.specs.Kinds.{operator_mark, kind_mark, mark_of}
 use Rattle.bz_tree.specs.Brackets.{is_line, without_lines}
-use Rattle.bz_tree.specs.Statement.{is_aside, bare_tokens, last_of, EndsFit}
+use Rattle.std.specs.List.{last_or as last_of}
+use Rattle.bz_tree.specs.Statement.{is_aside, bare_tokens, EndsFit}
 use Rattle.bz_tree.specs.Blocks.{IsAt, is_block_word_at}
 use Rattle.bz_tree.specs.private.BlockSteps.{IsAsciiFront, AreStanding}
 use Rattle.bz_token.proofs.Progress.{newlines, newlines-append}
@@ -261,18 +264,20 @@ both_found first (p ∷ ps) = λ depth before lines opened bs rest header last r
         let kept : last_of (Some t) ts ≡ Some last = ap (λ b. last_of None (cond b ts (t ∷ ts))) (sym (counted_mark p.kind p.text e)) ∙ is in
         both_from first p ps depth before lines opened bs rest header last reading gap (some_injective t header some) (last_of None ts) refl (sym (last_or (Some t) ts) ∙ kept)
 
-word_front : (t more word : List ℕ) → bytes_eq t word ≡ true → IsAsciiFront (word ++ more) → IsAsciiFront (t ++ more)
-word_front t more word is ascii = subst (λ x. IsAsciiFront (x ++ more)) (sym ((bytes_eq-Decides t word).0 is)) ascii
+-- what holds of the three words holds of a word that begins a block
+pub by_opener : (P : List ℕ → Type 0) (text : List ℕ) → is_some (opener_of text) ≡ true → P (codes "def") → P (codes "for") → P (codes "if") → P text
+by_opener P text h of_def of_for of_if = at (bytes_eq text (codes "def")) refl (bytes_eq text (codes "for")) refl (bytes_eq text (codes "if")) refl h
+  where
+    at : (d : Bool) → bytes_eq text (codes "def") ≡ d → (f : Bool) → bytes_eq text (codes "for") ≡ f → (i : Bool) → bytes_eq text (codes "if") ≡ i
+        → is_some (cond d (Some Def) (cond f (Some For) (cond i (Some If) None))) ≡ true → P text
+    at true is f _ i _ h = subst P (sym ((bytes_eq-Decides text (codes "def")).0 is)) of_def
+    at false _ true is i _ h = subst P (sym ((bytes_eq-Decides text (codes "for")).0 is)) of_for
+    at false _ false _ true is h = subst P (sym ((bytes_eq-Decides text (codes "if")).0 is)) of_if
+    at false _ false _ false _ h = absurd (false≢true h)
 
 block_front : (kind : Kind) (t more : List ℕ) → is_block_word_at kind t ≡ true → IsAsciiFront (t ++ more)
 block_front Keyword t more h =
-    elim (or_cases (bytes_eq t (codes "def") || bytes_eq t (codes "for")) (bytes_eq t (codes "if")) h) [
-      | inl l ↦ elim (or_cases (bytes_eq t (codes "def")) (bytes_eq t (codes "for")) l) [
-        | inl d ↦ word_front t more (codes "def") d (let n : 100 < 128 = omega arith in n)
-        | inr f ↦ word_front t more (codes "for") f (let n : 102 < 128 = omega arith in n)
-      ]
-      | inr i ↦ word_front t more (codes "if") i (let n : 105 < 128 = omega arith in n)
-    ]
+    by_opener (λ word. IsAsciiFront (word ++ more)) t h (let n : 100 < 128 = omega arith in n) (let n : 102 < 128 = omega arith in n) (let n : 105 < 128 = omega arith in n)
 block_front _ t more h = absurd (false≢true h)
 
 pub standing : (first depth : ℕ) (bytes : List ℕ) (tokens : List Placed) → AreTokensOf first depth bytes tokens → AreStanding first bytes tokens

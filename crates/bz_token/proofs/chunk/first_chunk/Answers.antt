@@ -12,10 +12,8 @@ use Rattle.bz_token.proofs.chunk.first_chunk.Goals as goal
 
 pub loop-cursor-init : goal.loop-cursor-init
 loop-cursor-init c =
-    let e = c.new-lexer.ensures in
     let s = c.start-cursor.ensures in
-    let none = ap (λ (v : _). v.items) e.tokens ∙ c.in_ok-with_capacity.ensures.items in
-    started c.args.first_line c.args.max_depth c.args.text.now c.new-lexer.result c.start-cursor.result none e.none_open s.rest s.line s.col s.none c.utf8.text
+    started c.args.first_line c.args.max_depth c.args.text.now _ c.start-cursor.result c.in_ok-with_capacity.ensures.items c.new.ensures s.rest s.line s.col s.none c.utf8.text
 
 pub tokens_from-requires : goal.tokens_from-requires
 tokens_from-requires c =

@@ -12,10 +12,8 @@ use Rattle.bz_token.proofs.lexer.tokens_in.Goals as goal
 
 pub loop-cursor-init : goal.loop-cursor-init
 loop-cursor-init c =
-    let e = c.new-lexer.ensures in
     let s = c.start-cursor.ensures in
-    let none = ap (λ (v : _). v.items) e.tokens ∙ c.in_ok-with_capacity.ensures.items in
-    (read_fresh c.args.first_line c.args.max_depth c.args.text.now _ _ _ _ _ _ (ap (map placed) none) e.none_open s.none s.rest s.line s.col c.utf8.text).0
+    (read_fresh c.args.first_line c.args.max_depth c.args.text.now _ _ _ _ _ _ (ap (map placed) c.in_ok-with_capacity.ensures.items) c.new.ensures s.none s.rest s.line s.col c.utf8.text).0
 
 pub returns-in_err-cursor-clause-fault : goal.returns-in_err-cursor-clause-fault
 returns-in_err-cursor-clause-fault c = passed_on c.from_residual-in_err-cursor.result c.in_err-cursor.field-0.0 (IsFault c.args.first_line c.args.max_depth c.args.text.now) c.from_residual-in_err-cursor.ensures.1 (c.in_err-cursor.ensures.fault c.args.first_line c.args.text.now [] c.loop-cursor.invariant)

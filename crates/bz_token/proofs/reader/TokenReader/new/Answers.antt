@@ -6,7 +6,7 @@ pub returns : goal.returns
 returns c =
     let s = c.start.ensures in
     record {
-      read = (read_fresh c.args.first_line c.args.max_depth c.args.text.now [] _ _ _ _ _ refl c.new.ensures.none_open s.none s.rest s.line s.col c.utf8.text).0;
+      read = (read_fresh c.args.first_line c.args.max_depth c.args.text.now [] _ _ _ _ _ refl c.new.ensures s.none s.rest s.line s.col c.utf8.text).0;
       depth_is = refl;
       fit = search rules;
     }
