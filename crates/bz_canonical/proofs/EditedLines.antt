@@ -10,7 +10,7 @@ use Rattle.bz_layout.specs.Pieces.{bytes_of, comments, indent, suffix_piece}
 use Rattle.bz_layout.specs.Respell.{respell}
 use Rattle.bz_label.specs.Labels.{Package}
 use Rattle.bz_canonical.specs.Canonical.{argument_lines}
-use Rattle.bz_canonical.specs.declared.added.ListValue.{ListValue}
+use Rattle.bz_rule.specs.declared.forms.ListValue.{ListValue}
 use Rattle.bz_canonical.specs.declared.edited.ListEdit.{ListEdit}
 use Rattle.bz_canonical.specs.declared.edited.PassedList.{PassedList}
 use Rattle.bz_canonical.specs.private.Added.{IsListAlone, have_word, is_word, list_arg}

@@ -19,7 +19,7 @@ use Rattle.bz_attribute.specs.Effects.{chooses, is_chosen}
 use Rattle.bz_attribute.specs.Rules.{first_named, rule_of}
 use Rattle.bz_attribute.proofs.Views.{segments_of}
 use Rattle.bz_canonical.specs.Added.{LacksInLines}
-use Rattle.bz_canonical.specs.declared.added.ListValue.{ListValue}
+use Rattle.bz_rule.specs.declared.forms.ListValue.{ListValue}
 use Rattle.bz_canonical.specs.Canonical.{AreReadAlone, read_alone, rule_args, small_rule, small_text}
 use Rattle.bz_canonical.specs.private.Added.{AreOthers, IsListAlone, have_word, is_word, list_arg}
 use Rattle.bz_canonical.specs.private.Rewritten.{AreElementsRead, Element, IsHeadRead, IsLast, IsPlaced, Placed, closing, element_segs, placed_lines}

@@ -17,7 +17,7 @@ use Rattle.bz_canonical.specs.declared.edited.EditedList.{EditedList}
 use Rattle.bz_canonical.specs.declared.edited.EditedList.TheVariants.{Unchanged, Written}
 use Rattle.bz_canonical.specs.declared.edited.ListEdit.{ListEdit}
 use Rattle.bz_canonical.specs.declared.edited.NewString.{NewString}
-use Rattle.bz_canonical.specs.declared.replaced.ReplacedValue.{ReplacedValue}
+use Rattle.bz_rule.specs.declared.forms.ReplacedValue.{ReplacedValue}
 use Rattle.bz_canonical.specs.private.Added.{list_arg}
 use Rattle.bz_canonical.specs.private.Edited.{EditsElements, edited, have_meant, is_meant}
 use Rattle.bz_canonical.specs.private.Rewritten.{Element, element_segs}

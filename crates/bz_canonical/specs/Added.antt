@@ -9,7 +9,7 @@ use Rattle.bz_label.specs.declared.arguments.Moved.TheVariants.{Values}
 use Rattle.bz_attribute.specs.Effects.{chooses, not_a_list}
 use Rattle.bz_attribute.specs.Rules.{first_named}
 use Rattle.bz_canonical.specs.Canonical.{AloneLines, AreReadAlone, argument_lines}
-use Rattle.bz_canonical.specs.declared.added.ListValue.{ListValue}
+use Rattle.bz_rule.specs.declared.forms.ListValue.{ListValue}
 use Rattle.bz_canonical.specs.declared.edited.EditedList.{EditedList}
 use Rattle.bz_canonical.specs.declared.edited.EditedList.TheVariants.{Unchanged, Written}
 

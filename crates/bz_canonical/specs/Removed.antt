@@ -7,7 +7,7 @@ use Rattle.bz_label.specs.Labels.{Package}
 use Rattle.bz_label.specs.declared.arguments.Attributes.TheVariants.{Named}
 use Rattle.bz_rule.specs.Remove.{remove, removes}
 use Rattle.bz_canonical.specs.Canonical.{AloneLines, AreReadAlone, argument_lines}
-use Rattle.bz_canonical.specs.declared.added.ListValue.{ListValue}
+use Rattle.bz_rule.specs.declared.forms.ListValue.{ListValue}
 use Rattle.bz_canonical.specs.declared.edited.EditedList.{EditedList}
 use Rattle.bz_canonical.specs.declared.edited.EditedList.TheVariants.{Unchanged, Written}
 

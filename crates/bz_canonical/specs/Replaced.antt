@@ -9,7 +9,7 @@ use Rattle.bz_rule.specs.Replace.{replace, replaces}
 use Rattle.bz_canonical.specs.Canonical.{AloneLines, AreReadAlone, argument_lines}
 use Rattle.bz_canonical.specs.declared.edited.EditedList.{EditedList}
 use Rattle.bz_canonical.specs.declared.edited.EditedList.TheVariants.{Unchanged, Written}
-use Rattle.bz_canonical.specs.declared.replaced.ReplacedValue.{ReplacedValue}
+use Rattle.bz_rule.specs.declared.forms.ReplacedValue.{ReplacedValue}
 
 -- an element is replaced: the arguments, with those that are, have these lines
 pub record IsReplaced (home : Package) (value : ReplacedValue) (args : List Segment) (lines : List ℕ) : Type 0 where

@@ -17,13 +17,7 @@ use bz_label::{Package, quote};
 use bz_memory::{NoMemory, extend_from_slice, push};
 use bz_token::check_utf8;
 use std::alloc::Global;
-
-/// A value, and the attribute whose list has it or not.
-#[derive(Clone, Copy)]
-pub struct ListValue<'c> {
-    pub attr: &'c str,
-    pub value: &'c str,
-}
+use bz_rule::forms::ListValue;
 
 // The argument is in two brackets, its own and the rule's.
 const BRACKETS: u8 = 2;

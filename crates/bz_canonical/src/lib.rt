@@ -34,13 +34,13 @@ mod string_list;
 mod unnamed;
 mod value;
 
-pub use added::{ListValue, lacks, put_added};
+pub use added::{lacks, put_added};
 use bz_memory::NoMemory;
 pub use chunk::{ArgumentPlace, AsksOfRules, CanonicalChunk, Lookup, read_canonical};
 pub use commented::{CommentPlace, comment_place};
 pub use edited::EditedList;
 pub use removed::put_removed;
-pub use replaced::{ReplacedValue, put_replaced};
+pub use replaced::put_replaced;
 
 /// None: it is not known what would be written.
 pub(crate) type Known<T> = Result<Option<T>, NoMemory>;

@@ -4,10 +4,10 @@ ghost use Rattle.std.specs.Prelude.{IfOk, IfSome};
 ghost use Rattle.bz_canonical.specs.Canonical.{read_alone};
 ghost use Rattle.bz_canonical.specs.Removed.{RemovesFromLines};
 
-use crate::added::ListValue;
 use crate::edited::{EditedList, ListEdit, put_edited};
 use bz_label::Package;
 use bz_memory::NoMemory;
+use bz_rule::forms::ListValue;
 
 /// What `remove` makes of the argument that has these lines, where its value is one list of strings (`execute_on_list`
 /// of bz_engine asks). `Unchanged`: no element equals the value. `Written`: those that do are gone, and the lines are in

@@ -7,14 +7,7 @@ ghost use Rattle.bz_canonical.specs.Replaced.{ReplacesInLines};
 use crate::edited::{EditedList, ListEdit, NewString, put_edited};
 use bz_attribute::Env;
 use bz_memory::NoMemory;
-
-/// A value, what it becomes, and the attribute whose list has it or not.
-#[derive(Clone, Copy)]
-pub struct ReplacedValue<'c> {
-    pub attr: &'c str,
-    pub old: &'c str,
-    pub new: &'c str,
-}
+use bz_rule::forms::ReplacedValue;
 
 /// What `replace` makes of the argument that has these lines, where its value is one list of strings
 /// (`execute_on_list` of bz_engine asks). `Unchanged`: no element equals the old value, but those that are exactly the

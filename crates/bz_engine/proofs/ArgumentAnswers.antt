@@ -40,27 +40,28 @@ use Rattle.bz_rule.specs.OneAttribute.{one_attribute}
 use Rattle.bz_rule.proofs.Lawfulness.{local}
 use Rattle.bz_engine.specs.declared.argument.EditedArgument.{EditedArgument}
 use Rattle.bz_engine.specs.declared.argument.EditedArgument.TheVariants.{Unchanged, Lines}
-use Rattle.bz_canonical.specs.declared.added.ListValue.{ListValue}
+use Rattle.bz_rule.specs.declared.forms.ListValue.{ListValue}
 use Rattle.bz_canonical.specs.declared.edited.EditedList.{EditedList}
 use Rattle.bz_canonical.specs.declared.edited.EditedList.TheVariants.{Unchanged as Unlisted, Written as Listed}
-use Rattle.bz_canonical.specs.declared.replaced.ReplacedValue.{ReplacedValue}
-use Rattle.bz_engine.specs.private.ArgumentEdits.{AddsArgument, AreLinesAfter, ChangesArgs, EditsLines, EditsList, EditsPlace, EditsSmallRule, Setting, list_argument, set_by}
+use Rattle.bz_rule.specs.declared.forms.ReplacedValue.{ReplacedValue}
+use Rattle.bz_engine.specs.private.ArgumentEdits.{AddsArgument, AreLinesAfter, ChangesArgs, EditsLines, EditsList, EditsPlace, EditsSmallRule, list_argument}
+use Rattle.bz_rule.specs.Forms.{NewSetting, set_by}
 use Rattle.bz_engine.specs.private.Found.{Makes, told_line}
 use Rattle.bz_engine.proofs.TextAnswers.{no_args, none_has, stays_by}
 use Rattle.bz_token.specs.Common.{is_empty, map_or}
 
 -- what is set where none has the name
-set_alone : (command : Command) (new : Setting) → set_by command ≡ Some new → (home : Package)
+set_alone : (command : Command) (new : NewSetting) → set_by command ≡ Some new → (home : Package)
     → (args_done command home [] ≡ told_line true None) × (args_after command home [] ≡ new_argument new.attr new.words ∷ [])
 set_alone (Set (ToValues a ws)) new is home =
     let same : record { attr = a; words = ws } ≡ new = cc in
-    (refl, ap (λ (n : Setting). new_argument n.attr n.words ∷ []) same)
+    (refl, ap (λ (n : NewSetting). new_argument n.attr n.words ∷ []) same)
 set_alone (SetIfAbsent a ws) new is home =
     let same : record { attr = a; words = ws } ≡ new = cc in
-    (refl, ap (λ (n : Setting). new_argument n.attr n.words ∷ []) same)
+    (refl, ap (λ (n : NewSetting). new_argument n.attr n.words ∷ []) same)
 set_alone _ new is home = absurd cc
 
-pub adds_argument : (command : Command) (new : Setting) (lines : List ℕ) → set_by command ≡ Some new → lines ≡ argument_lines (new_argument new.attr new.words ∷ []) → AddsArgument command lines
+pub adds_argument : (command : Command) (new : NewSetting) (lines : List ℕ) → set_by command ≡ Some new → lines ≡ argument_lines (new_argument new.attr new.words ∷ []) → AddsArgument command lines
 adds_argument command new lines is lines_are = λ home.
     let made = set_alone command new is home in
     record { told = made.0; some = ap is_empty made.1; lines_are = lines_are ∙ ap argument_lines (sym made.1) }

@@ -12,7 +12,8 @@ use Rattle.bz_canonical.specs.Canonical.{Between, HasPlace, first_args, rule_arg
 use Rattle.bz_rule.specs.declared.command.Action.TheVariants.{Remove, Replace}
 use Rattle.bz_rule.specs.Commands.{Command, args_done, done_of}
 use Rattle.bz_rule.proofs.Lawfulness.{lawful}
-use Rattle.bz_engine.specs.private.Found.{IsWithout, Makes, looked_at, told_line}
+use Rattle.bz_engine.specs.private.Found.{IsWithout, Makes, told_line}
+use Rattle.bz_rule.specs.Forms.{looked_at}
 use Rattle.bz_token.specs.Common.{is_empty, map_or}
 
 -- there are no lines, so there are no arguments

@@ -21,7 +21,8 @@ use Rattle.bz_rule.specs.Commands.{Command, args_done, done_of}
 use Rattle.bz_rule.proofs.Lawfulness.{lawful}
 use Rattle.bz_engine.specs.Language.{note_told}
 use Rattle.bz_engine.specs.Messages.{note_text}
-use Rattle.bz_engine.specs.private.Found.{IsWithout, Tells, needed}
+use Rattle.bz_engine.specs.private.Found.{IsWithout, Tells}
+use Rattle.bz_rule.specs.Forms.{needed}
 use Rattle.bz_engine.proofs.OnlyPass.{named_rule}
 use Rattle.bz_engine.proofs.TextAnswers.{none_has}
 use Rattle.bz_token.specs.Common.{map_or}

@@ -5,14 +5,15 @@ ghost use Rattle.bz_tree.specs.Tree.{Statement};
 ghost use Rattle.bz_attribute.specs.Marks.{marks};
 ghost use Rattle.bz_attribute.specs.Rules.{Rule, rule_of};
 ghost use Rattle.bz_canonical.specs.Canonical.{HasName};
-ghost use Rattle.bz_engine.specs.private.Found.{IsFound, IsMarked, IsWithout, LeavesRule, Makes, looked_at, told_line};
+ghost use Rattle.bz_engine.specs.private.Found.{IsFound, IsMarked, IsWithout, LeavesRule, Makes, told_line};
 
 use crate::canonical::Found;
 use bz_attribute::Env;
-use bz_label::{Attributes, Marked, Setting, Target};
+use bz_label::{Marked, Target};
 use bz_memory::NoMemory;
 use bz_rule::commands::print::print_name;
-use bz_rule::{Action, Command, one_attribute};
+use bz_rule::forms::{looked_at, printed_by};
+use bz_rule::{Command, one_attribute};
 
 /// A rule stays as it is, and this is printed of it.
 #[derive(Clone, Copy)]
@@ -22,10 +23,7 @@ pub(crate) struct Unchanged<'t> {
 
 /// Whether it may be known what the command makes of a rule whose text is known.
 pub(crate) fn is_answerable(command: &Command) -> bool {
-    match &command.action {
-        Action::Print(_) => true,
-        _ => looked_at(command).is_some() || one_attribute(command).is_some(),
-    }
+    printed_by(command).is_some() || looked_at(command).is_some() || one_attribute(command).is_some()
 }
 
 /// The attribute that the command looks at alone. Empty: there is none.
@@ -65,17 +63,6 @@ pub(crate) fn unchanged_by_text<'t, 'f: 't>(
     }
 }
 
-/// The attribute without which the command leaves a rule as it is.
-fn looked_at(command: &Command) -> Option<&str>
-    ensures { IfSome result (λ attr. looked_at command.now ≡ Some attr.now) }
-{
-    match &command.action {
-        Action::Remove(Attributes::Named(attr), _)
-        | Action::Replace(Attributes::Named(attr), _, _) => Some(attr.as_str()),
-        _ => None,
-    }
-}
-
 /// What is printed of a rule of this name, where that is all that is asked.
 fn printed_by_name<'t>(
     env: Env<'_>,
@@ -86,9 +73,9 @@ fn printed_by_name<'t>(
     ensures { IfOk result (λ line. IfSome line (λ text. (s : Statement) → HasName (Some name.now) s
         → Makes command.now env.entry.home.now s s (told_line false (Some text.now)))) }
 {
-    match &command.action {
-        Action::Print(fields) => print_name(env, fields.as_slice(), name, buffer),
-        _ => Ok(None),
+    match printed_by(command) {
+        Some(fields) => print_name(env, fields, name, buffer),
+        None => Ok(None),
     }
 }
 

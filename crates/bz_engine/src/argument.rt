@@ -8,19 +8,19 @@ ghost use Rattle.bz_rule.specs.OneAttribute.{one_attribute};
 ghost use Rattle.bz_label.specs.declared.arguments.Attributes.TheVariants.{Named};
 ghost use Rattle.bz_label.specs.declared.arguments.Commented.TheVariants.{Attribute};
 ghost use Rattle.bz_rule.specs.declared.command.Action.TheVariants.{Add, Comment, Remove, Replace};
-ghost use Rattle.bz_engine.specs.private.ArgumentEdits.{AddsArgument, AreLinesAfter, EditsLines, EditsList, EditsPlace, EditsSmallRule, list_argument, new_of, set_by};
+ghost use Rattle.bz_engine.specs.private.ArgumentEdits.{AddsArgument, AreLinesAfter, EditsLines, EditsList, EditsPlace, EditsSmallRule, list_argument};
 
 use crate::edit::ScriptRun;
 use crate::spare::Spare;
 use bz_attribute::Env;
 use bz_canonical::{
-    ArgumentPlace, EditedList, ListValue, ReplacedValue, lacks, put_added, put_removed,
-    put_replaced,
+    ArgumentPlace, EditedList, lacks, put_added, put_removed, put_replaced,
 };
-use bz_label::{Attributes, Commented, Setting, quote};
+use bz_label::quote;
 use bz_memory::{NoMemory, extend_from_slice, push_str};
 use bz_rule::commands::argument::put_argument;
-use bz_rule::{Action, Command, Done, StatementRow, Text, execute};
+use bz_rule::forms::{ListValue, ReplacedValue, added_by, removed_by, replaced_by, set_by};
+use bz_rule::{Command, Done, StatementRow, execute};
 use bz_tree::read_text;
 use std::alloc::Global;
 
@@ -30,20 +30,6 @@ pub(crate) enum EditedArgument<'s> {
     Unchanged,
     /// These are its lines, or those of what stands in its place: some.
     Lines(&'s [u8]),
-}
-
-/// What `comment` puts above an attribute.
-#[derive(Clone, Copy)]
-pub(crate) struct AttributeComment<'c> {
-    attr: &'c str,
-    pub(crate) text: &'c str,
-}
-
-/// An argument that `set` adds.
-#[derive(Clone, Copy)]
-struct NewArgument<'c> {
-    attr: &'c str,
-    values: &'c [Text],
 }
 
 // The small rule before its argument and after it: the comment keeps the rule on lines.
@@ -187,58 +173,6 @@ fn is_short_without(script: ScriptRun<'_>, sought: ListValue<'_>, lines: &str) -
     lines.len() <= LONGEST && lacks(script.home, lines, sought, script.max_depth)
 }
 
-/// The comment that the command puts above an attribute.
-pub(crate) fn comment_by(command: &Command) -> Option<AttributeComment<'_>>
-    ensures { IfSome result (λ new. command.now ≡ Comment (Attribute new.attr.now) new.text.now) }
-{
-    let Action::Comment(Commented::Attribute(attr), text) = &command.action else {
-        return None;
-    };
-    Some(AttributeComment {
-        attr: attr.as_str(),
-        text: text.as_str(),
-    })
-}
-
-/// The value that the command replaces, and the other.
-fn replaced_by(command: &Command) -> Option<ReplacedValue<'_>>
-    ensures { IfSome result (λ replaced. command.now
-        ≡ Replace (Named replaced.attr.now) replaced.old.now replaced.new.now) }
-{
-    let Action::Replace(Attributes::Named(attr), old, new) = &command.action else {
-        return None;
-    };
-    Some(ReplacedValue {
-        attr: attr.as_str(),
-        old: old.as_str(),
-        new: new.as_str(),
-    })
-}
-
-/// The one value that the command removes.
-fn removed_by(command: &Command) -> Option<ListValue<'_>>
-    ensures { IfSome result (λ old. command.now ≡ Remove (Named old.attr.now) (old.value.now ∷ [])) }
-{
-    let Action::Remove(Attributes::Named(attr), values) = &command.action else {
-        return None;
-    };
-    let old = one_value(attr, values.as_slice())?;
-    Some(old)
-}
-
-/// The attribute, and the value where there is one alone.
-fn one_value<'c>(attr: &'c Text, values: &'c [Text]) -> Option<ListValue<'c>>
-    ensures { IfSome result (λ one. (one.attr.now ≡ attr.now) × (values.now ≡ one.value.now ∷ [])) }
-{
-    let [value] = values else {
-        return None;
-    };
-    Some(ListValue {
-        attr: attr.as_str(),
-        value: value.as_str(),
-    })
-}
-
 /// The lines of the argument that the command adds where none has its name. False: they are not easily written.
 fn put_new(alloc: Global, command: &Command, lines: &mut Vec<u8>) -> Result<bool, NoMemory>
     ensures { IfOk result (λ put. IsTrue put → AddsArgument command.now lines.new.items) }
@@ -274,32 +208,6 @@ fn put_list(alloc: Global, new: ListValue<'_>, out: &mut Vec<u8>) -> Result<(), 
     extend_from_slice(out, value.as_bytes())?;
     extend_from_slice(out, b"],")?;
     Ok(())
-}
-
-/// The one value that the command adds.
-fn added_by(command: &Command) -> Option<ListValue<'_>>
-    ensures { IfSome result (λ new. command.now ≡ Add new.attr.now (new.value.now ∷ [])) }
-{
-    let Action::Add(attr, values) = &command.action else {
-        return None;
-    };
-    let new = one_value(attr, values.as_slice())?;
-    Some(new)
-}
-
-/// The argument that the command adds to a rule that has none of its name.
-fn set_by(command: &Command) -> Option<NewArgument<'_>>
-    ensures { IfSome result (λ new. set_by command.now ≡ Some (new_of new)) }
-{
-    match &command.action {
-        Action::Set(Setting::ToValues(attr, values)) | Action::SetIfAbsent(attr, values) => {
-            Some(NewArgument {
-                attr: attr.as_str(),
-                values: values.as_slice(),
-            })
-        }
-        _ => None,
-    }
 }
 
 /// Executes the command on the small rule in the buffer.

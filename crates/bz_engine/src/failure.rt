@@ -6,17 +6,18 @@ ghost use Rattle.bz_label.specs.declared.arguments.Field.TheVariants.{ValueOf};
 ghost use Rattle.bz_rule.specs.declared.command.Action.TheVariants.{Print};
 ghost use Rattle.bz_attribute.specs.declared.done.Note.TheVariants.{NoAttribute};
 ghost use Rattle.bz_engine.specs.Language.{note_told};
-ghost use Rattle.bz_engine.specs.private.Found.{TellsRule, needed};
+ghost use Rattle.bz_engine.specs.private.Found.{TellsRule};
 
 use crate::answer::is_without;
 use crate::canonical::Found;
 use crate::edit::ScriptRun;
 use crate::message::{missing_name, note_text};
 use bz_attribute::push_home;
-use bz_label::{Commented, Field, Package};
+use bz_label::{Field, Package};
 use bz_memory::{NoMemory, push_str};
 use bz_passes::entry::Entry;
-use bz_rule::{Action, Command, Note, Text};
+use bz_rule::forms::{needed, printed_by};
+use bz_rule::{Command, Note, Text};
 use bz_token::check_utf8;
 use std::alloc::Global;
 
@@ -76,9 +77,9 @@ fn missing_by_text(
 fn prints_name(command: &Command) -> bool
     ensures { IsTrue result → command.now ≡ Print (ValueOf (codes "name") ∷ []) }
 {
-    match &command.action {
-        Action::Print(fields) => is_name(fields.as_slice()),
-        _ => false,
+    match printed_by(command) {
+        Some(fields) => is_name(fields),
+        None => false,
     }
 }
 
@@ -122,18 +123,6 @@ fn failure_by_text(
         told,
         fails: true,
     }))
-}
-
-/// The attribute without which the command fails.
-fn needed(command: &Command) -> Option<&str>
-    ensures { IfSome result (λ attr. needed command.now ≡ Some attr.now) }
-{
-    match &command.action {
-        Action::Comment(Commented::Attribute(attr) | Commented::Value(attr, _), _) => Some(
-            attr.as_str(),
-        ),
-        _ => None,
-    }
 }
 
 /// What is told of a rule of this name that has no such attribute.

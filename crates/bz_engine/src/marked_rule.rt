@@ -14,9 +14,7 @@ ghost use Rattle.bz_engine.specs.private.Edits.{run_of};
 ghost use Rattle.bz_engine.specs.private.Found.{IsForOne};
 ghost use Rattle.bz_engine.specs.private.NextChunks.{EditsFound};
 
-use crate::argument::{
-    AttributeComment, EditedArgument, comment_by, execute_in_place, execute_on_lines, is_long,
-};
+use crate::argument::{EditedArgument, execute_in_place, execute_on_lines, is_long};
 use crate::canonical::Found;
 use crate::edit::ScriptRun;
 use crate::progress::Progress;
@@ -26,6 +24,7 @@ use bz_canonical::{ArgumentPlace, EditedList, comment_place};
 use bz_layout::put_gap;
 use bz_memory::{NoMemory, extend_from_slice};
 use bz_rule::commands::comment::comment_line;
+use bz_rule::forms::{AttributeComment, comment_by};
 use bz_rule::one_attribute;
 use bz_tree::Class;
 

@@ -26,6 +26,6 @@ fn are_commands(commands: &[Command])
     ensures words { list_all (command_passes is_utf8) commands.now ≡ true }
 {
     for command in commands {
-        let _action = &command.action;
+        command.is_read();
     }
 }

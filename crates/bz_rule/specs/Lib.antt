@@ -1,6 +1,7 @@
 pub mod Add
 pub mod Argument
 pub mod Commands
+pub mod Forms
 pub mod Comment
 pub mod Move
 pub mod OneAttribute

@@ -90,7 +90,7 @@ pub const LEFT_OUT: [&str; 23] = [
 
 /// A command on one rule. [`read_command`](crate::read_command) makes it.
 pub struct Command {
-    pub action: Action,
+    pub(crate) action: Action,
 }
 
 // Written out, so that crates above need no proof of how each action is dropped.
@@ -111,6 +111,13 @@ impl Model for Command {
 }
 
 impl Command {
+    /// Law: it is one that can be read, and its words, but for those of `print`, are UTF-8.
+    pub fn is_read(&self)
+        ensures { spec.IsRead self.now }
+    {
+        let _action = &self.action;
+    }
+
     /// It only prints: a run of such commands alone writes no text.
     pub fn is_print(&self) -> bool
         ensures { result ≡ spec.is_print self.now }

@@ -2,11 +2,8 @@
 -- project's own rule). Begin with `AreTrue`.
 use Rattle.std.specs.Prelude.{◌≡◌, ℕ, nat_eq, nat_le, ◌==◌, Bool, true, false, not, ◌&&◌, ◌||◌, List, [], ◌∷◌, length, codes, Option, None, Some, IfSome}
 use Rattle.std.specs.List.{list_any, starts_with, ends_with}
-use Rattle.bz_label.specs.declared.arguments.Setting.TheVariants.{ToValues}
-use Rattle.bz_label.specs.declared.arguments.Moved.TheVariants.{Values}
-use Rattle.bz_label.specs.declared.arguments.Commented.TheVariants.{Value}
-use Rattle.bz_rule.specs.declared.command.Action.TheVariants.{Add, Remove, Set, SetIfAbsent, Move, Replace, Comment}
 use Rattle.bz_rule.specs.Commands.{Command}
+use Rattle.bz_rule.specs.Forms.{values_of}
 use Rattle.bz_script.specs.declared.notes.Noted.{Noted}
 use Rattle.bz_script.specs.declared.notes.Notes.{Notes}
 use Rattle.bz_script.specs.declared.usage.Refused.{Refused}
@@ -20,17 +17,6 @@ is_between quote value = nat_le 2 (length value) && (starts_with nat_eq value qu
 -- a value that begins and ends with the same quote, double or single
 abbrev pub is_quoted : List ℕ → Bool
 is_quoted value = is_between (codes "\"") value || is_between (codes "'") value
-
--- the values that a command writes or looks for
-abbrev pub values_of : Command → List (List ℕ)
-values_of (Add attr values) = values
-values_of (Remove attrs values) = values
-values_of (Set (ToValues attr values)) = values
-values_of (SetIfAbsent attr values) = values
-values_of (Move old new (Values values)) = values
-values_of (Replace attrs old new) = old ∷ new ∷ []
-values_of (Comment (Value attr value) text) = value ∷ []
-values_of _ = []
 
 abbrev pub has_quoted : Option Command → Bool
 has_quoted None = false

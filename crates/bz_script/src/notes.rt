@@ -3,16 +3,18 @@
 ghost use Rattle.std.specs.Prelude.{◌≡◌, ◌≤◌, length, IfOk, IfSome, OnOk, None, true};
 ghost use Rattle.std.specs.List.{list_any};
 ghost use Rattle.bz_script.specs.Flags.{argument_of, is_one_of};
+ghost use Rattle.bz_rule.specs.Forms.{values_of};
 ghost use Rattle.bz_script.specs.Notes as spec;
 ghost use Rattle.bz_script.specs.Refused.{refused};
 
 use crate::command_file::{is_skipped, trimmed, without_return};
 use crate::flags::{Argument, COMMAND_LINE, read_argument, split_value, split_word, undashed};
 use crate::usage::Refused;
-use bz_label::{Commented, Marked, Moved, Package, Setting, Target, Text};
+use bz_label::{Marked, Package, Target, Text};
 use bz_memory::NoMemory;
 use bz_passes::pass::Pass;
-use bz_rule::{Action, Command, CommandFault, read_command};
+use bz_rule::forms::{Values, values_of};
+use bz_rule::{Command, CommandFault, read_command};
 use bz_token::check_utf8;
 use std::alloc::Global;
 use std::fmt;
@@ -296,17 +298,13 @@ fn has_quote(text: &[u8]) -> bool {
 
 /// Whether a command writes or looks for a value in quotes.
 fn quotes_a_value(command: &Command) -> bool
-    ensures { result ≡ list_any spec.is_quoted (spec.values_of command.now) }
+    ensures { result ≡ list_any spec.is_quoted (values_of command.now) }
 {
-    match &command.action {
-        Action::Add(_, values)
-        | Action::Remove(_, values)
-        | Action::SetIfAbsent(_, values)
-        | Action::Set(Setting::ToValues(_, values))
-        | Action::Move(_, _, Moved::Values(values)) => some_is_quoted(values.as_slice()),
-        Action::Replace(_, old, new) => is_quoted(old.as_str()) || is_quoted(new.as_str()),
-        Action::Comment(Commented::Value(_, value), _) => is_quoted(value.as_str()),
-        _ => false,
+    match values_of(command) {
+        Values::Listed(values) => some_is_quoted(values),
+        Values::Replaced(old, new) => is_quoted(old) || is_quoted(new),
+        Values::One(value) => is_quoted(value),
+        Values::None => false,
     }
 }
 

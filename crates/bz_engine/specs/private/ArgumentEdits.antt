@@ -4,32 +4,15 @@ use Rattle.bz_tree.specs.Tree.{Segment, Statement}
 use Rattle.bz_layout.specs.Layout.{layout_text}
 use Rattle.bz_attribute.specs.declared.done.Done.{Done}
 use Rattle.bz_attribute.specs.Effects.{argument, list_item, string}
-use Rattle.bz_label.specs.declared.arguments.Setting.TheVariants.{ToValues}
 use Rattle.bz_label.specs.Labels.{Package}
 use Rattle.bz_canonical.specs.Canonical.{AloneLines, AreReadAlone, Between, argument_lines, small_text}
 use Rattle.bz_canonical.specs.declared.edited.EditedList.{EditedList}
 use Rattle.bz_canonical.specs.declared.edited.EditedList.TheVariants.{Unchanged, Written}
 use Rattle.bz_rule.specs.Commands.{Command, args_after, args_done}
-use Rattle.bz_rule.specs.declared.command.Action.TheVariants.{Set, SetIfAbsent}
 use Rattle.bz_engine.specs.declared.argument.EditedArgument.{EditedArgument}
 use Rattle.bz_engine.specs.declared.argument.EditedArgument.TheVariants.{Unchanged as Stays, Lines}
-use Rattle.bz_engine.specs.declared.argument.NewArgument.{NewArgument}
 use Rattle.bz_engine.specs.private.Found.{told_line}
 use Rattle.bz_token.specs.Common.{is_empty}
-
--- an attribute and its words
-pub record Setting : Type 0 where
-  pub attr : List ℕ
-  pub words : List (List ℕ)
-
--- the argument that a command adds to a rule that has none of its name
-abbrev pub set_by : Command → Option Setting
-set_by (Set (ToValues attr words)) = Some (record { attr = attr; words = words })
-set_by (SetIfAbsent attr words) = Some (record { attr = attr; words = words })
-set_by _ = None
-
-abbrev pub new_of : NewArgument → Setting
-new_of new = record { attr = new.attr.now; words = new.values.now }
 
 -- the argument of one value that `add` adds where none has its name
 abbrev pub list_argument : List ℕ → List ℕ → Segment

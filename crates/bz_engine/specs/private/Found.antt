@@ -9,11 +9,8 @@ use Rattle.bz_attribute.specs.declared.done.Done.{Done}
 use Rattle.bz_attribute.specs.declared.done.Note.{Note}
 use Rattle.bz_attribute.specs.Effects.{fails}
 use Rattle.bz_attribute.specs.Texts.{shown_text}
-use Rattle.bz_label.specs.declared.arguments.Commented.TheVariants.{Attribute, Value}
 use Rattle.bz_engine.specs.Language.{meaning, note_told}
-use Rattle.bz_label.specs.declared.arguments.Attributes.TheVariants.{Named}
 use Rattle.bz_label.specs.Labels.{Package, Target}
-use Rattle.bz_rule.specs.declared.command.Action.TheVariants.{Comment, Remove, Replace}
 use Rattle.bz_attribute.specs.Rules.{first_named, rule_of}
 use Rattle.bz_attribute.specs.Marks.{marks}
 use Rattle.bz_canonical.specs.Canonical.{HasName, HasPlace, IsNameless, between, rule_args, rule_name}
@@ -102,12 +99,6 @@ pub record TellsRule (keep_going : Bool) (command : Command) (home : Package) (f
 -- what is told with a message
 abbrev pub log_of : Message → List Entry
 log_of message = map Line (option_to_list (option_map (λ line. line.now) message.line)) ++ message.told ∷ []
-
--- the attribute without which a command leaves a rule as it is
-abbrev pub looked_at : Command → Option (List ℕ)
-looked_at (Remove (Named attr) values) = Some attr
-looked_at (Replace (Named attr) old new) = Some attr
-looked_at _ = None
 
 -- the command leaves each rule of which this is known
 abbrev pub LeavesRule : Command → Package → Found → Unchanged → Type 0
