@@ -114,9 +114,9 @@ rules_written_same s t rule args is is_other rest same two =
     let from : nodes_of rule ≡ s.nodes = rule_nodes [] s.nodes rule is in
     let to : nodes_of (record rule { args = args }) ≡ t.nodes = rule_nodes [] t.nodes (record rule { args = args }) is_other in
     text_same s t.nodes (
-      ap (λ (xs : List Item). bytes_of (items_pieces Broken 0 None Closed Start (items_of xs))) (sym from)
-      ∙ nodes_same rule.args args rule.one_comma rule.end (call_same rule.args args rule.one_comma rule.end same two) Closed Start rule.kind
-      ∙ ap (λ (xs : List Item). bytes_of (items_pieces Broken 0 None Closed Start (items_of xs))) to
+    ap (λ (xs : List Item). bytes_of (items_pieces Broken 0 None Closed Start (items_of xs))) (sym from)
+    ∙ nodes_same rule.args args rule.one_comma rule.end (call_same rule.args args rule.one_comma rule.end same two) Closed Start rule.kind
+    ∙ ap (λ (xs : List Item). bytes_of (items_pieces Broken 0 None Closed Start (items_of xs))) to
     )
     ∙ ap layout_text (sym rest)
 

@@ -15,9 +15,9 @@ use bz_attribute::equals::text_equals;
 use bz_attribute::{Env, literal_apart};
 use bz_label::{Package, quote};
 use bz_memory::{NoMemory, extend_from_slice, push};
+use bz_rule::forms::ListValue;
 use bz_token::check_utf8;
 use std::alloc::Global;
-use bz_rule::forms::ListValue;
 
 // The argument is in two brackets, its own and the rule's.
 const BRACKETS: u8 = 2;

@@ -23,7 +23,9 @@ pub(crate) struct Unchanged<'t> {
 
 /// Whether it may be known what the command makes of a rule whose text is known.
 pub(crate) fn is_answerable(command: &Command) -> bool {
-    printed_by(command).is_some() || looked_at(command).is_some() || one_attribute(command).is_some()
+    printed_by(command).is_some()
+        || looked_at(command).is_some()
+        || one_attribute(command).is_some()
 }
 
 /// The attribute that the command looks at alone. Empty: there is none.

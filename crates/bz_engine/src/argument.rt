@@ -13,9 +13,7 @@ ghost use Rattle.bz_engine.specs.private.ArgumentEdits.{AddsArgument, AreLinesAf
 use crate::edit::ScriptRun;
 use crate::spare::Spare;
 use bz_attribute::Env;
-use bz_canonical::{
-    ArgumentPlace, EditedList, lacks, put_added, put_removed, put_replaced,
-};
+use bz_canonical::{ArgumentPlace, EditedList, lacks, put_added, put_removed, put_replaced};
 use bz_label::quote;
 use bz_memory::{NoMemory, extend_from_slice, push_str};
 use bz_rule::commands::argument::put_argument;

@@ -1,11 +1,12 @@
 //! The commands on one rule: what each is, how its words are read, and what it makes of the arguments of a rule.
-//! `reader.rt` calls `read_named`, `row_edit.rt` `edit_arguments`, and bz_engine `one_attribute` and `is_print`.
+//! `reader.rt` calls `read_named`, `row_edit.rt` `edit_arguments`, and crates above `one_attribute`, `values_of` and `is_print`.
 
 ghost use Rattle.bz_memory.specs.NoMemory.{no_memory};
 ghost use Rattle.std.specs.Prelude.{◌≡◌, ◌≢◌, Err, IfOk, IfSome, Some, map, true};
 ghost use Rattle.bz_tree.specs.Rows.{part_view};
 ghost use Rattle.bz_attribute.specs.RowEdits.{IsRowEdit};
 ghost use Rattle.bz_rule.specs.Commands as spec;
+ghost use Rattle.bz_rule.specs.Forms.{listed, values_of};
 ghost use Rattle.bz_rule.specs.OneAttribute.{one_attribute};
 ghost use Rattle.bz_rule.specs.declared.command.Action.TheVariants.{Rename};
 ghost use Rattle.bz_rule.specs.declared.command.CommandFault.TheVariants.{OutOfMemory};
@@ -18,6 +19,7 @@ use crate::commands::remove::remove;
 use crate::commands::rename::rename;
 use crate::commands::replace::{Change, replace};
 use crate::commands::set::{set, set_if_absent};
+use crate::forms::Values;
 use crate::reader::{attribute, attributes, breaks_line, ensure, moved, next_word, read_place};
 use bz_attribute::{Done, Edit, Env, Parts};
 use bz_label::{Attributes, Commented, Field, Moved, Seq, Setting, Text, is_kind, read_field};
@@ -335,6 +337,27 @@ pub fn one_attribute(command: &Command) -> Option<&str>
             Some(attr.as_str())
         }
         _ => None,
+    }
+}
+
+/// The values that the command writes or looks for.
+pub fn values_of(command: &Command) -> Values<'_>
+    ensures { listed result ≡ values_of command.now }
+{
+    match &command.action {
+        Action::Add(_, values)
+        | Action::Remove(_, values)
+        | Action::SetIfAbsent(_, values)
+        | Action::Set(Setting::ToValues(_, values))
+        | Action::Move(_, _, Moved::Values(values)) => Values::Listed(values.as_slice()),
+        Action::Replace(_, old, new) => Values::Replaced(old.as_str(), new.as_str()),
+        Action::Comment(Commented::Value(_, value), _) => Values::One(value.as_str()),
+        Action::Set(Setting::ToKind(_))
+        | Action::Move(_, _, Moved::All)
+        | Action::Comment(Commented::Rule | Commented::Attribute(_), _)
+        | Action::Delete
+        | Action::Rename(_, _)
+        | Action::Print(_) => Values::None,
     }
 }
 

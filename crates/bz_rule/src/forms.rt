@@ -8,7 +8,7 @@ ghost use Rattle.bz_rule.specs.declared.command.Action.TheVariants.{Add, Comment
 ghost use Rattle.bz_rule.specs.Forms as spec;
 
 use crate::command::{Action, Command};
-use bz_label::{Attributes, Commented, Field, Moved, Setting, Text};
+use bz_label::{Attributes, Commented, Field, Setting, Text};
 
 /// A value, and the attribute whose list has it or not.
 #[derive(Clone, Copy)]
@@ -47,27 +47,6 @@ pub enum Values<'c> {
     Replaced(&'c str, &'c str),
     One(&'c str),
     None,
-}
-
-/// The values that the command writes or looks for.
-pub fn values_of(command: &Command) -> Values<'_>
-    ensures { spec.listed result ≡ spec.values_of command.now }
-{
-    match &command.action {
-        Action::Add(_, values)
-        | Action::Remove(_, values)
-        | Action::SetIfAbsent(_, values)
-        | Action::Set(Setting::ToValues(_, values))
-        | Action::Move(_, _, Moved::Values(values)) => Values::Listed(values.as_slice()),
-        Action::Replace(_, old, new) => Values::Replaced(old.as_str(), new.as_str()),
-        Action::Comment(Commented::Value(_, value), _) => Values::One(value.as_str()),
-        Action::Set(Setting::ToKind(_))
-        | Action::Move(_, _, Moved::All)
-        | Action::Comment(Commented::Rule | Commented::Attribute(_), _)
-        | Action::Delete
-        | Action::Rename(_, _)
-        | Action::Print(_) => Values::None,
-    }
 }
 
 /// What the command prints, if it is `print`.
