@@ -21,6 +21,8 @@ pub mod InPlace
 pub mod PutArguments
 pub mod Values
 pub mod PutRules
+pub mod NotedSpans
+pub mod RuleSpans
 pub mod ListLines
 pub mod EditedElements
 pub mod EditedLines

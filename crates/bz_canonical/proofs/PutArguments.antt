@@ -1,6 +1,6 @@
 -- Arguments of a rule, and what is written of them.
 use Rattle.std.proofs.Common.{subst, ◌||◌, ◌≡◌, ◌≤◌, ◌<◌, ℕ, suc, length, List, [], ◌∷◌, ◌++◌, Bool, true, false, refl, sym, ap, ◌∙◌, arith, append_assoc, append-nil}
-use Rattle.std.specs.Prelude.{codes, flat_map, map, nat_le, IfSome, Some, if◌then◌else◌, None, Option, option_map, option_to_list}
+use Rattle.std.specs.Prelude.{codes, flat_map, map, nat_le, not, IfSome, Some, if◌then◌else◌, None, Option, option_map, option_to_list}
 use Rattle.std.proofs.lemmas.Bool.{false≢true}
 use Rattle.std.proofs.lemmas.Bool.Decides.{nat_tests}
 use Rattle.std.proofs.lemmas.List.Folds.{list_any-append}
@@ -141,7 +141,8 @@ value_bytes C V S word v is =
     ) refl
 
 pub other_read : (depth : ℕ) (attr text value end comma next w : List ℕ) (e named : Bool) → IsHeadRead attr text value named → IsValueRead depth value end w → end ≡ 44 ∷ comma → IsBesideFront comma next e
-    → (front back : List ℕ) × (text ≡ front ++ value) × (end ≡ back ++ next) × IsArgumentRead depth attr text next (front ++ (w ++ back)) named
+    → (front back : List ℕ) × (text ≡ front ++ value) × (end ≡ back ++ next) × (read : IsArgumentRead depth attr text next (front ++ (w ++ back)) named)
+    × (end ≡ 44 ∷ (bytes_of (suffix_piece read.placed.arg.suffix) ++ next))
 other_read depth attr text value end comma next w e named h v is side =
     let C : List ℕ = bytes_of (comments 1 h.notes) in
     let S : List ℕ = bytes_of (suffix_piece side.note) in
@@ -168,7 +169,11 @@ other_read depth attr text value end comma next w e named h v is side =
             ∙ ap (λ (t : List ℕ). t ++ next) (sym (value_bytes (comments 1 h.notes) (items_by v.choice 1 (Some RuleCall) (Line 1) EdgeOperator (items_of v.nodes)) (suffix_piece side.note) h.word v.stands v.stands_is));
         spells = again C w S ∙ sym (value_bytes (comments 1 h.notes) (items_pieces Broken 1 (Some RuleCall) (Line 1) EdgeOperator (items_of v.nodes)) (suffix_piece side.note) h.word w v.spells);
         named_is = h.named_is;
+        word = h.word;
+        value = v.nodes;
+        nodes_is = refl;
       },
+      ends,
     )
   where
     start : (C rest : List ℕ) → C ++ (10 ∷ (indent 1 ++ (h.word ++ (codes " = " ++ rest)))) ≡ (C ++ (10 ∷ (indent 1 ++ (h.word ++ codes " = ")))) ++ rest
@@ -237,13 +242,13 @@ count_as_is : (xs : List Segment) → length (map as_it_is xs) ≡ count (segs_o
 count_as_is [] = refl
 count_as_is (a ∷ xs) = ap suc (count_as_is xs)
 
-pub value_read : (depth : ℕ) (attr text value rest : List ℕ) (named : Bool) → (h : IsHeadRead attr text value named) → IsValueEnd depth value rest
-    → (w : List ℕ) × (text ≡ w ++ rest) × (read : IsArgumentRead depth attr text rest w named) × (read.placed.arg.before ≡ h.notes)
-value_read depth attr text value rest named h v =
+pub value_read : (depth : ℕ) (attr text value end rest : List ℕ) (named : Bool) → (h : IsHeadRead attr text value named) → IsValueEnd depth value end rest
+    → (w : List ℕ) × (text ≡ w ++ rest) × (read : IsArgumentRead depth attr text rest w named) × (end ≡ 44 ∷ (bytes_of (suffix_piece read.placed.arg.suffix) ++ rest))
+value_read depth attr text value end rest named h v =
     let inner : List ℕ = h.word ++ (codes " = " ++ value) in
     let ident : IsTokenFront Identifier inner (codes " = " ++ value) = record { token = h.word; is = h.is; stays = refl; front = refl } in
     let above : AreNotesFront 1 text (10 ∷ (indent 1 ++ inner)) (is_filled h.notes) = record { notes = h.notes; are = h.are; front = h.front; some_is = refl } in
-    let a = argument_front depth attr text (10 ∷ (indent 1 ++ inner)) inner (codes " = " ++ value) value v.end v.comma rest v.holds (is_filled h.notes) v.noted above refl ident refl v.nodes v.is v.side named (sym h.named_is) in
+    let a = argument_front depth attr text (10 ∷ (indent 1 ++ inner)) inner (codes " = " ++ value) value end v.comma rest v.holds (is_filled h.notes) v.noted above refl ident refl v.nodes v.is v.side named (sym h.named_is) in
     let are : AreSegments RuleCall depth (segs_of (a.arg ∷ [])) = a.are [] (no_segments RuleCall depth) in
     let formed : AreFormed depth (segs_of (a.arg ∷ [])) = record { texts = are.texts; kinds = are.kinds; grammar = are.grammar; depth_fits = are.depth_fits } in (
       argument_lines (a.arg ∷ []),
@@ -254,13 +259,16 @@ value_read depth attr text value rest named h v =
         front = a.front ∙ ap (λ (t : List ℕ). t ++ rest) (sym (lines_as_is a.arg));
         spells = refl;
         named_is = a.named_is;
+        word = h.word;
+        value = _;
+        nodes_is = refl;
       },
-      refl,
+      v.is ∙ ap (λ (t : List ℕ). 44 ∷ t) v.side.front,
     )
 
 -- one after another
 
-all_append : (depth : ℕ) (ps qs : List Placed) → ArePlaced depth ps → ArePlaced depth qs → ArePlaced depth (ps ++ qs)
+pub all_append : (depth : ℕ) (ps qs : List Placed) → ArePlaced depth ps → ArePlaced depth qs → ArePlaced depth (ps ++ qs)
 all_append depth [] qs are more = more
 all_append depth (p ∷ ps) qs are more = (are.0, all_append depth ps qs are.1 more)
 
@@ -271,14 +279,14 @@ all_args (p ∷ ps) qs = ap (λ xs. p.arg ∷ xs) (all_args ps qs)
 one_of_more : (n : ℕ) → nat_le 1 (suc n) ≡ true
 one_of_more n = grind (arith, nat_tests)
 
-either_one : (ps qs : List Placed) → (nat_le 1 (length ps) || nat_le 1 (length qs)) ≡ nat_le 1 (length (ps ++ qs))
+pub either_one : (ps qs : List Placed) → (nat_le 1 (length ps) || nat_le 1 (length qs)) ≡ nat_le 1 (length (ps ++ qs))
 either_one [] qs = refl
 either_one (p ∷ ps) qs = ap (λ b. b || nat_le 1 (length qs)) (one_of_more (length ps)) ∙ sym (one_of_more (length (ps ++ qs)))
 
 abbrev pub none_read : (depth : ℕ) (text : List ℕ) → AreRead depth text text [] false
 none_read depth text = record { placed = []; are = tt; front = refl; spells = refl; one_is = refl }
 
-abbrev append_read : (depth : ℕ) (text middle rest w v : List ℕ) (one more : Bool) → AreRead depth text middle w one → AreRead depth middle rest v more → AreRead depth text rest (w ++ v) (one || more)
+abbrev pub append_read : (depth : ℕ) (text middle rest w v : List ℕ) (one more : Bool) → AreRead depth text middle w one → AreRead depth middle rest v more → AreRead depth text rest (w ++ v) (one || more)
 append_read depth text middle rest w v one more a b = record {
   placed = a.placed ++ b.placed;
   are = all_append depth a.placed b.placed a.are b.are;
@@ -288,7 +296,7 @@ append_read depth text middle rest w v one more a b = record {
   one_is = (λ i. a.one_is i || b.one_is i) ∙ either_one a.placed b.placed;
 }
 
-abbrev single_read : (depth : ℕ) (attr text rest w : List ℕ) (named : Bool) → IsArgumentRead depth attr text rest w named → AreRead depth text rest w true
+abbrev pub single_read : (depth : ℕ) (attr text rest w : List ℕ) (named : Bool) → IsArgumentRead depth attr text rest w named → AreRead depth text rest w true
 single_read depth attr text rest w named p = record {
   placed = p.placed ∷ [];
   are = (p.is, tt);
@@ -297,7 +305,7 @@ single_read depth attr text rest w named p = record {
   one_is = refl;
 }
 
-or_true : (b : Bool) → (b || true) ≡ true
+pub or_true : (b : Bool) → (b || true) ≡ true
 or_true true = refl
 or_true false = refl
 
@@ -382,7 +390,7 @@ one_put depth attr text from to middle begun w v u one more a p t =
 
 -- all of them, and the comments after them
 
-pub arguments_end : (depth : ℕ) (attr text middle rest begun w : List ℕ) (one e some : Bool) (a : AreRead depth text middle w one) (n : AreNotesFront 1 middle rest e) → some ≡ (one || e) → (place : Option PutEnds) → IfSome place (HasPut depth attr begun text a.placed)
+abbrev pub arguments_end : (depth : ℕ) (attr text middle rest begun w : List ℕ) (one e some : Bool) (a : AreRead depth text middle w one) (n : AreNotesFront 1 middle rest e) → some ≡ (one || e) → (place : Option PutEnds) → IfSome place (HasPut depth attr begun text a.placed)
     → AreArgumentsRead depth attr text rest begun (w ++ bytes_of (comments 1 n.notes)) some place
 arguments_end depth attr text middle rest begun w one e some a n some_is place has = record {
   placed = a.placed;
@@ -396,10 +404,11 @@ arguments_end depth attr text middle rest begun w one e some a n some_is place h
 }
 
 -- the arguments after others, and the comments after them; the place of one more
-pub others_ended : (depth : ℕ) (attr whole text buffer begun w : List ℕ) (before : PutOthers) (place : Option PutPlace) (read : PutArguments) → IsPending whole buffer (begun ++ w) before.at.from.now before.at.rest.now
+pub others_known : (depth : ℕ) (attr whole text buffer begun w : List ℕ) (before : PutOthers) (place : Option PutPlace) (read : PutArguments) → IsPending whole buffer (begun ++ w) before.at.from.now before.at.rest.now
     → (a : AreRead depth text before.at.rest.now w before.one) → IfSome place (λ p. (has attr (args_of a.placed) ≡ false) × (put_ends p ≡ record { from = before.at.rest.now; to = before.at.rest.now; start = length (begun ++ w); end = length (begun ++ w) }))
-    → AreEnded depth before place read → (v : List ℕ) × IsPending whole buffer (begun ++ v) read.at.from.now read.at.rest.now × AreArgumentsRead depth attr text read.at.rest.now begun v read.some (option_map put_ends read.place)
-others_ended depth attr whole text buffer begun w before place read p a known e =
+    → (e : AreEnded depth before place read) → (v : List ℕ) × IsPending whole buffer (begun ++ v) read.at.from.now read.at.rest.now × (args : AreArgumentsRead depth attr text read.at.rest.now begun v read.some (option_map put_ends read.place))
+    × (read.named ≡ true → args.placed ≡ a.placed)
+others_known depth attr whole text buffer begun w before place read p a known e =
     let last = last_read depth before.at.rest.now e.middle e.count e.holds e.noted (nat_le 1 e.count) e.segments refl in
     let all = append_read depth text before.at.rest.now e.middle w last.0 before.one (nat_le 1 e.count) a last.2 in
     let notes : List ℕ = bytes_of (comments 1 e.notes.notes) in
@@ -409,8 +418,13 @@ others_ended depth attr whole text buffer begun w before place read p a known e 
       subst (λ (from : List ℕ). IsPending whole buffer (begun ++ ((w ++ last.0) ++ notes)) from read.at.rest.now) (sym e.from)
           (pend_same whole buffer (((begun ++ w) ++ last.0) ++ notes) before.at.from.now read.at.rest.now (begun ++ ((w ++ last.0) ++ notes)) ends (joined last.0 notes)),
       arguments_end depth attr text e.middle read.at.rest.now begun (w ++ last.0) (before.one || nat_le 1 e.count) e.ended read.some all e.notes e.some_is (option_map put_ends read.place) (at last.0 last.2 read.place e.stays),
+      λ named. ap (λ (ps : List Placed). a.placed ++ ps) (nobody_later last.2.placed (sym last.2.one_is ∙ unless (nat_le 1 e.count) (sym e.named_is ∙ named))) ∙ append-nil a.placed,
     )
   where
+    unless : (b : Bool) → not b ≡ true → b ≡ false
+    unless true is = absurd (false≢true is)
+    unless false is = refl
+
     joined : (x n : List ℕ) → ((begun ++ w) ++ x) ++ n ≡ begun ++ ((w ++ x) ++ n)
     joined x n = simp append_assoc
 
@@ -419,6 +433,13 @@ others_ended depth attr whole text buffer begun w before place read p a known e 
     at v t (Some q) is =
         let told = subst (λ o. IfSome o (λ p. (has attr (args_of a.placed) ≡ false) × (put_ends p ≡ record { from = before.at.rest.now; to = before.at.rest.now; start = length (begun ++ w); end = length (begun ++ w) }))) is.0 known in
         subst (HasPut depth attr begun text (a.placed ++ t.placed)) (sym told.1) (none_put depth attr text before.at.rest.now e.middle begun w v before.one (nat_le 1 e.count) (record { read = a; others = told.0 }) t is.1)
+
+pub others_ended : (depth : ℕ) (attr whole text buffer begun w : List ℕ) (before : PutOthers) (place : Option PutPlace) (read : PutArguments) → IsPending whole buffer (begun ++ w) before.at.from.now before.at.rest.now
+    → (a : AreRead depth text before.at.rest.now w before.one) → IfSome place (λ p. (has attr (args_of a.placed) ≡ false) × (put_ends p ≡ record { from = before.at.rest.now; to = before.at.rest.now; start = length (begun ++ w); end = length (begun ++ w) }))
+    → AreEnded depth before place read → (v : List ℕ) × IsPending whole buffer (begun ++ v) read.at.from.now read.at.rest.now × AreArgumentsRead depth attr text read.at.rest.now begun v read.some (option_map put_ends read.place)
+others_ended depth attr whole text buffer begun w before place read p a known e =
+    let all = others_known depth attr whole text buffer begun w before place read p a known e in
+    (all.0, all.1, all.2)
 
 -- the first of the name, and all arguments after it
 pub placed_all : (depth : ℕ) (attr text from to rest begun w u x : List ℕ) (one some : Bool) (place : Option PutEnds) (ends : PutEnds) → AreOthersRead depth attr text from w one → IsArgumentRead depth attr from to u true

@@ -22,7 +22,7 @@ use Rattle.bz_layout.proofs.Pieces.{bytes_append}
 use Rattle.bz_layout_laws.specs.TextsOfKinds.{SegsHaveTexts}
 use Rattle.bz_layout_laws.proofs.FreeRead.{free_again, free_chunked}
 use Rattle.bz_layout_laws.specs.FreeLayout.{Choice, SegsStand, Stand, broken_by, free, items_by, own, segs_spelled_by, spelled_by, text_by}
-use Rattle.bz_layout_laws.specs.Legible.{are_some, items_depth}
+use Rattle.bz_layout_laws.specs.Legible.{AreComments, are_some, items_depth}
 use Rattle.bz_layout_laws.specs.Lineless.{lineless}
 use Rattle.bz_attribute.specs.Rules.{first_named, rule_of}
 use Rattle.std.proofs.Math.Seq.{take-append_seam, drop-append_seam}
@@ -54,7 +54,7 @@ absurd_of h = absurd (false≢true h)
 
 -- all arguments
 
-abbrev choices_of : List Placed → Choice
+abbrev pub choices_of : List Placed → Choice
 choices_of [] = own
 choices_of (p ∷ ps) = free true p.choice (choices_of ps)
 
@@ -71,7 +71,7 @@ formed_more depth before nodes suffix ss one more =
       depth_fits = most _ _ depth fits more.depth_fits;
     }
 
-args_formed : (depth : ℕ) (ps : List Placed) → ArePlaced depth ps → AreFormed depth (segs_of (args_of ps))
+pub args_formed : (depth : ℕ) (ps : List Placed) → ArePlaced depth ps → AreFormed depth (segs_of (args_of ps))
 args_formed depth [] are = record { texts = tt; kinds = tt; grammar = AreArgs.no_arg; depth_fits = omega arith }
 args_formed depth (p ∷ ps) are = formed_more depth p.arg.before (items_of p.arg.nodes) p.arg.suffix (segs_of (args_of ps)) are.0.formed (args_formed depth ps are.1)
 
@@ -107,10 +107,10 @@ name_text : is_text Identifier (codes "name") ≡ true
 unfolding keywords
 name_text = refl
 
-abbrev quoted : List ℕ → List ℕ
+abbrev pub quoted : List ℕ → List ℕ
 quoted name = 34 ∷ (name ++ 34 ∷ [])
 
-abbrev name_items : List ℕ → Items
+abbrev pub name_items : List ℕ → Items
 name_items name = item (leaf Identifier (codes "name")) (item (leaf Operator (codes "=")) (item (leaf String (quoted name)) no_items))
 
 name_formed : (depth : ℕ) (name : List ℕ) → is_text String (quoted name) ≡ true → AreFormed depth (seg [] (name_items name) None no_segs)
@@ -123,10 +123,10 @@ name_formed depth name is = record {
 
 -- the whole text
 
-abbrev name_line : List ℕ → List ℕ
+abbrev pub name_line : List ℕ → List ℕ
 name_line name = 10 ∷ (indent 1 ++ (codes "name" ++ (codes " = " ++ (34 ∷ (name ++ 34 ∷ 44 ∷ [])))))
 
-abbrev end_text : List ℕ → List ℕ
+abbrev pub end_text : List ℕ → List ℕ
 end_text S = 10 ∷ 41 ∷ (S ++ 10 ∷ [])
 
 quoted_bytes : (N Q E S : List Piece) (kind name lines : List ℕ) → bytes_of Q ≡ lines
@@ -155,7 +155,7 @@ rule_bytes : (N Q E S : List Piece) (kind name lines : List ℕ) → bytes_of Q 
 rule_bytes N Q E S kind name lines is = quoted_bytes N Q E S kind (quoted name) lines is
     ∙ ap (λ (t : List ℕ). bytes_of N ++ (kind ++ (40 ∷ 10 ∷ (indent 1 ++ (codes "name" ++ (codes " = " ++ t)))))) (in_quotes name (lines ++ (bytes_of E ++ end_text (bytes_of S))))
 
-abbrev rule_of_args : List (List ℕ) → List ℕ → List ℕ → List Segment → List (List ℕ) → Option (List ℕ) → Statement
+abbrev pub rule_of_args : List (List ℕ) → List ℕ → List ℕ → List Segment → List (List ℕ) → Option (List ℕ) → Statement
 rule_of_args notes kind name args end suffix = record {
   before = notes;
   nodes = leaf Identifier kind ∷ group RuleCall (seg [] (name_items name) None (segs_of args)) false end ∷ [];
@@ -207,7 +207,7 @@ no_lines_of : (ps : List Placed) → is_empty (flat_map placed_lines ps) ≡ is_
 no_lines_of [] = refl
 no_lines_of (p ∷ ps) = some_lines p (flat_map placed_lines ps)
 
-statement_same : (line depth : ℕ) (c : List ℕ) (s t : Statement) → IsStatementIn line depth c s → IsStatementIn line depth c t → s ≡ t
+pub statement_same : (line depth : ℕ) (c : List ℕ) (s t : Statement) → IsStatementIn line depth c s → IsStatementIn line depth c t → s ≡ t
 statement_same line depth c s t a b =
     let same : b.tokens ≡ a.tokens = one_tokens line depth c b.tokens a.tokens b.are a.are in
     chunk_same line c a.tokens s t a.reads.chunk (subst (λ ts. IsChunkOf line c ts t) same b.reads.chunk)
@@ -231,10 +231,10 @@ with_group N G S kind g is =
       is,
     ) refl
 
-abbrev kind_text : List ℕ → List ℕ → List ℕ
+abbrev pub kind_text : List ℕ → List ℕ → List ℕ
 kind_text N kind = N ++ (kind ++ 40 ∷ [])
 
-abbrev head_text : List ℕ → List ℕ → List ℕ → List ℕ
+abbrev pub head_text : List ℕ → List ℕ → List ℕ → List ℕ
 head_text N kind name = kind_text N kind ++ name_line name
 
 with_new : (N S kind name before new after ends : List ℕ)
@@ -242,10 +242,10 @@ with_new : (N S kind name before new after ends : List ℕ)
     ≡ (head_text N kind name ++ before) ++ (new ++ (after ++ (ends ++ end_text S)))
 with_new N S kind name before new after ends = simp append_assoc
 
-abbrev name_argument : List ℕ → Segment
+abbrev pub name_argument : List ℕ → Segment
 name_argument name = record { before = []; nodes = list_of (name_items name); suffix = None }
 
-line_is : (name : List ℕ) → argument_lines (name_argument name ∷ []) ≡ name_line name
+pub line_is : (name : List ℕ) → argument_lines (name_argument name ∷ []) ≡ name_line name
 line_is name = ap (λ (t : List ℕ). 10 ∷ (indent 1 ++ (codes "name" ++ (codes " = " ++ t)))) (in_quotes name [] ∙ append-nil (34 ∷ (name ++ 34 ∷ 44 ∷ [])))
 
 -- the place of an argument after the name
@@ -292,7 +292,7 @@ rule_place depth attr notes kind name placed end suffix text next place begins o
     joined : (F x y z back : List ℕ) → F ++ ((x ++ (y ++ z)) ++ back) ≡ (F ++ x) ++ (y ++ (z ++ back))
     joined F x y z back = simp append_assoc
 
-size_before : (text front rest : List ℕ) → text ≡ front ++ rest → length text - length rest ≡ length front
+pub size_before : (text front rest : List ℕ) → text ≡ front ++ rest → length text - length rest ≡ length front
 size_before text front rest is = omega (arith, ap length is, length-append front rest)
 
 -- the place of the name
@@ -336,10 +336,10 @@ name_place depth attr notes kind name args end suffix text inside next place is 
     again : (N new lines ends S : List ℕ) → N ++ (kind ++ ((40 ∷ (new ++ (lines ++ (ends ++ 10 ∷ 41 ∷ [])))) ++ (S ++ 10 ∷ []))) ≡ kind_text N kind ++ (new ++ (lines ++ (ends ++ end_text S)))
     again N new lines ends S = simp append_assoc
 
-kind_end : (N kind inside : List ℕ) → N ++ (kind ++ (40 ∷ inside)) ≡ kind_text N kind ++ inside
+pub kind_end : (N kind inside : List ℕ) → N ++ (kind ++ (40 ∷ inside)) ≡ kind_text N kind ++ inside
 kind_end N kind inside = simp append_assoc
 
-line_end : (name next : List ℕ) → 10 ∷ (indent 1 ++ (codes "name" ++ (codes " = " ++ (34 ∷ (name ++ 34 ∷ (44 ∷ next)))))) ≡ name_line name ++ next
+pub line_end : (name next : List ℕ) → 10 ∷ (indent 1 ++ (codes "name" ++ (codes " = " ++ (34 ∷ (name ++ 34 ∷ (44 ∷ next)))))) ≡ name_line name ++ next
 line_end name next = ap (λ (t : List ℕ). 10 ∷ (indent 1 ++ (codes "name" ++ (codes " = " ++ 34 ∷ t)))) (sym (append_assoc name (34 ∷ 44 ∷ []) next))
 
 pub head_is : (text name inside next : List ℕ) → (h : IsRuleHead text name inside next) → text ≡ head_text (bytes_of (comment_lines h.notes)) h.kind name ++ next
@@ -353,6 +353,60 @@ flip_or true false = refl
 flip_or false true = refl
 flip_or false false = refl
 
+-- a rule of these arguments
+abbrev pub rule_of_placed : (text name inside next below rest : List ℕ) → IsRuleHead text name inside next → IsRuleEnd below rest → List Placed → List (List ℕ) → Statement
+rule_of_placed text name inside next below rest h e ps end = rule_of_args h.notes h.kind name (args_of ps) end e.note
+
+abbrev pub rule_choice : List Placed → Choice
+rule_choice ps = free true own (free true (free true (free true own (choices_of ps)) own) own)
+
+pub rule_formed : (depth : ℕ) (name : List ℕ) → is_text String (quoted name) ≡ true → (ps : List Placed) → ArePlaced depth ps → AreFormed depth (seg [] (name_items name) None (segs_of (args_of ps)))
+rule_formed depth name is ps are = formed_more depth [] (name_items name) None (segs_of (args_of ps)) (name_formed depth name is) (args_formed depth ps are)
+
+rule_well : (depth : ℕ) (text name inside next below rest : List ℕ) (h : IsRuleHead text name inside next) (e : IsRuleEnd below rest) (ps : List Placed) → ArePlaced depth ps → (end : List (List ℕ)) → AreComments end
+    → IsWellFormed (depth + 1) (rule_of_placed text name inside next below rest h e ps end)
+rule_well depth text name inside next below rest h e ps are end end_is =
+    let formed : AreFormed depth (seg [] (name_items name) None (segs_of (args_of ps))) = rule_formed depth name h.name_is.is ps are in
+    record {
+      texts = record { some = λ no. refl; before = h.are; nodes = ((h.kind_is, refl), ((formed.texts, end_is), tt)); suffix = e.is };
+      parsed = record {
+        kinds = (λ is. refl, tt, (λ is. refl, (Round, refl, record { one = λ is. absurd_of is; comma = λ is. absurd_of is }, formed.kinds), tt));
+        rule = refl;
+        class = refl;
+        alone = λ none. absurd_of (sym (ap (λ (xs : List Item). are_some (items_of xs)) none));
+        lines = λ none. absurd_of (sym (ap (λ (xs : List Item). are_some (items_of xs)) none));
+      };
+      grammar = statement_form (IsStatement.expression (IsExpr.last_test (IsTest.plain (IsChain.single (IsTerm.primary (IsPrimary.operand (IsOperand.ident refl) (AreSuffixes.suffix (IsSuffix.call refl formed.grammar) AreSuffixes.no_suffix)))))));
+      depth_fits = most _ _ (depth + 1) (omega arith) (most _ _ (depth + 1) (omega (arith, formed.depth_fits)) (omega arith));
+    }
+
+rule_stand : (depth : ℕ) (kind name : List ℕ) (ps : List Placed) → ArePlaced depth ps → (end : List (List ℕ))
+    → Stand (rule_choice ps) (items_of (leaf Identifier kind ∷ group RuleCall (seg [] (name_items name) None (segs_of (args_of ps))) false end ∷ []))
+rule_stand depth kind name ps are end = (tt, ((λ no. absurd_of (sym no), (own_stand (name_items name), args_stand depth ps are)), tt))
+
+rule_spelled : (depth : ℕ) (text name inside next below rest : List ℕ) (h : IsRuleHead text name inside next) (e : IsRuleEnd below rest) (ps : List Placed) → ArePlaced depth ps → (end : List (List ℕ))
+    → spelled_by (rule_choice ps) (rule_of_placed text name inside next below rest h e ps end) ≡ rule_of_placed text name inside next below rest h e ps end
+rule_spelled depth text name inside next below rest h e ps are end =
+    ap (λ ss. record { before = h.notes; nodes = leaf Identifier h.kind ∷ group RuleCall (seg [] (name_items name) None ss) false end ∷ []; suffix = e.note; class = RuleClass; start = 0; end = 0 }) (args_spelled depth ps are)
+
+-- how it stands
+abbrev pub stood_text : (text name inside next below rest : List ℕ) → IsRuleHead text name inside next → IsRuleEnd below rest → List Placed → List (List ℕ) → List ℕ
+stood_text text name inside next below rest h e ps end =
+    bytes_of (comment_lines h.notes) ++ (h.kind ++ (40 ∷ (name_line name ++ (flat_map placed_lines ps ++ (bytes_of (comments 1 end) ++ end_text (bytes_of (suffix_piece e.note)))))))
+
+rule_stood : (text name inside next below rest : List ℕ) (h : IsRuleHead text name inside next) (e : IsRuleEnd below rest) (ps : List Placed) (end : List (List ℕ))
+    → text_by (rule_choice ps) (rule_of_placed text name inside next below rest h e ps end) ≡ stood_text text name inside next below rest h e ps end
+rule_stood text name inside next below rest h e ps end =
+    rule_bytes (comment_lines h.notes) (broken_by (choices_of ps) 1 RuleCall true (segs_of (args_of ps))) (comments 1 end) (suffix_piece e.note) h.kind name (flat_map placed_lines ps) (args_lines ps)
+
+-- what is read of it
+pub rule_reads : (depth first : ℕ) (text name inside next below rest : List ℕ) (h : IsRuleHead text name inside next) (e : IsRuleEnd below rest) (ps : List Placed) → ArePlaced depth ps → (end : List (List ℕ)) → AreComments end
+    → (t : Statement) → IsStatementIn first (depth + 1) (stood_text text name inside next below rest h e ps end) t → lineless t ≡ lineless (rule_of_placed text name inside next below rest h e ps end)
+rule_reads depth first text name inside next below rest h e ps are end end_is t read =
+    let again = free_again first (depth + 1) (rule_of_placed text name inside next below rest h e ps end) (rule_choice ps) (rule_well depth text name inside next below rest h e ps are end end_is) (rule_stand depth h.kind name ps are end) in
+    ap lineless (statement_same first (depth + 1) (stood_text text name inside next below rest h e ps end) t again.0 read (subst (λ b. IsStatementIn first (depth + 1) b again.0) (rule_stood text name inside next below rest h e ps end) again.1))
+    ∙ again.2 ∙ ap lineless (rule_spelled depth text name inside next below rest h e ps are end)
+
 -- `front` is the head, `back` the end, `w` is written between them
 pub rule_read : (depth : ℕ) (attr text name inside next below rest front w back : List ℕ) (some : Bool) (place : Option PutEnds) → IsRuleHead text name inside next → text ≡ front ++ next → AreArgumentsRead depth attr next below front w some place → some ≡ true
     → IsRuleEnd below rest → below ≡ back ++ rest → (kept : Option PutEnds) → IfSome kept (IsRulePlace (bytes_eq attr (codes "name")) text inside next place) → IsRuleRead (depth + 1) attr name text rest (front ++ (w ++ back)) kept
@@ -363,7 +417,6 @@ rule_read depth attr text name inside next below rest front w back some place h 
     let E : List ℕ = bytes_of (comments 1 a.end) in
     let S : List ℕ = bytes_of (suffix_piece e.note) in
     let F : List ℕ = head_text N h.kind name in
-    let formed : AreFormed depth segs = formed_more depth [] (name_items name) None (segs_of args) (name_formed depth name h.name_is.is) (args_formed depth a.placed a.are) in
     let begins : text ≡ F ++ next = head_is text name inside next h in
     let ends : below ≡ end_text S ++ rest = e.front ∙ finish S in
     let front_at : front ≡ F = same_front text front F next front_is begins in
@@ -372,25 +425,14 @@ rule_read depth attr text name inside next below rest front w back some place h 
     let written : front ++ (w ++ back) ≡ F ++ (argument_lines args ++ (E ++ end_text S)) = (λ i. front_at i ++ (a.spells i ++ back_at i)) ∙ ap (λ (t : List ℕ). F ++ t) (append_assoc (argument_lines args) E (end_text S)) in
     record {
       s = rule_of_args h.notes h.kind name args a.end e.note;
-      choice = free true own (free true (free true (free true own (choices_of a.placed)) own) own);
-      well = record {
-        texts = record { some = λ no. refl; before = h.are; nodes = ((h.kind_is, refl), ((formed.texts, a.end_is), tt)); suffix = e.is };
-        parsed = record {
-          kinds = (λ is. refl, tt, (λ is. refl, (Round, refl, record { one = λ is. absurd_of is; comma = λ is. absurd_of is }, formed.kinds), tt));
-          rule = refl;
-          class = refl;
-          alone = λ none. absurd_of (sym (ap (λ (xs : List Item). are_some (items_of xs)) none));
-          lines = λ none. absurd_of (sym (ap (λ (xs : List Item). are_some (items_of xs)) none));
-        };
-        grammar = statement_form (IsStatement.expression (IsExpr.last_test (IsTest.plain (IsChain.single (IsTerm.primary (IsPrimary.operand (IsOperand.ident refl) (AreSuffixes.suffix (IsSuffix.call refl formed.grammar) AreSuffixes.no_suffix)))))));
-        depth_fits = most _ _ (depth + 1) (omega arith) (most _ _ (depth + 1) (omega (arith, formed.depth_fits)) (omega arith));
-      };
-      stand = (tt, ((λ no. absurd_of (sym no), (own_stand (name_items name), args_stand depth a.placed a.are)), tt));
-      spelled = ap (λ ss. record { before = h.notes; nodes = leaf Identifier h.kind ∷ group RuleCall (seg [] (name_items name) None ss) false a.end ∷ []; suffix = e.note; class = RuleClass; start = 0; end = 0 }) (args_spelled depth a.placed a.are);
+      choice = rule_choice a.placed;
+      well = rule_well depth text name inside next below rest h e a.placed a.are a.end a.end_is;
+      stand = rule_stand depth h.kind name a.placed a.are a.end;
+      spelled = rule_spelled depth text name inside next below rest h e a.placed a.are a.end;
       class_is = refl;
       named = h.name_is.value;
       front = begins ∙ ap (λ (t : List ℕ). F ++ t) (a.front ∙ ap (λ (t : List ℕ). flat_map placed_lines a.placed ++ (E ++ t)) ends) ∙ whole N (flat_map placed_lines a.placed) E S
-          ∙ ap (λ (t : List ℕ). t ++ rest) (sym (rule_bytes (comment_lines h.notes) (broken_by (choices_of a.placed) 1 RuleCall true (segs_of args)) (comments 1 a.end) (suffix_piece e.note) h.kind name (flat_map placed_lines a.placed) (args_lines a.placed)));
+          ∙ ap (λ (t : List ℕ). t ++ rest) (sym (rule_stood text name inside next below rest h e a.placed a.end));
       spells = written ∙ again N (argument_lines args) E S ∙ sym (laid_out h.notes h.kind name args a.end e.note more);
       absent = λ attr none. no_argument_name attr segs a.end (λ has. none (within attr h.kind (comment_lines h.notes) (item_pieces Broken 0 Closed (group RuleCall segs false a.end)) (suffix_piece e.note ++ (piece Closed Newline (codes "\n") ∷ [])) has));
       has = at (bytes_eq attr (codes "name")) refl begins more (subst (λ (t : List ℕ). IfSome place (HasPut depth attr t next a.placed)) front_at a.has) written kept known;
@@ -432,16 +474,26 @@ head_of text name inside next h = head_text (bytes_of (comment_lines h.notes)) h
 pub rule_begun : (text name inside next : List ℕ) (h : IsRuleHead text name inside next) (buffer : List ℕ) → buffer ≡ [] → IsPending text buffer (head_of text name inside next h) text next
 rule_begun text name inside next h buffer none = subst (λ (b : List ℕ). IsPending text b (head_of text name inside next h) text next) (sym none) (pend_first text (head_of text name inside next h) next (head_is text name inside next h))
 
+end_is : (below rest : List ℕ) (e : IsRuleEnd below rest) → below ≡ end_text (bytes_of (suffix_piece e.note)) ++ rest
+end_is below rest e = e.front ∙ ap (λ (t : List ℕ). 10 ∷ 41 ∷ t) (sym (append_assoc (bytes_of (suffix_piece e.note)) (10 ∷ []) rest))
+
+-- what is pending at its end
+pub rule_ended : (text name inside next below rest from buffer w : List ℕ) (h : IsRuleHead text name inside next) (e : IsRuleEnd below rest) → IsPending text buffer (head_of text name inside next h ++ w) from below
+    → IsPending text buffer (head_of text name inside next h ++ (w ++ end_text (bytes_of (suffix_piece e.note)))) from rest
+rule_ended text name inside next below rest from buffer w h e p =
+    let front : List ℕ = head_of text name inside next h in
+    let back : List ℕ = end_text (bytes_of (suffix_piece e.note)) in
+    pend_same text buffer ((front ++ w) ++ back) from rest (front ++ (w ++ back)) (pend_more text buffer (front ++ w) from below back rest p (end_is below rest e)) (append_assoc front w back)
+
 pub rule_pending : (depth : ℕ) (attr text name inside next below rest from buffer w : List ℕ) (some : Bool) (place kept : Option PutEnds) (h : IsRuleHead text name inside next) → IsPending text buffer (head_of text name inside next h ++ w) from below
     → AreArgumentsRead depth attr next below (head_of text name inside next h) w some place → some ≡ true → IsRuleEnd below rest → IfSome kept (IsRulePlace (bytes_eq attr (codes "name")) text inside next place)
     → (all : List ℕ) × IsPending text buffer all from rest × IsRuleRead (depth + 1) attr name text rest all kept
 rule_pending depth attr text name inside next below rest from buffer w some place kept h p a some_is e known =
     let front : List ℕ = head_of text name inside next h in
-    let back : List ℕ = end_text (bytes_of (suffix_piece e.note)) in
-    let back_is : below ≡ back ++ rest = e.front ∙ ap (λ (t : List ℕ). 10 ∷ 41 ∷ t) (sym (append_assoc (bytes_of (suffix_piece e.note)) (10 ∷ []) rest)) in (
+    let back : List ℕ = end_text (bytes_of (suffix_piece e.note)) in (
       front ++ (w ++ back),
-      pend_same text buffer ((front ++ w) ++ back) from rest (front ++ (w ++ back)) (pend_more text buffer (front ++ w) from below back rest p back_is) (append_assoc front w back),
-      rule_read depth attr text name inside next below rest front w back some place h (head_is text name inside next h) a some_is e back_is kept known,
+      rule_ended text name inside next below rest from buffer w h e p,
+      rule_read depth attr text name inside next below rest front w back some place h (head_is text name inside next h) a some_is e (end_is below rest e) kept known,
     )
 
 -- its place in what is read of it

@@ -50,7 +50,7 @@ inside_plain (b ∷ bs) h =
     let others = inside_plain bs p.1 in
     (rw (one.0, others.0) refl, rw (one.1, others.1) refl)
 
-bytes_same : (xs : List ℕ) → bytes_eq xs xs ≡ true
+pub bytes_same : (xs : List ℕ) → bytes_eq xs xs ≡ true
 bytes_same xs = search (rules, bytes_eq-Decides)
 
 respelled : (inner : List ℕ) → list_all is_plain inner ≡ true → respell String (39 ∷ (inner ++ 39 ∷ [])) ≡ 34 ∷ (inner ++ 34 ∷ [])

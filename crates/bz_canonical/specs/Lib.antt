@@ -4,4 +4,5 @@ pub mod Commented
 pub mod Removed
 pub mod Replaced
 pub mod SealedArguments
+pub mod Spans
 pub mod private

@@ -9,3 +9,4 @@ pub mod Added
 pub mod Edited
 pub mod Unnamed
 pub mod Calls
+pub mod Noted

@@ -2,6 +2,7 @@
 
 ghost use Rattle.std.specs.Prelude.{◌≡◌, ◌-◌, ◌<◌, ℕ, List, Option, false, length, option_map, take, IfOk, IfSome, IsFalse, IsTrue};
 ghost use Rattle.bz_canonical.specs.Canonical.{IsCanonical, between};
+ghost use Rattle.bz_canonical.specs.Spans.{AreSpansOf};
 ghost use Rattle.bz_canonical.specs.private.Segments.{AreLinesFront};
 ghost use Rattle.bz_canonical.specs.private.Statements.{IsChunkOf};
 
@@ -9,9 +10,11 @@ use crate::Known;
 use crate::comments::after_comments_above;
 use crate::lined::put_lined_rule;
 use crate::put_rule::read_rule_head;
-use crate::rewrite::{NamedRule, name_in, read_asked_chunk, read_rule_chunk};
+use crate::rewrite::{NamedRule, name_in, read_asked_chunk, read_noted_chunk, read_rule_chunk};
+use crate::spans::ArgumentSpan;
 use crate::statement::read_whole_statement;
 use crate::unnamed::{read_unnamed_chunk, read_unnamed_rule};
+use bz_label::Text;
 use bz_memory::NoMemory;
 use bz_token::check_utf8;
 use bz_tree::Class;
@@ -26,6 +29,8 @@ pub struct CanonicalChunk<'t> {
     pub class: Class,
     /// It is a rule of which nothing is asked.
     pub left: bool,
+    /// It is noted where all its arguments stand.
+    pub noted: bool,
     /// The name of a rule. None: it is no rule, or has no name.
     pub name: Option<&'t str>,
     /// The bytes of the kind of a rule without an argument `name`. None: it is not known.
@@ -48,9 +53,16 @@ pub trait AsksOfRules {
     // What is known of a name of which nothing is asked. None: a rule without a name.
     ghost leaves: { Self → Option (List ℕ) → Type 0 };
 
+    // The names of the arguments that are asked for.
+    ghost names: { Self → List (List ℕ) };
+
     /// Whether something is asked of a rule of this name, or of one without a name.
     fn asks_of(&self, name: Option<&str>) -> bool
         ensures { IsFalse result → leaves self.now (option_map (λ text. text.now) name.entry) };
+
+    /// The names of the arguments that are asked for where it is noted how all stand. None: this is not noted.
+    fn names(&self) -> &[Text]
+        ensures { result.now ≡ names self.now };
 }
 
 /// The argument whose place is asked for: its name, and of which rules. An empty name: none is asked for.
@@ -72,20 +84,24 @@ impl<R: AsksOfRules> Lookup<'_, R> {
 pub(crate) const DEEPEST: u8 = 253;
 
 /// The chunk that the text begins with, where it is known what would be written of it, with the place of the argument
-/// that is asked for. The bytes in the buffer are lost: what is written of a rule goes there, if it stands otherwise.
-/// None: it may be known or not. `canonical.rt` of bz_engine asks, before it reads anything.
+/// that is asked for, or with the spans of all. The bytes in the buffer are lost: what is written of a rule goes there,
+/// if it stands otherwise. So are the spans that were there. None: it may be known or not. `canonical.rt` of bz_engine
+/// asks, before it reads anything.
 #[inline(always)]
 pub fn read_canonical<'t, R: AsksOfRules>(
     text: &'t str,
     asked: Lookup<'_, R>,
     max_depth: u8,
     written: &'t mut Vec<u8>,
+    spans: &mut Vec<ArgumentSpan>,
 ) -> Result<Option<CanonicalChunk<'t>>, NoMemory>
     ensures chunk { IfOk result (λ known. IfSome known (λ found. IsCanonical max_depth asked.entry.attr.now found.class
         (option_map (λ name. name.now) found.name) (option_map (λ kind. kind.now) found.kind)
         (option_map between found.place) found.chunk.now found.written.now text.now)) }
     ensures left { IfOk result (λ known. IfSome known (λ found. IsTrue found.left
         → R.leaves asked.entry.rules.now (option_map (λ name. name.now) found.name))) }
+    ensures spans { IfOk result (λ known. IfSome known (λ found. IsTrue found.noted → AreSpansOf max_depth
+        (R.names asked.entry.rules.now) found.chunk.now found.written.now spans.new.items)) }
 {
     if max_depth > DEEPEST {
         return Ok(None);
@@ -99,6 +115,12 @@ pub fn read_canonical<'t, R: AsksOfRules>(
     };
     let rule = NamedRule { text, head, name };
     let left = !asked.rules.asks_of(Some(name));
+    if !left {
+        let names = asked.rules.names();
+        if !names.is_empty() {
+            return read_noted_chunk(rule, names, max_depth, written, spans);
+        }
+    }
     if left || asked.attr.is_empty() {
         return read_rule_chunk(rule, left, None, max_depth, written);
     }
@@ -119,6 +141,7 @@ fn read_rarer_chunk<'t, R: AsksOfRules>(
     ensures chunk { IfOk result (λ known. IfSome known
         (IsChunkOf max_depth asked.entry.attr.now text.now)) }
     ensures left { IfOk result (λ known. IfSome known (λ found. found.left ≡ false)) }
+    ensures noted { IfOk result (λ known. IfSome known (λ found. found.noted ≡ false)) }
 {
     if asked.asks_of(None) {
         if let Some(rule) = read_unnamed_rule(text, start, asked.attr, max_depth) {
@@ -138,6 +161,7 @@ fn read_other_chunk<'t>(text: &'t str, start: &'t [u8], max_depth: u8) -> Option
     requires lines { AreLinesFront text.now start.now }
     ensures chunk { IfSome result (λ found. (attr : List ℕ) → IsChunkOf max_depth attr text.now found) }
     ensures left { IfSome result (λ found. found.left ≡ false) }
+    ensures noted { IfSome result (λ found. found.noted ≡ false) }
 {
     let read = read_whole_statement(text.as_bytes(), start, max_depth)?;
     let chunk = without(text, read.rest.len())?;
@@ -154,6 +178,7 @@ fn read_other_chunk<'t>(text: &'t str, start: &'t [u8], max_depth: u8) -> Option
         kind: read.kind,
         place: None,
         left: false,
+        noted: false,
     })
 }
 

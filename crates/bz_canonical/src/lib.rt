@@ -29,6 +29,7 @@ mod rewrite;
 mod rule;
 mod segments;
 mod simple;
+mod spans;
 mod statement;
 mod string_list;
 mod unnamed;
@@ -41,6 +42,7 @@ pub use commented::{CommentPlace, comment_place};
 pub use edited::EditedList;
 pub use removed::put_removed;
 pub use replaced::put_replaced;
+pub use spans::ArgumentSpan;
 
 /// None: it is not known what would be written.
 pub(crate) type Known<T> = Result<Option<T>, NoMemory>;

@@ -57,6 +57,7 @@ pub(crate) fn put_lined_rule<'t>(
     ensures chunk { IfOk result (λ known. IfSome known (λ found. (attr : List ℕ)
         → IsChunkOf max_depth attr text.now found)) }
     ensures left { IfOk result (λ known. IfSome known (λ found. found.left ≡ false)) }
+    ensures noted { IfOk result (λ known. IfSome known (λ found. found.noted ≡ false)) }
 {
     let Some((rule, kind)) = read_lined_rule(text, start, max_depth) else {
         return Ok(None);
@@ -77,6 +78,7 @@ fn lined_chunk<'t>(
     ensures chunk { IfSome result (λ found. (depth : ℕ) (attr text : List ℕ) → IsLinedRule depth text kind.now rule.entry
         → laid.now ≡ lined_text rule.entry → IsChunkOf depth attr text found) }
     ensures left { IfSome result (λ found. found.left ≡ false) }
+    ensures noted { IfSome result (λ found. found.noted ≡ false) }
 {
     if has_argument_name(laid, b"name".as_slice()) {
         return None;
@@ -92,5 +94,6 @@ fn lined_chunk<'t>(
         kind: Some(kind),
         place: None,
         left: false,
+        noted: false,
     })
 }

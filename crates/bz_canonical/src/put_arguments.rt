@@ -5,7 +5,7 @@ ghost use Rattle.std.specs.Prelude.{◌≡◌, ◌<◌, ℕ, List, length, optio
 ghost use Rattle.bz_tree.specs.declared.tree.GroupKind.TheVariants.{RuleCall};
 ghost use Rattle.bz_canonical.specs.private.Segments.{AreNotesFront, AreSegmentsFront};
 ghost use Rattle.bz_canonical.specs.private.Values.{AreNodesFront};
-ghost use Rattle.bz_canonical.specs.private.Rewritten.{AreArgumentsRead, AreEnded, AreOthersRead, IsHeadRead, IsPending, IsValueEnd, Puts, PutsArgument, pending, put_ends};
+ghost use Rattle.bz_canonical.specs.private.Rewritten.{AreArgumentsRead, AreEnded, AreOthersRead, IsHeadRead, IsNameRead, IsPending, IsValueEnd, Puts, PutsArgument, PutsOther, pending, put_ends};
 
 use crate::Known;
 use crate::calls::put_value;
@@ -44,7 +44,27 @@ pub(crate) fn written_len(at: Pending<'_>, written: &Vec<u8>) -> Option<usize>
     Some(len)
 }
 
-/// The name of an argument.
+/// The name of an argument, and what follows its equals sign.
+#[derive(Clone, Copy)]
+pub(crate) struct ArgumentName<'t> {
+    pub(crate) name: &'t [u8],
+    pub(crate) value: &'t [u8],
+}
+
+/// The name of the argument here, and the comments above it.
+#[inline(always)]
+pub(crate) fn read_argument_name(text: &[u8]) -> Option<ArgumentName<'_>>
+    ensures { IfSome result (λ read. IsNameRead text.now read.name.now read.value.now) }
+{
+    let above = after_comments(text, 1);
+    let inner = after_line(above.rest, 1)?;
+    let equals = after_identifier(inner)?;
+    let value = after_word(equals, Word::Equals)?;
+    let name = before(inner, equals.len())?;
+    Some(ArgumentName { name, value })
+}
+
+/// Whether an argument has the name that is asked for.
 #[derive(Clone, Copy)]
 pub(crate) struct ArgumentHead<'t> {
     /// What follows the equals sign.
@@ -58,14 +78,10 @@ pub(crate) struct ArgumentHead<'t> {
 pub(crate) fn read_argument_head<'t>(text: &'t [u8], attr: &[u8]) -> Option<ArgumentHead<'t>>
     ensures { IfSome result (λ head. IsHeadRead attr.now text.now head.value.now head.named) }
 {
-    let above = after_comments(text, 1);
-    let inner = after_line(above.rest, 1)?;
-    let equals = after_identifier(inner)?;
-    let value = after_word(equals, Word::Equals)?;
-    let keyword = before(inner, equals.len())?;
+    let read = read_argument_name(text)?;
     Some(ArgumentHead {
-        value,
-        named: are_same(attr, keyword),
+        value: read.value,
+        named: are_same(attr, read.name),
     })
 }
 
@@ -85,15 +101,37 @@ fn after_argument_nodes(value: &[u8], depth: u8) -> Option<Value<'_>>
     }
 }
 
-/// What follows the value here and its comma, where it stands as it is written.
+/// The end of an argument.
+#[derive(Clone, Copy)]
+pub(crate) struct ArgumentEnd<'t> {
+    /// From its comma on.
+    pub(crate) comma: &'t [u8],
+    /// What follows the comment beside it.
+    pub(crate) rest: &'t [u8],
+}
+
+/// The end of the argument whose value is here, where that stands as it is written.
 #[inline(always)]
-pub(crate) fn after_argument_value(value: &[u8], depth: u8) -> Option<&[u8]>
+pub(crate) fn read_argument_end(value: &[u8], depth: u8) -> Option<ArgumentEnd<'_>>
     requires { depth < 254 }
-    ensures { IfSome result (λ rest. IsValueEnd depth value.now rest.now) }
+    ensures { IfSome result (λ end. IsValueEnd depth value.now end.comma.now end.rest.now) }
 {
     let read = after_argument_nodes(value, depth)?;
     let side = after_comma(read.rest)?;
-    Some(side.rest)
+    Some(ArgumentEnd {
+        comma: read.rest,
+        rest: side.rest,
+    })
+}
+
+/// What follows the value here and its comma, where it stands as it is written.
+#[inline(always)]
+fn after_argument_value(value: &[u8], depth: u8) -> Option<&[u8]>
+    requires { depth < 254 }
+    ensures { IfSome result (λ rest. (comma : List ℕ) × IsValueEnd depth value.now comma rest.now) }
+{
+    let end = read_argument_end(value, depth)?;
+    Some(end.rest)
 }
 
 /// Passes the argument here, whose name was read. If its value stands otherwise than it is written, it goes into the
@@ -118,9 +156,10 @@ fn put_argument<'t>(
     }
 }
 
-/// The same of a value that stands otherwise than it is written, where a bracket may be open.
+/// The same of a value that stands otherwise than it is written, where a bracket may be open. What is pending then begins
+/// with the comma.
 #[inline(never)]
-fn put_other_argument<'t>(
+pub(crate) fn put_other_argument<'t>(
     at: Pending<'t>,
     value: &'t [u8],
     depth: u8,
@@ -128,7 +167,7 @@ fn put_other_argument<'t>(
 ) -> Known<Pending<'t>>
     requires { depth < 254 }
     ensures { IfOk result (λ known. IfSome known
-        (PutsArgument depth at.entry value.now written.old.items written.new.items)) }
+        (PutsOther depth at.entry value.now written.old.items written.new.items)) }
 {
     if depth == 0 {
         return Ok(None);
@@ -151,12 +190,12 @@ fn put_other_argument<'t>(
 
 /// Arguments of other names.
 #[derive(Clone, Copy)]
-struct PutOthers<'t> {
-    at: Pending<'t>,
+pub(crate) struct PutOthers<'t> {
+    pub(crate) at: Pending<'t>,
     /// There is one at least.
-    one: bool,
+    pub(crate) one: bool,
     /// The value of the argument of the name after them, if there is one.
-    named: Option<&'t [u8]>,
+    pub(crate) named: Option<&'t [u8]>,
 }
 
 /// Passes the arguments here up to the first of the name, or to the last that has one.
@@ -241,6 +280,8 @@ pub(crate) struct PutArguments<'t> {
     pub(crate) place: Option<PutPlace<'t>>,
     /// There is one at least, or a comment: `put_rule` takes no rule without either.
     pub(crate) some: bool,
+    /// Each has a name.
+    pub(crate) named: bool,
 }
 
 /// Passes the arguments here, with the comments after them, where the place of none is asked for.
@@ -302,12 +343,13 @@ pub(crate) fn put_arguments<'t>(
         at: later.at,
         place: Some(place_between(others.at, start, at, end)),
         some: true,
+        named: later.named,
     }))
 }
 
 /// Passes what follows these arguments: others that have no name, and comments. The place stays where no others follow.
 #[inline(always)]
-fn pass_last<'t>(
+pub(crate) fn pass_last<'t>(
     read: PutOthers<'t>,
     place: Option<PutPlace<'t>>,
     depth: u8,
@@ -327,6 +369,7 @@ fn pass_last<'t>(
         },
         place: if more { None } else { place },
         some: either(one, last.ended),
+        named: !more,
     }))
 }
 

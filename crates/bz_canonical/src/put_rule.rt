@@ -62,7 +62,7 @@ pub(crate) fn put_rule<'t>(
 
 /// Passes the end of the rule of these arguments, which has this place.
 #[inline(always)]
-fn put_rule_end<'t>(
+pub(crate) fn put_rule_end<'t>(
     read: PutArguments<'t>,
     place: Option<PutPlace<'t>>,
     written: &mut Vec<u8>,

@@ -1,7 +1,8 @@
 //! The rule that a text begins with, as a chunk.
 
-ghost use Rattle.std.specs.Prelude.{◌≡◌, ◌-◌, ◌<◌, ℕ, List, false, length, take, option_map, if◌then◌else◌, IfOk, IfSome};
+ghost use Rattle.std.specs.Prelude.{◌≡◌, ◌-◌, ◌<◌, ℕ, List, false, length, take, option_map, if◌then◌else◌, IfOk, IfSome, IsTrue};
 ghost use Rattle.bz_canonical.specs.Canonical.{between};
+ghost use Rattle.bz_canonical.specs.Spans.{AreSpansOf};
 ghost use Rattle.bz_canonical.specs.private.Rewritten.{IsNamedChunk, IsNamedRule, IsPutPlaceIn, IsRuleHead, IsRuleRead, put_ends};
 ghost use Rattle.bz_canonical.specs.private.Statements.{IsChunkOf};
 
@@ -9,6 +10,8 @@ use crate::Known;
 use crate::chunk::{ArgumentPlace, CanonicalChunk, without};
 use crate::put_arguments::PutPlace;
 use crate::put_rule::{PutRule, RuleHead, put_rule};
+use crate::spans::{ArgumentSpan, Notes, note_rule};
+use bz_label::Text;
 use bz_token::check_utf8;
 use bz_tree::Class;
 
@@ -36,6 +39,7 @@ pub(crate) fn read_rule_chunk<'t>(
     ensures chunk { IfOk result (λ known. IfSome known (λ found. (attr : List ℕ)
         → IfSome asked.entry (λ name. attr ≡ name.now) → IsChunkOf max_depth attr rule.entry.text.now found)) }
     ensures name { IfOk result (λ known. IfSome known (λ found. IsNamedChunk rule.entry left found)) }
+    ensures noted { IfOk result (λ known. IfSome known (λ found. found.noted ≡ false)) }
 {
     let Some(depth) = max_depth.checked_sub(1) else {
         return Ok(None);
@@ -58,8 +62,47 @@ pub(crate) fn read_asked_chunk<'t>(
     requires rule { IsNamedRule rule }
     ensures chunk { IfOk result (λ known. IfSome known (IsChunkOf max_depth attr.now rule.entry.text.now)) }
     ensures name { IfOk result (λ known. IfSome known (λ found. IsNamedChunk rule.entry false found)) }
+    ensures noted { IfOk result (λ known. IfSome known (λ found. found.noted ≡ false)) }
 {
     read_rule_chunk(rule, false, Some(attr), max_depth, written)
+}
+
+/// The same, where it is noted how its arguments stand, and which of them have one of these names.
+#[inline(never)]
+pub(crate) fn read_noted_chunk<'t>(
+    rule: NamedRule<'t>,
+    names: &[Text],
+    max_depth: u8,
+    written: &'t mut Vec<u8>,
+    spans: &mut Vec<ArgumentSpan>,
+) -> Known<CanonicalChunk<'t>>
+    requires deep { max_depth < 254 }
+    requires rule { IsNamedRule rule }
+    ensures chunk { IfOk result (λ known. IfSome known (λ found. (attr : List ℕ)
+        → IsChunkOf max_depth attr rule.entry.text.now found)) }
+    ensures name { IfOk result (λ known. IfSome known (λ found. IsNamedChunk rule.entry false found)) }
+    ensures spans { IfOk result (λ known. IfSome known (λ found. IsTrue found.noted → AreSpansOf max_depth
+        names.entry.now found.chunk.now found.written.now spans.new.items)) }
+{
+    let Some(depth) = max_depth.checked_sub(1) else {
+        return Ok(None);
+    };
+    let text = rule.text.as_bytes();
+    let notes = Notes {
+        names,
+        depth,
+        len: text.len(),
+    };
+    let Some(read) = note_rule(text, rule.head, notes, written, spans)? else {
+        return Ok(None);
+    };
+    let Some(chunk) = chunk_of(rule, false, written.as_slice(), read.rule)? else {
+        return Ok(None);
+    };
+    Ok(Some(CanonicalChunk {
+        noted: read.known,
+        ..chunk
+    }))
 }
 
 /// The name as text, by its place.
@@ -89,6 +132,11 @@ fn chunk_of<'t>(
         then take (length rule.entry.text.now - length read.entry.rest.now) rule.entry.text.now else buffer.now)
         (option_map put_ends read.entry.place) → IsChunkOf depth attr rule.entry.text.now found)) }
     ensures name { IfOk result (λ known. IfSome known (λ found. IsNamedChunk rule.entry left found)) }
+    ensures noted { IfOk result (λ known. IfSome known (λ found. found.noted ≡ false)) }
+    ensures text { IfOk result (λ known. IfSome known (λ found. found.chunk.now
+        ≡ take (length rule.entry.text.now - length read.entry.rest.now) rule.entry.text.now)) }
+    ensures written { IfOk result (λ known. IfSome known (λ found. found.written.now
+        ≡ (if read.entry.as_is then found.chunk.now else buffer.now))) }
 {
     let text = rule.text;
     let Some(chunk) = without(text, read.rest.len()) else {
@@ -105,6 +153,7 @@ fn chunk_of<'t>(
         kind: None,
         place: place_in_both(text, written, read.place),
         left,
+        noted: false,
     }))
 }
 

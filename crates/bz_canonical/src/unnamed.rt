@@ -88,6 +88,7 @@ pub(crate) fn read_unnamed_chunk<'t>(
     ensures chunk { IfOk result (λ known. IfSome known (λ found. (depth : ℕ) (attr text : List ℕ)
         → IsUnnamedRule depth attr text rule.entry → IsChunkOf depth attr text found)) }
     ensures left { IfOk result (λ known. IfSome known (λ found. found.left ≡ false)) }
+    ensures noted { IfOk result (λ known. IfSome known (λ found. found.noted ≡ false)) }
 {
     let start = rule.put(written)?;
     Ok(chunk_of(rule, written.as_slice(), start))
@@ -117,6 +118,7 @@ fn chunk_of<'t>(rule: OneArgument<'t>, laid: &'t [u8], start: usize) -> Option<C
         → laid.now ≡ unnamed_head rule.entry ++ (10 ∷ rule.entry.end.now) → start ≡ length (unnamed_head rule.entry)
         → IsChunkOf depth attr text found) }
     ensures left { IfSome result (λ found. found.left ≡ false) }
+    ensures noted { IfSome result (λ found. found.noted ≡ false) }
 {
     let Ok(laid) = check_utf8(laid) else {
         return None;
@@ -134,5 +136,6 @@ fn chunk_of<'t>(rule: OneArgument<'t>, laid: &'t [u8], start: usize) -> Option<C
             after,
         }),
         left: false,
+        noted: false,
     })
 }

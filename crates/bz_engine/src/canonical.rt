@@ -2,7 +2,7 @@
 //! are, or of which it edits one argument: they are copied. `next_chunk.rt` asks here first, of the first chunk of the
 //! text ahead (`copy_canonical`) and of one that was found line by line (`copy_whole`), and reads what is left.
 
-ghost use Rattle.std.specs.Prelude.{◌≡◌, ◌+◌, ◌<◌, ◌≤◌, ◌^◌, Some, length, option_map, IfOk, OnOk, IfSome, IfNone, IsTrue};
+ghost use Rattle.std.specs.Prelude.{◌≡◌, ◌+◌, ◌<◌, ◌≤◌, ◌^◌, Some, [], length, option_map, IfOk, OnOk, IfSome, IfNone, IsTrue};
 ghost use Rattle.bz_tree.specs.Tree.{Statement};
 ghost use Rattle.bz_canonical.specs.Canonical.{HasName, IsCanonical, between};
 ghost use Rattle.bz_passes.specs.Exchange.{Fits, IsPassedBy};
@@ -21,9 +21,11 @@ use crate::marked_rule::{MarkedRule, edit_marked};
 use crate::progress::Progress;
 use crate::rule_passes::OnePass;
 use crate::rules::Rules;
+use crate::spare::ChunkBuffers;
 use crate::written::put_canonical;
 use bz_attribute::Env;
 use bz_canonical::{AsksOfRules, CanonicalChunk, Lookup, read_canonical};
+use bz_label::Text;
 use bz_devices::ahead::Ahead;
 use bz_memory::NoMemory;
 use bz_passes::index::Key;
@@ -51,16 +53,16 @@ pub(crate) fn copy_canonical(
     if !script.passes.may_be_known() || !progress.is_worth_a_look() {
         return Ok(None);
     }
-    let mut written = progress.take_written(script.alloc);
-    match find_canonical(script, ahead.text(), script.max_statement, &mut written)? {
+    let mut buffers = progress.take_buffers(script.alloc);
+    match find_canonical(script, ahead.text(), script.max_statement, &mut buffers)? {
         None => {
-            progress.give_back_written(written);
+            progress.give_back_buffers(buffers);
             progress.fail_look();
             Ok(None)
         }
         Some(found) => {
             let len = copy_known(script, found, progress, text)?;
-            progress.give_back_written(written);
+            progress.give_back_buffers(buffers);
             Ok(len)
         }
     }
@@ -82,15 +84,15 @@ pub(crate) fn copy_whole(
     if !script.passes.may_be_known() {
         return Ok(false);
     }
-    let mut written = progress.take_written(script.alloc);
-    match find_canonical(script, chunk, u64::MAX, &mut written)? {
+    let mut buffers = progress.take_buffers(script.alloc);
+    match find_canonical(script, chunk, u64::MAX, &mut buffers)? {
         Some(found) if found.chunk.chunk.len() == chunk.len() => {
             let len = copy_known(script, found, progress, text)?;
-            progress.give_back_written(written);
+            progress.give_back_buffers(buffers);
             Ok(len.is_some())
         }
         _ => {
-            progress.give_back_written(written);
+            progress.give_back_buffers(buffers);
             Ok(false)
         }
     }
@@ -140,7 +142,7 @@ fn find_canonical<'a>(
     script: ScriptRun<'a>,
     text: &'a str,
     max_statement: u64,
-    written: &'a mut Vec<u8>,
+    buffers: &'a mut ChunkBuffers,
 ) -> Result<Option<Found<'a>>, NoMemory>
     ensures canonical { IfOk result (λ known. IfSome known (λ found. IsCanonical script.entry.max_depth found.attr.now
         found.chunk.class (option_map (λ name. name.now) found.chunk.name)
@@ -152,11 +154,12 @@ fn find_canonical<'a>(
         (option_map (λ name. name.now) found.chunk.name))) }
 {
     let attr = script.passes.attr();
+    let ChunkBuffers { written, spans } = buffers;
     let asked = Lookup {
         attr,
         rules: &script,
     };
-    let Some(chunk) = read_canonical(text, asked, script.max_depth, written)? else {
+    let Some(chunk) = read_canonical(text, asked, script.max_depth, written, spans)? else {
         return Ok(None);
     };
     if chunk.chunk.len() as u64 > max_statement {
@@ -239,8 +242,15 @@ impl AsksOfRules for ScriptRun<'_> {
 
     ghost leaves = { λ script name. IsNamePassedBy script.home.now script.passes.now name };
 
+    ghost names = { λ script. [] };
+
     fn asks_of(&self, name: Option<&str>) -> bool {
         !is_name_passed_by(*self, name)
+    }
+
+    #[inline(always)]
+    fn names(&self) -> &[Text] {
+        &[]
     }
 }
 

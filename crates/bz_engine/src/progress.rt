@@ -10,7 +10,7 @@ ghost use Rattle.bz_engine.specs.private.Found.{HasLogAt, log_of, one_log_of, on
 use crate::chunk::newlines;
 use crate::failure::Message;
 use crate::looks::Looks;
-use crate::spare::Spare;
+use crate::spare::{ChunkBuffers, Spare};
 use bz_memory::NoMemory;
 use bz_passes::kept::Kept;
 use bz_passes::log::Log;
@@ -36,8 +36,8 @@ pub(crate) struct Progress {
     pub(crate) looks: Looks,
     /// Contracts do not see this either.
     pub(crate) spare: Spare,
-    /// A buffer for what is written of a chunk. Contracts do not see it either.
-    pub(crate) written: Vec<u8>,
+    /// Contracts do not see these either.
+    pub(crate) buffers: ChunkBuffers,
 }
 
 impl Model for Progress {
@@ -60,9 +60,9 @@ impl Progress {
             line: _,
             looks: _,
             spare,
-            written,
+            buffers,
         } = self;
-        spare.held().saturating_add(written.capacity())
+        spare.held().saturating_add(buffers.held())
     }
 
     /// The lines of a chunk are passed.
@@ -108,17 +108,18 @@ impl Progress {
         self.spare = spare;
     }
 
-    /// The buffer for what is written of a chunk, until it is given back.
-    pub(crate) fn take_written(&mut self, alloc: Global) -> Vec<u8>
+    /// The buffers for a chunk, until they are given back.
+    pub(crate) fn take_buffers(&mut self, alloc: Global) -> ChunkBuffers
         ensures { self.new ≡ self.old }
     {
-        mem::replace(&mut self.written, Vec::new(alloc))
+        mem::replace(&mut self.buffers, ChunkBuffers::new(alloc))
     }
 
-    pub(crate) fn give_back_written(&mut self, written: Vec<u8>)
+    #[inline(always)]
+    pub(crate) fn give_back_buffers(&mut self, buffers: ChunkBuffers)
         ensures { self.new ≡ self.old }
     {
-        self.written = written;
+        self.buffers = buffers;
     }
 
     /// Whether to see if it is known what would be written of the next chunk.

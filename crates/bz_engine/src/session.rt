@@ -27,7 +27,7 @@ use crate::report::{End, Report};
 use crate::rule_passes::RulePasses;
 use crate::rules::Rules;
 use crate::run_fault::RunFault;
-use crate::spare::Spare;
+use crate::spare::{ChunkBuffers, Spare};
 use crate::telling::{report_of_all, report_of_fault, report_of_one};
 use bumpalo::Bump;
 use bz_devices::ahead::{Ahead, ChunkFault, next_chunk, read_where_open};
@@ -118,7 +118,7 @@ impl Session {
                 line: 1,
                 looks: Looks::new(),
                 spare: Spare::new(alloc),
-                written: Vec::new(alloc),
+                buffers: ChunkBuffers::new(alloc),
             },
             ahead: Ahead::new(alloc),
             state: SessionState::Going,

@@ -3,7 +3,7 @@ use Rattle.std.specs.Prelude.{◌≡◌, ◌≤◌, ◌-◌, ◌==◌, ◌&&◌,
 use Rattle.std.specs.List.{list_any}
 use Rattle.bz_token.specs.Common.{is_filled}
 use Rattle.bz_token.specs.Lexical.{is_text}
-use Rattle.bz_token.specs.declared.token.Kind.TheVariants.{Identifier, String}
+use Rattle.bz_token.specs.declared.token.Kind.TheVariants.{Identifier, Operator, String}
 use Rattle.bz_tree.specs.Comments.{beside}
 use Rattle.bz_tree.specs.declared.tree.Class.TheVariants.{Rule as RuleClass}
 use Rattle.bz_tree.specs.declared.tree.GroupKind.TheVariants.{List as ListKind, RuleCall}
@@ -196,6 +196,9 @@ pub record IsArgumentRead (depth : ℕ) (attr text rest written : List ℕ) (nam
   pub front : text ≡ placed_lines placed ++ rest
   pub spells : written ≡ argument_lines (placed.arg ∷ [])
   pub named_is : is_named attr placed.arg ≡ named
+  pub word : List ℕ
+  pub value : List Item
+  pub nodes_is : placed.arg.nodes ≡ leaf Identifier word ∷ leaf Operator (codes "=") ∷ value
 
 abbrev pub ArePlaced : ℕ → List Placed → Type 0
 ArePlaced depth [] = Unit {0}
@@ -233,8 +236,7 @@ abbrev pub pending : Pending → Ends
 pending at = record { from = at.from.now; to = at.rest.now }
 
 -- a value that stands as it is written, its comma, and the comment beside it
-pub record IsValueEnd (depth : ℕ) (value rest : List ℕ) : Type 0 where
-  pub end : List ℕ
+pub record IsValueEnd (depth : ℕ) (value end rest : List ℕ) : Type 0 where
   pub comma : List ℕ
   pub holds : Bool
   pub noted : Bool
@@ -288,6 +290,7 @@ pub record AreEnded (depth : ℕ) (before : PutOthers) (place : Option PutPlace)
   pub segments : AreSegmentsFront RuleCall 1 depth before.at.rest.now middle count holds noted
   pub notes : AreNotesFront 1 middle read.at.rest.now ended
   pub some_is : read.some ≡ ((before.one || nat_le 1 count) || ended)
+  pub named_is : read.named ≡ not (nat_le 1 count)
   pub stays : IfSome read.place (λ kept. (place ≡ Some kept) × (nat_le 1 count ≡ false))
 
 -- the name of an argument and its equals sign, with the comments above it
@@ -299,10 +302,22 @@ pub record IsHeadRead (attr text value : List ℕ) (named : Bool) : Type 0 where
   pub front : text ≡ bytes_of (comments 1 notes) ++ (10 ∷ (indent 1 ++ (word ++ (codes " = " ++ value))))
   pub named_is : bytes_eq attr word ≡ named
 
+abbrev pub IsNameRead : List ℕ → List ℕ → List ℕ → Type 0
+IsNameRead text name value = (attr : List ℕ) → (head : IsHeadRead attr text value (bytes_eq attr name)) × (head.word ≡ name)
+
 -- an argument whose name was read, and its value
 abbrev pub PutsArgument : ℕ → Pending → List ℕ → List ℕ → List ℕ → Pending → Type 0
 PutsArgument depth at value old new next = (attr : List ℕ) (named : Bool) → IsHeadRead attr at.rest.now value named
     → Puts old (pending at) new (pending next) (λ begun w. IsArgumentRead depth attr at.rest.now next.rest.now w named)
+
+-- the same, where the comma is told
+abbrev pub PutsUpTo : ℕ → Pending → List ℕ → List ℕ → List ℕ → Pending → List ℕ → Type 0
+PutsUpTo depth at value old new next comma = (attr : List ℕ) (named : Bool) → IsHeadRead attr at.rest.now value named
+    → Puts old (pending at) new (pending next) (λ begun w. (read : IsArgumentRead depth attr at.rest.now next.rest.now w named)
+    × (comma ≡ 44 ∷ (bytes_of (suffix_piece read.placed.arg.suffix) ++ next.rest.now)))
+
+abbrev pub PutsOther : ℕ → Pending → List ℕ → List ℕ → List ℕ → Pending → Type 0
+PutsOther depth at value old new next = PutsUpTo depth at value old new next next.from.now
 
 -- the comments above a rule, its kind and its name
 pub record IsRuleHead (text name inside rest : List ℕ) : Type 0 where

@@ -17,5 +17,5 @@ returns c = λ attr named head text begun p.
       read.0 ++ (got.0 ++ read.1),
       pend_value text c.args.written.now.items c.put_value.new.written.items begun at.from.now at.rest.now value end next read.0 read.1 got.0 c.in-Some.front.now p read.2 read.3 got.2.filled c.in-Some.ensures
           (got.1 ∙ ap (λ (t : List ℕ). t ++ got.0) c.in_ok-extend_from_slice.ensures.items),
-      read.4,
+      (read.4, read.5),
     )

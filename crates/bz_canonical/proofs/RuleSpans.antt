@@ -1,0 +1,137 @@
+-- Where the arguments of a rule stand in its chunk, and in what is written of it.
+use Rattle.std.proofs.Common.{◌≡◌, ℕ, ◌+◌, ◌-◌, take, length, List, [], ◌∷◌, ◌++◌, Bool, true, false, refl, sym, ap, ◌∙◌, arith, append_assoc, subst, bytes_eq}
+use Rattle.std.specs.Prelude.{codes, flat_map, map, Option, Some}
+use Rattle.std.specs.List.{concat, list_any}
+use Rattle.std.proofs.lemmas.List.{length-append}
+use Rattle.bz_tree.specs.Chunk.{IsStatementIn}
+use Rattle.bz_tree.specs.Tree.{Segment, Statement, leaf, list_of, segments, segs_of}
+use Rattle.bz_token.specs.declared.token.Kind.TheVariants.{Identifier}
+use Rattle.bz_layout.specs.Pieces.{bytes_of, comment_lines, comments, indent, suffix_piece}
+use Rattle.bz_layout_laws.specs.Lineless.{lineless}
+use Rattle.bz_layout_laws.specs.TextsOfKinds.{SegsHaveTexts}
+use Rattle.bz_attribute.specs.Effects.{with_args}
+use Rattle.bz_attribute.specs.Rules.{Rule, rule_of}
+use Rattle.bz_attribute.proofs.Views.{segments_of}
+use Rattle.bz_canonical.specs.Canonical.{argument_lines}
+use Rattle.bz_canonical.specs.Spans.{AreSpans, AreSpansOf, HasSpans, IsSpan, kept}
+use Rattle.bz_canonical.specs.declared.spans.ArgumentSpan.{ArgumentSpan}
+use Rattle.bz_canonical.specs.declared.spans.Notes.{Notes}
+use Rattle.bz_canonical.specs.private.Noted.{AreNoted, IsNameSpan}
+use Rattle.bz_canonical.specs.private.Rewritten.{AreArgumentsRead, ArePlaced, IsRuleEnd, IsRuleHead, Placed, PutEnds, args_of, placed_lines}
+use Rattle.bz_canonical.proofs.ArgumentLines.{lines_append}
+use Rattle.bz_canonical.proofs.PutRules.{end_text, head_is, head_of, head_text, kind_end, kind_text, line_end, line_is, name_argument, name_items, name_line, rule_formed, rule_of_args, rule_of_placed, rule_reads, stood_text}
+use Rattle.bz_canonical.proofs.Taken.{taken}
+
+-- some of the arguments
+
+kept_lines : (keep : List Bool) (ps : List Placed) → kept keep (map placed_lines ps) ≡ map placed_lines (kept keep ps)
+kept_lines [] ps = refl
+kept_lines (b ∷ keep) [] = refl
+kept_lines (true ∷ keep) (p ∷ ps) = ap (λ (xs : List (List ℕ)). placed_lines p ∷ xs) (kept_lines keep ps)
+kept_lines (false ∷ keep) (p ∷ ps) = kept_lines keep ps
+
+kept_args : (keep : List Bool) (ps : List Placed) → kept keep (args_of ps) ≡ args_of (kept keep ps)
+kept_args [] ps = refl
+kept_args (b ∷ keep) [] = refl
+kept_args (true ∷ keep) (p ∷ ps) = ap (λ (xs : List Segment). p.arg ∷ xs) (kept_args keep ps)
+kept_args (false ∷ keep) (p ∷ ps) = kept_args keep ps
+
+kept_placed : (depth : ℕ) (keep : List Bool) (ps : List Placed) → ArePlaced depth ps → ArePlaced depth (kept keep ps)
+kept_placed depth [] ps are = tt
+kept_placed depth (b ∷ keep) [] are = tt
+kept_placed depth (true ∷ keep) (p ∷ ps) are = (are.0, kept_placed depth keep ps are.1)
+kept_placed depth (false ∷ keep) (p ∷ ps) are = kept_placed depth keep ps are.1
+
+all_lines : (ps : List Placed) → concat (map placed_lines ps) ≡ flat_map placed_lines ps
+all_lines [] = refl
+all_lines (p ∷ ps) = ap (λ (t : List ℕ). placed_lines p ++ t) (all_lines ps)
+
+-- the name
+
+abbrev inner_name : List ℕ → List ℕ
+inner_name name = codes "name" ++ (codes " = " ++ (34 ∷ (name ++ 34 ∷ [])))
+
+name_inner : (name : List ℕ) → name_line name ≡ 10 ∷ (indent 1 ++ (inner_name name ++ (44 ∷ [])))
+name_inner name = simp append_assoc
+
+name_span : (names : List (List ℕ)) (asked : Bool) (text inside next H name : List ℕ) (span : ArgumentSpan) → text ≡ H ++ inside → inside ≡ name_line name ++ next → asked ≡ list_any (λ n. bytes_eq n (codes "name")) names
+    → IsNameSpan asked text inside next span → IsSpan names (length H) (length H) (name_argument name) (name_line name) span
+name_span names asked text inside next H name span begins line asked_is s =
+    let whole : length text ≡ length H + length inside = ap length begins ∙ length-append H inside in
+    let rest : length inside ≡ length (name_line name) + length next = ap length line ∙ length-append (name_line name) next in
+    let lines : length (argument_lines (name_argument name ∷ [])) ≡ length (name_line name) = ap length (line_is name) in
+    record {
+      inner = inner_name name;
+      lines = line_is name ∙ name_inner name;
+      asked = s.asked_is ∙ asked_is;
+      from_is = omega (arith, s.from_is, whole);
+      to_is = omega (arith, s.to_is, whole, rest);
+      start_is = omega (arith, s.start_is, s.from_is, whole);
+      comma_is = omega (arith, s.comma_is, s.to_is, whole, rest, ap length (name_inner name), length-append (inner_name name) (44 ∷ []));
+      end_is = omega (arith, s.end_is, s.to_is, whole, rest, lines);
+    }
+
+-- the name, and the arguments after it
+pub all_spans : (notes : Notes) (text name inside next at w : List ℕ) (asked one : Bool) (span : ArgumentSpan) (old new : List ArgumentSpan) (h : IsRuleHead text name inside next) → asked ≡ list_any (λ n. bytes_eq n (codes "name")) notes.names.now
+    → IsNameSpan asked text inside next span → notes.len ≡ length text → old ≡ span ∷ [] → (n : AreNoted notes next at (head_of text name inside next h) w old new one)
+    → AreSpans notes.names.now (length (kind_text (bytes_of (comment_lines h.notes)) h.kind)) (length (kind_text (bytes_of (comment_lines h.notes)) h.kind))
+    (name_argument name ∷ args_of n.read.placed) (name_line name ∷ map placed_lines n.read.placed) new
+all_spans notes text name inside next at w asked one span old new h asked_is s len old_is n =
+    let H : List ℕ = kind_text (bytes_of (comment_lines h.notes)) h.kind in
+    let F : List ℕ = head_of text name inside next h in
+    let ps : List Placed = n.read.placed in
+    let begins : text ≡ H ++ inside = h.front ∙ kind_end (bytes_of (comment_lines h.notes)) h.kind inside in
+    let first : IsSpan notes.names.now (length H) (length H) (name_argument name) (name_line name) span = name_span notes.names.now asked text inside next H name span begins (h.lines ∙ line_end name next) asked_is s in
+    let whole : length text ≡ length F + length next = ap length (head_is text name inside next h) ∙ length-append F next in
+    let start : length F ≡ span.end = omega (arith, whole, s.to_is, s.end_is) in
+    let others : AreSpans notes.names.now span.to span.end (args_of ps) (map placed_lines ps) n.more =
+    subst (λ (i : ℕ). AreSpans notes.names.now span.to i (args_of ps) (map placed_lines ps) n.more) start (n.are span.to (s.to_is ∙ sym len)) in
+    subst (λ (spans : List ArgumentSpan). AreSpans notes.names.now (length H) (length H) (name_argument name ∷ args_of ps) (name_line name ∷ map placed_lines ps) spans) (sym (n.all ∙ ap (λ (xs : List ArgumentSpan). xs ++ n.more) old_is)) (first, others)
+
+-- of whatever is read of the chunk
+pub rule_spans : (depth : ℕ) (names : List (List ℕ)) (text name inside next below rest written w : List ℕ) (some : Bool) (place : Option PutEnds) (spans : List ArgumentSpan) (h : IsRuleHead text name inside next) (e : IsRuleEnd below rest)
+    → (a : AreArgumentsRead depth [] next below (head_of text name inside next h) w some place)
+    → AreSpans names (length (kind_text (bytes_of (comment_lines h.notes)) h.kind)) (length (kind_text (bytes_of (comment_lines h.notes)) h.kind)) (name_argument name ∷ args_of a.placed) (name_line name ∷ map placed_lines a.placed) spans
+    → written ≡ head_of text name inside next h ++ (w ++ end_text (bytes_of (suffix_piece e.note)))
+    → AreSpansOf (depth + 1) names (take (length text - length rest) text) written spans
+rule_spans depth names text name inside next below rest written w some place spans h e a are written_is = λ first s read.
+    let N : List ℕ = bytes_of (comment_lines h.notes) in
+    let H : List ℕ = kind_text N h.kind in
+    let E : List ℕ = bytes_of (comments 1 a.end) in
+    let S : List ℕ = bytes_of (suffix_piece e.note) in
+    let ps : List Placed = a.placed in
+    let L : List ℕ = flat_map placed_lines ps in
+    let args : List Segment = args_of ps in
+    let stood : List ℕ = stood_text text name inside next below rest h e ps a.end in
+    let front : text ≡ stood ++ rest = head_is text name inside next h ∙ ap (λ (t : List ℕ). head_text N h.kind name ++ t) (a.front ∙ ap (λ (t : List ℕ). L ++ (E ++ t)) e.front) ∙ whole N L E S in
+    let chunk : take (length text - length rest) text ≡ stood = taken text stood rest front in
+    let same : lineless s ≡ lineless (rule_of_placed text name inside next below rest h e ps a.end) = rule_reads depth first text name inside next below rest h e ps a.are a.end a.end_is s (subst (λ t. IsStatementIn first (depth + 1) t s) chunk read) in
+    record {
+      rule = record { kind = leaf Identifier h.kind ∷ []; args = name_argument name ∷ args; one_comma = false; end = a.end };
+      rule_is = ap (λ (z : Statement). rule_of z.nodes) same ∙ ap (λ (xs : List Segment). Some (record { kind = leaf Identifier h.kind ∷ []; args = name_argument name ∷ xs; one_comma = false; end = a.end })) (segments_of args);
+      front = H;
+      stands = name_line name ∷ map placed_lines ps;
+      back = E ++ end_text S;
+      chunk_is = chunk ∙ shown N L E S ∙ ap (λ (t : List ℕ). H ++ ((name_line name ++ t) ++ (E ++ end_text S))) (sym (all_lines ps));
+      written_is = written_is ∙ ap (λ (t : List ℕ). head_text N h.kind name ++ (t ++ end_text S)) a.spells ∙ wrote H (name_line name) (argument_lines args) E (end_text S)
+          ∙ ap (λ (t : List ℕ). H ++ (t ++ (E ++ end_text S))) (ap (λ (t : List ℕ). t ++ argument_lines args) (sym (line_is name)) ∙ sym (lines_append (name_argument name ∷ []) args));
+      are = are;
+      texts = (rule_formed depth name h.name_is.is ps a.are).texts;
+      reads = λ keep line t read.
+          let some : List Placed = kept keep ps in
+          let lines : concat (kept keep (map placed_lines ps)) ≡ flat_map placed_lines some = ap concat (kept_lines keep ps) ∙ all_lines some in
+          let is : H ++ ((name_line name ++ concat (kept keep (map placed_lines ps))) ++ (E ++ end_text S)) ≡ stood_text text name inside next below rest h e some a.end =
+          ap (λ (t : List ℕ). H ++ ((name_line name ++ t) ++ (E ++ end_text S))) lines ∙ sym (shown N (flat_map placed_lines some) E S) in
+          rule_reads depth line text name inside next below rest h e some (kept_placed depth keep ps a.are) a.end a.end_is t (subst (λ b. IsStatementIn line (depth + 1) b t) is read)
+          ∙ ap (λ (xs : List Segment). lineless (rule_of_args h.notes h.kind name xs a.end e.note)) (sym (kept_args keep ps) ∙ ap (kept keep) (sym (segments_of args)))
+          ∙ ap (λ (z : Statement). lineless (with_args (kept (true ∷ keep)) z)) (sym same);
+    }
+  where
+    whole : (N L E S : List ℕ) → head_text N h.kind name ++ (L ++ (E ++ (10 ∷ 41 ∷ (S ++ 10 ∷ rest)))) ≡ (N ++ (h.kind ++ (40 ∷ (name_line name ++ (L ++ (E ++ end_text S)))))) ++ rest
+    whole N L E S = simp append_assoc
+
+    shown : (N L E S : List ℕ) → N ++ (h.kind ++ (40 ∷ (name_line name ++ (L ++ (E ++ end_text S))))) ≡ kind_text N h.kind ++ ((name_line name ++ L) ++ (E ++ end_text S))
+    shown N L E S = simp append_assoc
+
+    wrote : (H n l E T : List ℕ) → (H ++ n) ++ ((l ++ E) ++ T) ≡ H ++ ((n ++ l) ++ (E ++ T))
+    wrote H n l E T = simp append_assoc
