@@ -37,8 +37,8 @@ none_counts ts h = bare_empty ts (nothing_seen (without_lines ts) h)
 
 -- They are a statement of nothing, and it is not that they are indented.
 blank_plain : (ts : List Placed) → without_lines ts ≡ [] → IsPlain ts (statement_with ts (segment_of []))
-blank_plain ts none = record {
-  tree = record { elems = no_elems; tokens_are = none; well = tt; is = refl };
+blank_plain ts bare = record {
+  tree = record { elems = no_elems; tokens_are = bare; well = tt; is = refl };
   grammar = by_rule (this none);
 }
 

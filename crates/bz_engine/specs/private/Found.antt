@@ -85,12 +85,6 @@ pub record Tells (command : Command) (home : Package) (s : Statement) (line : Op
   pub told : note_told (shown_text home s) (Some note) ≡ entry ∷ []
   pub failed : fails (Some note) ≡ failing
 
--- the attribute without which a command fails on a rule
-abbrev pub needed : Command → Option (List ℕ)
-needed (Comment (Attribute attr) text) = Some attr
-needed (Comment (Value attr value) text) = Some attr
-needed _ = None
-
 -- The command tells this of each rule of which this is known, and the run goes on.
 pub record TellsRule (keep_going : Bool) (command : Command) (home : Package) (found : Found) (message : Message) : Type 0 where
   pub goes_on : message.fails ≡ true → keep_going ≡ true
