@@ -212,7 +212,7 @@ statement_same line depth c s t a b =
     let same : b.tokens ≡ a.tokens = one_tokens line depth c b.tokens a.tokens b.are a.are in
     chunk_same line c a.tokens s t a.reads.chunk (subst (λ ts. IsChunkOf line c ts t) same b.reads.chunk)
 
-placed_alone : (depth : ℕ) (ps : List Placed) → ArePlaced depth ps → AreReadAlone (suc depth) (flat_map placed_lines ps) (args_of ps)
+pub placed_alone : (depth : ℕ) (ps : List Placed) → ArePlaced depth ps → AreReadAlone (suc depth) (flat_map placed_lines ps) (args_of ps)
 placed_alone depth ps are = λ first t read.
     let c : Choice = free true own (free true (free true (choices_of ps) own) own) in
     let again = free_again first (suc depth) (small_rule (args_of ps)) c (small_formed depth (args_of ps) (args_formed depth ps are)) (tt, ((λ no. absurd_of (sym no), args_stand depth ps are), tt)) in
