@@ -11,7 +11,7 @@ use Rattle.bz_canonical.specs.SealedRules.{back_parts, front_parts, last_end, na
 use Rattle.bz_canonical.specs.Spans.{AreSpans, IsSpanned, NamedRule, back_text, front_text, name_argument, statement_of}
 use Rattle.bz_canonical.specs.declared.spans.ArgumentSpan.{ArgumentSpan}
 use Rattle.bz_canonical.proofs.CutTexts.{rest_at}
-use Rattle.bz_canonical.proofs.SealedArguments.{lines_more}
+use Rattle.bz_canonical.proofs.ArgumentLines.{lines_append}
 
 joined : (O N S E B : List RowPart) (k o x y z e c : RowPart)
     → ((O ++ ((N ++ (k ∷ o ∷ [])) ++ (x ∷ y ∷ z ∷ e ∷ []))) ++ S) ++ (E ++ (c ∷ B)) ≡ O ++ (N ++ ((k ∷ ((o ∷ (x ∷ y ∷ z ∷ e ∷ (S ++ (E ++ c ∷ [])))) ++ [])) ++ B))
@@ -30,7 +30,7 @@ last_is names from start [] (l ∷ ls) ss are = absurd are
 last_is names from start (a ∷ args) [] ss are = absurd are
 last_is names from start (a ∷ args) (l ∷ ls) [] are = absurd are
 last_is names from start (a ∷ args) (l ∷ ls) (s ∷ ss) are =
-    omega (arith, last_is names s.to s.end args ls ss are.1, are.0.end_is, ap length (lines_more a args), length-append (argument_lines (a ∷ [])) (argument_lines args))
+    omega (arith, last_is names s.to s.end args ls ss are.1, are.0.end_is, ap length (lines_append (a ∷ []) args), length-append (argument_lines (a ∷ [])) (argument_lines args))
 
 -- the first span, and those after it
 pub first_span : (spans : List ArgumentSpan) (d : ArgumentSpan) → 0 < length spans → spans ≡ get_or spans 0 d ∷ drop 1 spans
@@ -57,7 +57,7 @@ pub headed : (names : List (List ℕ)) (r : NamedRule) (stands : List (List ℕ)
 headed names r stands written spans d some is = by stands (get_or spans 0 d) (drop 1 spans) (subst (λ ss. AreSpans names (length (front_text r.notes r.kind)) (length (front_text r.notes r.kind)) (name_argument r.name ∷ r.args) stands ss) (first_span spans d some) is.are)
   where
     whole : written ≡ (front_text r.notes r.kind) ++ (name_line r.name ++ (argument_lines r.args ++ back_text r.end r.suffix))
-    whole = is.written_is ∙ ap (λ t. (front_text r.notes r.kind) ++ (t ++ back_text r.end r.suffix)) (lines_more (name_argument r.name) r.args ∙ ap (λ t. t ++ argument_lines r.args) (name_lines r.name))
+    whole = is.written_is ∙ ap (λ t. (front_text r.notes r.kind) ++ (t ++ back_text r.end r.suffix)) (lines_append (name_argument r.name ∷ []) r.args ∙ ap (λ t. t ++ argument_lines r.args) (name_lines r.name))
         ∙ ap (λ t. (front_text r.notes r.kind) ++ t) (append_assoc (name_line r.name) (argument_lines r.args) (back_text r.end r.suffix))
 
     by : (ls : List (List ℕ)) (span : ArgumentSpan) (ss : List ArgumentSpan) → AreSpans names (length (front_text r.notes r.kind)) (length (front_text r.notes r.kind)) (name_argument r.name ∷ r.args) ls (span ∷ ss) → IsHeaded names r written span ss

@@ -8,13 +8,14 @@ use Rattle.bz_tree.specs.Tree.{Segment, Statement}
 use Rattle.bz_layout.specs.Pieces.{bytes_of, comment_lines, comments, indent, suffix_piece}
 use Rattle.bz_layout_laws.specs.Lineless.{lineless}
 use Rattle.bz_canonical.specs.Canonical.{AreReadAlone, argument_lines}
-use Rattle.bz_canonical.specs.Spans.{AreSpans, AreSpansOf, HasSpans, IsSpan, NamedRule, kept}
+use Rattle.bz_canonical.specs.SealedRules.{name_line}
+use Rattle.bz_canonical.specs.Spans.{AreSpans, AreSpansOf, HasSpans, IsSpan, NamedRule, kept, name_argument}
 use Rattle.bz_canonical.specs.declared.spans.ArgumentSpan.{ArgumentSpan}
 use Rattle.bz_canonical.specs.declared.spans.Notes.{Notes}
 use Rattle.bz_canonical.specs.private.Noted.{AreNoted, IsNameSpan}
 use Rattle.bz_canonical.specs.private.Rewritten.{AreArgumentsRead, ArePlaced, IsRuleEnd, IsRuleHead, Placed, PutEnds, args_of, placed_lines}
 use Rattle.bz_canonical.proofs.ArgumentLines.{lines_append}
-use Rattle.bz_canonical.proofs.PutRules.{end_text, head_is, head_of, head_text, kind_end, kind_text, line_end, line_is, name_argument, name_items, name_line, placed_alone, rule_formed, rule_of_placed, rule_reads, stood_text}
+use Rattle.bz_canonical.proofs.PutRules.{end_text, head_is, head_of, head_text, kind_end, kind_text, line_end, line_is, placed_alone, rule_formed, rule_of_placed, rule_reads, stood_text}
 use Rattle.bz_canonical.proofs.Taken.{taken}
 
 -- some of the arguments

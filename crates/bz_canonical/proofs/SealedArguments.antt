@@ -21,21 +21,7 @@ use Rattle.bz_canonical.specs.Canonical.{argument_lines}
 use Rattle.bz_canonical.specs.SealedRules.{are_asked, sealed, sealed_args}
 use Rattle.bz_canonical.specs.Spans.{AreSpans, IsSpan, kept}
 use Rattle.bz_canonical.specs.declared.spans.ArgumentSpan.{ArgumentSpan}
-
--- the lines of one argument, and of those after it
-pub lines_more : (a : Segment) (args : List Segment) → argument_lines (a ∷ args) ≡ argument_lines (a ∷ []) ++ argument_lines args
-lines_more a args = on (comments 1 a.before) (items_pieces Broken 1 (Some RuleCall) (Line 1) Start (items_of a.nodes)) (suffix_piece a.suffix) (broken_segs Broken 1 RuleCall true (segs_of args))
-  where
-    on : (C P S Q : List Piece) → bytes_of (C ++ (P ++ (piece Closed Operator (codes ",") ∷ (S ++ Q)))) ≡ bytes_of (C ++ (P ++ (piece Closed Operator (codes ",") ∷ (S ++ [])))) ++ bytes_of Q
-    on C P S Q =
-        rw (
-          append-nil S,
-          bytes_append C (P ++ (piece Closed Operator (codes ",") ∷ (S ++ Q))),
-          bytes_append P (piece Closed Operator (codes ",") ∷ (S ++ Q)),
-          bytes_append S Q,
-          bytes_append C (P ++ (piece Closed Operator (codes ",") ∷ S)),
-          bytes_append P (piece Closed Operator (codes ",") ∷ S),
-        ) (simp append_assoc)
+use Rattle.bz_canonical.proofs.ArgumentLines.{lines_append}
 
 kept_more : (b : Bool) (bs : List Bool) (a : Segment) (args : List Segment) → kept (b ∷ bs) (a ∷ args) ≡ kept (b ∷ []) (a ∷ []) ++ kept bs args
 kept_more true bs a args = refl
@@ -72,7 +58,7 @@ put_one names written span spans asked left old new all h puts = by h.args h.sta
         none (x ∷ xs) are = are
     by (a ∷ args) [] are text asked_is all_is = absurd are
     by (a ∷ args) (lines ∷ stands) are text asked_is all_is =
-        let whole : drop h.start written ≡ argument_lines (a ∷ []) ++ (argument_lines args ++ h.after) = text ∙ ap (λ t. t ++ h.after) (lines_more a args) ∙ append_assoc (argument_lines (a ∷ [])) (argument_lines args) h.after in
+        let whole : drop h.start written ≡ argument_lines (a ∷ []) ++ (argument_lines args ++ h.after) = text ∙ ap (λ t. t ++ h.after) (lines_append (a ∷ []) args) ∙ append_assoc (argument_lines (a ∷ [])) (argument_lines args) h.after in
         let one = puts names h.from h.start a lines (argument_lines args ++ h.after) (kept (are_asked spans) args) are.0 whole (asked_is ∙ ap (λ xs. segs_parts (segs_of xs)) (kept_more span.asked (are_asked spans) a args)) in
         let ends : span.end ≡ h.start + length (argument_lines (a ∷ [])) = are.0.end_is in
         record {

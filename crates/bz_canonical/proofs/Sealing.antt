@@ -1,8 +1,6 @@
 -- A rule some of whose arguments are sealed.
-use Rattle.std.proofs.Common.{◌≡◌, ℕ, suc, List, [], ◌∷◌, ◌++◌, Bool, true, false, drop, get_or, length, refl, subst, ap, sym, ◌∙◌, arith, append-nil, bytes_eq, if◌then◌else◌, ◌<◌}
+use Rattle.std.proofs.Common.{◌≡◌, ℕ, suc, List, [], ◌∷◌, ◌++◌, Bool, true, false, drop, get_or, length, refl, subst, ap, sym, ◌∙◌, append-nil, bytes_eq, if◌then◌else◌, ◌<◌}
 use Rattle.std.specs.Prelude.{Some}
-use Rattle.std.proofs.lemmas.Grind.{common_steps}
-use Rattle.std.proofs.lemmas.Bool.Decides.{nat_tests}
 use Rattle.bz_token.specs.declared.token.Kind.TheVariants.{Identifier}
 use Rattle.bz_tree.specs.Tree.{Segment, leaf}
 use Rattle.bz_layout.specs.Pieces.{bytes_of, suffix_piece}
@@ -15,6 +13,7 @@ use Rattle.bz_canonical.specs.Spans.{AreSpans, IsSpanned, NamedRule, front_text,
 use Rattle.bz_canonical.specs.declared.spans.ArgumentSpan.{ArgumentSpan}
 use Rattle.bz_canonical.proofs.ArgumentParts.{inner_is}
 use Rattle.bz_canonical.proofs.RuleParts.{first_span}
+use Rattle.bz_canonical.proofs.SingleStrings.{bytes_same}
 
 unnamed : (names : List (List ℕ)) (a : Segment) → is_among names (sealed a) ≡ false
 unnamed [] a = refl
@@ -25,12 +24,8 @@ same_lines a inner is =
     ap (λ t. 10 ∷ 32 ∷ 32 ∷ 32 ∷ 32 ∷ (inner_text a ++ 44 ∷ bytes_of t)) (append-nil (suffix_piece a.suffix))
     ∙ ap (λ t. 10 ∷ 32 ∷ 32 ∷ 32 ∷ 32 ∷ (t ++ 44 ∷ bytes_of (suffix_piece a.suffix))) (inner_is inner (bytes_of (suffix_piece a.suffix)) (argument_lines (a ∷ [])) is) ∙ sym is
 
-itself : (xs : List ℕ) → bytes_eq xs xs ≡ true
-itself [] = refl
-itself (x ∷ xs) = grind (arith, common_steps, nat_tests, itself xs)
-
 equal_bytes : (xs ys : List ℕ) → xs ≡ ys → bytes_eq xs ys ≡ true
-equal_bytes xs ys is = ap (bytes_eq xs) (sym is) ∙ itself xs
+equal_bytes xs ys is = ap (bytes_eq xs) (sym is) ∙ bytes_same xs
 
 pub are_sealed : (names : List (List ℕ)) (from start : ℕ) (args : List Segment) (stands : List (List ℕ)) (spans : List ArgumentSpan) → AreSpans names from start args stands spans
     → AreSealed (λ a t. are_alike a t ≡ true) names (count_sealed (are_asked spans)) args (sealed_args (are_asked spans) args)
