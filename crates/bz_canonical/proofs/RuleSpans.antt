@@ -9,7 +9,7 @@ use Rattle.bz_layout.specs.Pieces.{bytes_of, comment_lines, comments, indent, su
 use Rattle.bz_layout_laws.specs.Lineless.{lineless}
 use Rattle.bz_canonical.specs.Canonical.{AreReadAlone, argument_lines}
 use Rattle.bz_canonical.specs.SealedRules.{name_line}
-use Rattle.bz_canonical.specs.Spans.{AreSpans, AreSpansOf, HasSpans, IsSpan, NamedRule, kept, name_argument}
+use Rattle.bz_canonical.specs.Spans.{AreSpans, AreSpansOf, IsSpan, NamedRule, kept, name_argument}
 use Rattle.bz_canonical.specs.declared.spans.ArgumentSpan.{ArgumentSpan}
 use Rattle.bz_canonical.specs.declared.spans.Notes.{Notes}
 use Rattle.bz_canonical.specs.private.Noted.{AreNoted, IsNameSpan}

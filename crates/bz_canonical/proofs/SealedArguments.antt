@@ -3,19 +3,9 @@ use Rattle.std.proofs.Common.{◌≡◌, ◌<◌, ◌-◌, ℕ, ◌+◌, List, [
 use Rattle.std.proofs.Math.Seq.{drop-append_seam}
 use Rattle.std.proofs.lemmas.List.{drop-drop, drop_more, take_rest}
 use Rattle.std.proofs.lemmas.Bool.{false≢true}
-use Rattle.std.specs.Prelude.{Some}
-use Rattle.bz_token.specs.declared.token.Kind.TheVariants.{Operator}
-use Rattle.std.specs.Prelude.{codes}
 use Rattle.bz_tree.specs.declared.row.Part.{Part}
-use Rattle.bz_tree.specs.declared.tree.GroupKind.TheVariants.{RuleCall}
-use Rattle.bz_tree.specs.Tree.{Segment, items_of, segs_of}
+use Rattle.bz_tree.specs.Tree.{Segment, segs_of}
 use Rattle.bz_tree.specs.Rows.{RowPart, part_view, segs_parts}
-use Rattle.bz_layout.specs.declared.broken.Style.TheVariants.{Broken}
-use Rattle.bz_layout.specs.declared.spacing.Edge.TheVariants.{Start}
-use Rattle.bz_layout.specs.declared.spacing.Gap.TheVariants.{Closed, Line}
-use Rattle.bz_layout.specs.Layout.{broken_segs, items_pieces}
-use Rattle.bz_layout.specs.Pieces.{Piece, piece, bytes_of, comments, suffix_piece}
-use Rattle.bz_layout.proofs.Pieces.{bytes_append}
 use Rattle.bz_attribute.proofs.EditedAt.{segs_join}
 use Rattle.bz_canonical.specs.Canonical.{argument_lines}
 use Rattle.bz_canonical.specs.SealedRules.{are_asked, sealed, sealed_args}

@@ -1,4 +1,4 @@
-use Rattle.std.proofs.Common.{◌≡◌, ◌∙◌, ◌-◌, ℕ, ◌+◌, List, [], ◌∷◌, ◌++◌, None, length, take, ap, sym, subst, bytes_eq}
+use Rattle.std.proofs.Common.{◌∙◌, ℕ, ◌+◌, List, [], ◌∷◌, ◌++◌, None, length, ap, sym, subst, bytes_eq}
 use Rattle.std.specs.Prelude.{IfSome, Option, map, option_map}
 use Rattle.std.specs.List.{list_any}
 use Rattle.bz_layout.specs.Pieces.{bytes_of, comment_lines}
