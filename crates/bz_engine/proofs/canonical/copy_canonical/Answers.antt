@@ -13,6 +13,6 @@ returns-in_ok-len-in-Some-clause-chunk c =
     let size = subst (λ (o : Option Found). IfSome o (λ f. length f.chunk.chunk.now ≤ c.args.script.max_statement)) c.in-Some.is told.size in
     let canonical = subst (λ (o : Option Found). IfSome o (λ f. IsCanonical c.args.script.max_depth f.attr.now f.chunk.class (option_map (λ name. name.now) f.chunk.name) (option_map (λ kind. kind.now) f.chunk.kind) (option_map between f.chunk.place)
     f.chunk.chunk.now f.chunk.written.now c.text.result.now)) c.in-Some.is told.canonical in
-    known_edited (run_of c.args.script) c.args.script.max_statement c.args.ahead.now found c.text.result.now c.args.progress.now c.take_buffers-written.new.self c.copy_known.new.progress
+    known_edited (run_of c.args.script) c.args.script.max_statement c.args.ahead.now found c.text.result.now c.args.progress.now c.take_buffers-buffers.new.self c.copy_known.new.progress
     c.give_back_buffers-in-Some.new.self c.args.text.now.items c.copy_known.new.text.items c.in_ok-len-in-Some.len c.requires.few c.text.ensures.front size canonical
-    (c.take_buffers-written.ensures ∙ c.is_worth_a_look.ensures) c.give_back_buffers-in-Some.ensures c.in_ok-len-in-Some.ensures.chunk
+    (c.take_buffers-buffers.ensures ∙ c.is_worth_a_look.ensures) c.give_back_buffers-in-Some.ensures c.in_ok-len-in-Some.ensures.chunk

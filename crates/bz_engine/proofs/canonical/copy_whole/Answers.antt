@@ -14,5 +14,5 @@ returns-in_ok-len-in-Some c =
     let canonical = subst (λ (o : Option Found). IfSome o (λ f. IsCanonical c.args.script.max_depth f.attr.now f.chunk.class (option_map (λ name. name.now) f.chunk.name) (option_map (λ kind. kind.now) f.chunk.kind) (option_map between f.chunk.place)
     f.chunk.chunk.now f.chunk.written.now c.args.chunk.now)) c.in-Some.is c.in_ok-found.ensures.canonical in
     subst (EditsWhole (run_of c.args.script) c.args.chunk.now c.args.progress.now c.give_back_buffers.new.self c.args.text.now.items c.copy_known.new.text.items) (sym c.is_some.ensures)
-    (whole_known (run_of c.args.script) found c.args.chunk.now c.args.progress.now c.take_buffers-written.new.self c.copy_known.new.progress c.give_back_buffers.new.self
-    c.args.text.now.items c.copy_known.new.text.items c.in_ok-len-in-Some.len size canonical c.take_buffers-written.ensures c.give_back_buffers.ensures known.fits known.chunk known.none)
+    (whole_known (run_of c.args.script) found c.args.chunk.now c.args.progress.now c.take_buffers-buffers.new.self c.copy_known.new.progress c.give_back_buffers.new.self
+    c.args.text.now.items c.copy_known.new.text.items c.in_ok-len-in-Some.len size canonical c.take_buffers-buffers.ensures c.give_back_buffers.ensures known.fits known.chunk known.none)
