@@ -34,3 +34,12 @@ pub mod UnnamedRules
 pub mod SimpleBlocks
 pub mod LinedRules
 pub mod SealedLines
+pub mod CutTexts
+pub mod CommentRows
+pub mod ArgumentParts
+pub mod SealedArguments
+pub mod RuleParts
+pub mod AskedLines
+pub mod Sealing
+pub mod AskedRules
+pub mod FoundRules

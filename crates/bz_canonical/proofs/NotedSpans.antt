@@ -1,7 +1,7 @@
 -- Where the arguments of a rule stand.
-use Rattle.std.proofs.Common.{◌≡◌, ℕ, ◌+◌, length, List, [], ◌∷◌, ◌++◌, Bool, true, false, ◌||◌, refl, sym, ap, ◌∙◌, arith, append_assoc, append-nil, subst, bytes_eq}
+use Rattle.std.proofs.Common.{◌≡◌, ℕ, ◌+◌, length, List, [], ◌∷◌, ◌++◌, Bool, true, false, refl, sym, ap, ◌∙◌, arith, append_assoc, append-nil, subst, bytes_eq}
 use Rattle.std.specs.Prelude.{codes, flat_map, map, Option, Some}
-use Rattle.std.specs.List.{concat, list_any}
+use Rattle.std.specs.List.{list_any}
 use Rattle.std.proofs.lemmas.List.{length-append}
 use Rattle.bz_token.specs.declared.token.Kind.TheVariants.{Identifier, Operator}
 use Rattle.bz_tree.specs.declared.tree.GroupKind.TheVariants.{RuleCall}
@@ -22,7 +22,6 @@ use Rattle.bz_canonical.specs.declared.spans.Place.{Place}
 use Rattle.bz_canonical.specs.private.Noted.{AreNoted, IsSpanBetween}
 use Rattle.bz_canonical.specs.private.Rewritten.{IsArgumentRead, Placed, args_of, placed_lines}
 use Rattle.bz_canonical.proofs.ArgumentLines.{lines_append}
-use Rattle.bz_canonical.proofs.ElementLists.{flat_append}
 use Rattle.bz_canonical.proofs.SingleStrings.{bytes_same}
 use Rattle.bz_canonical.proofs.PutArguments.{append_read, none_read, or_true, single_read}
 

@@ -11,7 +11,7 @@ use Rattle.bz_tree.specs.declared.tree.Class.TheVariants.{Rule as RuleClass}
 use Rattle.bz_tree.specs.declared.tree.GroupKind.TheVariants.{RuleCall}
 use Rattle.bz_tree.proofs.Recognizer.InTable.{statement_form}
 use Rattle.bz_tree.specs.private.Productions.{AreArgs, AreSuffixes, IsArg, IsChain, IsExpr, IsOperand, IsPrimary, IsStatement, IsSuffix, IsTerm, IsTest}
-use Rattle.bz_tree.specs.Tree.{Item, leaf, group, Items, no_items, item, Segs, no_segs, seg, Segment, Statement, items_of, segs_of, segments, list_of}
+use Rattle.bz_tree.specs.Tree.{Item, leaf, group, Items, no_items, item, Segs, no_segs, seg, Segment, Statement, items_of, segs_of, segments}
 use Rattle.bz_layout.specs.Broken.{count, is_broken, segs_hold}
 use Rattle.bz_layout.specs.Layout.{breaks, broken_segs, is_comment, item_pieces, layout_text}
 use Rattle.bz_layout.specs.Pieces.{Piece, piece, bytes_of, comment_lines, comments, indent, suffix_piece}
@@ -42,6 +42,8 @@ use Rattle.std.proofs.lemmas.List.{length-append}
 use Rattle.bz_canonical.specs.private.Arguments.{alone}
 use Rattle.bz_layout_laws.specs.WellFormed.{IsWellFormed}
 use Rattle.bz_canonical.specs.Canonical.{AreReadAlone, Between, HasArgumentName, HasName, HasPlace, IsCanonical, IsNameless, argument_lines, first_args, rule_args, rule_name, small_rule, small_text}
+use Rattle.bz_canonical.specs.SealedRules.{name_line}
+use Rattle.bz_canonical.specs.Spans.{name_argument}
 use Rattle.bz_canonical.specs.private.Rewritten.{AreArgumentsRead, AreFormed, ArePlaced, IsPending, IsRuleEnd, IsRuleHead, IsRulePlace, IsRuleRead, Placed, args_of, placed_lines, HasPut, HasPutPlace, IsPutPlaceIn, PutEnds}
 use Rattle.bz_canonical.proofs.CanonicalChunks.{chunk_some, place_same}
 use Rattle.bz_canonical.proofs.GroupSegments.{equals_text, most}
@@ -122,9 +124,6 @@ name_formed depth name is = record {
 }
 
 -- the whole text
-
-abbrev pub name_line : List ℕ → List ℕ
-name_line name = 10 ∷ (indent 1 ++ (codes "name" ++ (codes " = " ++ (34 ∷ (name ++ 34 ∷ 44 ∷ [])))))
 
 abbrev pub end_text : List ℕ → List ℕ
 end_text S = 10 ∷ 41 ∷ (S ++ 10 ∷ [])
@@ -212,7 +211,7 @@ statement_same line depth c s t a b =
     let same : b.tokens ≡ a.tokens = one_tokens line depth c b.tokens a.tokens b.are a.are in
     chunk_same line c a.tokens s t a.reads.chunk (subst (λ ts. IsChunkOf line c ts t) same b.reads.chunk)
 
-placed_alone : (depth : ℕ) (ps : List Placed) → ArePlaced depth ps → AreReadAlone (suc depth) (flat_map placed_lines ps) (args_of ps)
+pub placed_alone : (depth : ℕ) (ps : List Placed) → ArePlaced depth ps → AreReadAlone (suc depth) (flat_map placed_lines ps) (args_of ps)
 placed_alone depth ps are = λ first t read.
     let c : Choice = free true own (free true (free true (choices_of ps) own) own) in
     let again = free_again first (suc depth) (small_rule (args_of ps)) c (small_formed depth (args_of ps) (args_formed depth ps are)) (tt, ((λ no. absurd_of (sym no), args_stand depth ps are), tt)) in
@@ -241,9 +240,6 @@ with_new : (N S kind name before new after ends : List ℕ)
     → N ++ (kind ++ (((40 ∷ (name_line name ++ before)) ++ (new ++ (after ++ (ends ++ (10 ∷ 41 ∷ []))))) ++ (S ++ 10 ∷ [])))
     ≡ (head_text N kind name ++ before) ++ (new ++ (after ++ (ends ++ end_text S)))
 with_new N S kind name before new after ends = simp append_assoc
-
-abbrev pub name_argument : List ℕ → Segment
-name_argument name = record { before = []; nodes = list_of (name_items name); suffix = None }
 
 pub line_is : (name : List ℕ) → argument_lines (name_argument name ∷ []) ≡ name_line name
 line_is name = ap (λ (t : List ℕ). 10 ∷ (indent 1 ++ (codes "name" ++ (codes " = " ++ t)))) (in_quotes name [] ∙ append-nil (34 ∷ (name ++ 34 ∷ 44 ∷ [])))

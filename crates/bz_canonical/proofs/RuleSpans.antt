@@ -1,25 +1,21 @@
 -- Where the arguments of a rule stand in its chunk, and in what is written of it.
-use Rattle.std.proofs.Common.{◌≡◌, ℕ, ◌+◌, ◌-◌, take, length, List, [], ◌∷◌, ◌++◌, Bool, true, false, refl, sym, ap, ◌∙◌, arith, append_assoc, subst, bytes_eq}
-use Rattle.std.specs.Prelude.{codes, flat_map, map, Option, Some}
+use Rattle.std.proofs.Common.{◌≡◌, ℕ, suc, ◌+◌, ◌-◌, take, length, List, [], ◌∷◌, ◌++◌, Bool, true, false, refl, sym, ap, ◌∙◌, arith, append_assoc, subst, bytes_eq}
+use Rattle.std.specs.Prelude.{codes, flat_map, map, Option}
 use Rattle.std.specs.List.{concat, list_any}
 use Rattle.std.proofs.lemmas.List.{length-append}
 use Rattle.bz_tree.specs.Chunk.{IsStatementIn}
-use Rattle.bz_tree.specs.Tree.{Segment, Statement, leaf, list_of, segments, segs_of}
-use Rattle.bz_token.specs.declared.token.Kind.TheVariants.{Identifier}
+use Rattle.bz_tree.specs.Tree.{Segment, Statement}
 use Rattle.bz_layout.specs.Pieces.{bytes_of, comment_lines, comments, indent, suffix_piece}
 use Rattle.bz_layout_laws.specs.Lineless.{lineless}
-use Rattle.bz_layout_laws.specs.TextsOfKinds.{SegsHaveTexts}
-use Rattle.bz_attribute.specs.Effects.{with_args}
-use Rattle.bz_attribute.specs.Rules.{Rule, rule_of}
-use Rattle.bz_attribute.proofs.Views.{segments_of}
-use Rattle.bz_canonical.specs.Canonical.{argument_lines}
-use Rattle.bz_canonical.specs.Spans.{AreSpans, AreSpansOf, HasSpans, IsSpan, kept}
+use Rattle.bz_canonical.specs.Canonical.{AreReadAlone, argument_lines}
+use Rattle.bz_canonical.specs.SealedRules.{name_line}
+use Rattle.bz_canonical.specs.Spans.{AreSpans, AreSpansOf, IsSpan, NamedRule, kept, name_argument}
 use Rattle.bz_canonical.specs.declared.spans.ArgumentSpan.{ArgumentSpan}
 use Rattle.bz_canonical.specs.declared.spans.Notes.{Notes}
 use Rattle.bz_canonical.specs.private.Noted.{AreNoted, IsNameSpan}
 use Rattle.bz_canonical.specs.private.Rewritten.{AreArgumentsRead, ArePlaced, IsRuleEnd, IsRuleHead, Placed, PutEnds, args_of, placed_lines}
 use Rattle.bz_canonical.proofs.ArgumentLines.{lines_append}
-use Rattle.bz_canonical.proofs.PutRules.{end_text, head_is, head_of, head_text, kind_end, kind_text, line_end, line_is, name_argument, name_items, name_line, rule_formed, rule_of_args, rule_of_placed, rule_reads, stood_text}
+use Rattle.bz_canonical.proofs.PutRules.{end_text, head_is, head_of, head_text, kind_end, kind_text, line_end, line_is, placed_alone, rule_formed, rule_of_placed, rule_reads, stood_text}
 use Rattle.bz_canonical.proofs.Taken.{taken}
 
 -- some of the arguments
@@ -45,6 +41,14 @@ kept_placed depth (false ∷ keep) (p ∷ ps) are = kept_placed depth keep ps ar
 all_lines : (ps : List Placed) → concat (map placed_lines ps) ≡ flat_map placed_lines ps
 all_lines [] = refl
 all_lines (p ∷ ps) = ap (λ (t : List ℕ). placed_lines p ++ t) (all_lines ps)
+
+-- the lines of some of them are read as these alone
+kept_alone : (depth : ℕ) (keep : List Bool) (ps : List Placed) → ArePlaced depth ps → AreReadAlone (suc depth) (concat (kept keep (map placed_lines ps))) (kept keep (args_of ps))
+kept_alone depth keep ps are =
+    let some : List Placed = kept keep ps in
+    let lines : concat (kept keep (map placed_lines ps)) ≡ flat_map placed_lines some = ap concat (kept_lines keep ps) ∙ all_lines some in
+    subst (λ (t : List ℕ). AreReadAlone (suc depth) t (kept keep (args_of ps))) (sym lines)
+    (subst (λ (xs : List Segment). AreReadAlone (suc depth) (flat_map placed_lines some) xs) (sym (kept_args keep ps)) (placed_alone depth some (kept_placed depth keep ps are)))
 
 -- the name
 
@@ -106,25 +110,26 @@ rule_spans depth names text name inside next below rest written w some place spa
     let front : text ≡ stood ++ rest = head_is text name inside next h ∙ ap (λ (t : List ℕ). head_text N h.kind name ++ t) (a.front ∙ ap (λ (t : List ℕ). L ++ (E ++ t)) e.front) ∙ whole N L E S in
     let chunk : take (length text - length rest) text ≡ stood = taken text stood rest front in
     let same : lineless s ≡ lineless (rule_of_placed text name inside next below rest h e ps a.end) = rule_reads depth first text name inside next below rest h e ps a.are a.end a.end_is s (subst (λ t. IsStatementIn first (depth + 1) t s) chunk read) in
+    let deeper : suc depth ≡ depth + 1 = omega arith in
+    let r : NamedRule = record { notes = h.notes; kind = h.kind; name = name; args = args; end = a.end; suffix = e.note; first_line = s.start; last_line = s.end } in
     record {
-      rule = record { kind = leaf Identifier h.kind ∷ []; args = name_argument name ∷ args; one_comma = false; end = a.end };
-      rule_is = ap (λ (z : Statement). rule_of z.nodes) same ∙ ap (λ (xs : List Segment). Some (record { kind = leaf Identifier h.kind ∷ []; args = name_argument name ∷ xs; one_comma = false; end = a.end })) (segments_of args);
-      front = H;
+      rule = r;
+      statement_is = ap (λ (z : Statement). record z { start = s.start; end = s.end }) same;
       stands = name_line name ∷ map placed_lines ps;
-      back = E ++ end_text S;
-      chunk_is = chunk ∙ shown N L E S ∙ ap (λ (t : List ℕ). H ++ ((name_line name ++ t) ++ (E ++ end_text S))) (sym (all_lines ps));
-      written_is = written_is ∙ ap (λ (t : List ℕ). head_text N h.kind name ++ (t ++ end_text S)) a.spells ∙ wrote H (name_line name) (argument_lines args) E (end_text S)
-          ∙ ap (λ (t : List ℕ). H ++ (t ++ (E ++ end_text S))) (ap (λ (t : List ℕ). t ++ argument_lines args) (sym (line_is name)) ∙ sym (lines_append (name_argument name ∷ []) args));
-      are = are;
+      spanned = record {
+        spanned = record {
+          notes_are = h.are;
+          kind_is = h.kind_is;
+          end_are = a.end_is;
+          written_is = written_is ∙ ap (λ (t : List ℕ). head_text N h.kind name ++ (t ++ end_text S)) a.spells ∙ wrote H (name_line name) (argument_lines args) E (end_text S)
+              ∙ ap (λ (t : List ℕ). H ++ (t ++ (E ++ end_text S))) (ap (λ (t : List ℕ). t ++ argument_lines args) (sym (line_is name)) ∙ sym (lines_append (name_argument name ∷ []) args));
+          are = are;
+        };
+        back = E ++ end_text S;
+        chunk_is = chunk ∙ shown N L E S ∙ ap (λ (t : List ℕ). H ++ ((name_line name ++ t) ++ (E ++ end_text S))) (sym (all_lines ps));
+        reads = λ keep. subst (λ (d : ℕ). AreReadAlone d (concat (kept keep (map placed_lines ps))) (kept keep args)) deeper (kept_alone depth keep ps a.are);
+      };
       texts = (rule_formed depth name h.name_is.is ps a.are).texts;
-      reads = λ keep line t read.
-          let some : List Placed = kept keep ps in
-          let lines : concat (kept keep (map placed_lines ps)) ≡ flat_map placed_lines some = ap concat (kept_lines keep ps) ∙ all_lines some in
-          let is : H ++ ((name_line name ++ concat (kept keep (map placed_lines ps))) ++ (E ++ end_text S)) ≡ stood_text text name inside next below rest h e some a.end =
-          ap (λ (t : List ℕ). H ++ ((name_line name ++ t) ++ (E ++ end_text S))) lines ∙ sym (shown N (flat_map placed_lines some) E S) in
-          rule_reads depth line text name inside next below rest h e some (kept_placed depth keep ps a.are) a.end a.end_is t (subst (λ b. IsStatementIn line (depth + 1) b t) is read)
-          ∙ ap (λ (xs : List Segment). lineless (rule_of_args h.notes h.kind name xs a.end e.note)) (sym (kept_args keep ps) ∙ ap (kept keep) (sym (segments_of args)))
-          ∙ ap (λ (z : Statement). lineless (with_args (kept (true ∷ keep)) z)) (sym same);
     }
   where
     whole : (N L E S : List ℕ) → head_text N h.kind name ++ (L ++ (E ++ (10 ∷ 41 ∷ (S ++ 10 ∷ rest)))) ≡ (N ++ (h.kind ++ (40 ∷ (name_line name ++ (L ++ (E ++ end_text S)))))) ++ rest

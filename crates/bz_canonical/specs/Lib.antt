@@ -5,4 +5,5 @@ pub mod Removed
 pub mod Replaced
 pub mod SealedArguments
 pub mod Spans
+pub mod SealedRules
 pub mod private

@@ -1,15 +1,18 @@
 -- Where the lines of the arguments of a rule stand, as they stand in its chunk and as they are written.
 -- Begin with `HasSpans`.
-use Rattle.std.specs.Prelude.{◌≡◌, ◌+◌, ℕ, List, [], ◌∷◌, ◌++◌, length, Bool, true, if◌then◌else◌, Some}
+use Rattle.std.specs.Prelude.{codes, ◌≡◌, ◌+◌, ℕ, List, [], ◌∷◌, ◌++◌, drop, length, Bool, true, false, if◌then◌else◌, Option, None}
 use Rattle.std.specs.List.{concat, list_any}
+use Rattle.bz_token.specs.Lexical.{is_text}
+use Rattle.bz_token.specs.declared.token.Kind.TheVariants.{Identifier, Operator, String}
+use Rattle.bz_tree.specs.declared.tree.Class.TheVariants.{Rule as RuleClass}
+use Rattle.bz_tree.specs.declared.tree.GroupKind.TheVariants.{RuleCall}
 use Rattle.bz_tree.specs.Chunk.{IsStatementIn}
-use Rattle.bz_tree.specs.Tree.{Segment, Statement, segs_of}
-use Rattle.bz_layout.specs.Pieces.{bytes_of, indent, suffix_piece}
-use Rattle.bz_layout_laws.specs.Lineless.{lineless}
+use Rattle.bz_tree.specs.Tree.{Segment, Statement, group, leaf, segs_of}
+use Rattle.bz_layout.specs.Pieces.{bytes_of, comment_lines, comments, indent, suffix_piece}
+use Rattle.bz_layout_laws.specs.Legible.{AreComments}
 use Rattle.bz_layout_laws.specs.TextsOfKinds.{SegsHaveTexts}
-use Rattle.bz_attribute.specs.Effects.{with_args}
-use Rattle.bz_attribute.specs.Rules.{Rule, is_named, rule_of}
-use Rattle.bz_canonical.specs.Canonical.{argument_lines}
+use Rattle.bz_attribute.specs.Rules.{is_named}
+use Rattle.bz_canonical.specs.Canonical.{AreReadAlone, argument_lines}
 use Rattle.bz_canonical.specs.declared.spans.ArgumentSpan.{ArgumentSpan}
 
 -- The lines of an argument, which stand so in the chunk: so many bytes are before them there, and so many in what is written.
@@ -36,20 +39,65 @@ kept [] xs = []
 kept (b ∷ keep) [] = []
 kept (b ∷ keep) (x ∷ xs) = if b then x ∷ kept keep xs else kept keep xs
 
--- The chunk, and what is written of it, are `front`, the lines of all arguments as they stand or are written, and `back`. The
--- chunk without the lines of some arguments, but with the first, is read as the rule without these.
-pub record HasSpans (depth : ℕ) (names : List (List ℕ)) (s : Statement) (chunk written : List ℕ) (spans : List ArgumentSpan) : Type 0 where
-  pub rule : Rule
-  pub rule_is : rule_of s.nodes ≡ Some rule
-  pub front : List ℕ
-  pub stands : List (List ℕ)
+-- what stands before the arguments of a rule
+abbrev pub front_text : List (List ℕ) → List ℕ → List ℕ
+front_text notes kind = bytes_of (comment_lines notes) ++ (kind ++ 40 ∷ [])
+
+-- what stands after them
+abbrev pub back_text : List (List ℕ) → Option (List ℕ) → List ℕ
+back_text end suffix = bytes_of (comments 1 end) ++ (10 ∷ 41 ∷ (bytes_of (suffix_piece suffix) ++ 10 ∷ []))
+
+-- the argument `name`
+abbrev pub name_argument : List ℕ → Segment
+name_argument name = record { before = []; nodes = leaf Identifier (codes "name") ∷ leaf Operator (codes "=") ∷ leaf String (34 ∷ (name ++ 34 ∷ [])) ∷ []; suffix = None }
+
+-- A rule of one kind, whose first argument is its name.
+pub record NamedRule : Type 0 where
+  pub notes : List (List ℕ)
+  pub kind : List ℕ
+  pub name : List ℕ
+  pub args : List Segment
+  pub end : List (List ℕ)
+  pub suffix : Option (List ℕ)
+  pub first_line : ℕ
+  pub last_line : ℕ
+
+abbrev pub statement_of : NamedRule → Statement
+statement_of r = record {
+  before = r.notes;
+  nodes = leaf Identifier r.kind ∷ group RuleCall (segs_of (name_argument r.name ∷ r.args)) false r.end ∷ [];
+  suffix = r.suffix;
+  class = RuleClass;
+  start = r.first_line;
+  end = r.last_line;
+}
+
+-- what is written of it on lines
+abbrev pub text_of : NamedRule → List ℕ
+text_of r = front_text r.notes r.kind ++ (argument_lines (name_argument r.name ∷ r.args) ++ back_text r.end r.suffix)
+
+-- The rule is written so, and its arguments have these spans; the lines of each stand so in its chunk.
+pub record IsSpanned (names : List (List ℕ)) (r : NamedRule) (stands : List (List ℕ)) (written : List ℕ) (spans : List ArgumentSpan) : Type 0 where
+  pub notes_are : AreComments r.notes
+  pub kind_is : is_text Identifier r.kind ≡ true
+  pub end_are : AreComments r.end
+  pub written_is : written ≡ text_of r
+  pub are : AreSpans names (length (front_text r.notes r.kind)) (length (front_text r.notes r.kind)) (name_argument r.name ∷ r.args) stands spans
+
+-- The same of a rule in a chunk. The lines of any arguments after the name are read as these alone.
+pub record IsSpannedIn (depth : ℕ) (names : List (List ℕ)) (r : NamedRule) (stands : List (List ℕ)) (chunk written : List ℕ) (spans : List ArgumentSpan) : Type 0 where
+  pub spanned : IsSpanned names r stands written spans
   pub back : List ℕ
-  pub chunk_is : chunk ≡ front ++ (concat stands ++ back)
-  pub written_is : written ≡ front ++ (argument_lines rule.args ++ back)
-  pub are : AreSpans names (length front) (length front) rule.args stands spans
-  pub texts : SegsHaveTexts (segs_of rule.args)
-  pub reads : (keep : List Bool) (first : ℕ) (t : Statement) → IsStatementIn first depth (front ++ (concat (kept (true ∷ keep) stands) ++ back)) t
-      → lineless t ≡ lineless (with_args (kept (true ∷ keep)) s)
+  pub chunk_is : chunk ≡ front_text r.notes r.kind ++ (concat stands ++ back)
+  pub reads : (keep : List Bool) → AreReadAlone depth (concat (kept keep (drop 1 stands))) (kept keep r.args)
+
+-- The statement is such a rule. Its tokens and comments are texts of their kinds.
+pub record HasSpans (depth : ℕ) (names : List (List ℕ)) (s : Statement) (chunk written : List ℕ) (spans : List ArgumentSpan) : Type 0 where
+  pub rule : NamedRule
+  pub statement_is : s ≡ statement_of rule
+  pub stands : List (List ℕ)
+  pub spanned : IsSpannedIn depth names rule stands chunk written spans
+  pub texts : SegsHaveTexts (segs_of (name_argument rule.name ∷ rule.args))
 
 -- of whatever statement is read of the chunk
 abbrev pub AreSpansOf : ℕ → List (List ℕ) → List ℕ → List ℕ → List ArgumentSpan → Type 0

@@ -9,6 +9,7 @@
 #![tactic(auto)]
 
 mod added;
+mod asked;
 mod assignment;
 mod bare;
 mod calls;
@@ -16,8 +17,10 @@ mod chunk;
 mod commented;
 mod comments;
 mod edited;
+mod found;
 mod front;
 mod group;
+pub mod laws;
 mod lined;
 mod lists;
 mod load;
@@ -27,6 +30,7 @@ mod removed;
 mod replaced;
 mod rewrite;
 mod rule;
+mod sealed;
 mod segments;
 mod simple;
 mod spans;
@@ -40,8 +44,10 @@ use bz_memory::NoMemory;
 pub use chunk::{ArgumentPlace, AsksOfRules, CanonicalChunk, Lookup, read_canonical};
 pub use commented::{CommentPlace, comment_place};
 pub use edited::EditedList;
+pub use found::{FoundRule, Room, seal};
 pub use removed::put_removed;
 pub use replaced::put_replaced;
+pub use sealed::SpannedRule;
 pub use spans::ArgumentSpan;
 
 /// None: it is not known what would be written.

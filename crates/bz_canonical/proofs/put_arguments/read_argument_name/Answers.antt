@@ -1,5 +1,5 @@
-use Rattle.std.proofs.Common.{◌≡◌, ◌∙◌, ℕ, List, ◌∷◌, ◌++◌, ap, refl, sym}
-use Rattle.std.specs.Prelude.{codes, bytes_eq}
+use Rattle.std.proofs.Common.{◌≡◌, ◌∙◌, ℕ, List, ◌∷◌, ◌++◌, ap, sym}
+use Rattle.std.specs.Prelude.{bytes_eq}
 use Rattle.bz_layout.specs.Pieces.{bytes_of, comments, indent}
 use Rattle.bz_canonical.proofs.Taken.{taken}
 use Rattle.bz_canonical.proofs.put_arguments.read_argument_name.Goals as goal

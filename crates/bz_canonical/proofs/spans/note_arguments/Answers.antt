@@ -1,4 +1,4 @@
-use Rattle.std.proofs.Common.{◌++◌, ℕ, List, [], ◌∷◌, true, append-nil, append_assoc, sym, subst, bytes_eq}
+use Rattle.std.proofs.Common.{◌++◌, ℕ, List, [], true, append-nil, append_assoc, sym, subst, bytes_eq}
 use Rattle.std.specs.Prelude.{IfSome}
 use Rattle.bz_canonical.specs.declared.spans.ArgumentSpan.{ArgumentSpan}
 use Rattle.bz_canonical.specs.private.Noted.{AreNoted}

@@ -1,14 +1,15 @@
-use Rattle.std.proofs.Common.{◌≡◌, ◌∙◌, ◌-◌, ℕ, ◌+◌, List, [], ◌∷◌, ◌++◌, None, length, take, ap, sym, subst, bytes_eq}
+use Rattle.std.proofs.Common.{◌∙◌, ℕ, ◌+◌, List, [], ◌∷◌, ◌++◌, None, length, ap, sym, subst, bytes_eq}
 use Rattle.std.specs.Prelude.{IfSome, Option, map, option_map}
 use Rattle.std.specs.List.{list_any}
 use Rattle.bz_layout.specs.Pieces.{bytes_of, comment_lines}
-use Rattle.bz_canonical.specs.Spans.{AreSpans}
+use Rattle.bz_canonical.specs.SealedRules.{name_line}
+use Rattle.bz_canonical.specs.Spans.{AreSpans, name_argument}
 use Rattle.bz_canonical.specs.declared.put_arguments.PutOthers.{PutOthers}
 use Rattle.bz_canonical.specs.declared.spans.ArgumentSpan.{ArgumentSpan}
 use Rattle.bz_canonical.specs.private.Noted.{AreNoted}
 use Rattle.bz_canonical.specs.private.Rewritten.{AreEnded, EndsRule, IsRuleRead, Placed, Puts, args_of, pending, placed_lines, put_ends}
 use Rattle.bz_canonical.proofs.PutArguments.{others_known}
-use Rattle.bz_canonical.proofs.PutRules.{head_of, kind_text, name_argument, name_line, rule_begun, rule_ended, rule_pending}
+use Rattle.bz_canonical.proofs.PutRules.{head_of, kind_text, rule_begun, rule_ended, rule_pending}
 use Rattle.bz_canonical.proofs.RuleSpans.{all_spans, rule_spans}
 use Rattle.bz_canonical.proofs.spans.note_rule.Goals as goal
 

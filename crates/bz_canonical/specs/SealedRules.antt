@@ -1,0 +1,74 @@
+-- The parts of a rule of which some arguments are sealed.
+use Rattle.std.specs.Prelude.{bytes_eq, zero, ◌-◌, ℕ, suc, List, [], ◌∷◌, ◌++◌, codes, flat_map, length, map, take, drop, Bool, false, if◌then◌else◌, Option}
+use Rattle.bz_token.specs.declared.token.Kind.TheVariants.{Identifier}
+use Rattle.bz_tree.specs.declared.tree.GroupKind.TheVariants.{RuleCall}
+use Rattle.bz_tree.specs.Rows.{RowPart, a_token, above, beside_part, closing, opening, segs_parts}
+use Rattle.bz_tree.specs.Tree.{Segment, segs_of}
+use Rattle.bz_layout.specs.Pieces.{bytes_of, indent, suffix_piece}
+use Rattle.bz_canonical.specs.Canonical.{argument_lines}
+use Rattle.bz_canonical.specs.SealedArguments.{sealed_argument}
+use Rattle.bz_canonical.specs.Spans.{NamedRule}
+use Rattle.bz_canonical.specs.declared.spans.ArgumentSpan.{ArgumentSpan}
+
+-- bytes of a text between two places
+abbrev pub between : ℕ → ℕ → List ℕ → List ℕ
+between from to text = take (to - from) (drop from text)
+
+-- comments on lines of their own, each with the newline after it
+abbrev pub comment_rows : ℕ → List (List ℕ) → List ℕ
+comment_rows level texts = flat_map (λ text. indent level ++ (text ++ 10 ∷ [])) texts
+
+-- what is written of an argument between its first indent and its comma
+abbrev pub inner_text : Segment → List ℕ
+inner_text a = take (length (drop 5 (argument_lines (a ∷ []))) - suc (length (bytes_of (suffix_piece a.suffix)))) (drop 5 (argument_lines (a ∷ [])))
+
+-- An argument that is written as another is, and shows nothing of it.
+abbrev pub sealed : Segment → Segment
+sealed a = sealed_argument (inner_text a) a.suffix
+
+-- arguments, of which those stay that are asked for, and the others are sealed
+abbrev pub sealed_args : List Bool → List Segment → List Segment
+sealed_args [] args = []
+sealed_args (b ∷ asked) [] = []
+sealed_args (b ∷ asked) (a ∷ args) = (if b then a else sealed a) ∷ sealed_args asked args
+
+abbrev pub are_asked : List ArgumentSpan → List Bool
+are_asked spans = map (λ span. span.asked) spans
+
+-- what stands before the arguments of a rule
+abbrev pub front_parts : List (List ℕ) → List ℕ → List RowPart
+front_parts notes kind = map above notes ++ (a_token Identifier kind ∷ opening RuleCall ∷ [])
+
+-- the line of the argument `name`
+abbrev pub name_line : List ℕ → List ℕ
+name_line name = 10 ∷ (indent 1 ++ (codes "name" ++ (codes " = " ++ (34 ∷ (name ++ 34 ∷ 44 ∷ [])))))
+
+-- A level of comments on lines: the byte that lines begin with, and the length of their indent.
+pub data IsLevel : ℕ → ℕ → ℕ → Type 0 where
+  outside : IsLevel 0 35 0
+  inside : IsLevel 1 32 4
+
+-- what stands after them
+abbrev pub back_parts : List (List ℕ) → Option (List ℕ) → List RowPart
+back_parts end suffix = map above end ++ (closing false ∷ beside_part suffix)
+
+-- the same rule, of which the arguments after the name are sealed that are not asked for
+abbrev pub sealed_rule : List Bool → NamedRule → NamedRule
+sealed_rule asked r = record r { args = sealed_args asked r.args }
+
+abbrev pub last_end : ℕ → List ArgumentSpan → ℕ
+last_end from [] = from
+last_end from (span ∷ spans) = last_end span.end spans
+
+-- Their lines are the same.
+abbrev pub are_alike : Segment → Segment → Bool
+are_alike a t = bytes_eq (argument_lines (a ∷ [])) (argument_lines (t ∷ []))
+
+-- how many arguments are sealed
+abbrev pub count_sealed : List Bool → ℕ
+count_sealed [] = zero
+count_sealed (b ∷ asked) = if b then count_sealed asked else suc (count_sealed asked)
+
+-- the parts of the small rule
+abbrev pub small_parts : List Segment → List RowPart
+small_parts args = a_token Identifier (codes "k") ∷ opening RuleCall ∷ (segs_parts (segs_of args) ++ above (codes "#") ∷ closing false ∷ [])

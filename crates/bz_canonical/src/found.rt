@@ -1,0 +1,92 @@
+//! The row of a rule that was found in a text, of which the arguments that are not asked for are sealed.
+
+ghost use Rattle.std.specs.Prelude.{◌≡◌, ◌≢◌, ◌++◌, ℕ, List, drop, map, IfOk, IfSome};
+ghost use Rattle.std.specs.List.{concat};
+ghost use Rattle.bz_tree.specs.Rows.{IsRowOf, part_view};
+ghost use Rattle.bz_tree.specs.Tree.{Segment};
+ghost use Rattle.bz_canonical.specs.Canonical.{AreReadAlone};
+ghost use Rattle.bz_canonical.specs.SealedRules.{are_asked, count_sealed, sealed_rule, small_parts};
+ghost use Rattle.bz_canonical.specs.Spans.{AreSpans, IsSpannedIn, NamedRule, kept, statement_of};
+
+use crate::asked::{asked_parts, put_asked_rule, read_asked_rule, sealed_count};
+use crate::sealed::{SpannedRule, sealed_row};
+use crate::spans::ArgumentSpan;
+use bumpalo::Bump;
+use bz_memory::NoMemory;
+use bz_tree::Row;
+use std::alloc::Global;
+
+/// A rule that was found in a text.
+#[derive(Clone, Copy)]
+pub struct FoundRule<'a> {
+    /// As it stands there.
+    pub chunk: &'a str,
+    /// What is written of it, and where its arguments stand.
+    pub rule: SpannedRule<'a>,
+    /// The line of its first token, and of its last.
+    pub start: u64,
+    pub end: u64,
+}
+
+/// Where texts and lists of it stand.
+#[derive(Clone, Copy)]
+pub struct Room<'a> {
+    pub alloc: Global,
+    pub bump: &'a Bump,
+    /// So many brackets may be open in it at once.
+    pub max_depth: u8,
+}
+
+/// The small rule of the arguments that are asked for, which is put into the buffer and read.
+fn read_asked<'a>(
+    room: Room<'a>,
+    chunk: &str,
+    spans: &[ArgumentSpan],
+    small: &'a mut String,
+) -> Result<Option<Row<'a>>, NoMemory>
+    ensures { IfOk result (λ known. IfSome known (λ row. (names : List (List ℕ)) (from start : ℕ) (args : List Segment)
+        (stands : List (List ℕ)) (after : List ℕ) → AreSpans names from start args stands spans.now
+        → drop from chunk.now ≡ concat stands ++ after
+        → AreReadAlone room.entry.max_depth (concat (kept (are_asked spans.now) stands)) (kept (are_asked spans.now) args)
+        → map part_view row.parts.items ≡ small_parts (kept (are_asked spans.now) args))) }
+{
+    if !put_asked_rule(chunk, spans, small)? {
+        return Ok(None);
+    }
+    read_asked_rule(room.alloc, room.bump, small.as_str(), room.max_depth)
+}
+
+/// The row of a rule, of which the arguments after the name are sealed that are not asked for: two at least, or none.
+/// None: it is to be read whole.
+pub fn seal<'a>(
+    room: Room<'a>,
+    found: FoundRule<'a>,
+    small: &'a mut String,
+) -> Result<Option<Row<'a>>, NoMemory>
+    ensures row { IfOk result (λ known. IfSome known (λ row. (names : List (List ℕ)) (r : NamedRule)
+        (stands : List (List ℕ)) → IsSpannedIn room.entry.max_depth names r stands found.entry.chunk.now
+        found.entry.rule.written.now found.entry.rule.spans.now → r.first_line ≡ found.entry.start
+        → r.last_line ≡ found.entry.end
+        → IsRowOf (statement_of (sealed_rule (are_asked (drop 1 found.entry.rule.spans.now)) r)) row)) }
+    ensures count { IfOk result (λ known. IfSome known (λ row.
+        count_sealed (are_asked (drop 1 found.entry.rule.spans.now)) ≢ 1)) }
+{
+    let [_, spans @ ..] = found.rule.spans else {
+        return Ok(None);
+    };
+    let sealed = sealed_count(spans);
+    if sealed == 1 {
+        return Ok(None);
+    }
+    // Often none is asked for but the name.
+    if sealed == spans.len() {
+        return sealed_row(room.bump, found.rule, &[], found.start, found.end);
+    }
+    let Some(read) = read_asked(room, found.chunk, spans, small)? else {
+        return Ok(None);
+    };
+    let Some(asked) = asked_parts(&read.parts) else {
+        return Ok(None);
+    };
+    sealed_row(room.bump, found.rule, asked, found.start, found.end)
+}
