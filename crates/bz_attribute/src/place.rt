@@ -25,11 +25,6 @@ pub(crate) fn parts_len(parts: &[Part<'_>], at_end: bool) -> usize
     let mut depth: usize = 0;
     let mut count = 0;
     while count < parts.len() {
-        // Most parts are tokens.
-        if let Part::Token(_, _) = parts[count] {
-            count += 1;
-            continue;
-        }
         match parts[count] {
             Part::End if at_end && depth == 0 => return count,
             Part::Close(_) if depth == 0 => return count,
